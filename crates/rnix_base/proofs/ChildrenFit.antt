@@ -39,13 +39,16 @@ child_falls kinds number parent child h =
 
 parts_among : (literals interpolations : SyntaxKind → Bool) (spots : List Spot) → parts_count (parts_of literals interpolations spots) ≤ spots_count spots
 parts_among literals interpolations [] = omega arith
-parts_among literals interpolations (spot ∷ spots) = case_spot spot.0 (has_kind interpolations spot.1) (has_kind literals spot.1) (parts_among literals interpolations spots) where
-  case_spot : (node interpolation literal : Bool) → parts_count (parts_of literals interpolations spots) ≤ spots_count spots
-      → parts_count (if node then (if interpolation then Interpolation spot.1 ∷ parts_of literals interpolations spots else parts_of literals interpolations spots) else (if literal then Literal spot.1 ∷ parts_of literals interpolations spots else parts_of literals interpolations spots)) ≤ spots_count (spot ∷ spots)
-  case_spot true true literal h = omega arith
-  case_spot true false literal h = omega arith
-  case_spot false interpolation true h = omega arith
-  case_spot false interpolation false h = omega arith
+parts_among literals interpolations (spot ∷ spots) =
+    case_spot spot.0 (has_kind interpolations spot.1) (has_kind literals spot.1) (parts_among literals interpolations spots) where
+      case_spot : (node interpolation literal : Bool) → parts_count (parts_of literals interpolations spots) ≤ spots_count spots
+          → parts_count (if node then (if interpolation then Interpolation spot.1
+          ∷ parts_of literals interpolations spots else parts_of literals interpolations spots) else (if literal then Literal spot.1
+          ∷ parts_of literals interpolations spots else parts_of literals interpolations spots)) ≤ spots_count (spot ∷ spots)
+      case_spot true true literal h = omega arith
+      case_spot true false literal h = omega arith
+      case_spot false interpolation true h = omega arith
+      case_spot false interpolation false h = omega arith
 
 -- the interpolations among the parts below a node, with what is inside them, are no more than what is inside the node
 pub parts_fit : (literals interpolations : SyntaxKind → Bool) (parent : Located)

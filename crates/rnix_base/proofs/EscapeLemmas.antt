@@ -15,7 +15,8 @@ pub record IsCharacter (bytes : List ℕ) : Type 0 where
   pub high : (k : ℕ) → k < length more → 128 ≤ get_or more k 0
   pub alone : first < 128 → more ≡ []
 
-ascii_alone : (c : ℕ) (first : ℕ) (more : List ℕ) (k : ℕ) → encode_utf8 c ≡ first ∷ more → k < suc (length more) → get_or (first ∷ more) k 0 < 128 → length more ≡ 0
+ascii_alone : (c : ℕ) (first : ℕ) (more : List ℕ) (k : ℕ) → encode_utf8 c ≡ first ∷ more → k < suc (length more) → get_or (first ∷ more) k 0 < 128
+    → length more ≡ 0
 ascii_alone c first more k e h low =
     let same : c ≡ get_or (first ∷ more) k 0 = inside_one c [] (first ∷ more) k (sym e ∙ sym (append-nil (encode_utf8 c))) (rw e h) low in
     let one : len_utf8 c ≡ 1 = len_utf8_ascii c (omega arith) in
@@ -63,7 +64,8 @@ values_inside m (suc n) [] = refl
 values_inside m (suc n) (b ∷ text) = values_inside m n text
 
 -- behind a piece
-pub unescaped_step : (m : Bool) (b : ℕ) (text : List ℕ) (p : Piece) → first_piece m (b ∷ text) ≡ Some p → unescaped m (b ∷ text) ≡ p.value ++ unescaped m (drop (p.len - 1) text)
+pub unescaped_step : (m : Bool) (b : ℕ) (text : List ℕ) (p : Piece) → first_piece m (b ∷ text) ≡ Some p → unescaped m (b ∷ text) ≡ p.value
+    ++ unescaped m (drop (p.len - 1) text)
 unescaped_step m b text p e = values_step m b text p e ∙ ap (λ t. p.value ++ t) (values_inside m (p.len - 1) text)
 
 -- a byte of 128 or above stands for itself
@@ -71,15 +73,20 @@ high_piece : (m : Bool) (b : ℕ) (text : List ℕ) → 128 ≤ b → first_piec
 high_piece true b text h = grind (arith, nat_tests)
 high_piece false b text h = grind (arith, nat_tests)
 
-unescaped_high : (m : Bool) (bytes text : List ℕ) → ((k : ℕ) → k < length bytes → 128 ≤ get_or bytes k 0) → unescaped m (bytes ++ text) ≡ bytes ++ unescaped m text
+unescaped_high : (m : Bool) (bytes text : List ℕ) → ((k : ℕ) → k < length bytes → 128 ≤ get_or bytes k 0) → unescaped m (bytes ++ text) ≡ bytes
+    ++ unescaped m text
 unescaped_high m [] text h = refl
-unescaped_high m (b ∷ bytes) text h = unescaped_step m b (bytes ++ text) _ (high_piece m b (bytes ++ text) (h 0 (omega arith))) ∙ ap (λ t. b ∷ t) (unescaped_high m bytes text (λ k i. h (suc k) (omega arith)))
+unescaped_high m (b ∷ bytes) text h = unescaped_step m b (bytes ++ text) _ (high_piece m b (bytes ++ text) (h 0 (omega arith)))
+    ∙ ap (λ t. b ∷ t) (unescaped_high m bytes text (λ k i. h (suc k) (omega arith)))
 
-first_stands : (m : Bool) (first : ℕ) (more rest : List ℕ) → ((k : ℕ) → k < length more → 128 ≤ get_or more k 0) → first_piece m (first ∷ (more ++ rest)) ≡ Some record { len = 1; value = first ∷ [] } → unescaped m (first ∷ (more ++ rest)) ≡ first ∷ (more ++ unescaped m rest)
+first_stands : (m : Bool) (first : ℕ) (more rest : List ℕ) → ((k : ℕ) → k < length more → 128 ≤ get_or more k 0)
+    → first_piece m (first ∷ (more ++ rest)) ≡ Some record { len = 1; value = first ∷ [] } → unescaped m (first ∷ (more ++ rest)) ≡ first
+    ∷ (more ++ unescaped m rest)
 first_stands m first more rest high e = unescaped_step m first (more ++ rest) _ e ∙ ap (λ t. first ∷ t) (unescaped_high m more rest high)
 
 -- a character stands for itself where its first byte does
-pub character_begins : (m : Bool) (text value rest : List ℕ) → IsCharacter value → text ≡ value ++ rest → first_piece m text ≡ itself text → Begins m text value rest
+pub character_begins : (m : Bool) (text value rest : List ℕ) → IsCharacter value → text ≡ value ++ rest → first_piece m text ≡ itself text
+    → Begins m text value rest
 character_begins m text value rest one e free =
     let whole : text ≡ one.first ∷ (one.more ++ rest) = e ∙ ap (λ t. t ++ rest) one.split in
     record {
@@ -88,10 +95,12 @@ character_begins m text value rest one e free =
     }
 
 -- behind a backslash a character stands for itself, unless it is one of three letters
-pub character_escapes : (text value rest : List ℕ) → IsCharacter value → text ≡ value ++ rest → value ≢ codes "n" → value ≢ codes "r" → value ≢ codes "t" → Escapes text value rest
+pub character_escapes : (text value rest : List ℕ) → IsCharacter value → text ≡ value ++ rest → value ≢ codes "n" → value ≢ codes "r" → value ≢ codes "t"
+    → Escapes text value rest
 character_escapes text value rest one e n r t =
     let whole : text ≡ one.first ∷ (one.more ++ rest) = e ∙ ap (λ t. t ++ rest) one.split in
-    let none : (b : ℕ) → b < 128 → value ≢ b ∷ [] → one.first ≢ b = λ b low other same. other (one.split ∙ ap (λ more. one.first ∷ more) (one.alone (omega arith)) ∙ ap (λ x. x ∷ []) same) in
+    let none : (b : ℕ) → b < 128 → value ≢ b ∷ [] → one.first ≢ b =
+    λ b low other same. other (one.split ∙ ap (λ more. one.first ∷ more) (one.alone (omega arith)) ∙ ap (λ x. x ∷ []) same) in
     let same : escaped one.first ≡ one.first = grind (arith, nat_tests, none 110 (omega arith) n, none 114 (omega arith) r, none 116 (omega arith) t) in
     record {
       split = λ m. rw (whole, one.split, same) (ap (λ t. one.first ∷ t) (unescaped_high m one.more rest one.high));
@@ -117,7 +126,8 @@ suc-both : (i n : ℕ) → suc i + suc n ≡ i + suc (suc n)
 suc-both i n = omega arith
 
 -- bytes that stand in a text are a part of it
-stands_splits : (bytes : List ℕ) (i : ℕ) (text : List ℕ) → list_all (nat_lt 0) bytes ≡ true → stands_at bytes i text ≡ true → drop i text ≡ bytes ++ drop (i + length bytes) text
+stands_splits : (bytes : List ℕ) (i : ℕ) (text : List ℕ) → list_all (nat_lt 0) bytes ≡ true → stands_at bytes i text ≡ true → drop i text ≡ bytes
+    ++ drop (i + length bytes) text
 stands_splits [] i text some e = ap (λ k. drop k text) (omega arith)
 stands_splits (b ∷ []) i text some e = at_byte b i text (grind (arith, nat_tests)) e
 stands_splits (b ∷ c ∷ bytes) i text some e =
@@ -170,7 +180,8 @@ escape_opens m text (b ∷ more) value rest e h = record {
   shorter = omega (arith, ap length e, h.shorter, length-append (opener m) (b ∷ more));
 }
 
-pub escape_begins : (m : Bool) (text more : List ℕ) (r : Option (Bor (List ℕ) × Bor (List ℕ))) → text ≡ opener m ++ more → MatchOption r (more ≡ []) (λ p. Escapes more p.0.now p.1.now)
+pub escape_begins : (m : Bool) (text more : List ℕ) (r : Option (Bor (List ℕ) × Bor (List ℕ))) → text ≡ opener m ++ more
+    → MatchOption r (more ≡ []) (λ p. Escapes more p.0.now p.1.now)
     → MatchOption r (unescaped m text ≡ []) (λ p. Begins m text p.0.now p.1.now)
 escape_begins m text more None e h = rw (e, h) (ap (unescaped m) (append-nil (opener m)) ∙ escape_ends m)
 escape_begins m text more (Some p) e h = escape_opens m text more p.0.now p.1.now e h
@@ -183,12 +194,14 @@ char_begins m text None free h = rw h (unescaped-nil m)
 char_begins m text (Some p) free h = character_begins m text p.0.now p.1.now (is_character h.0 p.0.now h.1) h.2 free
 
 -- what the tests of a text between `''` tell
-pub primes_end : (text : List ℕ) → LacksTextAt (codes "'''") text 0 → LacksTextAt (codes "''$") text 0 → LacksTextAt (codes "''\\") text 0 → HasPrefixMatch (FindsTextPrefix (codes "''")) text → unescaped true text ≡ []
+pub primes_end : (text : List ℕ) → LacksTextAt (codes "'''") text 0 → LacksTextAt (codes "''$") text 0 → LacksTextAt (codes "''\\") text 0
+    → HasPrefixMatch (FindsTextPrefix (codes "''")) text → unescaped true text ≡ []
 primes_end text a b c h =
     let two : begins (codes "''") text ≡ true = rw h.1.1 refl in
     unescaped_ends true text (rw (not_begun _ text refl a, not_begun _ text refl b, not_begun _ text refl c, two) refl)
 
-pub primes_free : (text : List ℕ) → LacksTextAt (codes "'''") text 0 → LacksTextAt (codes "''$") text 0 → LacksTextAt (codes "''\\") text 0 → LacksTextAt (codes "''") text 0 → first_piece true text ≡ itself text
+pub primes_free : (text : List ℕ) → LacksTextAt (codes "'''") text 0 → LacksTextAt (codes "''$") text 0 → LacksTextAt (codes "''\\") text 0
+    → LacksTextAt (codes "''") text 0 → first_piece true text ≡ itself text
 primes_free text a b c d = rw (not_begun _ text refl a, not_begun _ text refl b, not_begun _ text refl c, not_begun _ text refl d) refl
 
 -- and of one between `"`

@@ -4,7 +4,8 @@ use Rattle.std.proofs.lemmas.{Bool.{cases_lt, Decides.nat_tests}, List.{append-n
 use Rattle.{std.specs.Prelude.{encode_utf8, if◌then◌else◌}, rnix_base.specs.{Normal.is_byte, Indent.{is_lost, left_after, kept, left_behind}}}
 use Rattle.rnix_base.proofs.EscapeLemmas.{IsCharacter, is_character}
 
-kept_byte : (least left b : ℕ) (rest : List ℕ) → kept least left (b ∷ rest) ≡ (if is_lost left (Some b) then [] else b ∷ []) ++ kept least (left_after least left (Some b)) rest
+kept_byte : (least left b : ℕ) (rest : List ℕ) → kept least left (b ∷ rest) ≡ (if is_lost left (Some b) then [] else b ∷ [])
+    ++ kept least (left_after least left (Some b)) rest
 unfolding kept
 kept_byte least left b rest = refl
 
@@ -28,15 +29,19 @@ kept_high_byte least left b rest h =
 left_behind_high_byte : (least left b : ℕ) (rest : List ℕ) → 128 ≤ b → left_behind least left (b ∷ rest) ≡ left_behind least 0 rest
 left_behind_high_byte least left b rest h = left_behind_byte least left b rest ∙ ap (λ n. left_behind least n rest) (high_after least left b h)
 
-kept_high : (least left b : ℕ) (bytes rest : List ℕ) → 128 ≤ b → ((k : ℕ) → k < length bytes → 128 ≤ get_or bytes k 0) → kept least left (b ∷ (bytes ++ rest)) ≡ b ∷ (bytes ++ kept least 0 rest)
+kept_high : (least left b : ℕ) (bytes rest : List ℕ) → 128 ≤ b → ((k : ℕ) → k < length bytes → 128 ≤ get_or bytes k 0)
+    → kept least left (b ∷ (bytes ++ rest)) ≡ b ∷ (bytes ++ kept least 0 rest)
 kept_high least left b [] rest h high = kept_high_byte least left b rest h
 kept_high least left b (d ∷ bytes) rest h high =
-    kept_high_byte least left b (d ∷ (bytes ++ rest)) h ∙ ap (λ t. b ∷ t) (kept_high least 0 d bytes rest (high 0 (omega arith)) (λ k i. high (suc k) (omega arith)))
+    kept_high_byte least left b (d ∷ (bytes ++ rest)) h ∙ ap (λ t. b ∷ t)
+    (kept_high least 0 d bytes rest (high 0 (omega arith)) (λ k i. high (suc k) (omega arith)))
 
-left_behind_high : (least left b : ℕ) (bytes rest : List ℕ) → 128 ≤ b → ((k : ℕ) → k < length bytes → 128 ≤ get_or bytes k 0) → left_behind least left (b ∷ (bytes ++ rest)) ≡ left_behind least 0 rest
+left_behind_high : (least left b : ℕ) (bytes rest : List ℕ) → 128 ≤ b → ((k : ℕ) → k < length bytes → 128 ≤ get_or bytes k 0)
+    → left_behind least left (b ∷ (bytes ++ rest)) ≡ left_behind least 0 rest
 left_behind_high least left b [] rest h high = left_behind_high_byte least left b rest h
 left_behind_high least left b (d ∷ bytes) rest h high =
-    left_behind_high_byte least left b (d ∷ (bytes ++ rest)) h ∙ left_behind_high least 0 d bytes rest (high 0 (omega arith)) (λ k i. high (suc k) (omega arith))
+    left_behind_high_byte least left b (d ∷ (bytes ++ rest)) h ∙ left_behind_high least 0 d bytes rest (high 0 (omega arith))
+    (λ k i. high (suc k) (omega arith))
 
 first_high : (c first : ℕ) (more : List ℕ) → encode_utf8 c ≡ first ∷ more → 128 ≤ c → 128 ≤ first
 first_high c first more e h =
@@ -65,8 +70,10 @@ high_char least left c text rest h e one =
     let first = first_high c one.first one.more one.split h in
     record {
       stays = ap (kept least left) whole ∙ kept_high least left one.first one.more rest first one.high ∙ ap (λ t. t ++ kept least 0 rest) (sym one.split)
-          ∙ sym (ap (λ lost. (if lost then [] else encode_utf8 c) ++ kept least (left_after least left (Some c)) rest) (high_stays left c h) ∙ ap (λ n. encode_utf8 c ++ kept least n rest) (high_after least left c h));
-      leaves = ap (left_behind least left) whole ∙ left_behind_high least left one.first one.more rest first one.high ∙ sym (ap (λ n. left_behind least n rest) (high_after least left c h));
+          ∙ sym (ap (λ lost. (if lost then [] else encode_utf8 c) ++ kept least (left_after least left (Some c)) rest) (high_stays left c h)
+          ∙ ap (λ n. encode_utf8 c ++ kept least n rest) (high_after least left c h));
+      leaves = ap (left_behind least left) whole ∙ left_behind_high least left one.first one.more rest first one.high
+          ∙ sym (ap (λ n. left_behind least n rest) (high_after least left c h));
     }
 
 pub char_kept : (least left c : ℕ) (text rest : List ℕ) → text ≡ encode_utf8 c ++ rest → CharKept least left c text rest
@@ -96,12 +103,14 @@ lost_char least left c text rest e some h =
     )
 
 -- a character that stays
-pub stays_char : (least left c next : ℕ) (text rest : List ℕ) → is_lost left (Some c) ≡ false → (if c == 10 then least else 0) ≡ next → text ≡ encode_utf8 c ++ rest
+pub stays_char : (least left c next : ℕ) (text rest : List ℕ) → is_lost left (Some c) ≡ false → (if c == 10 then least else 0) ≡ next → text ≡ encode_utf8 c
+    ++ rest
     → (kept least left text ≡ encode_utf8 c ++ kept least next rest) × (left_behind least left text ≡ left_behind least next rest)
 stays_char least left c next text rest lost e h =
     let whole = char_kept least left c text rest h in
     let after : left_after least left (Some c) ≡ next = ap (λ b. if b then left - 1 else (if is_byte 10 (Some c) then least else 0)) lost ∙ e in (
-      whole.stays ∙ ap (λ b. (if b then [] else encode_utf8 c) ++ kept least (left_after least left (Some c)) rest) lost ∙ ap (λ n. encode_utf8 c ++ kept least n rest) after,
+      whole.stays ∙ ap (λ b. (if b then [] else encode_utf8 c) ++ kept least (left_after least left (Some c)) rest) lost
+          ∙ ap (λ n. encode_utf8 c ++ kept least n rest) after,
       whole.leaves ∙ ap (λ n. left_behind least n rest) after,
     )
 
@@ -109,5 +118,6 @@ pub not_lost : (left c : ℕ) → (c ≡ 32 → left ≡ 0) → is_lost left (So
 not_lost left c h = grind (arith, nat_tests)
 
 -- what is read, with one more piece
-pub grown : {A : Type 0} (whole before after piece rest more : List A) → whole ≡ before ++ rest → rest ≡ piece ++ more → after ≡ before ++ piece → whole ≡ after ++ more
+pub grown : {A : Type 0} (whole before after piece rest more : List A) → whole ≡ before ++ rest → rest ≡ piece ++ more → after ≡ before ++ piece
+    → whole ≡ after ++ more
 grown whole before after piece rest more e f h = e ∙ ap (λ t. before ++ t) f ∙ sym (append_assoc before piece more) ∙ ap (λ t. t ++ more) (sym h)

@@ -58,7 +58,8 @@ gap_indentation s line e = ap (λ g. cond g (1 + indentation line) 0) e
 one_more : (n k x : ℕ) → x ≤ 1000000 → min (n + (1 + k)) x ≡ min ((if nat_lt n 1000000 then n + 1 else n) + k) x
 one_more n k x h = grind (arith, nat_tests)
 
-from_gap : (n : ℕ) (s : Symbol) (ls : List (List Symbol)) → is_gap s ≡ true → least_from (Some n) (before_line s ls) ≡ least_from (Some (if nat_lt n 1000000 then n + 1 else n)) ls
+from_gap : (n : ℕ) (s : Symbol) (ls : List (List Symbol)) → is_gap s ≡ true
+    → least_from (Some n) (before_line s ls) ≡ least_from (Some (if nat_lt n 1000000 then n + 1 else n)) ls
 unfolding least_from least_indentation
 from_gap n s [] e = ap (λ t. if t then min (n + indentation (s ∷ [])) (least_indentation []) else least_indentation []) (gap_text s [] e)
 from_gap n s (line ∷ ls) e =
@@ -76,7 +77,8 @@ no_indentation s line e = ap (λ g. cond g (1 + indentation line) 0) e
 plus_zero : (n x : ℕ) → min (n + 0) x ≡ min n x
 plus_zero n x = omega arith
 
-from_text : (n : ℕ) (s : Symbol) (ls : List (List Symbol)) → is_feed s ≡ false → is_gap s ≡ false → least_from (Some n) (before_line s ls) ≡ min n (least_from None ls)
+from_text : (n : ℕ) (s : Symbol) (ls : List (List Symbol)) → is_feed s ≡ false → is_gap s ≡ false
+    → least_from (Some n) (before_line s ls) ≡ min n (least_from None ls)
 unfolding least_from least_indentation
 from_text n s [] f g =
     ap (λ t. if t then min (n + indentation (s ∷ [])) (least_indentation []) else least_indentation []) (some_text s [] f g)
@@ -92,10 +94,12 @@ after_feed indent s e = rw e refl
 after_none : (m : ℕ) (s : Symbol) → is_feed s ≡ false → indent_after record { least = m; spaces = None } s.byte ≡ record { least = m; spaces = None }
 after_none m s e = rw e refl
 
-after_gap : (m n : ℕ) (s : Symbol) → is_feed s ≡ false → is_gap s ≡ true → indent_after record { least = m; spaces = Some n } s.byte ≡ record { least = m; spaces = Some (if nat_lt n 1000000 then n + 1 else n) }
+after_gap : (m n : ℕ) (s : Symbol) → is_feed s ≡ false → is_gap s ≡ true
+    → indent_after record { least = m; spaces = Some n } s.byte ≡ record { least = m; spaces = Some (if nat_lt n 1000000 then n + 1 else n) }
 after_gap m n s f g = rw (f, g) refl
 
-after_text : (m n : ℕ) (s : Symbol) → is_feed s ≡ false → is_gap s ≡ false → indent_after record { least = m; spaces = Some n } s.byte ≡ record { least = min m n; spaces = None }
+after_text : (m n : ℕ) (s : Symbol) → is_feed s ≡ false → is_gap s ≡ false
+    → indent_after record { least = m; spaces = Some n } s.byte ≡ record { least = min m n; spaces = None }
 after_text m n s f g = rw (f, g) refl
 
 min_both : (m n x : ℕ) → min (min m n) x ≡ min m (min n x)
@@ -122,19 +126,22 @@ least_step m (Some n) s row false false small f g more =
     ∙ min_both m n (least_from None (lines row))
     ∙ ap (min m) (sym (from_text n s (lines row) f g) ∙ ap (least_from (Some n)) (sym (lines_more s row f)))
 
-row_least : (row : List Symbol) (indent : Indent) → indent.least ≤ 1000000 → (indent_row indent row).least ≡ min indent.least (least_from indent.spaces (lines row))
+row_least : (row : List Symbol) (indent : Indent) → indent.least ≤ 1000000
+    → (indent_row indent row).least ≡ min indent.least (least_from indent.spaces (lines row))
 unfolding lines least_from
 row_least [] indent small = omega arith
 row_least (s ∷ row) indent small = least_step indent.least indent.spaces s row (is_feed s) (is_gap s) small refl refl (λ i h. row_least row i h)
 
 -- the least indentation of a row, symbol by symbol
 pub least-row : (row : List Symbol) → (indent_row no_indent row).least ≡ least_indentation (lines row)
-least-row row = row_least row no_indent (omega arith) ∙ ap (min 1000000) (from_zero (lines row)) ∙ limited (least_indentation (lines row)) (least-limit (lines row)) where
-  limited : (x : ℕ) → x ≤ 1000000 → min 1000000 x ≡ x
-  limited x h = omega arith
+least-row row = row_least row no_indent (omega arith) ∙ ap (min 1000000) (from_zero (lines row))
+    ∙ limited (least_indentation (lines row)) (least-limit (lines row)) where
+      limited : (x : ℕ) → x ≤ 1000000 → min 1000000 x ≡ x
+      limited x h = omega arith
 
 -- and part by part
-row_of_text : (n : ℕ) (text : List ℕ) (row : List Symbol) (indent : Indent) → indent_row indent (map (λ b. record { part = n; byte = Some b }) text ++ row) ≡ indent_row (indent_behind indent text) row
+row_of_text : (n : ℕ) (text : List ℕ) (row : List Symbol) (indent : Indent)
+    → indent_row indent (map (λ b. record { part = n; byte = Some b }) text ++ row) ≡ indent_row (indent_behind indent text) row
 row_of_text n [] row indent = refl
 row_of_text n (b ∷ text) row indent = row_of_text n text row (indent_after indent (Some b))
 

@@ -25,9 +25,10 @@ feed_is_no_gap s e = option_case s.byte e where
   option_case (Some b) e = grind (arith, nat_tests)
 
 shortened_gap : (l : ℕ) (s : Symbol) (line : List Symbol) → is_gap s ≡ true → shortened (suc l) (s ∷ line) ≡ shortened l line
-shortened_gap l s line e = ap (λ g. drop (min (suc l) (cond g (1 + indentation line) 0)) (s ∷ line)) e ∙ ap (λ k. drop k (s ∷ line)) (min_suc l (indentation line)) where
-  min_suc : (a b : ℕ) → min (suc a) (1 + b) ≡ suc (min a b)
-  min_suc a b = omega arith
+shortened_gap l s line e = ap (λ g. drop (min (suc l) (cond g (1 + indentation line) 0)) (s ∷ line)) e
+    ∙ ap (λ k. drop k (s ∷ line)) (min_suc l (indentation line)) where
+      min_suc : (a b : ℕ) → min (suc a) (1 + b) ≡ suc (min a b)
+      min_suc a b = omega arith
 
 shortened_none : (l : ℕ) (s : Symbol) (line : List Symbol) → is_gap s ≡ false → shortened l (s ∷ line) ≡ s ∷ line
 shortened_none l s line e = ap (λ g. drop (min l (cond g (1 + indentation line) 0)) (s ∷ line)) e ∙ ap (λ k. drop k (s ∷ line)) (min_zero l) where
@@ -50,7 +51,8 @@ from_gap n l s [] e = ap (λ t. t ++ []) (shortened_gap l s [] e) ∙ ap (λ t. 
 from_gap n l s (line ∷ ls) e = ap (λ t. t ++ flat_map (shortened n) ls) (shortened_gap l s line e)
 
 -- a symbol that stays, and ends no line
-from_stays : (n l : ℕ) (s : Symbol) (ls : List (List Symbol)) → ((line : List Symbol) → shortened l (s ∷ line) ≡ s ∷ line) → shortened_from n l (before_line s ls) ≡ s ∷ shortened_from n 0 ls
+from_stays : (n l : ℕ) (s : Symbol) (ls : List (List Symbol)) → ((line : List Symbol) → shortened l (s ∷ line) ≡ s ∷ line)
+    → shortened_from n l (before_line s ls) ≡ s ∷ shortened_from n 0 ls
 unfolding shortened_from
 from_stays n l s [] e = ap (λ t. t ++ []) (e [])
 from_stays n l s (line ∷ ls) e = ap (λ t. t ++ flat_map (shortened n) ls) (e line ∙ ap (λ t. s ∷ t) (sym (shortened_zero line)))
@@ -68,9 +70,11 @@ unfolding lines
 lines_more s row e = ap (λ f. if f then (s ∷ []) ∷ lines row else before_line s (lines row)) e
 
 -- what one symbol does
-pub kept_step : (n left next : ℕ) (s : Symbol) (row : List Symbol) → is_lost left s.byte ≡ false → left_after n left s.byte ≡ next → row_kept n left (s ∷ row) ≡ s ∷ row_kept n next row
+pub kept_step : (n left next : ℕ) (s : Symbol) (row : List Symbol) → is_lost left s.byte ≡ false → left_after n left s.byte ≡ next
+    → row_kept n left (s ∷ row) ≡ s ∷ row_kept n next row
 unfolding row_kept
-kept_step n left next s row lost after = ap (λ b. (if b then [] else s ∷ []) ++ row_kept n (left_after n left s.byte) row) lost ∙ ap (λ l. s ∷ row_kept n l row) after
+kept_step n left next s row lost after = ap (λ b. (if b then [] else s ∷ []) ++ row_kept n (left_after n left s.byte) row) lost
+    ∙ ap (λ l. s ∷ row_kept n l row) after
 
 lost_step : (n left : ℕ) (s : Symbol) (row : List Symbol) → is_lost left s.byte ≡ true → row_kept n left (s ∷ row) ≡ row_kept n (left - 1) row
 unfolding row_kept
@@ -92,14 +96,16 @@ lines_step n left s row true gap f g more =
     ∙ ap (λ t. s ∷ t) (more n) ∙ sym (from_feed n left s (lines row) none) ∙ ap (shortened_from n left) (sym (lines_feed s row f))
 lines_step n left s row false false f g more =
     kept_step n left 0 s row (not_lost left s g) (stays_after n left s false (not_lost left s g) f)
-    ∙ ap (λ t. s ∷ t) (more 0) ∙ sym (from_stays n left s (lines row) (λ line. shortened_none left s line g)) ∙ ap (shortened_from n left) (sym (lines_more s row f))
+    ∙ ap (λ t. s ∷ t) (more 0) ∙ sym (from_stays n left s (lines row) (λ line. shortened_none left s line g))
+    ∙ ap (shortened_from n left) (sym (lines_more s row f))
 lines_step n zero s row false true f g more =
     let lost : is_lost 0 s.byte ≡ false = ap (λ b. b && nat_lt 0 0) g in
     kept_step n 0 0 s row lost (stays_after n 0 s false lost f)
     ∙ ap (λ t. s ∷ t) (more 0) ∙ sym (from_stays n 0 s (lines row) (λ line. shortened_zero (s ∷ line))) ∙ ap (shortened_from n 0) (sym (lines_more s row f))
 lines_step n (suc left) s row false true f g more =
     lost_step n (suc left) s row (ap (λ b. b && nat_lt 0 (suc left)) g ∙ positive left)
-    ∙ ap (λ l. row_kept n l row) (suc_minus left) ∙ more left ∙ sym (from_gap n left s (lines row) g) ∙ ap (shortened_from n (suc left)) (sym (lines_more s row f))
+    ∙ ap (λ l. row_kept n l row) (suc_minus left) ∙ more left ∙ sym (from_gap n left s (lines row) g)
+    ∙ ap (shortened_from n (suc left)) (sym (lines_more s row f))
   where
     positive : (k : ℕ) → nat_lt 0 (suc k) ≡ true
     positive k = grind (arith, nat_tests)

@@ -8,10 +8,12 @@ literal_some : {I : Type 0} (text : List ℕ) → (length text == 0) ≡ false �
 literal_some [] e = absurd (cc)
 literal_some (b ∷ text) e = refl
 
-opened_blank : {I : Type 0} (text rest : List ℕ) (parts : Parts I) → opens_blank text ≡ true → rest ≡ behind_blank text → (length rest == 0) ≡ false → Literal rest ∷ parts ≡ opened (Literal text ∷ parts)
+opened_blank : {I : Type 0} (text rest : List ℕ) (parts : Parts I) → opens_blank text ≡ true → rest ≡ behind_blank text → (length rest == 0) ≡ false
+    → Literal rest ∷ parts ≡ opened (Literal text ∷ parts)
 opened_blank text rest parts blank e some = rw (blank, sym e, literal_some rest some) refl
 
-opened_first : {I : Type 0} (part : InterpolPart (Bor (List ℕ)) I) (parts : List (InterpolPart (Bor (List ℕ)) I)) (text rest : Bor (List ℕ)) → part ≡ Literal text
+opened_first : {I : Type 0} (part : InterpolPart (Bor (List ℕ)) I) (parts : List (InterpolPart (Bor (List ℕ)) I)) (text rest : Bor (List ℕ))
+    → part ≡ Literal text
     → opens_blank text.now ≡ true → rest.now ≡ behind_blank text.now → (length rest.now == 0) ≡ false
     → borrowed (Literal rest ∷ parts) ≡ opened (borrowed (part ∷ parts))
 opened_first part parts text rest e blank h some = rw e (opened_blank text.now rest.now (borrowed parts) blank h some)

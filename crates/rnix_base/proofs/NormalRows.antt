@@ -38,7 +38,8 @@ unfolding values symbols lines least_indentation text_of with_texts closed
 blank_between = refl
 
 -- an interpolation counts as text
-interpolation_first : indented_parts {I = ℕ} (Literal (codes "\n  ") ∷ Interpolation 0 ∷ Literal (codes "\n   y") ∷ []) ≡ (Literal (codes "") ∷ Interpolation 0 ∷ Literal (codes "\n y") ∷ [])
+interpolation_first : indented_parts {I = ℕ} (Literal (codes "\n  ") ∷ Interpolation 0 ∷ Literal (codes "\n   y") ∷ []) ≡ (Literal (codes "") ∷ Interpolation 0
+    ∷ Literal (codes "\n y") ∷ [])
 unfolding values symbols lines least_indentation text_of with_texts closed
 interpolation_first = refl
 
@@ -53,7 +54,8 @@ unfolding values symbols lines least_indentation text_of with_texts closed
 tabs = refl
 
 -- a line may go on in the next literal
-two_literals : indented_parts {I = ℕ} (Literal (codes "\n  ") ∷ Literal (codes "  a\n") ∷ Literal (codes "    b") ∷ []) ≡ (Literal (codes "") ∷ Literal (codes "a\n") ∷ Literal (codes "b") ∷ [])
+two_literals : indented_parts {I = ℕ} (Literal (codes "\n  ") ∷ Literal (codes "  a\n") ∷ Literal (codes "    b") ∷ []) ≡ (Literal (codes "")
+    ∷ Literal (codes "a\n") ∷ Literal (codes "b") ∷ [])
 unfolding values symbols lines least_indentation text_of with_texts closed
 two_literals = refl
 
@@ -83,6 +85,8 @@ unfolding values symbols lines least_indentation text_of with_texts closed
 long_text = refl
 
 -- several parts
-several : indented_parts {I = ℕ} (Literal (codes "\n\n    v ") ∷ Interpolation 1 ∷ Literal (codes ", b:\n\n      c\n    ") ∷ Interpolation 2 ∷ Literal (codes ".\n\n    f\n  ") ∷ []) ≡ (Literal (codes "\nv ") ∷ Interpolation 1 ∷ Literal (codes ", b:\n\n  c\n") ∷ Interpolation 2 ∷ Literal (codes ".\n\nf\n") ∷ [])
+several : indented_parts {I = ℕ} (Literal (codes "\n\n    v ") ∷ Interpolation 1 ∷ Literal (codes ", b:\n\n      c\n    ") ∷ Interpolation 2
+    ∷ Literal (codes ".\n\n    f\n  ") ∷ []) ≡ (Literal (codes "\nv ") ∷ Interpolation 1 ∷ Literal (codes ", b:\n\n  c\n") ∷ Interpolation 2
+    ∷ Literal (codes ".\n\nf\n") ∷ [])
 unfolding values symbols lines least_indentation text_of with_texts closed
 several = refl

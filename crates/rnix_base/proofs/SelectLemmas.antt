@@ -9,14 +9,18 @@ those_fit kinds elements h = omega (arith, h, length-filter (has_kind kinds) ele
 
 parts_most : (literals interpolations : SyntaxKind → Bool) (spots : List Spot) → length (parts_of literals interpolations spots) ≤ length spots
 parts_most literals interpolations [] = omega arith
-parts_most literals interpolations (spot ∷ spots) = case_spot spot.0 (has_kind interpolations spot.1) (has_kind literals spot.1) (parts_most literals interpolations spots) where
-  case_spot : (node interpolation literal : Bool) → length (parts_of literals interpolations spots) ≤ length spots
-      → length (if node then (if interpolation then Interpolation spot.1 ∷ parts_of literals interpolations spots else parts_of literals interpolations spots) else (if literal then Literal spot.1 ∷ parts_of literals interpolations spots else parts_of literals interpolations spots)) ≤ suc (length spots)
-  case_spot true true literal h = omega arith
-  case_spot true false literal h = omega arith
-  case_spot false interpolation true h = omega arith
-  case_spot false interpolation false h = omega arith
+parts_most literals interpolations (spot ∷ spots) =
+    case_spot spot.0 (has_kind interpolations spot.1) (has_kind literals spot.1) (parts_most literals interpolations spots) where
+      case_spot : (node interpolation literal : Bool) → length (parts_of literals interpolations spots) ≤ length spots
+          → length (if node then (if interpolation then Interpolation spot.1
+          ∷ parts_of literals interpolations spots else parts_of literals interpolations spots) else (if literal then Literal spot.1
+          ∷ parts_of literals interpolations spots else parts_of literals interpolations spots)) ≤ suc (length spots)
+      case_spot true true literal h = omega arith
+      case_spot true false literal h = omega arith
+      case_spot false interpolation true h = omega arith
+      case_spot false interpolation false h = omega arith
 
 -- nor more parts
-pub parts_fit : (literals interpolations : SyntaxKind → Bool) (spots : List Spot) → length spots < 2 ^ 64 → length (parts_of literals interpolations spots) < 2 ^ 64
+pub parts_fit : (literals interpolations : SyntaxKind → Bool) (spots : List Spot) → length spots < 2 ^ 64
+    → length (parts_of literals interpolations spots) < 2 ^ 64
 parts_fit literals interpolations spots h = omega (arith, h, parts_most literals interpolations spots)

@@ -197,7 +197,8 @@ stops_here level x (t ∷ ts) h = both_no (follows t.kind x) (nat_le level (bind
     by (suc n) false h true e l = absurd (grind (arith, nat_tests, h, e))
 
 -- an expression is an operand before what is looser than its level
-pub operand_at : {n : ℕ} {k : SyntaxKind} {c : Forest} → Good n k c → (b : AnnotatedForest) (us : List Token) → Over c b → binds_at_most (below n) (head_kind us) ≡ true
+pub operand_at : {n : ℕ} {k : SyntaxKind} {c : Forest} → Good n k c → (b : AnnotatedForest) (us : List Token) → Over c b
+    → binds_at_most (below n) (head_kind us) ≡ true
     → IsOperandOf (Some n) (one_branch k b) us
 operand_at {n} {k} g b us o z =
     let e : g.level ≤ level_of k b = at_most g.level (level_of k b) (g.tight b o) in (
@@ -209,7 +210,8 @@ operand_at {n} {k} g b us o z =
     )
 
 -- it begins with a token that an expression begins with
-pub good_opens : {n : ℕ} {k : SyntaxKind} {c : Forest} → Good n k c → (b : AnnotatedForest) (us : List Token) → Over c b → binds_at_most 16 (head_kind us) ≡ true
+pub good_opens : {n : ℕ} {k : SyntaxKind} {c : Forest} → Good n k c → (b : AnnotatedForest) (us : List Token) → Over c b
+    → binds_at_most 16 (head_kind us) ≡ true
     → Opens is_start (tokens_in b ++ us)
 good_opens {k = k} g b us o z = begun_opens is_start 0 (one_branch k b) (tokens_in b ++ us) start_is
     (begun_lower 0 g.level (one_branch k b) (tokens_in b ++ us) (omega arith) (g.begins b blank us o z))
@@ -249,7 +251,8 @@ operand_expected n counted r m (t ∷ ts) = refl
 
 -- an operand
 pub operand_on : {p : SyntaxKind} {r : Row} {n : ℕ} {counted : Bool} {G : Before} {F : Follow} {k : SyntaxKind} {c t : Forest} → Good n k c
-    → counts_no_child p ≡ (if counted then false else true) → Next (binds_at_most (below n)) F t → Rest p r Any F t → Rest p (Operand n counted · r) G F (node k c t)
+    → counts_no_child p ≡ (if counted then false else true) → Next (binds_at_most (below n)) F t → Rest p r Any F t
+    → Rest p (Operand n counted · r) G F (node k c t)
 operand_on {p} {r} {n} {counted} {G} {F} {k} {c} {t} g f behind rest =
     node_on (ap (λ w. only w r) g.fit) (λ d m. counted_fits counted p k c t d f (fits_expression n k g.fit) m) placed (λ x b o w. tt) (good_node g) behind rest
   where
@@ -275,7 +278,8 @@ series_on {p} {r} {n} {closer} {G} {F} {k} {c} {t} g f x y behind rest = node_on
     stays : after (Many n closer · r) k ≡ Many n closer · r
     stays = not (same_kind closer k) (implied is_expression (λ i. if same_kind closer i then false else true) x k e)
 
-    placed : (m : ℕ) (x b : AnnotatedForest) (vs : List Token) → Over c b → G x → binds_at_most (below n) (head_kind vs) ≡ true → Placed (Many n closer · r) m x k b vs
+    placed : (m : ℕ) (x b : AnnotatedForest) (vs : List Token) → Over c b → G x → binds_at_most (below n) (head_kind vs) ≡ true
+        → Placed (Many n closer · r) m x k b vs
     placed m x b vs o w z = (
       opened_so (Many n closer · r) m false is_start y (tokens_in b ++ vs)
           (good_opens g b vs o (wide (below n) (head_kind vs) z)),
@@ -339,7 +343,8 @@ argument_on {p} {F} {k} {c} g behind rest =
 -- a row that begins with an expression begins as it does
 pub begins_first : {n : ℕ} {j : SyntaxKind} {a t : Forest} (l : ℕ) (k : SyntaxKind)
     → ((b f e : AnnotatedForest) → first_tree (branch j b f) ≡ first_tree (branch k (branch j b f) e))
-    → l ≤ n → Good n j a → Next (binds_at_most 16) (binds_at_most 16) t → (b f : AnnotatedForest) (us : List Token) → Over (node j a t) b → binds_at_most 16 (head_kind us) ≡ true
+    → l ≤ n → Good n j a → Next (binds_at_most 16) (binds_at_most 16) t → (b f : AnnotatedForest) (us : List Token) → Over (node j a t) b
+    → binds_at_most 16 (head_kind us) ≡ true
     → Begun l (branch k b f) (tokens_in b ++ us)
 begins_first {n} {j} {a} {t} l k same m g behind b f us (over_node {b = x} {f = h} o v) z =
     subst (λ ts. Begun l (branch k (branch j x h) f) ts) (sym (append_assoc (tokens_in x) (tokens_in h) us))

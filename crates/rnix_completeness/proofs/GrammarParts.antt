@@ -225,7 +225,8 @@ entry_on {q} {s} {x} {c} {t} names e i own m w child behind r =
     node_on e (λ d h. uncounted q d (depth_in NODE_PAT_ENTRY c) (part_so q i).0 (room NODE_PATTERN NODE_PAT_ENTRY c t d h).0) placed
     (λ y b o h. (formal_new names y b w o h m).1) child.node behind r
   where
-    placed : (n : ℕ) (y b : AnnotatedForest) (vs : List Token) → Over c b → Covers names y → binds_at_most 0 (head_kind vs) ≡ true → Placed q n y NODE_PAT_ENTRY b vs
+    placed : (n : ℕ) (y b : AnnotatedForest) (vs : List Token) → Over c b → Covers names y → binds_at_most 0 (head_kind vs) ≡ true
+        → Placed q n y NODE_PAT_ENTRY b vs
     placed n y b vs o h z = (
       opened_so q n (is_first_expected q NODE_PAT_ENTRY b) (same_kind TOKEN_IDENT) (λ v. own v b) (tokens_in b ++ vs) (child.opens b vs o),
       (part_so q i).2 y (head_kind (tokens_in b ++ vs)),

@@ -171,7 +171,8 @@ apply_or_good {k} {a} {t} g h = record {
     before : (l : ℕ) (F : Follow) → binds_at_most l (Some TOKEN_OR) ≡ true → Next (binds_at_most l) F (name t empty)
     before l F e = record { next = first }
       where
-        first : (f : AnnotatedForest) (us : List Token) → Over (name t empty) f → F (head_kind us) ≡ true → binds_at_most l (head_kind (tokens_in f ++ us)) ≡ true
+        first : (f : AnnotatedForest) (us : List Token) → Over (name t empty) f → F (head_kind us) ≡ true
+            → binds_at_most l (head_kind (tokens_in f ++ us)) ≡ true
         first f us (over_node (over_leaf w i over_nothing) v) z = ap (λ j. binds_at_most l (Some j)) (w ∙ or_kind t h) ∙ e
 
     tight : (b : AnnotatedForest) → Over (node k a (name t empty)) b → nat_le 16 (level_of NODE_APPLY b) ≡ true

@@ -114,7 +114,8 @@ finished {F = F} = finish refl over
 
 -- a token, which the trees before it may have to stand before
 pub leaf_on : {p : SyntaxKind} {q : Row} {G H : Before} {F : Follow} {k : SyntaxKind} {s : List ℕ} {t : Forest}
-    → k ≡ leaf_kind_as p (kind_of_token k s) → ((b : Bool) → stands_so q b (kind_of_token k s) true ≡ true) → ((g : AnnotatedForest) → G g → IsFollowed q g (Some k))
+    → k ≡ leaf_kind_as p (kind_of_token k s) → ((b : Bool) → stands_so q b (kind_of_token k s) true ≡ true)
+    → ((g : AnnotatedForest) → G g → IsFollowed q g (Some k))
     → ((g : AnnotatedForest) (x : Token) → G g → H (g ⊕ one_token k x)) → Rest p (after q k) H F t → Rest p q G F (leaf k s t)
 leaf_on {p} {q} {G} {H} {F} {k} {s} {t} told own followed before r = record { reads = first }
   where
@@ -180,7 +181,8 @@ pub record Part (N : Follow) (test : SyntaxKind → Bool) (k : SyntaxKind) (c : 
 
 -- stands where such a token is expected, or is not
 pub part_on : {p : SyntaxKind} {q s : Row} {G : Before} {N F : Follow} {test : SyntaxKind → Bool} {k : SyntaxKind} {c t : Forest} → after q k ≡ s
-    → is_part q ≡ true → ((b : Bool) (x : AnnotatedForest) → list_all (λ i. if test i then stands_so q b i (is_first_expected q k x) else true) all_kinds ≡ true)
+    → is_part q ≡ true → ((b : Bool) (x : AnnotatedForest) → list_all
+    (λ i. if test i then stands_so q b i (is_first_expected q k x) else true) all_kinds ≡ true)
     → ((g b : AnnotatedForest) → repeats k g b ≡ []) → Part N test k c → Next N F t → Rest p s Any F t → Rest p q G F (node k c t)
 part_on {p} {q} {s} {G} {N} {F} {test} {k} {c} {t} e h own new child behind r = node_on e fits placed (λ g b o w. tt) child.node behind r
   where

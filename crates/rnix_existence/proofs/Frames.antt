@@ -82,14 +82,16 @@ pub record AtOperand (min_bp max_bp d : ℕ) (x : AnnotatedForest) (fs : List Fr
 -- a text is being read: a node, a second name or an operand is innermost
 pub data Reading : List Frame → Type 0 where
   node : {f : Frame} {fs : List Frame} → AtOpen f fs → Reading (f ∷ fs)
-  operand : {min_bp max_bp d : ℕ} {x : AnnotatedForest} {fs : List Frame} → AtOperand min_bp max_bp d x fs → Reading (opened Operand (p.AfterOperand min_bp max_bp) d x ∷ fs)
+  operand : {min_bp max_bp d : ℕ} {x : AnnotatedForest} {fs : List Frame} → AtOperand min_bp max_bp d x fs
+      → Reading (opened Operand (p.AfterOperand min_bp max_bp) d x ∷ fs)
 
 -- the frames below an open frame stay as they are when its row gets more trees
 below_more : (h : Head) (row x : AnnotatedForest) {fs : List Frame} → Below (above h row) fs → Below (above h (row ⊕ x)) fs
 below_more (Node k) row x no_frame = no_frame
 below_more (Node k) row x (a_row i b) = a_row i b
 below_more (Node k) row x (an_operand min_bp max_bp d l grows b) =
-    an_operand min_bp max_bp d l (λ rest. subst (λ (z : AnnotatedForest). MayGrow min_bp max_bp (one_branch k z)) (sym (⊕-assoc row x rest)) (grows (x ⊕ rest))) b
+    an_operand min_bp max_bp d l (λ rest. subst (λ (z : AnnotatedForest). MayGrow min_bp max_bp (one_branch k z)) (sym (⊕-assoc row x rest))
+    (grows (x ⊕ rest))) b
 below_more SecondBind row x b = b
 below_more Operand row x b = b
 
@@ -99,7 +101,8 @@ went : (f : Frame) (fs : List Frame) (y : Position) (row : AnnotatedForest) → 
 went f fs y row r h b = record { is = record { sound = r.is.sound; in_row_of = h; shallow = r.is.shallow }; below = b }
 
 -- with more trees
-pub grown : (f : Frame) (fs : List Frame) (y : Position) (x : AnnotatedForest) → AtOpen f fs → is_in_row_of y (kind_of f.head) ≡ true → AtOpen (put y (f.row ⊕ x) f) fs
+pub grown : (f : Frame) (fs : List Frame) (y : Position) (x : AnnotatedForest) → AtOpen f fs → is_in_row_of y (kind_of f.head) ≡ true
+    → AtOpen (put y (f.row ⊕ x) f) fs
 grown f fs y x r h = went f fs y (f.row ⊕ x) r h (below_more f.head f.row x r.below)
 
 -- with the same trees
@@ -111,7 +114,8 @@ pub waits : {w : Above} (f : Frame) (fs : List Frame) → AtOpen f fs → Below 
 waits f fs r = a_row r.is r.below
 
 -- a node opens above some frames
-pub opens_on : (k : SyntaxKind) (z : Position) (d : ℕ) (x : AnnotatedForest) (fs : List Frame) → is_sound (Node k) ≡ true → is_in_row_of z k ≡ true → d ≤ depth_limit
+pub opens_on : (k : SyntaxKind) (z : Position) (d : ℕ) (x : AnnotatedForest) (fs : List Frame) → is_sound (Node k) ≡ true → is_in_row_of z k ≡ true
+    → d ≤ depth_limit
     → Below (One k x) fs
     → AtOpen (opened (Node k) z d x) fs
 opens_on k z d x fs s h l b = record { is = record { sound = s; in_row_of = h; shallow = l }; below = b }
@@ -121,7 +125,8 @@ pub alone : Below Other [] → ⊥
 alone b = elim b [ ]
 
 -- a complete frame becomes a tree of the frame below
-pub landed : (h : Head) (row : AnnotatedForest) (g : Frame) (fs : List Frame) → Below (above h row) (g ∷ fs) → Reading (put g.position (g.row ⊕ made h row) g ∷ fs)
+pub landed : (h : Head) (row : AnnotatedForest) (g : Frame) (fs : List Frame) → Below (above h row) (g ∷ fs)
+    → Reading (put g.position (g.row ⊕ made h row) g ∷ fs)
 landed (Node k) row _ fs (an_operand min_bp max_bp d l grows b) = operand (record {
   single = a_node;
   grows = subst (λ (z : AnnotatedForest). MayGrow min_bp max_bp (one_branch k z)) (⊕-blank row) (grows blank);

@@ -30,7 +30,8 @@ atom_seen (branch k c f) h = h
 atom_seen _ h = cc
 
 -- a tree that fits its own level may be an operand of each looser one, and goes on with what may follow it
-pub grows_by : (min_bp max_bp : ℕ) (x : AnnotatedForest) → fits (row_level x) (seen_kind x) ≡ true → min_bp ≤ row_level x → max_bp ≤ row_level x → FollowedTo max_bp x
+pub grows_by : (min_bp max_bp : ℕ) (x : AnnotatedForest) → fits (row_level x) (seen_kind x) ≡ true → min_bp ≤ row_level x → max_bp ≤ row_level x
+    → FollowedTo max_bp x
     → is_or_row x ≡ false
     → MayGrow min_bp max_bp x
 grows_by min_bp max_bp x f l h w o = record {

@@ -130,12 +130,14 @@ module _ (whole : Outcome) (f : Frame) (n : ℕ) (gs : List Fault) where
     followed next = left_followed here (left_of f r.is) f.row next
 
     -- some trees are read, and the frame moves to another position
-    goes_on : (y : Position) (x : AnnotatedForest) (ts us : List Token) (m : ℕ) (ds hs : List Fault) → is_in_row_of y kind ≡ true → Spans ts n us m x → hs ≡ gs ++ ds
+    goes_on : (y : Position) (x : AnnotatedForest) (ts us : List Token) (m : ℕ) (ds hs : List Fault) → is_in_row_of y kind ≡ true → Spans ts n us m x → hs ≡ gs
+        ++ ds
         → Fronts kind f.depth n here f.row x us m (rest_at y) ds → IsPreserved whole (machine (put y (f.row ⊕ x) f ∷ fs) us m hs) f fs ts n gs
     goes_on y x ts us m ds hs in_row_of v h reads = (node (grown f fs y x r in_row_of), fronted whole fs f y x ts us n m gs ds hs wide v h reads)
 
     -- the next item becomes a leaf
-    takes : (t : Token) (ts : List Token) (y : ℕ) → is_in_row_of (p.Left y) kind ≡ true → IsExpected here n (t ∷ ts) true → after here (leaf_kind kind t) ≡ left_at y
+    takes : (t : Token) (ts : List Token) (y : ℕ) → is_in_row_of (p.Left y) kind ≡ true → IsExpected here n (t ∷ ts) true
+        → after here (leaf_kind kind t) ≡ left_at y
         → IsPreservedBy whole (a.Take y) f fs (t ∷ ts) n gs
     takes t ts y in_row_of w g =
         goes_on (p.Left y) (item kind t) (t ∷ ts) ts t.end [] gs in_row_of spanned (sym (append-nil gs))
@@ -184,11 +186,13 @@ module _ (whole : Outcome) (f : Frame) (n : ℕ) (gs : List Fault) where
         → Fronts kind f.depth n here f.row (one_branch k c) us m (left_at y) (ds ++ repeats k f.row c)
     node_here k y ts w c us m u ds v z o vs s x es h i =
         let l : is_left here ≡ true = left_of f r.is in
-        plain_from (left_no_operand here l w.0 w.1) h v.items z v.item_end o (expected here n ts (is_first_expected here k c) (w.2 ∙ sym (left_first_expected here l k c)))
+        plain_from (left_no_operand here l w.0 w.1) h v.items z v.item_end o
+        (expected here n ts (is_first_expected here k c) (w.2 ∙ sym (left_first_expected here l k c)))
         (followed (head_kind ts)) w.3 i refl
 
     -- a name becomes a node
-    names : (t : Token) (ts : List Token) (y : ℕ) → is_in_row_of (p.Left y) kind ≡ true → IsNodeHere here (touches n (t ∷ ts)) (Some t.kind) NODE_IDENT (left_at y)
+    names : (t : Token) (ts : List Token) (y : ℕ) → is_in_row_of (p.Left y) kind ≡ true
+        → IsNodeHere here (touches n (t ∷ ts)) (Some t.kind) NODE_IDENT (left_at y)
         → after (row_of_kind NODE_IDENT) (leaf_kind NODE_IDENT t) ≡ done → IsPreservedBy whole (a.Leaf NODE_IDENT y) f fs (t ∷ ts) n gs
     names t ts y in_row_of w k =
         goes_on (p.Left y) (one_branch NODE_IDENT (item NODE_IDENT t)) (t ∷ ts) ts t.end [] gs in_row_of spanned (sym (append-nil gs))
@@ -229,7 +233,8 @@ module _ (whole : Outcome) (f : Frame) (n : ℕ) (gs : List Fault) where
         opens (Node k) (row_of_kind k) (p.Left z) y x ts us m q.0 q.1 v reads (node_here k y ts w)
 
     -- a second name of a pattern opens with `@`
-    opens_second : (t : Token) (ts : List Token) (y : ℕ) → is_in_row_of (p.Left y) kind ≡ true → here ≡ BoundAlready · done → t.kind ≡ TOKEN_AT → left_at y ≡ done
+    opens_second : (t : Token) (ts : List Token) (y : ℕ) → is_in_row_of (p.Left y) kind ≡ true → here ≡ BoundAlready · done → t.kind ≡ TOKEN_AT
+        → left_at y ≡ done
         → IsPreservedBy whole (a.DoubleBind y) f fs (t ∷ ts) n gs
     opens_second t ts y in_row_of i j l =
         opens SecondBind second_name (p.Left SECOND_BIND) y (one_token t.kind t) (t ∷ ts) ts t.end refl in_row_of spanned
@@ -248,7 +253,8 @@ module _ (whole : Outcome) (f : Frame) (n : ℕ) (gs : List Fault) where
         by : BeginEnds whole level d (put (p.Left y) f.row f) fs (t ∷ us) n gs → EndsOn whole fs f (t ∷ us) n gs
         by b =
             fronted whole fs f (p.Left y) b.tree (t ∷ us) b.left n b.prev_end gs b.inside (gs ++ b.inside) wide b.read.span refl
-            (λ vs s x es i z. placed takes (subst (λ (j : ℕ). IsRead level j n (t ∷ us) b.tree b.left b.prev_end b.inside) e b.read) b.is_complete_operand i own room
+            (λ vs s x es i z. placed takes (subst (λ (j : ℕ). IsRead level j n
+            (t ∷ us) b.tree b.left b.prev_end b.inside) e b.read) b.is_complete_operand i own room
             (followed (Some t.kind)) z) b.ends
 
     -- an operand of a level is read, unless it is nested too deep
@@ -271,7 +277,8 @@ module _ (whole : Outcome) (f : Frame) (n : ℕ) (gs : List Fault) where
         inside d s e room = operand_at ts level d y (at_most level 16 in_row_of.0) s in_row_of.1 takes e room own lost
 
         limit : counts here ≡ true → (v : Bool) → nat_le depth_limit f.depth ≡ v
-            → IsPreserved whole (if v then limited false (put (p.Left y) f.row f) fs ts n gs else operand_on false level (suc f.depth) (put (p.Left y) f.row f) fs ts
+            → IsPreserved whole (if v then limited false (put (p.Left y) f.row f) fs ts n gs else operand_on false level (suc f.depth)
+            (put (p.Left y) f.row f) fs ts
             ts n gs) f fs ts n gs
         limit e true v =
             wrongs ts (dropped ts ts) ts (p.Left y) TooDeep in_row_of.1 (all_left ts) own
@@ -313,5 +320,6 @@ module _ (whole : Outcome) (f : Frame) (n : ℕ) (gs : List Fault) where
     -- each step at an open frame
     pub node_step : (ts : List Token) → IsPreservedBy whole (action_at f.position (head_kind ts) (touches n ts)) f fs ts n gs
     node_step ts =
-        done_by (action_at f.position (head_kind ts) (touches n ts)) ts (action_is_at f.position (touches n ts) (head_kind ts) (in_row f.position kind r.is.in_row_of))
+        done_by (action_at f.position (head_kind ts) (touches n ts)) ts
+        (action_is_at f.position (touches n ts) (head_kind ts) (in_row f.position kind r.is.in_row_of))
         (leads_on f.position kind (head_kind ts) (touches n ts) r.is.in_row_of)

@@ -20,7 +20,8 @@ spanned = record { items = refl; item_end = refl }
 pub spans_two : {ts us vs : List Token} {n m l : ℕ} (x y : AnnotatedForest) → Spans ts n us m x → Spans us m vs l y → Spans ts n vs l (x ⊕ y)
 spans_two {vs = vs} {n = n} x y v w = record {
   items = v.items ∙ ap (λ z. tokens_in x ++ z) w.items ∙ sym (tokens_two x y vs);
-  item_end = w.item_end ∙ ap (λ z. end_from z (tokens_in y)) v.item_end ∙ sym (end_behind n (tokens_in x) (tokens_in y)) ∙ ap (end_from n) (sym (tokens_in-⊕ x y));
+  item_end = w.item_end ∙ ap (λ z. end_from z (tokens_in y)) v.item_end ∙ sym (end_behind n (tokens_in x) (tokens_in y))
+      ∙ ap (end_from n) (sym (tokens_in-⊕ x y));
 }
 
 -- a row in place of one of the same items
@@ -159,7 +160,8 @@ module _ (whole : Outcome) where
   operand_ends g fs f ts n gs o (inr e) = e
 
   -- the same of a frame, with trees in front of the rest of its row
-  pub fronted : (fs : List Frame) (f : Frame) (y : Position) (x : AnnotatedForest) (ts us : List Token) (n m : ℕ) (gs ds hs : List Fault) → is_open f.head ≡ true
+  pub fronted : (fs : List Frame) (f : Frame) (y : Position) (x : AnnotatedForest) (ts us : List Token) (n m : ℕ) (gs ds hs : List Fault)
+      → is_open f.head ≡ true
       → Spans ts n us m x → hs ≡ gs ++ ds → Fronts (kind_of f.head) f.depth n (rest_at f.position) f.row x us m (rest_at y) ds
       → EndsOn fs (put y (f.row ⊕ x) f) us m hs → EndsOn fs f ts n gs
   fronted [] f y x ts us n m gs ds hs o v h reads ends = row_fronted x ds v h reads ends

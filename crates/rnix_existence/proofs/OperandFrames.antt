@@ -91,7 +91,8 @@ module _ (whole : Outcome) (level d : ℕ) (g : Frame) (fs : List Frame) (n : �
   -- it begins with a node of which some trees are read
   node_begins : (max_bp : ℕ) (k : SyntaxKind) (z : ℕ) (x : AnnotatedForest) (ts us : List Token) (m : ℕ) (zs hs : List Fault) → is_sound (Node k) ≡ true
       → is_in_row_of (p.Left z) k ≡ true
-      → ((rest : AnnotatedForest) → MayGrow level max_bp (one_branch k (x ⊕ rest))) → Spans ts n us m x → Fronts k d n (row_of_kind k) blank x us m (left_at z) zs
+      → ((rest : AnnotatedForest) → MayGrow level max_bp (one_branch k (x ⊕ rest))) → Spans ts n us m x
+      → Fronts k d n (row_of_kind k) blank x us m (left_at z) zs
       → ((rest : AnnotatedForest) → BeginsAs level (one_branch k (x ⊕ rest)) ts) → hs ≡ gs ++ zs
       → Begins (machine (opened (Node k) (p.Left z) d x ∷ below max_bp) us m hs) ts
   node_begins max_bp k z x ts us m zs hs sound in_row_of grows v reads first h = (
@@ -179,7 +180,8 @@ module _ (whole : Outcome) (level d : ℕ) (g : Frame) (fs : List Frame) (n : �
       pattern_begins BOUND_PATTERN (one_branch NODE_PAT_BIND x) (t ∷ (u ∷ us)) us u.end refl spanned
       (node_first NODE_PATTERN NODE_PAT_BIND x (front (row_of_kind NODE_PATTERN) refl) spanned
       (name_first NODE_PAT_BIND t (u ∷ us) (front (row_of_kind NODE_PAT_BIND) refl) h.0 us done (item NODE_PAT_BIND u) [] refl
-      (leaf_from refl tt tt (ap (λ k. after (after (row_of_kind NODE_PAT_BIND) NODE_IDENT) (leaf_kind_as NODE_PAT_BIND k)) (some_same u.kind TOKEN_AT h.1)) end))
+      (leaf_from refl tt tt (ap (λ k. after (after (row_of_kind NODE_PAT_BIND) NODE_IDENT) (leaf_kind_as NODE_PAT_BIND k))
+      (some_same u.kind TOKEN_AT h.1)) end))
       (past_over u.end us))
       (λ c rest. begins_as level t (u ∷ us) b.BoundLambda (one_branch NODE_LAMBDA (one_branch NODE_PATTERN c ⊕ rest)) e refl)
   begun_begins b.PatternLambda t us e h =

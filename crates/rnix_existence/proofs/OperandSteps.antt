@@ -84,7 +84,8 @@ module _ (whole : Outcome) (min_bp max_bp d : ℕ) (x : AnnotatedForest) (n : �
   other_frame other c = opened Operand (p.AfterOperand min_bp other) d c
 
   -- no item continues it, and it is complete
-  settles : (fs : List Frame) → AtOperand min_bp max_bp d x fs → (ts : List Token) → ((j : SyntaxKind) → head_kind ts ≡ Some j → goes_on min_bp max_bp j ≡ false)
+  settles : (fs : List Frame) → AtOperand min_bp max_bp d x fs → (ts : List Token)
+      → ((j : SyntaxKind) → head_kind ts ≡ Some j → goes_on min_bp max_bp j ≡ false)
       → IsPreservedBy whole a.EndOperand frame fs ts n gs
   settles [] r ts h = absurd (alone r.below)
   settles (g ∷ fs) r ts h = (
@@ -95,7 +96,12 @@ module _ (whole : Outcome) (min_bp max_bp d : ℕ) (x : AnnotatedForest) (n : �
       tree = x;
       inside = [];
       is = refl;
-      whole = record { least = r.grows.least; fit = r.grows.fit; no_or = r.grows.no_or; not_followed = not_followed_behind min_bp max_bp x ts h r.grows.follow };
+      whole = record {
+        least = r.grows.least;
+        fit = r.grows.fit;
+        no_or = r.grows.no_or;
+        not_followed = not_followed_behind min_bp max_bp x ts h r.grows.follow;
+      };
       grows = λ l all cs i. subst (IsRead min_bp d l all x ts n) (sym (append-nil cs)) i;
       ends = subst (EndsOn whole fs (put g.position (g.row ⊕ x) g) ts n) (sym (append-nil gs)) ends;
     }),
@@ -141,10 +147,12 @@ module _ (whole : Outcome) (min_bp max_bp d : ℕ) (x : AnnotatedForest) (n : �
 
   module _ (fs : List Frame) (r : AtOperand min_bp max_bp d x fs) where
     -- the next item makes it the first tree of a node
-    wraps : (t : Token) (ts : List Token) (k : SyntaxKind) (q : Row) (z : Position) (other : ℕ) → IsFront (row_of_kind k) → after (row_of_kind k) (seen_kind x) ≡ q
+    wraps : (t : Token) (ts : List Token) (k : SyntaxKind) (q : Row) (z : Position) (other : ℕ) → IsFront (row_of_kind k)
+        → after (row_of_kind k) (seen_kind x) ≡ q
         → ((us : List Token) → IsExpected q n us true) → IsFollowed q x (Some (leaf_kind k t)) → after q (leaf_kind k t) ≡ rest_at z
         → ((c : AnnotatedForest) → first_tree (one_branch k c) ≡ first_tree c) → is_sound (Node k) ≡ true → is_in_row_of z k ≡ true
-        → ((rest : AnnotatedForest) → MayGrow min_bp other (one_branch k ((x ⊕ item k t) ⊕ rest))) → IsPreservedBy whole (a.Wrap k z other) frame fs (t ∷ ts) n gs
+        → ((rest : AnnotatedForest) → MayGrow min_bp other (one_branch k ((x ⊕ item k t) ⊕ rest)))
+        → IsPreservedBy whole (a.Wrap k z other) frame fs (t ∷ ts) n gs
     wraps t ts k q z other st g own fo h first sound in_row_of grows = (
       node (opens_on k z d (x ⊕ item k t) (other_frame other blank ∷ fs) sound in_row_of r.shallow (an_operand min_bp other d r.shallow grows r.below)),
       λ ends. wraps_on fs r other k q (t ∷ ts) st g first (grows blank).fit

@@ -19,10 +19,12 @@ none_repeated level k b c ds h = ap (λ z. ds ++ z) (unreported k b c (fits_expr
 -- the row of a node begins with it
 pub first_placed : {d n m : ℕ} {x f : AnnotatedForest} {vs us : List Token} {ds es : List Fault} {k : SyntaxKind} {q r : Row} (level : ℕ)
     → IsFront (row_of_kind k)
-    → OperandTree d n x vs ds → fits level (seen_kind x) ≡ true → vs ≡ tokens_in f ++ us → m ≡ end_from n (tokens_in x) → after (row_of_kind k) (seen_kind x) ≡ q
+    → OperandTree d n x vs ds → fits level (seen_kind x) ≡ true → vs ≡ tokens_in f ++ us → m ≡ end_from n (tokens_in x)
+    → after (row_of_kind k) (seen_kind x) ≡ q
     → Reads k d m q r x us f es → Reads k d n (row_of_kind k) r blank us (x ⊕ f) (ds ++ es)
 first_placed {n = n} {m = m} {vs = vs} {es = es} {k = i} level w (a_node {k = k} {s = s} {c = c} {ds = ds} y e o) h v u g z =
-    plain_from w.no_operand v refl y u' (subst (λ (j : ℕ). IsOver s j vs) (e ∙ sym u') o) (w.expected n (tokens_in c ++ vs) (is_first_expected (row_of_kind i) k c))
+    plain_from w.no_operand v refl y u' (subst (λ (j : ℕ). IsOver s j vs) (e ∙ sym u') o)
+    (w.expected n (tokens_in c ++ vs) (is_first_expected (row_of_kind i) k c))
     (w.followed blank (head_kind (tokens_in c ++ vs))) g z (ap (λ y. y ++ es) (sym (none_repeated level k blank c ds h)))
   where
     u' : m ≡ end_from n (tokens_in c)
@@ -55,7 +57,11 @@ pub placed : {d n m level : ℕ} {b x f : AnnotatedForest} {us vs ws : List Toke
     → IsFollowed q b (head_kind ws)
     → Reads k d m s r (b ⊕ x) us f es → Reads k d n q r b us (x ⊕ f) (ds ++ es)
 placed {d} {n} {m} {level} {b} {x} {f} {us} {vs} {ws} {ds} {es} {k} {q} {r} {s} a read whole v ow room fo z =
-    by read.operand_tree whole.fit whole.no_or (whole.least, subst (BeginsAs level x) read.span.items read.begins, whole.not_followed) read.span.items read.span.item_end z
+    by read.operand_tree whole.fit whole.no_or (
+      whole.least,
+      subst (BeginsAs level x) read.span.items read.begins,
+      whole.not_followed,
+    ) read.span.items read.span.item_end z
   where
     by : {x : AnnotatedForest} {ds : List Fault} → OperandTree (deeper q d) n x vs ds → fits level (seen_kind x) ≡ true → is_or_row x ≡ false
         → IsOperandOf (Some level) x vs

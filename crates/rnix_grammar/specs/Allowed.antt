@@ -36,13 +36,17 @@ Allowed position next (a.MissWanted until after) = (next ≡ None) × (IsNext po
 Allowed position next (a.Run until after) = (stops until next ≡ false) × (IsNext position next after)
 Allowed position next (a.Leaf k after) = (is_there next ≡ true) × (IsNext position next after) × (k ≡ NODE_IDENT)
 Allowed position next (a.Open k inside after) =
-    (is_there next ≡ true) × (IsNext position next after) × (frame_kind_of_node k ≡ NodeFrame) × (frame_kind (p.Left inside) ≡ NodeFrame) × (is_open (frame_kind position) ≡ true)
+    (is_there next ≡ true) × (IsNext position next after) × (frame_kind_of_node k ≡ NodeFrame) × (frame_kind (p.Left inside) ≡ NodeFrame)
+    × (is_open (frame_kind position) ≡ true)
 Allowed position next (a.Begin k inside after) =
-    (frame_kind (p.Left after) ≡ frame_kind position) × (frame_kind_of_node k ≡ NodeFrame) × (frame_kind (p.Left inside) ≡ NodeFrame) × (is_open (frame_kind position) ≡ true)
-    × (begin_measure (p.Left inside) ≡ 0) × (measure (p.Left inside) + measure (p.Left after) < measure position + begin_measure position) × ((next ≡ None) → measure (p.Left inside) + measure (p.Left after) < measure position)
+    (frame_kind (p.Left after) ≡ frame_kind position) × (frame_kind_of_node k ≡ NodeFrame) × (frame_kind (p.Left inside) ≡ NodeFrame)
+    × (is_open (frame_kind position) ≡ true)
+    × (begin_measure (p.Left inside) ≡ 0) × (measure (p.Left inside) + measure (p.Left after) < measure position + begin_measure position)
+    × ((next ≡ None) → measure (p.Left inside) + measure (p.Left after) < measure position)
 Allowed position next (a.Entry after) = (next ≡ Some TOKEN_IDENT) × (IsNext position next after) × (frame_kind position ≡ Pattern)
 Allowed position next (a.DoubleBind after) = (is_there next ≡ true) × (IsNext position next after) × (frame_kind position ≡ Pattern)
 Allowed position next (a.Read level counted after) = (IsNext position next after) × (may_hold (frame_kind position) OperandFrame ≡ true)
-Allowed position next (a.Wrap k inside max_bp) = (is_there next ≡ true) × (frame_kind position ≡ OperandFrame) × (frame_kind_of_node k ≡ NodeFrame) × (frame_kind inside ≡ NodeFrame)
+Allowed position next (a.Wrap k inside max_bp) =
+    (is_there next ≡ true) × (frame_kind position ≡ OperandFrame) × (frame_kind_of_node k ≡ NodeFrame) × (frame_kind inside ≡ NodeFrame)
 Allowed position next a.Apply = (is_there next ≡ true) × (frame_kind position ≡ OperandFrame)
 Allowed position next a.ApplyOr = (is_there next ≡ true) × (frame_kind position ≡ OperandFrame)

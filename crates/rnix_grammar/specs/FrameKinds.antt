@@ -72,7 +72,8 @@ is_open sort = true
 -- a head stands at a position of its frame kind, and may stand inside the frame below, as each frame below; the lowest is the root
 abbrev pub IsStackedOn : Head → Position → List Frame → Type 0
 IsStackedOn head position [] = (frame_kind_of_head head ≡ frame_kind position) × (frame_kind position ≡ Root)
-IsStackedOn head position (f ∷ fs) = (frame_kind_of_head head ≡ frame_kind position) × (may_hold (frame_kind f.position) (frame_kind position) ≡ true) × IsStackedOn f.head f.position fs
+IsStackedOn head position (f ∷ fs) = (frame_kind_of_head head ≡ frame_kind position) × (may_hold (frame_kind f.position) (frame_kind position) ≡ true)
+    × IsStackedOn f.head f.position fs
 
 -- there are frames, and so it is for all of them
 abbrev pub AreStacked : List Frame → Type 0

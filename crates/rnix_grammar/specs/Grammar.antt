@@ -41,7 +41,8 @@ mutual
     binary : {o j k : SyntaxKind} {a b : Forest} {s : List ℕ} → is_infix o ≡ true → Strict (left_of o) j a → Strict (right_of o) k b
         → Strict (binding_power o) NODE_BIN_OP (node j a (leaf o s (node k b empty)))
     -- `!a`
-    invert : {k : SyntaxKind} {a : Forest} {s : List ℕ} → Strict inversion_level k a → Strict inversion_level NODE_UNARY_OP (leaf TOKEN_INVERT s (node k a empty))
+    invert : {k : SyntaxKind} {a : Forest} {s : List ℕ} → Strict inversion_level k a
+        → Strict inversion_level NODE_UNARY_OP (leaf TOKEN_INVERT s (node k a empty))
     -- functions, `let`, `with`, `assert` and `if`
     lambda : {j k : SyntaxKind} {a b : Forest} {s : List ℕ} → Parameter j a → Strict expression_level k b
         → Strict expression_level NODE_LAMBDA (node j a (leaf TOKEN_COLON s (node k b empty)))
@@ -58,7 +59,8 @@ mutual
 
   -- an expression that `.` and a lone `or` may follow
   pub data Atom : SyntaxKind → Forest → Type 0 where
-    paren : {k : SyntaxKind} {c : Forest} {s t : List ℕ} → Strict expression_level k c → Atom NODE_PAREN (leaf TOKEN_L_PAREN s (node k c (leaf TOKEN_R_PAREN t empty)))
+    paren : {k : SyntaxKind} {c : Forest} {s t : List ℕ} → Strict expression_level k c
+        → Atom NODE_PAREN (leaf TOKEN_L_PAREN s (node k c (leaf TOKEN_R_PAREN t empty)))
     set : {f : Forest} {s t : List ℕ} → Entries f (leaf TOKEN_R_BRACE t empty) → Atom NODE_ATTR_SET (leaf TOKEN_L_BRACE s f)
     rec_set : {f : Forest} {s t u : List ℕ} → Entries f (leaf TOKEN_R_BRACE u empty) → Atom NODE_ATTR_SET (leaf TOKEN_REC s (leaf TOKEN_L_BRACE t f))
     list : {f : Forest} {s : List ℕ} → Items f → Atom NODE_LIST (leaf TOKEN_L_BRACK s f)
@@ -146,10 +148,12 @@ mutual
   -- the rest of a pattern, which has been bound to a name or not, and whose entries so far have the names: no entry has a name again
   pub data Formals : Bool → List (List ℕ) → Forest → Type 0 where
     formals_end : {bound : Bool} {names : List (List ℕ)} {f : Forest} {s : List ℕ} → PatternEnd bound f → Formals bound names (leaf TOKEN_R_BRACE s f)
-    ellipsis : {bound : Bool} {names : List (List ℕ)} {f : Forest} {s t : List ℕ} → PatternEnd bound f → Formals bound names (leaf TOKEN_ELLIPSIS s (leaf TOKEN_R_BRACE t f))
+    ellipsis : {bound : Bool} {names : List (List ℕ)} {f : Forest} {s t : List ℕ} → PatternEnd bound f
+        → Formals bound names (leaf TOKEN_ELLIPSIS s (leaf TOKEN_R_BRACE t f))
     last_entry : {bound : Bool} {x : List ℕ} {names : List (List ℕ)} {c f : Forest} {s : List ℕ} → is_among x names ≡ false → Formal x c → PatternEnd bound f
         → Formals bound names (node NODE_PAT_ENTRY c (leaf TOKEN_R_BRACE s f))
-    entry_comma : {bound : Bool} {x : List ℕ} {names : List (List ℕ)} {c f : Forest} {s : List ℕ} → is_among x names ≡ false → Formal x c → Formals bound (x ∷ names) f
+    entry_comma : {bound : Bool} {x : List ℕ} {names : List (List ℕ)} {c f : Forest} {s : List ℕ} → is_among x names ≡ false → Formal x c
+        → Formals bound (x ∷ names) f
         → Formals bound names (node NODE_PAT_ENTRY c (leaf TOKEN_COMMA s f))
 
   -- an entry of a pattern: a name, or a name, `?` and an expression

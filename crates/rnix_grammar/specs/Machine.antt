@@ -143,34 +143,42 @@ open_on raw head inside row after f fs ts = opened head inside f.depth row ∷ (
 -- all that is left is nested too deep
 abbrev pub limited : Bool → Frame → List Frame → List Token → ℕ → List Fault → Machine
 limited raw f fs ts n es =
-    machine (put f.position (with_leading raw (with_leading raw f.row ts ⊕ one_fault TooDeep (run_row raw (seen raw ts) ts)) (run_rest raw (seen raw ts) ts)) f ∷ fs)
+    machine (put f.position (with_leading raw (with_leading raw f.row ts ⊕ one_fault TooDeep (run_row raw (seen raw ts) ts)) (run_rest raw (seen raw ts) ts)) f
+    ∷ fs)
     (past raw (run_rest raw (seen raw ts) ts)) (end_from n (seen raw ts)) (es ++ too_deep ∷ [])
 
 -- an operand begins with the next item, inside so many counted positions: f waits below
 abbrev pub begun : Bool → Begin → ℕ → ℕ → Token → Frame → List Frame → List Token → ℕ → List Fault → Machine
 begun raw (b.Leaf k) level d t f fs ts n es =
-    machine (opened Operand (p.AfterOperand level selection_level) d (one_branch k (leaf raw k ts)) ∷ (put f.position (with_leading raw f.row ts) f ∷ fs)) (behind raw ts) (item_end raw n ts) es
+    machine (opened Operand (p.AfterOperand level selection_level) d (one_branch k (leaf raw k ts)) ∷ (put f.position (with_leading raw f.row ts) f ∷ fs))
+    (behind raw ts) (item_end raw n ts) es
 begun raw (b.Node k left max_bp) level d t f fs ts n es =
-    machine (opened (Node k) (p.Left left) d (leaf raw k ts) ∷ (opened Operand (p.AfterOperand level max_bp) d blank ∷ (put f.position (with_leading raw f.row ts) f ∷ fs)))
+    machine (opened (Node k) (p.Left left) d (leaf raw k ts) ∷ (opened Operand (p.AfterOperand level max_bp) d blank
+    ∷ (put f.position (with_leading raw f.row ts) f ∷ fs)))
     (behind raw ts) (item_end raw n ts) es
 begun raw b.LegacyLet level d t f fs ts n es =
-    machine (opened (Node NODE_LEGACY_LET) (p.Left LEGACY_LET) d (with_leading raw (leaf raw NODE_LEGACY_LET ts) (behind raw ts) ⊕ leaf raw NODE_LEGACY_LET (behind raw ts))
+    machine (opened (Node NODE_LEGACY_LET) (p.Left LEGACY_LET) d (with_leading raw (leaf raw NODE_LEGACY_LET ts) (behind raw ts)
+    ⊕ leaf raw NODE_LEGACY_LET (behind raw ts))
     ∷ (opened Operand (p.AfterOperand level no_level) d blank ∷ (put f.position (with_leading raw f.row ts) f ∷ fs)))
     (behind raw (behind raw ts)) (item_end raw (item_end raw n ts) (behind raw ts)) es
 begun raw b.NameLambda level d t f fs ts n es =
     machine (opened (Node NODE_LAMBDA) (p.Left LAMBDA) d (one_branch NODE_IDENT_PARAM (one_branch NODE_IDENT (leaf raw NODE_IDENT ts)))
-    ∷ (opened Operand (p.AfterOperand level selection_level) d blank ∷ (put f.position (with_leading raw f.row ts) f ∷ fs))) (behind raw ts) (item_end raw n ts) es
+    ∷ (opened Operand (p.AfterOperand level selection_level) d blank ∷ (put f.position (with_leading raw f.row ts) f ∷ fs))) (behind raw ts)
+    (item_end raw n ts) es
 begun raw b.BoundLambda level d t f fs ts n es =
     machine (opened (Node NODE_PATTERN) (p.Left BOUND_PATTERN) d
     (one_branch NODE_PAT_BIND (with_leading raw (one_branch NODE_IDENT (leaf raw NODE_IDENT ts)) (behind raw ts) ⊕ leaf raw NODE_PAT_BIND (behind raw ts)))
-    ∷ (opened (Node NODE_LAMBDA) (p.Left LAMBDA) d blank ∷ (opened Operand (p.AfterOperand level selection_level) d blank ∷ (put f.position (with_leading raw f.row ts) f ∷ fs))))
+    ∷ (opened (Node NODE_LAMBDA) (p.Left LAMBDA) d blank ∷ (opened Operand (p.AfterOperand level selection_level) d blank
+    ∷ (put f.position (with_leading raw f.row ts) f ∷ fs))))
     (behind raw (behind raw ts)) (item_end raw (item_end raw n ts) (behind raw ts)) es
 begun raw b.PatternLambda level d t f fs ts n es =
     machine (opened (Node NODE_PATTERN) (p.Left PATTERN) d (leaf raw NODE_PATTERN ts)
-    ∷ (opened (Node NODE_LAMBDA) (p.Left LAMBDA) d blank ∷ (opened Operand (p.AfterOperand level selection_level) d blank ∷ (put f.position (with_leading raw f.row ts) f ∷ fs))))
+    ∷ (opened (Node NODE_LAMBDA) (p.Left LAMBDA) d blank ∷ (opened Operand (p.AfterOperand level selection_level) d blank
+    ∷ (put f.position (with_leading raw f.row ts) f ∷ fs))))
     (behind raw ts) (item_end raw n ts) es
 begun raw b.Stray level d t f fs ts n es =
-    machine (opened Operand (p.AfterOperand level selection_level) d (one_fault Stray (leaf raw NODE_ERROR ts)) ∷ (put f.position (with_leading raw f.row ts) f ∷ fs))
+    machine (opened Operand (p.AfterOperand level selection_level) d (one_fault Stray (leaf raw NODE_ERROR ts))
+    ∷ (put f.position (with_leading raw f.row ts) f ∷ fs))
     (behind raw ts) (item_end raw n ts) (es ++ report Stray (t ∷ []) ∷ [])
 
 -- an operand of a level, where f goes on behind it
@@ -180,7 +188,8 @@ operand_on raw level d f fs ts (t ∷ us) n es = begun raw (begin_of level t.kin
 
 -- an operand of a level, counted or not: a counted one only as deep as the limit
 abbrev pub reading : Bool → ℕ → Bool → Frame → List Frame → List Token → ℕ → List Fault → Machine
-reading raw level true f fs ts n es = if nat_le depth_limit f.depth then limited raw f fs ts n es else operand_on raw level (suc f.depth) f fs ts (seen raw ts) n es
+reading raw level true f fs ts n es = if nat_le depth_limit f.depth then limited raw f fs ts n es else operand_on raw level (suc f.depth) f fs ts
+    (seen raw ts) n es
 reading raw level false f fs ts n es = operand_on raw level f.depth f fs ts (seen raw ts) n es
 
 -- a step at the innermost frame
@@ -192,28 +201,37 @@ perform raw a.CloseDoubleBind f fs ts n es = closed f fs ts n (es ++ report Doub
 perform raw a.Finish f fs ts n es = machine (f ∷ fs) ts n es
 perform raw a.EndOperand f fs ts n es = closed f fs ts n es
 perform raw a.Extra f fs ts n es =
-    machine (put f.position (with_leading raw f.row ts ⊕ one_fault Extra (run_row raw (seen raw ts) ts)) f ∷ fs) (run_rest raw (seen raw ts) ts) (end_from n (seen raw ts))
+    machine (put f.position (with_leading raw f.row ts ⊕ one_fault Extra (run_row raw (seen raw ts) ts)) f ∷ fs) (run_rest raw (seen raw ts) ts)
+    (end_from n (seen raw ts))
     (es ++ report Extra (seen raw ts) ∷ [])
-perform raw (a.Take after) f fs ts n es = machine (put (p.Left after) (with_leading raw f.row ts ⊕ leaf raw (kind_of f.head) ts) f ∷ fs) (behind raw ts) (item_end raw n ts) es
+perform raw (a.Take after) f fs ts n es =
+    machine (put (p.Left after) (with_leading raw f.row ts ⊕ leaf raw (kind_of f.head) ts) f ∷ fs) (behind raw ts) (item_end raw n ts) es
 perform raw (a.Miss after) f fs ts n es = machine (put (p.Left after) f.row f ∷ fs) ts n (es ++ ended ∷ [])
 perform raw (a.MissWanted until after) f fs ts n es = machine (put (p.Left after) f.row f ∷ fs) ts n (es ++ ended_before (wanted_kinds until) ∷ [])
 perform raw (a.Run until after) f fs ts n es =
     machine (put (p.Left after) (with_leading raw f.row ts ⊕ one_fault (Unwanted until) (run_row raw (run_of until (seen raw ts)) ts)) f ∷ fs)
     (run_rest raw (run_of until (seen raw ts)) ts) (end_from n (run_of until (seen raw ts))) (es ++ report (Unwanted until) (run_of until (seen raw ts)) ∷ [])
-perform raw (a.Leaf k after) f fs ts n es = machine (put (p.Left after) (with_leading raw f.row ts ⊕ one_branch k (leaf raw k ts)) f ∷ fs) (behind raw ts) (item_end raw n ts) es
-perform raw (a.Open k inside after) f fs ts n es = machine (open_on raw (Node k) (p.Left inside) (leaf raw k ts) (p.Left after) f fs ts) (behind raw ts) (item_end raw n ts) es
+perform raw (a.Leaf k after) f fs ts n es =
+    machine (put (p.Left after) (with_leading raw f.row ts ⊕ one_branch k (leaf raw k ts)) f ∷ fs) (behind raw ts) (item_end raw n ts) es
+perform raw (a.Open k inside after) f fs ts n es =
+    machine (open_on raw (Node k) (p.Left inside) (leaf raw k ts) (p.Left after) f fs ts) (behind raw ts) (item_end raw n ts) es
 perform raw (a.Begin k inside after) f fs ts n es = machine (open_on raw (Node k) (p.Left inside) blank (p.Left after) f fs ts) (past raw ts) n es
 perform raw (a.Entry after) f fs ts n es =
-    machine (open_on raw (Node NODE_PAT_ENTRY) (p.Left PAT_ENTRY) (one_branch NODE_IDENT (leaf raw NODE_IDENT ts)) (p.Left after) f fs ts) (behind raw ts) (item_end raw n ts) es
-perform raw (a.DoubleBind after) f fs ts n es = machine (open_on raw SecondBind (p.Left SECOND_BIND) (leaf raw NODE_ERROR ts) (p.Left after) f fs ts) (behind raw ts) (item_end raw n ts) es
+    machine (open_on raw (Node NODE_PAT_ENTRY) (p.Left PAT_ENTRY) (one_branch NODE_IDENT (leaf raw NODE_IDENT ts)) (p.Left after) f fs ts) (behind raw ts)
+    (item_end raw n ts) es
+perform raw (a.DoubleBind after) f fs ts n es =
+    machine (open_on raw SecondBind (p.Left SECOND_BIND) (leaf raw NODE_ERROR ts) (p.Left after) f fs ts) (behind raw ts) (item_end raw n ts) es
 perform raw (a.Read level counted after) f fs ts n es = reading raw level counted (put (p.Left after) f.row f) fs ts n es
 perform raw (a.Wrap k inside max_bp) f fs ts n es =
-    machine (opened (Node k) inside f.depth (with_leading raw f.row ts ⊕ leaf raw k ts) ∷ (opened Operand (p.AfterOperand (min_bp_of f.position) max_bp) f.depth blank ∷ fs))
+    machine (opened (Node k) inside f.depth (with_leading raw f.row ts ⊕ leaf raw k ts)
+    ∷ (opened Operand (p.AfterOperand (min_bp_of f.position) max_bp) f.depth blank ∷ fs))
     (behind raw ts) (item_end raw n ts) es
 perform raw a.Apply f fs ts n es =
-    reading raw selection_level false (opened (Node NODE_APPLY) (p.Left APPLIED) f.depth f.row) (opened Operand (p.AfterOperand (min_bp_of f.position) application_level) f.depth blank ∷ fs) ts n es
+    reading raw selection_level false (opened (Node NODE_APPLY) (p.Left APPLIED) f.depth f.row)
+    (opened Operand (p.AfterOperand (min_bp_of f.position) application_level) f.depth blank ∷ fs) ts n es
 perform raw a.ApplyOr f fs ts n es =
-    machine (opened Operand (p.AfterOperand (min_bp_of f.position) application_level) f.depth (one_branch NODE_APPLY (with_leading raw f.row ts ⊕ one_branch NODE_IDENT (leaf raw NODE_IDENT ts))) ∷ fs)
+    machine (opened Operand (p.AfterOperand (min_bp_of f.position) application_level) f.depth
+    (one_branch NODE_APPLY (with_leading raw f.row ts ⊕ one_branch NODE_IDENT (leaf raw NODE_IDENT ts))) ∷ fs)
     (behind raw ts) (item_end raw n ts) es
 
 -- one step at the innermost frame, if there is one

@@ -49,8 +49,12 @@ pub record IsParsed (tokens : List Lexeme) (tree : Tree) (faults : List Fault) :
   -- without errors, no more expressions that count are inside one another than the limit
   pub nested : faults ≡ [] → nest NODE_ROOT (forget (without_trivia reading.annotated)) ≤ depth_limit
   -- an expression of the strict grammar that the items have, nested no deeper than the limit, is found: there are no errors, and the tree without trivia is it
-  pub found : (derivation : Forest) → IsDerivation derivation (items (placed_from 0 tokens)) → (faults ≡ []) × (forget (without_trivia reading.annotated) ≡ derivation)
+  pub found : (derivation : Forest) → IsDerivation derivation (items (placed_from 0 tokens)) → (faults ≡ [])
+      × (forget (without_trivia reading.annotated) ≡ derivation)
   -- without errors of the end of the text and without repeated names, the repaired tree is an expression of the strict grammar if it has no accepted extension
-  pub converse : ended_count faults ≡ 0 → Lacks is_repeated faults → has_no_extension NODE_ROOT (repaired (without_trivia reading.annotated)) ≡ true → IsExpression (repaired (without_trivia reading.annotated))
+  pub converse : ended_count faults ≡ 0 → Lacks is_repeated faults → has_no_extension NODE_ROOT (repaired (without_trivia reading.annotated)) ≡ true
+      → IsExpression (repaired (without_trivia reading.annotated))
   -- where the pieces of its paths touch, a text is read without errors and accepted extensions exactly if its items have a derivation
-  pub exactly : ArePaths (without_trivia reading.annotated) [] → ((faults ≡ []) × (has_no_extension NODE_ROOT (forget (without_trivia reading.annotated)) ≡ true)) ↔ ((derivation : Forest) × IsDerivation derivation (items (placed_from 0 tokens)))
+  pub exactly : ArePaths (without_trivia reading.annotated) [] → ((faults ≡ [])
+      × (has_no_extension NODE_ROOT (forget (without_trivia reading.annotated)) ≡ true))
+      ↔ ((derivation : Forest) × IsDerivation derivation (items (placed_from 0 tokens)))

@@ -47,7 +47,8 @@ pub record IsTriviaBetween (x y z : Forest) : Type 0 where
 
 -- Where one child holds a token, a later one the next, and only trivia stand between these, the trivia are children too.
 abbrev pub HasTriviaBetween : Forest → Type 0
-HasTriviaBetween c = (x y z : Forest) → c ≡ join x (join y z) → HasItem (last_leaves x) → AreTrivia (leaf_kinds y) → HasItem (first_leaves z) → IsTriviaBetween x y z
+HasTriviaBetween c = (x y z : Forest) → c ≡ join x (join y z) → HasItem (last_leaves x) → AreTrivia (leaf_kinds y) → HasItem (first_leaves z)
+    → IsTriviaBetween x y z
 
 -- and so for the children of each node
 abbrev pub HaveTriviaBetween : Forest → Type 0

@@ -43,7 +43,8 @@ element_of t es text n d h l =
     }
 
 -- so is one that was read
-pub element_read : (t : Tree) (es : List Packed) (text : List ℕ) (n : ℕ) (e : Packed) → IsKept t es text → n < length (items_of t) → e ≡ get_or es n e → IsElement t n e
+pub element_read : (t : Tree) (es : List Packed) (text : List ℕ) (n : ℕ) (e : Packed) → IsKept t es text → n < length (items_of t) → e ≡ get_or es n e
+    → IsElement t n e
 element_read t es text n e h l r = subst (IsElement t n) (sym r) (element_of t es text n e h l)
 
 -- whether it is a node
@@ -104,25 +105,30 @@ module _ (n s : ℕ) (p : Option ℕ) (k : SyntaxKind) (c f : Forest) (d : ℕ) 
 
   node_ends : EndsAtNext n s p (node k c f) 0 d
   node_ends =
-      sym (ap (λ z. get_or z (0 + 1 + element_count c) d) split ∙ behind_first s (xs ++ ys) (0 + 1 + element_count c) (element_count c) d (omega arith) ∙ get_or_row xs ys (element_count c) d (omega (arith, count))
+      sym (ap (λ z. get_or z (0 + 1 + element_count c) d) split ∙ behind_first s (xs ++ ys) (0 + 1 + element_count c) (element_count c) d (omega arith)
+      ∙ get_or_row xs ys (element_count c) d (omega (arith, count))
       ∙ get_or_past xs (element_count c) (get_or ys 0 d) (omega (arith, count)) ∙ next)
 
-  inner_ends : (m : ℕ) → m < element_count c → EndsAtNext (n + 1) s (Some n) c m (s + length (text_of c)) → at n s p (node k c f) (suc m) ≡ at (n + 1) s (Some n) c m
+  inner_ends : (m : ℕ) → m < element_count c → EndsAtNext (n + 1) s (Some n) c m (s + length (text_of c))
+      → at n s p (node k c f) (suc m) ≡ at (n + 1) s (Some n) c m
       → EndsAtNext n s p (node k c f) (suc m) d
   inner_ends m low h e =
       let b = (at (n + 1) s (Some n) c m).below in
       let fits : m + 1 + b ≤ length xs = omega (arith, count, below_fits (n + 1) s (Some n) c m low) in
       ap (λ (i : Item). i.end) e ∙ h ∙ ap (λ x. get_or xs (m + 1 + b) x) (sym next) ∙ sym (get_or_row xs ys (m + 1 + b) d fits)
-      ∙ sym (ap (λ z. get_or z (suc m + 1 + b) d) split ∙ behind_first s (xs ++ ys) (suc m + 1 + b) (m + 1 + b) d (omega arith)) ∙ ap (λ (i : Item). get_or (starts n s p (node k c f)) (suc m + 1 + i.below) d) (sym e)
+      ∙ sym (ap (λ z. get_or z (suc m + 1 + b) d) split ∙ behind_first s (xs ++ ys) (suc m + 1 + b) (m + 1 + b) d (omega arith))
+      ∙ ap (λ (i : Item). get_or (starts n s p (node k c f)) (suc m + 1 + i.below) d) (sym e)
 
   outer_ends : (m : ℕ) → element_count c ≤ m → EndsAtNext (n + 1 + element_count c) (s + length (text_of c)) p f (m - element_count c) d
-      → at n s p (node k c f) (suc m) ≡ at (n + 1 + element_count c) (s + length (text_of c)) p f (m - element_count c) → EndsAtNext n s p (node k c f) (suc m) d
+      → at n s p (node k c f) (suc m) ≡ at (n + 1 + element_count c) (s + length (text_of c)) p f (m - element_count c)
+      → EndsAtNext n s p (node k c f) (suc m) d
   outer_ends m high h e =
       let b = (at (n + 1 + element_count c) (s + length (text_of c)) p f (m - element_count c)).below in
       let same : m - element_count c + 1 + b ≡ m + 1 + b - element_count c = omega arith in
       ap (λ (i : Item). i.end) e ∙ h ∙ ap (λ x. get_or ys x d) same
       ∙ sym (get_or-append_right xs ys (element_count c) (m + 1 + b) d count (omega arith))
-      ∙ sym (ap (λ z. get_or z (suc m + 1 + b) d) split ∙ behind_first s (xs ++ ys) (suc m + 1 + b) (m + 1 + b) d (omega arith)) ∙ ap (λ (i : Item). get_or (starts n s p (node k c f)) (suc m + 1 + i.below) d) (sym e)
+      ∙ sym (ap (λ z. get_or z (suc m + 1 + b) d) split ∙ behind_first s (xs ++ ys) (suc m + 1 + b) (m + 1 + b) d (omega arith))
+      ∙ ap (λ (i : Item). get_or (starts n s p (node k c f)) (suc m + 1 + i.below) d) (sym e)
 
 -- an element ends where the next one behind it starts
 ends_at_next : (n s : ℕ) (p : Option ℕ) (f : Forest) (m d : ℕ) → m < element_count f → d ≡ s + length (text_of f) → EndsAtNext n s p f m d

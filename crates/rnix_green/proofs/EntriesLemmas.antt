@@ -180,7 +180,8 @@ built-token f text later s es more os st starts k x n h u short few is many le m
     (le ∙ ap (λ t. text ++ t) (sym (append-nil s))) (entries_push es more x (Leaf k (length s)) mo entry) (sta ∙ ap (λ m. st ++ m ∷ []) place)
 
 -- a builder with one more node, over one token
-pub built-leaf_node : (f : Forest) (text later s : List ℕ) (es both more : List Packed) (os : List Pending) (st starts : List ℕ) (i k : SyntaxKind) (x y : Packed)
+pub built-leaf_node : (f : Forest) (text later s : List ℕ) (es both more : List Packed) (os : List Pending) (st starts : List ℕ) (i k : SyntaxKind)
+    (x y : Packed)
     (n : ℕ) → IsBuilt f text (map entry_of es) os st → IsUtf8 s → length text + length s < limit → length es + 2 < limit → x ≡ packed k (length s) 0 0 →
     y ≡ packed i 0 0 2 → n ≡ length es → later ≡ text ++ s → both ≡ es ++ x ∷ [] → more ≡ both ++ y ∷ [] → starts ≡ st ++ n ∷ [] →
     IsBuilt (wrapped i (tree_count f) (with_leaf k s f)) later (map entry_of more) os starts
@@ -221,10 +222,18 @@ first_entry f text es os st p h =
 pub first_entry_le : (f : Forest) (text : List ℕ) (es : List Entry) (os : List Pending) (st : List ℕ) (p : ℕ) → IsBuilt f text es os st →
     get_or st p (length es) ≤ length es
 first_entry_le f text es os st p h =
-    omega (arith, first_entry f text es os st p h, ap length h.entries, length-post_of f, element_count-join (first_trees p f) (trees_after p f), ap element_count (join_first_after p f))
+    omega (
+      arith,
+      first_entry f text es os st p h,
+      ap length h.entries,
+      length-post_of f,
+      element_count-join (first_trees p f) (trees_after p f),
+      ap element_count (join_first_after p f),
+    )
 
 -- a builder whose innermost node is closed
-pub built-closed : (f : Forest) (text : List ℕ) (es more : List Packed) (os outer : List Pending) (st starts : List ℕ) (j first : ℕ) (o : Pending) (x : Packed) →
+pub built-closed : (f : Forest) (text : List ℕ) (es more : List Packed) (os outer : List Pending) (st starts : List ℕ) (j first : ℕ) (o : Pending) (x : Packed)
+    →
     IsBuilt f text (map entry_of es) os st → length es + 1 < limit → j + 1 ≡ length os → o ≡ get_or os j o → first ≡ element_count (first_trees o.place f) →
     x ≡ packed o.kind 0 0 (length es - first + 1) → more ≡ es ++ x ∷ [] → outer ≡ take j os → starts ≡ take o.place st ++ first ∷ [] →
     IsBuilt (wrapped o.kind o.place f) text (map entry_of more) outer starts
@@ -243,7 +252,8 @@ built-closed f text packs more os outer st starts j first o x h room e is fi new
     let below : length es - first ≡ element_count b = omega (arith, ap length h.entries, length-post_of f) in
     record {
       entries =
-          mo ∙ ap (λ n. es ++ Node o.kind n ∷ []) below ∙ ap (λ x. x ++ Node o.kind (element_count b) ∷ []) (h.entries ∙ ap entries_of (sym whole) ∙ entries_of-join a b)
+          mo ∙ ap (λ n. es ++ Node o.kind n ∷ []) below ∙ ap (λ x. x ++ Node o.kind (element_count b) ∷ [])
+          (h.entries ∙ ap entries_of (sym whole) ∙ entries_of-join a b)
           ∙ append_assoc (entries_of a) (entries_of b) (Node o.kind (element_count b) ∷ []) ∙ sym (entries_of-join a (node o.kind b empty));
       text_is =
           h.text_is ∙ ap text_of (sym whole) ∙ text_of-join a b
@@ -254,9 +264,16 @@ built-closed f text packs more os outer st starts j first o x h room e is fi new
           sta ∙ ap (λ x. take o.place x ++ first ∷ []) h.starts_are ∙ ap (λ x. x ++ first ∷ []) (take-starts_from 0 f o.place)
           ∙ ap (λ n. starts_from 0 a ++ n ∷ []) (fi ∙ (omega arith)) ∙ sym (starts_from-join 0 a (node o.kind b empty));
       counted =
-          omega (arith, ap length sta, length_push (take o.place st) first, length-take-le o.place st (omega (arith, h.counted, i.0)), tree_count-wrapped o.kind o.place f i.0);
+          omega (
+            arith,
+            ap length sta,
+            length_push (take o.place st) first,
+            length-take-le o.place st (omega (arith, h.counted, i.0)),
+            tree_count-wrapped o.kind o.place f i.0,
+          );
       nested =
-          rw ou (IsNested-weaker o.place (tree_count (wrapped o.kind o.place f)) (open_pairs (take j os)) (omega (arith, tree_count-wrapped o.kind o.place f i.0)) i.1);
+          rw ou (IsNested-weaker o.place (tree_count (wrapped o.kind o.place f)) (open_pairs (take j os))
+          (omega (arith, tree_count-wrapped o.kind o.place f i.0)) i.1);
       short = h.short;
       few = omega (arith, ap length mo, length_push es (Node o.kind (length es - first)));
     }

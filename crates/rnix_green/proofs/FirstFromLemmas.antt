@@ -13,7 +13,8 @@ starts_before offset e = nat_lt (place_in e) offset
 no_element : Packed
 no_element = packed TOKEN_ERROR 0 0 0
 
-module _ (t : Tree) (es : List Packed) (text : List ℕ) (kept : IsKept t es text) (from end offset : ℕ) (ordered : from ≤ end) (there : end ≤ length (items_of t)) where
+module _ (t : Tree) (es : List Packed) (text : List ℕ) (kept : IsKept t es text) (from end offset : ℕ) (ordered : from ≤ end)
+    (there : end ≤ length (items_of t)) where
   abbrev pub piece : List Packed
   piece = take (end - from) (drop from es)
 
@@ -42,7 +43,8 @@ module _ (t : Tree) (es : List Packed) (text : List ℕ) (kept : IsKept t es tex
       let low = below_true (place_in (get_or piece j d)) offset e in
       is_below (place_in (get_or piece i d)) offset (omega (arith, at_i, at_j, low, starts_in_order (from + i) (from + j) (omega arith) (omega (arith, size))))
 
-  module _ (k : ℕ) (bound : k ≤ length piece) (point : IsPartitionPoint (λ y. starts_before offset y ≡ true) (λ y. starts_before offset y ≡ false) piece k) where
+  module _ (k : ℕ) (bound : k ≤ length piece) (point : IsPartitionPoint (λ y. starts_before offset y ≡ true)
+      (λ y. starts_before offset y ≡ false) piece k) where
     pub before : (m : ℕ) → from ≤ m → m < from + k → (item t m).start < offset
     before m low high =
         let same : from + (m - from) ≡ m = omega arith in

@@ -50,7 +50,8 @@ inner_of t a l = go _ (part_there t a l) (one_there t a l)
               let step : m - a ≡ suc (m - (a + 1)) = omega arith in
               item_of_part t a m (node k c empty) h (omega arith) (omega arith)
               ∙ ap (λ i. at a h.start h.parent (node k c empty) i) step
-              ∙ elim (behind a h.start h.parent k c empty (m - (a + 1))) as (λ b. at a h.start h.parent (node k c empty) (suc (m - (a + 1))) ≡ at (a + 1) h.start (Some a) c (m - (a + 1))) [
+              ∙ elim (behind a h.start h.parent k c empty (m - (a + 1))) as (λ b. at a h.start h.parent (node k c empty) (suc (m - (a + 1))) ≡ at
+              (a + 1) h.start (Some a) c (m - (a + 1))) [
                 | inside less e ↦ e
                 | beyond more e ↦ absurd (omega arith)
               ];
@@ -70,13 +71,20 @@ held_by t a m parent is (of_node q e low) = record { parent = q; is = is ∙ e; 
 pub held : (t : Tree) (a m : ℕ) → a < length (items_of t) → a < m → m ≤ a + (item t a).below → IsHeld t a m
 held t a m l low high =
     let inner = inner_of t a l in
-    held_by t a m _ (ap (λ (i : Item). i.parent) (inner.items m low high)) (parented (a + 1) inner.start (Some a) inner.children (m - (a + 1)) (omega (arith, inner.count)))
+    held_by t a m _ (ap (λ (i : Item). i.parent) (inner.items m low high))
+    (parented (a + 1) inner.start (Some a) inner.children (m - (a + 1)) (omega (arith, inner.count)))
 
 -- what is inside an element ends where the element ends
 pub ends_inside : (t : Tree) (a m : ℕ) → a < length (items_of t) → a < m → m ≤ a + (item t a).below → m + (item t m).below ≤ a + (item t a).below
 ends_inside t a m l low high =
     let inner = inner_of t a l in
-    omega (arith, inner.count, ap (λ (i : Item). i.below) (inner.items m low high), below_fits (a + 1) inner.start (Some a) inner.children (m - (a + 1)) (omega (arith, inner.count)))
+    omega (
+      arith,
+      inner.count,
+      ap (λ (i : Item). i.below) (inner.items m low high),
+      below_fits (a + 1) inner.start (Some a) inner.children (m - (a + 1))
+          (omega (arith, inner.count)),
+    )
 
 -- the first element inside a is its child
 pub first_child_of : (t : Tree) (a : ℕ) → a < length (items_of t) → 0 < (item t a).below → (item t (a + 1)).parent ≡ Some a

@@ -57,7 +57,8 @@ forest_from-row whole n s p (node k c f) rest es e b l m =
     ∙ ap (join c) (forest_from-row whole (n + 1 + element_count c) (s + length (text_of c)) p f rest es later behind low (omega arith)) in
     let row = map kept_of (items_from (n + 1) s (Some n) c ++ items_from (n + 1 + element_count c) (s + length (text_of c)) p f) ++ es in
     let place = word_of s in
-    ap (λ x. tree_before x k (take (start_of_first whole row - place) (drop place whole)) (forest_from whole row)) (packed_again (suc (element_count c)) (omega arith))
+    ap (λ x. tree_before x k (take (start_of_first whole row - place) (drop place whole)) (forest_from whole row))
+    (packed_again (suc (element_count c)) (omega arith))
     ∙ ap (λ x. node k (first_elements (element_count c) x) (elements_after (element_count c) x)) all
     ∙ ap (λ x. node k x (elements_after (element_count c) (join c (join f (forest_from whole es))))) (first_elements-join c (join f (forest_from whole es)))
     ∙ ap (node k c) (elements_after-join c (join f (forest_from whole es)))
@@ -107,7 +108,8 @@ finished_kept (node k c (node j d f)) text es os st elements h o e = absurd (cc)
 
 -- and so beside a copy of the text
 pub copied_kept : (text cut copy : List ℕ) (entries : List Packed) (os : List Pending) (st : List ℕ) (elements : List Packed) → IsBuilder text entries os st →
-    is_one_node (made text entries) ≡ true → cut ≡ text → copy ≡ cut → elements ≡ kept_from 0 0 None (made cut entries) → IsKept (as_tree (made text entries)) elements copy
+    is_one_node (made text entries) ≡ true → cut ≡ text → copy ≡ cut → elements ≡ kept_from 0 0 None (made cut entries)
+    → IsKept (as_tree (made text entries)) elements copy
 copied_kept text cut copy entries os st elements h o c p e =
     subst (IsKept (as_tree (made text entries)) elements) (sym (p ∙ c))
     (finished_kept _ text _ os st elements h o (e ∙ ap (λ t. kept_from 0 0 None (made t entries)) c))
@@ -129,7 +131,8 @@ one_node_test empty h = absurd (omega arith)
 one_node_test (leaf k t empty) h = refl
 one_node_test (leaf k t (leaf j u f)) h = absurd (omega arith)
 one_node_test (leaf k t (node j c f)) h = absurd (omega arith)
-one_node_test (node k c empty) h = ap is_node_entry (sym (last_get (entries_of c) (Node k (element_count c)) _ (omega (arith, length-append (entries_of c) (Node k (element_count c) ∷ [])))))
+one_node_test (node k c empty) h = ap is_node_entry
+    (sym (last_get (entries_of c) (Node k (element_count c)) _ (omega (arith, length-append (entries_of c) (Node k (element_count c) ∷ [])))))
 one_node_test (node k c (leaf j u f)) h = absurd (omega arith)
 one_node_test (node k c (node j d f)) h = absurd (omega arith)
 

@@ -11,7 +11,8 @@ at n s p f i = get_or (items_from n s p f) i no_item
 -- behind a node: an element inside it, or one of the row behind it
 pub data Behind (n s : ℕ) (p : Option ℕ) (k : SyntaxKind) (c f : Forest) (i : ℕ) : Type 0 where
   inside : i < element_count c → at n s p (node k c f) (suc i) ≡ at (n + 1) s (Some n) c i → Behind n s p k c f i
-  beyond : element_count c ≤ i → at n s p (node k c f) (suc i) ≡ at (n + 1 + element_count c) (s + length (text_of c)) p f (i - element_count c) → Behind n s p k c f i
+  beyond : element_count c ≤ i → at n s p (node k c f) (suc i) ≡ at (n + 1 + element_count c) (s + length (text_of c)) p f (i - element_count c)
+      → Behind n s p k c f i
 
 -- an element after the first one, a node, stands inside it or behind it
 pub behind : (n s : ℕ) (p : Option ℕ) (k : SyntaxKind) (c f : Forest) (i : ℕ) → Behind n s p k c f i
@@ -54,7 +55,8 @@ parented n s p (node k c f) (suc i) l = elim (behind n s p k c f i) as (λ b. Pa
       subst (λ (x : Item). Parented n p x.parent) (sym e) (inner_parented n (n + 1) p _ (omega arith) (parented (n + 1) s (Some n) c i low))
   | beyond high e ↦
       subst (λ (x : Item). Parented n p x.parent) (sym e)
-      (later_parented n (n + 1 + element_count c) p _ (omega arith) (parented (n + 1 + element_count c) (s + length (text_of c)) p f (i - element_count c) (omega arith)))
+      (later_parented n (n + 1 + element_count c) p _ (omega arith) (parented (n + 1 + element_count c) (s + length (text_of c)) p f (i - element_count c)
+      (omega arith)))
 ]
 
 -- the row's parent is before the row
@@ -73,14 +75,16 @@ not_inside n m None parent l h same (of_node r e low) = cc
 not_inside n m (Some q) parent l h same (of_node r e low) = (let eq : q ≡ r = same_Some q r (sym same ∙ e) in omega arith)
 
 -- what stands behind an element of a row has the same parent
-pub next_parent : (n s : ℕ) (p : Option ℕ) (f : Forest) (i j : ℕ) → IsOutside n p → (at n s p f i).parent ≡ p → j ≡ i + 1 + (at n s p f i).below → j < element_count f
+pub next_parent : (n s : ℕ) (p : Option ℕ) (f : Forest) (i j : ℕ) → IsOutside n p → (at n s p f i).parent ≡ p → j ≡ i + 1 + (at n s p f i).below
+    → j < element_count f
     → (at n s p f j).parent ≡ p
 next_parent n s p empty i j out e is l = absurd (omega arith)
 next_parent n s p (leaf k t f) i zero out e is l = refl
 next_parent n s p (leaf k t f) zero (suc j) out e is l =
     let first : j ≡ 0 = omega arith in
     subst (λ x. (at (n + 1) (s + length t) p f x).parent ≡ p) (sym first) (first_parent (n + 1) (s + length t) p f (omega arith))
-next_parent n s p (leaf k t f) (suc i) (suc j) out e is l = next_parent (n + 1) (s + length t) p f i j (outside_later n (n + 1) p (omega arith) out) e (omega arith) (omega arith)
+next_parent n s p (leaf k t f) (suc i) (suc j) out e is l =
+    next_parent (n + 1) (s + length t) p f i j (outside_later n (n + 1) p (omega arith) out) e (omega arith) (omega arith)
 next_parent n s p (node k c f) i zero out e is l = refl
 next_parent n s p (node k c f) zero (suc j) out e is l =
     elim (behind n s p k c f j) as (λ b. (at n s p (node k c f) (suc j)).parent ≡ p) [
@@ -88,7 +92,8 @@ next_parent n s p (node k c f) zero (suc j) out e is l =
       | beyond high x ↦
           let first : j - element_count c ≡ 0 = omega arith in
           ap (λ (y : Item). y.parent) x
-          ∙ subst (λ z. (at (n + 1 + element_count c) (s + length (text_of c)) p f z).parent ≡ p) (sym first) (first_parent (n + 1 + element_count c) (s + length (text_of c)) p f (omega arith))
+          ∙ subst (λ z. (at (n + 1 + element_count c) (s + length (text_of c)) p f z).parent ≡ p) (sym first)
+          (first_parent (n + 1 + element_count c) (s + length (text_of c)) p f (omega arith))
     ]
 next_parent n s p (node k c f) (suc i) (suc j) out e is l =
     elim (behind n s p k c f i) as (λ b. (at n s p (node k c f) (suc j)).parent ≡ p) [
@@ -142,13 +147,15 @@ parent_over n s p (node k c f) (suc i) q l e =
             | inr h ↦ inr (deeper n s p k c f i q low h)
           ]
       | beyond high x ↦
-          elim (parent_over (n + 1 + element_count c) (s + length (text_of c)) p f (i - element_count c) q (omega arith) (sym (ap (λ (y : Item). y.parent) x) ∙ e)) [
+          elim (parent_over (n + 1 + element_count c) (s + length (text_of c)) p f (i - element_count c) q (omega arith)
+          (sym (ap (λ (y : Item). y.parent) x) ∙ e)) [
             | inl h ↦ inl h
             | inr h ↦ inr (further n s p k c f i q high h)
           ]
     ]
   where
-    deeper : (n s : ℕ) (p : Option ℕ) (k : SyntaxKind) (c f : Forest) (i q : ℕ) → i < element_count c → IsOver (n + 1) i q (Some n) s c → IsOver n (suc i) q p s (node k c f)
+    deeper : (n s : ℕ) (p : Option ℕ) (k : SyntaxKind) (c f : Forest) (i q : ℕ) → i < element_count c → IsOver (n + 1) i q (Some n) s c
+        → IsOver n (suc i) q p s (node k c f)
     deeper n s p k c f i q low h =
         let step : q - n ≡ suc (q - (n + 1)) = omega (arith, h.low) in
         let at_node = ap (λ z. (at n s p (node k c f) z).below) step in
@@ -172,6 +179,13 @@ parent_over n s p (node k c f) (suc i) q l e =
           | beyond more y ↦ record {
             low = omega (arith, h.low);
             high = omega (arith, h.high);
-            over = omega (arith, h.over, at_node, ap (λ (z : Item). z.below) y, ap (λ z. (at (n + 1 + element_count c) (s + length (text_of c)) p f z).below) same);
+            over = omega (
+              arith,
+              h.over,
+              at_node,
+              ap (λ (z : Item). z.below) y,
+              ap
+                  (λ z. (at (n + 1 + element_count c) (s + length (text_of c)) p f z).below) same,
+            );
           }
         ]

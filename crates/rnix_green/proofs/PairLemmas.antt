@@ -41,7 +41,8 @@ pair_read forest es left offset frames x y l z ex ey two none o w =
     let r = node_at forest es left offset (reverse frames) (drop (left + length frames) es) x fr 1 (omega arith) z ex two refl refl o w in
     let before = length-entries_before (left - 1) es (omega arith) in
     let inner : HasMore (fr ∷ reverse frames) (left - 1) = λ same. omega arith in
-    leaf_at forest es (left - 1) offset _ _ y (omega arith) (omega arith) ey none (subst (λ frs. HasMore frs (left - 1)) (sym (reverse-append frames (fr ∷ []))) inner)
+    leaf_at forest es (left - 1) offset _ _ y (omega arith) (omega arith) ey none
+    (subst (λ frs. HasMore frs (left - 1)) (sym (reverse-append frames (fr ∷ []))) inner)
     (node_framed forest es left offset frames _ fr z refl (r.work (omega (arith, before)) (omega (arith, length-reverse frames))))
 
 -- a node that has one token alone is placed with it

@@ -101,7 +101,8 @@ part_is_one n (leaf k t f) m l h =
     choice (m == n) (leaf k t empty) (part_of m (n + 1) f) (λ e. one_leaf k t)
     (λ e. let d : n < m = other m n e l in part_is_one (n + 1) f m (omega arith) (omega arith))
 part_is_one n (node k c f) m l h =
-    choice (m == n) (node k c empty) (if nat_lt m (n + 1 + element_count c) then part_of m (n + 1) c else part_of m (n + 1 + element_count c) f) (λ e. one_node k c)
+    choice (m == n) (node k c empty) (if nat_lt m (n + 1 + element_count c) then part_of m (n + 1) c else part_of m (n + 1 + element_count c) f)
+    (λ e. one_node k c)
     (λ e.
     let d : n < m = other m n e l in
     choice (nat_lt m (n + 1 + element_count c)) (part_of m (n + 1) c) (part_of m (n + 1 + element_count c) f)
@@ -148,7 +149,8 @@ pub children_between : (t : Tree) (m : ℕ) → m < length (items_of t) →
     siblings_between (items_of t) (m + 1) (m + 1 + (item t m).below) ≡ tree_numbers (m + 1) (children_in (part_at record { tree = t; number = m }))
 children_between t m l = go _ (part_there t m l) (one_there t m l)
   where
-    go : (part : Forest) → IsPart 0 m part (items_of t) → IsOne part → siblings_between (items_of t) (m + 1) (m + 1 + (item t m).below) ≡ tree_numbers (m + 1) (children_in part)
+    go : (part : Forest) → IsPart 0 m part (items_of t) → IsOne part
+        → siblings_between (items_of t) (m + 1) (m + 1 + (item t m).below) ≡ tree_numbers (m + 1) (children_in part)
     go _ h (one_leaf k u) =
         let b : suc 0 ≡ suc (item t m).below = below_of_part t m (leaf k u empty) h (one_leaf k u) in
         no_sibling (items_of t) (m + 1) (m + 1 + (item t m).below) (omega arith)

@@ -113,8 +113,10 @@ cut_from_piece text i p =
     let B : ℕ → Type 0 = λ n. IsCharBoundary text n in
     record {
       ordered = omega (arith, p.ends);
-      at_start = subst B (sym first) (IsCharBoundary-at_seam text p.before (p.inside ++ p.after) p.parts (IsUtf8-append p.inside p.after p.inside_text p.after_text));
-      at_end = subst B (sym last) (IsCharBoundary-at_seam text (p.before ++ p.inside) p.after (p.parts ∙ sym (append_assoc p.before p.inside p.after)) p.after_text);
+      at_start = subst B (sym first) (IsCharBoundary-at_seam text p.before (p.inside ++ p.after) p.parts
+          (IsUtf8-append p.inside p.after p.inside_text p.after_text));
+      at_end = subst B (sym last) (IsCharBoundary-at_seam text (p.before ++ p.inside) p.after
+          (p.parts ∙ sym (append_assoc p.before p.inside p.after)) p.after_text);
     }
 
 -- so can each element of a tree

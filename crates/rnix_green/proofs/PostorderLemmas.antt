@@ -20,7 +20,8 @@ pub entries_of-join : (f g : Forest) → entries_of (join f g) ≡ entries_of f 
 entries_of-join empty g = refl
 entries_of-join (leaf k t f) g = ap (λ x. Leaf k (length t) ∷ x) (entries_of-join f g)
 entries_of-join (node k c f) g =
-    ap (λ x. entries_of c ++ (Node k (element_count c) ∷ x)) (entries_of-join f g) ∙ sym (append_assoc (entries_of c) (Node k (element_count c) ∷ entries_of f) (entries_of g))
+    ap (λ x. entries_of c ++ (Node k (element_count c) ∷ x)) (entries_of-join f g)
+    ∙ sym (append_assoc (entries_of c) (Node k (element_count c) ∷ entries_of f) (entries_of g))
 
 -- the items of two rows
 pub items_from-join : (n s : ℕ) (p : Option ℕ) (f g : Forest) →
@@ -104,7 +105,8 @@ close_step forest prefix offset fr frs done w e = go w.current w.outer w.entries
           text = sym same;
           aligned = al.2;
           elements =
-              ap (λ o. around frs gs (kept_from (child_number frs) (text_left gs) (parent_number frs) g ++ (frame_kept fr o (parent_number frs) ∷ done))) (sym same)
+              ap (λ o. around frs gs (kept_from (child_number frs) (text_left gs) (parent_number frs) g ++ (frame_kept fr o (parent_number frs) ∷ done)))
+              (sym same)
               ∙ (rw none at it);
         }
 
@@ -133,13 +135,15 @@ leaf_step forest before offset frs done k n w o = go w.current w.outer (last_of 
         (sym (ap length (en ∙ append-nil (entries_left outer))) ∙ length_push before (Leaf k n)) o (omega arith))
     go _ outer (last_node g j c) en te al it =
         let e : before ++ Leaf k n ∷ [] ≡ (entries_left outer ++ (entries_of g ++ entries_of c)) ++ Node j (element_count c) ∷ [] =
-        en ∙ ap (λ x. entries_left outer ++ x) (entries_of-join g (node j c empty) ∙ sym (append_assoc (entries_of g) (entries_of c) (Node j (element_count c) ∷ [])))
+        en ∙ ap (λ x. entries_left outer ++ x) (entries_of-join g (node j c empty)
+        ∙ sym (append_assoc (entries_of g) (entries_of c) (Node j (element_count c) ∷ [])))
         ∙ sym (append_assoc (entries_left outer) (entries_of g ++ entries_of c) (Node j (element_count c) ∷ [])) in
         let two : Leaf k n ≡ Node j (element_count c) = (same_from_push _ _ _ _ e).1 in
         cc
     go _ outer (last_leaf g j t) en te al it =
         let e : before ++ Leaf k n ∷ [] ≡ (entries_left outer ++ entries_of g) ++ Leaf j (length t) ∷ [] =
-        en ∙ ap (λ x. entries_left outer ++ x) (entries_of-join g (leaf j t empty)) ∙ sym (append_assoc (entries_left outer) (entries_of g) (Leaf j (length t) ∷ [])) in
+        en ∙ ap (λ x. entries_left outer ++ x) (entries_of-join g (leaf j t empty))
+        ∙ sym (append_assoc (entries_left outer) (entries_of g) (Leaf j (length t) ∷ [])) in
         let same = same_from_push _ _ _ _ e in
         let last : Leaf k n ≡ Leaf j (length t) = same.1 in
         let kinds : j ≡ k = cc in
@@ -151,7 +155,8 @@ leaf_step forest before offset frs done k n w o = go w.current w.outer (last_of 
         let P : List Packed → Type 0 = λ es. around frs outer es ≡ kept_from 0 0 None forest in
         let xs = kept_from (child_number frs) (text_left outer) (parent_number frs) g in
         let par = parent_or_root (parent_number frs) in
-        let split : kept_from (child_number frs) (text_left outer) (parent_number frs) (join g (leaf j t empty)) ++ done ≡ xs ++ (packed k (offset - n) par 0 ∷ done) =
+        let split : kept_from (child_number frs) (text_left outer) (parent_number frs) (join g (leaf j t empty)) ++ done ≡ xs
+        ++ (packed k (offset - n) par 0 ∷ done) =
         ap (λ ys. ys ++ done) (kept_from-join (child_number frs) (text_left outer) (parent_number frs) g (leaf j t empty))
         ∙ append_assoc xs _ done
         ∙ ap (λ e. xs ++ (e ∷ done))
@@ -186,7 +191,8 @@ node_step forest before offset frs done fr b size w o = go w.current w.outer (la
         (sym (ap length (en ∙ append-nil (entries_left outer))) ∙ length_push before (Node fr.kind b)) o (omega arith))
     go _ outer (last_leaf g j t) en te al it =
         let e : before ++ Node fr.kind b ∷ [] ≡ (entries_left outer ++ entries_of g) ++ Leaf j (length t) ∷ [] =
-        en ∙ ap (λ x. entries_left outer ++ x) (entries_of-join g (leaf j t empty)) ∙ sym (append_assoc (entries_left outer) (entries_of g) (Leaf j (length t) ∷ [])) in
+        en ∙ ap (λ x. entries_left outer ++ x) (entries_of-join g (leaf j t empty))
+        ∙ sym (append_assoc (entries_left outer) (entries_of g) (Leaf j (length t) ∷ [])) in
         let two : Node fr.kind b ≡ Leaf j (length t) = (same_from_push _ _ _ _ e).1 in
         cc
     go _ outer (last_node g j c) en te al it =
@@ -200,7 +206,8 @@ node_step forest before offset frs done fr b size w o = go w.current w.outer (la
         let belows : element_count c ≡ b = cc in
         let counts : length before ≡ length (entries_left outer ++ entries_of g) + element_count c =
         omega (arith, ap length same.0, length-append (entries_left outer ++ entries_of g) (entries_of c), length-post_of c) in
-        let whole : offset ≡ text_left outer + length (text_of g ++ (text_of c ++ [])) = te ∙ ap (λ x. text_left outer + length x) (text_of-join g (node j c empty)) in
+        let whole : offset ≡ text_left outer + length (text_of g ++ (text_of c ++ [])) =
+        te ∙ ap (λ x. text_left outer + length x) (text_of-join g (node j c empty)) in
         let all : text_left outer + length (text_of g) + length (text_of c) ≡ offset =
         omega (arith, length-append (text_of g) (text_of c ++ []), length-append (text_of c) []) in
         let P : List Packed → Type 0 = λ es. around frs outer es ≡ kept_from 0 0 None forest in
@@ -252,7 +259,8 @@ start_work forest offset e = record {
 }
 
 -- where no entry is left all items are done
-pub end_work : (forest : Forest) (offset : ℕ) (frs : List Frame) (done : List Packed) → IsWork forest [] offset frs done → HasMore frs 0 → done ≡ kept_from 0 0 None forest
+pub end_work : (forest : Forest) (offset : ℕ) (frs : List Frame) (done : List Packed) → IsWork forest [] offset frs done → HasMore frs 0
+    → done ≡ kept_from 0 0 None forest
 end_work forest offset frs done w o =
     let none : length (entries_left w.outer ++ entries_of w.current) ≡ 0 = sym (ap length w.entries) in
     let shut : frs ≡ [] = no_frame frs w.outer w.aligned (omega (arith, length-append (entries_left w.outer) (entries_of w.current))) o in
@@ -312,7 +320,8 @@ pub node_at : (forest : Forest) (es : List Packed) (left offset : ℕ) (frs : Li
 node_at forest es left offset frs done x fr b l z e size kind same_size o w =
     let same : left ≡ length (entries_before (left - 1) es) + 1 = omega (arith, length-entries_before (left - 1) es (omega arith)) in
     let entry : entry_of x ≡ Node fr.kind b = node_entry x b size ∙ ap (λ k. Node k b) (sym kind) in
-    node_step forest (entries_before (left - 1) es) offset frs done fr b (same_size ∙ size) (rw (last_entry es left x l z e, entry) at w) (subst (HasMore frs) same o)
+    node_step forest (entries_before (left - 1) es) offset frs done fr b (same_size ∙ size) (rw (last_entry es left x l z e, entry) at w)
+    (subst (HasMore frs) same o)
 
 -- the innermost frame is closed
 pub close_at : (forest : Forest) (es : List Packed) (left offset : ℕ) (frames : List Frame) (done : List Packed) (fr : Frame) →
@@ -336,7 +345,8 @@ pub node_placed : (forest : Forest) (es : List Packed) (left offset i : ℕ) (fr
 node_placed forest es left offset i frames rest x fr l h r e is w =
     let some : 0 < length frames = omega (arith, ap length h.innermost, length-reverse frames) in
     let one : i + 1 ≡ left + length frames = omega (arith, e, ap length r, length-take-le (length frames - 1) frames (omega arith)) in
-    let closed : IsWork forest (entries_before left es) offset (reverse rest) (frame_kept fr offset (parent_number (reverse rest)) ∷ drop (left + length frames) es) =
+    let closed : IsWork forest (entries_before left es) offset (reverse rest)
+    (frame_kept fr offset (parent_number (reverse rest)) ∷ drop (left + length frames) es) =
     rw r (close_at forest es left offset frames (drop (left + length frames) es) fr (omega arith) h w) in
     subst (λ n. IsWork forest (entries_before left (set es i x)) offset (reverse rest) (drop n (set es i x))) e
     (placed forest es left offset i (reverse rest) x (omega arith) (omega arith) (rw (one, is) closed))
@@ -371,7 +381,8 @@ pub placed_all : (forest : Forest) (es : List Packed) (left offset depth : ℕ) 
 placed_all forest es left offset depth frs z d o w =
     let from : left + depth ≡ depth = omega arith in
     let last : IsWork forest [] offset frs (drop depth es) =
-    subst (λ n. IsWork forest (entries_before n es) offset frs (drop depth es)) z (subst (λ n. IsWork forest (entries_before left es) offset frs (drop n es)) from w) in
+    subst (λ n. IsWork forest (entries_before n es) offset frs (drop depth es)) z
+    (subst (λ n. IsWork forest (entries_before left es) offset frs (drop n es)) from w) in
     let more : HasMore frs 0 = subst (HasMore frs) z o in
     let none : depth ≡ 0 = d ∙ ap length (end_frames forest offset frs (drop depth es) last more) in
     ap (λ n. drop n es) (sym none) ∙ end_work forest offset frs (drop depth es) last more

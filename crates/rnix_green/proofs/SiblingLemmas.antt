@@ -85,5 +85,6 @@ passed_trees n s p (node k c f) rest =
     (passed (n + 1) (element_count c) (element_count c + element_count f) ((xs ++ ys) ++ rest)
     ∙ ap (λ l. passed_over (n + 1 + element_count c) 0 l (drop (element_count c) ((xs ++ ys) ++ rest))) left
     ∙ ap (λ is. passed_over (n + 1 + element_count c) 0 (element_count f) (drop (element_count c) is)) (append_assoc xs ys rest)
-    ∙ ap (λ is. passed_over (n + 1 + element_count c) 0 (element_count f) is) (drop_at xs (ys ++ rest) (element_count c) (length-items_from (n + 1) s (Some n) c))
+    ∙ ap (λ is. passed_over (n + 1 + element_count c) 0 (element_count f) is)
+    (drop_at xs (ys ++ rest) (element_count c) (length-items_from (n + 1) s (Some n) c))
     ∙ passed_trees (n + 1 + element_count c) (s + length (text_of c)) p f rest)

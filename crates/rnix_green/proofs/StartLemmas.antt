@@ -43,16 +43,17 @@ in_order n s p (leaf k t f) zero (suc j) l h =
 in_order n s p (leaf k t f) (suc i) (suc j) l h =
     let o = in_order (n + 1) (s + length t) p f i j (omega arith) (omega arith) in
     record { starts = o.starts; ends = λ x. o.ends (omega arith) }
-in_order n s p (node k c f) zero (suc j) l h = elim (behind n s p k c f j) as (λ b. IsBefore 0 (at n s p (node k c f) 0) (suc j) (at n s p (node k c f) (suc j))) [
-  | inside low e ↦
-      let b = in_text (n + 1) s (Some n) c j low in
-      let start = ap (λ (x : Item). x.start) e in
-      record { starts = omega (arith, start, b.low); ends = λ x. absurd (omega arith) }
-  | beyond high e ↦
-      let b = in_text (n + 1 + element_count c) (s + length (text_of c)) p f (j - element_count c) (omega arith) in
-      let start = ap (λ (x : Item). x.start) e in
-      record { starts = omega (arith, start, b.low); ends = λ x. omega (arith, start, b.low) }
-]
+in_order n s p (node k c f) zero (suc j) l h =
+    elim (behind n s p k c f j) as (λ b. IsBefore 0 (at n s p (node k c f) 0) (suc j) (at n s p (node k c f) (suc j))) [
+      | inside low e ↦
+          let b = in_text (n + 1) s (Some n) c j low in
+          let start = ap (λ (x : Item). x.start) e in
+          record { starts = omega (arith, start, b.low); ends = λ x. absurd (omega arith) }
+      | beyond high e ↦
+          let b = in_text (n + 1 + element_count c) (s + length (text_of c)) p f (j - element_count c) (omega arith) in
+          let start = ap (λ (x : Item). x.start) e in
+          record { starts = omega (arith, start, b.low); ends = λ x. omega (arith, start, b.low) }
+    ]
 in_order n s p (node k c f) (suc i) (suc j) l h =
     elim (behind n s p k c f i) as (λ b. IsBefore (suc i) (at n s p (node k c f) (suc i)) (suc j) (at n s p (node k c f) (suc j))) [
       | inside low e ↦
@@ -69,7 +70,8 @@ in_order n s p (node k c f) (suc i) (suc j) l h =
           elim (behind n s p k c f j) as (λ b. IsBefore (suc i) (at n s p (node k c f) (suc i)) (suc j) (at n s p (node k c f) (suc j))) [
             | inside less g ↦ absurd (omega arith)
             | beyond more g ↦
-                let o = in_order (n + 1 + element_count c) (s + length (text_of c)) p f (i - element_count c) (j - element_count c) (omega arith) (omega arith) in
+                let o = in_order (n + 1 + element_count c) (s + length (text_of c)) p f (i - element_count c) (j - element_count c) (omega arith)
+                (omega arith) in
                 shifted (element_count c) i j _ _ _ _ high more e g o
           ]
     ]

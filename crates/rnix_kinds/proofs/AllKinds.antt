@@ -27,7 +27,8 @@ pub every : (test : SyntaxKind → Bool) → list_all test all_kinds ≡ true �
 every test h k = ap test (sym (kind_at_place k TOKEN_ADD)) ∙ all_at test all_kinds (place_of k) TOKEN_ADD h (and_parts (test TOKEN_ADD) _ h).0
 
 -- so one test follows from another
-pub implied : (first second : SyntaxKind → Bool) → list_all (λ k. if first k then second k else true) all_kinds ≡ true → (k : SyntaxKind) → first k ≡ true → second k ≡ true
+pub implied : (first second : SyntaxKind → Bool) → list_all (λ k. if first k then second k else true) all_kinds ≡ true → (k : SyntaxKind) → first k ≡ true
+    → second k ≡ true
 implied first second h k e = sym (ap (λ w. if w then second k else true) e) ∙ every (λ k. if first k then second k else true) h k
 
 below : (m n : ℕ) → nat_lt m n ≡ true → m < n

@@ -137,7 +137,8 @@ kinds_of-number_of set = same_members _ _ (λ kind. has_bit (number_of set) kind
 
 -- sets are equal exactly if they have one number
 pub same_number-decides : (a b : KindSet) → Decides (same_number a b) (a ≡ b)
-same_number-decides a b = Decides-like (same_number a b) (λ e. sym (kinds_of-number_of a) ∙ ap kinds_of e ∙ kinds_of-number_of b) (ap number_of) (Decides-eqb (number_of a) (number_of b))
+same_number-decides a b = Decides-like (same_number a b) (λ e. sym (kinds_of-number_of a) ∙ ap kinds_of e ∙ kinds_of-number_of b) (ap number_of)
+    (Decides-eqb (number_of a) (number_of b))
 
 -- sets have one number exactly if they have the same members
 pub same_number-members : (a b : KindSet) → Decides (same_number a b) ((kind : SyntaxKind) → contains a kind ≡ contains b kind)

@@ -100,7 +100,8 @@ place_at n i [] d h l = absurd (omega arith)
 place_at n zero (k ∷ ks) d h l = (Decides-eqb (place_of k) n).0 (and_parts (place_of k == n) _ h).0 ∙ (omega arith)
 place_at n (suc i) (k ∷ ks) d h l = place_at (suc n) i ks d (and_parts (place_of k == n) _ h).1 (omega arith) ∙ (omega arith)
 
-all_at : (test : SyntaxKind → Bool) (kinds : List SyntaxKind) (i : ℕ) (d : SyntaxKind) → list_all test kinds ≡ true → i < length kinds → test (get_or kinds i d) ≡ true
+all_at : (test : SyntaxKind → Bool) (kinds : List SyntaxKind) (i : ℕ) (d : SyntaxKind) → list_all test kinds ≡ true → i < length kinds
+    → test (get_or kinds i d) ≡ true
 all_at test [] i d h l = absurd (omega arith)
 all_at test (k ∷ ks) zero d h l = (and_parts (test k) (list_all test ks) h).0
 all_at test (k ∷ ks) (suc i) d h l = all_at test ks i d (and_parts (test k) (list_all test ks) h).1 (omega arith)
@@ -132,7 +133,8 @@ number_of-kinds_of n low = same_from_bits_below kind_count (number_of (kinds_of 
     bits i l =
         let kind : SyntaxKind = get_or ALL i TOKEN_ADD in
         let place : place_of kind ≡ i = place_at 0 i ALL TOKEN_ADD refl l ∙ (omega arith) in
-        let all : set.contains (set_of ALL) kind ≡ true = contains-set_of ALL kind ∙ all_at (λ k. list_any (λ a. place_of k == place_of a) ALL) ALL i TOKEN_ADD refl l in
+        let all : set.contains (set_of ALL) kind ≡ true =
+        contains-set_of ALL kind ∙ all_at (λ k. list_any (λ a. place_of k == place_of a) ALL) ALL i TOKEN_ADD refl l in
         bit_at-number_of (kinds_of n) i TOKEN_ADD l
         ∙ ap as_bit (contains-kinds_of n kind ∙ ap (λ b. b && bit_at n (place_of kind) == 1) all ∙ ap (λ p. bit_at n p == 1) place)
         ∙ as_bit_back (bit_at n i) (bit_at-lt n i)

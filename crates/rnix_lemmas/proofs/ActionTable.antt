@@ -23,7 +23,8 @@ IsMissing r e s = (missing r ≡ Some (e, s)) × (expects_end r ≡ true)
 
 -- an operand of a level, counted or not, is read here, and s is left after it
 abbrev pub IsOperandHere : Row → Bool → Option SyntaxKind → ℕ → Bool → Row → Type 0
-IsOperandHere r touch next level counted s = (level_at r blank ≡ Some level) × (counts r ≡ counted) × (expects_next r touch next ≡ false) × (after r NODE_LITERAL ≡ s)
+IsOperandHere r touch next level counted s =
+    (level_at r blank ≡ Some level) × (counts r ≡ counted) × (expects_next r touch next ≡ false) × (after r NODE_LITERAL ≡ s)
 
 -- what is left of a row, whether the next item touches the one before, the next item, and what is done: this is allowed
 abbrev pub IsActionAt : Row → Bool → Option SyntaxKind → Action → Type 0
@@ -37,8 +38,10 @@ IsActionAt r touch (Some k) (a.Take y) = (expects_item r touch k ≡ true) × (a
 IsActionAt r touch None (a.Miss y) = IsMissing r ended (left_at y)
 IsActionAt r touch None (a.MissWanted until y) = IsMissing r (ended_before (wanted_kinds until)) (left_at y)
 IsActionAt r touch (Some k) (a.Run until y) = (expects_item r touch k ≡ false) × (is_wanted until k ≡ false) × (run_at r ≡ Some (wanted_kinds until, left_at y))
-IsActionAt r touch (Some j) (a.Leaf NODE_IDENT y) = IsNodeHere r touch (Some j) NODE_IDENT (left_at y) × (after (row NODE_IDENT) (leaf_kind_as NODE_IDENT j) ≡ done)
-IsActionAt r touch (Some j) (a.Open k z y) = IsNodeHere r touch (Some j) k (left_at y) × (is_front (row k) ≡ true) × (after (row k) (leaf_kind_as k j) ≡ left_at z)
+IsActionAt r touch (Some j) (a.Leaf NODE_IDENT y) =
+    IsNodeHere r touch (Some j) NODE_IDENT (left_at y) × (after (row NODE_IDENT) (leaf_kind_as NODE_IDENT j) ≡ done)
+IsActionAt r touch (Some j) (a.Open k z y) =
+    IsNodeHere r touch (Some j) k (left_at y) × (is_front (row k) ≡ true) × (after (row k) (leaf_kind_as k j) ≡ left_at z)
 IsActionAt r touch next (a.Begin k z y) = IsNodeHere r touch next k (left_at y) × (row k ≡ left_at z)
 IsActionAt r touch (Some j) (a.Entry y) = IsNodeHere r touch (Some j) NODE_PAT_ENTRY (left_at y) × (j ≡ TOKEN_IDENT)
 IsActionAt r touch (Some j) (a.DoubleBind y) = (r ≡ BoundAlready · done) × (j ≡ TOKEN_AT) × (left_at y ≡ done)

@@ -91,12 +91,14 @@ measure_there (p.AfterOperand min_bp max_bp) = (refl, refl, refl)
 measure_there (p.Right level) = (refl, refl, refl)
 
 -- a choice of two
-either : (position : Position) (next : Option SyntaxKind) (b : Bool) (x y : Action) → (b ≡ true → Allowed position next x) → (b ≡ false → Allowed position next y) → Allowed position next (if b then x else y)
+either : (position : Position) (next : Option SyntaxKind) (b : Bool) (x y : Action) → (b ≡ true → Allowed position next x)
+    → (b ≡ false → Allowed position next y) → Allowed position next (if b then x else y)
 either position next true x y h k = h refl
 either position next false x y h k = k refl
 
 -- where the text has ended
-ended : (slot : Option Slot) (i : ℕ) (touches : Bool) → begin_measure (p.Left i) ≡ begin_measure_in slot → SlotAgrees slot i → Allowed (p.Left i) None (slot_action slot i None touches)
+ended : (slot : Option Slot) (i : ℕ) (touches : Bool) → begin_measure (p.Left i) ≡ begin_measure_in slot → SlotAgrees slot i
+    → Allowed (p.Left i) None (slot_action slot i None touches)
 ended None i touches e w = (w.0, e)
 ended (Some (End NODE_PAT_ENTRY)) i touches e w = w.0
 ended (Some (End NODE_PATTERN)) i touches e w = w.0
@@ -122,13 +124,16 @@ same_sort : (bound : Bool) (i x y : ℕ) → frame_kind (p.Left x) ≡ Pattern �
 same_sort true i x y h k e = h ∙ sym e
 same_sort false i x y h k e = k ∙ sym e
 
-pattern_comma : (bound : Bool) (i : ℕ) → frame_kind (p.Left i) ≡ Pattern → frame_kind (p.Left (if bound then BOUND_AFTER_COMMA else AFTER_COMMA)) ≡ frame_kind (p.Left i)
+pattern_comma : (bound : Bool) (i : ℕ) → frame_kind (p.Left i) ≡ Pattern
+    → frame_kind (p.Left (if bound then BOUND_AFTER_COMMA else AFTER_COMMA)) ≡ frame_kind (p.Left i)
 pattern_comma bound i e = same_sort bound i BOUND_AFTER_COMMA AFTER_COMMA refl refl e
 
-pattern_formal : (bound : Bool) (i : ℕ) → frame_kind (p.Left i) ≡ Pattern → frame_kind (p.Left (if bound then BOUND_AFTER_FORMAL else AFTER_FORMAL)) ≡ frame_kind (p.Left i)
+pattern_formal : (bound : Bool) (i : ℕ) → frame_kind (p.Left i) ≡ Pattern
+    → frame_kind (p.Left (if bound then BOUND_AFTER_FORMAL else AFTER_FORMAL)) ≡ frame_kind (p.Left i)
 pattern_formal bound i e = same_sort bound i BOUND_AFTER_FORMAL AFTER_FORMAL refl refl e
 
-pattern_close : (bound : Bool) (i : ℕ) → frame_kind (p.Left i) ≡ Pattern → frame_kind (p.Left (if bound then BOUND_PATTERN_CLOSE else PATTERN_CLOSE)) ≡ frame_kind (p.Left i)
+pattern_close : (bound : Bool) (i : ℕ) → frame_kind (p.Left i) ≡ Pattern
+    → frame_kind (p.Left (if bound then BOUND_PATTERN_CLOSE else PATTERN_CLOSE)) ≡ frame_kind (p.Left i)
 pattern_close bound i e = same_sort bound i BOUND_PATTERN_CLOSE PATTERN_CLOSE refl refl e
 
 -- a token that is wanted
@@ -149,10 +154,12 @@ at_hand (Some (End _)) i kind touches e w = (w.0, e)
 at_hand (Some (Next (r.Operand level counted))) i kind touches e w = (w.1, w.2)
 at_hand (Some (Next r.Attrpath)) i kind touches e w = (w.1, refl, refl, ap is_open w.0, refl, omega (arith, w.4), λ n. omega (arith, w.4))
 at_hand (Some (Next (r.Many level closer))) i kind touches e w =
-    either (p.Left i) (Some kind) (same_kind closer kind) (a.Take (i + 1)) (a.Read level true i) (λ h. (refl, w.1, ap is_open w.0)) (λ h. (refl, ap (λ x. may_hold x OperandFrame) w.0))
+    either (p.Left i) (Some kind) (same_kind closer kind) (a.Take (i + 1)) (a.Read level true i) (λ h. (refl, w.1, ap is_open w.0))
+    (λ h. (refl, ap (λ x. may_hold x OperandFrame) w.0))
 at_hand (Some (Next (r.Entries closer))) i TOKEN_INHERIT touches e w = (refl, refl, refl, refl, ap is_open w.0)
 at_hand (Some (Next (r.Entries closer))) i kind touches e w =
-    either (p.Left i) (Some kind) (same_kind closer kind) (a.Take (i + 1)) _ (λ h. (refl, w.1, ap is_open w.0)) (λ h. (refl, refl, refl, ap is_open w.0, refl, omega (arith, e), λ n. absurd (cc)))
+    either (p.Left i) (Some kind) (same_kind closer kind) (a.Take (i + 1)) _ (λ h. (refl, w.1, ap is_open w.0))
+    (λ h. (refl, refl, refl, ap is_open w.0, refl, omega (arith, e), λ n. absurd (cc)))
 at_hand (Some (Next (r.Wanted NODE_IDENT))) i kind touches e w =
     each_kind (λ k. Allowed (p.Left i) (Some k) (slot_action (Some (Next (r.Wanted NODE_IDENT))) i (Some k) touches)) (assumption (w.1)) kind
 at_hand (Some (Next (r.Wanted _))) i kind touches e w = token_at _ i kind w.1 w.2 w.7
@@ -169,13 +176,17 @@ at_hand (Some (Next r.Comma)) i kind touches e w =
     each_kind (λ k. Allowed (p.Left i) (Some k) (slot_action (Some (Next r.Comma)) i (Some k) touches))
     (assumption (w.0, sym w.0, ap is_open w.0, w.1, pattern_comma b i w.0, pattern_formal b i w.0, pattern_close b i w.0)) kind
 at_hand (Some (Next (r.EndOr TOKEN_OR))) i kind touches e w =
-    each_kind (λ k. Allowed (p.Left i) (Some k) (slot_action (Some (Next (r.EndOr TOKEN_OR))) i (Some k) touches)) (assumption (w.0, ap is_open w.0, w.1, e)) kind
+    each_kind (λ k. Allowed (p.Left i) (Some k) (slot_action (Some (Next (r.EndOr TOKEN_OR))) i (Some k) touches))
+    (assumption (w.0, ap is_open w.0, w.1, e)) kind
 at_hand (Some (Next (r.EndOr TOKEN_QUESTION))) i kind touches e w =
-    each_kind (λ k. Allowed (p.Left i) (Some k) (slot_action (Some (Next (r.EndOr TOKEN_QUESTION))) i (Some k) touches)) (assumption (w.0, ap is_open w.0, w.1)) kind
+    each_kind (λ k. Allowed (p.Left i) (Some k) (slot_action (Some (Next (r.EndOr TOKEN_QUESTION))) i (Some k) touches))
+    (assumption (w.0, ap is_open w.0, w.1)) kind
 at_hand (Some (Next (r.EndOr NODE_INTERPOL))) i kind touches e w =
-    each_kind (λ k. Allowed (p.Left i) (Some k) (slot_action (Some (Next (r.EndOr NODE_INTERPOL))) i (Some k) touches)) (assumption (w.0, ap is_open w.0, w.1, e)) kind
+    each_kind (λ k. Allowed (p.Left i) (Some k) (slot_action (Some (Next (r.EndOr NODE_INTERPOL))) i (Some k) touches))
+    (assumption (w.0, ap is_open w.0, w.1, e)) kind
 at_hand (Some (Next (r.EndOr NODE_PAT_BIND))) i kind touches e w =
-    each_kind (λ k. Allowed (p.Left i) (Some k) (slot_action (Some (Next (r.EndOr NODE_PAT_BIND))) i (Some k) touches)) (assumption (w.0, ap is_open w.0, w.1)) kind
+    each_kind (λ k. Allowed (p.Left i) (Some k) (slot_action (Some (Next (r.EndOr NODE_PAT_BIND))) i (Some k) touches))
+    (assumption (w.0, ap is_open w.0, w.1)) kind
 at_hand (Some (Next (r.EndOr _))) i kind touches e w = (w.0, e)
 at_hand (Some (Next r.PathPieces)) i kind true e w =
     each_kind (λ k. Allowed (p.Left i) (Some k) (slot_action (Some (Next r.PathPieces)) i (Some k) true)) (assumption (w.0, sym w.0, ap is_open w.0, e)) kind
@@ -183,7 +194,8 @@ at_hand (Some (Next r.PathPieces)) i kind false e w =
     each_kind (λ k. Allowed (p.Left i) (Some k) (slot_action (Some (Next r.PathPieces)) i (Some k) false)) (assumption (w.0, sym w.0, ap is_open w.0, e)) kind
 at_hand (Some (Next r.TextEnd)) i kind touches e w = (refl, w.0)
 at_hand (Some (Next part)) i kind touches e w =
-    each_kind (λ k. Allowed (p.Left i) (Some k) (slot_action (Some (Next part)) i (Some k) touches)) (assumption (w.0, sym w.0, ap is_open w.0, w.1, w.2, e)) kind
+    each_kind (λ k. Allowed (p.Left i) (Some k) (slot_action (Some (Next part)) i (Some k) touches))
+    (assumption (w.0, sym w.0, ap is_open w.0, w.1, w.2, e)) kind
 
 -- at each position
 pub allowed : (position : Position) (next : Option SyntaxKind) (touches : Bool) → Allowed position next (action_at position next touches)

@@ -36,7 +36,8 @@ let_is : (second : Option SyntaxKind) → kind_of (begin_let second) ≡ first_k
 let_is = each_next (λ second. kind_of (begin_let second) ≡ first_kind_of_let second) refl (assumption)
 
 -- an operand
-pub beginning_is : (n : ℕ) (k : SyntaxKind) (text : List ℕ) (second third : Option SyntaxKind) → kind_of (begin_of n k text second third) ≡ first_kind n k text second third
+pub beginning_is : (n : ℕ) (k : SyntaxKind) (text : List ℕ) (second third : Option SyntaxKind)
+    → kind_of (begin_of n k text second third) ≡ first_kind n k text second third
 beginning_is n k text second third = each_kind (λ k. kind_of (begin_of n k text second third) ≡ first_kind n k text second third) (assumption (
   no_kind (nat_eq n expression_level),
   name_is text second,

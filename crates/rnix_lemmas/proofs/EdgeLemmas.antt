@@ -59,4 +59,5 @@ faults_trimmed-⊕ (fault n c f) g h k = (h.0, h.1, h.2, faults_trimmed-⊕ f g 
 -- trivia have no error nodes
 pub faults_trimmed_trivia : (ts : List Token) → AreFaultsTrimmed (trivia_before ts)
 faults_trimmed_trivia [] = tt
-faults_trimmed_trivia (t ∷ ts) = elim (is_trivia t.kind) as (λ x. AreFaultsTrimmed (trivia_if x t (trivia_before ts))) [ true ↦ faults_trimmed_trivia ts | false ↦ tt ]
+faults_trimmed_trivia (t ∷ ts) = elim (is_trivia t.kind) as (λ x. AreFaultsTrimmed
+    (trivia_if x t (trivia_before ts))) [ true ↦ faults_trimmed_trivia ts | false ↦ tt ]

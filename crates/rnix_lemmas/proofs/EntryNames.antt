@@ -9,7 +9,8 @@ name_of_items NODE_PAT_ENTRY c = entry_name c
 name_of_items k c = None
 
 -- a node may be an entry of the name
-pub has_branch : (name : List ℕ) (k : SyntaxKind) (c f : AnnotatedForest) → has_entry name (branch k c f) ≡ (if is_same_name name (name_of_items k c) then true else has_entry name f)
+pub has_branch : (name : List ℕ) (k : SyntaxKind) (c f : AnnotatedForest)
+    → has_entry name (branch k c f) ≡ (if is_same_name name (name_of_items k c) then true else has_entry name f)
 has_branch name NODE_PAT_ENTRY c f = refl
 has_branch name _ c f = refl
 

@@ -19,12 +19,16 @@ pub follows_by : (j : SyntaxKind) (x : AnnotatedForest) → follows j x ≡ true
 follows_by j x h = by (is_infix j) (is_question j) (is_fn_arg j) (is_dot j || is_or j) refl refl refl refl h
   where
     by : (a b c d : Bool) → is_infix j ≡ a → is_question j ≡ b → is_fn_arg j ≡ c → (is_dot j || is_or j) ≡ d
-        → (if a then nat_le (left_of j) (row_level x) else (if b then nat_le 13 (row_level x) else (if c then nat_le 15 (row_level x) else (d && is_atom_row x)))) ≡ true
+        → (if a then nat_le (left_of j) (row_level x) else (if b then nat_le 13
+        (row_level x) else (if c then nat_le 15 (row_level x) else (d && is_atom_row x)))) ≡ true
         → Follows j (row_level x) (is_atom_row x)
     by true b c d e f g k h = by_operator e (at_most (left_of j) (row_level x) h)
-    by false true c d e f g k h = by_question (same_number (binding_power j) 13 (implied is_question (λ o. nat_eq (binding_power o) 13) refl j f)) (at_most 13 (row_level x) h)
-    by false false true d e f g k h = by_argument (same_number (binding_power j) 15 (implied is_fn_arg (λ o. nat_eq (binding_power o) 15) refl j g)) (at_most 15 (row_level x) h)
-    by false false false true e f g k h = by_name (same_number (binding_power j) 16 (implied (λ o. is_dot o || is_or o) (λ o. nat_eq (binding_power o) 16) refl j k)) h
+    by false true c d e f g k h = by_question (same_number (binding_power j) 13 (implied is_question (λ o. nat_eq (binding_power o) 13) refl j f))
+        (at_most 13 (row_level x) h)
+    by false false true d e f g k h = by_argument (same_number (binding_power j) 15 (implied is_fn_arg (λ o. nat_eq (binding_power o) 15) refl j g))
+        (at_most 15 (row_level x) h)
+    by false false false true e f g k h =
+        by_name (same_number (binding_power j) 16 (implied (λ o. is_dot o || is_or o) (λ o. nat_eq (binding_power o) 16) refl j k)) h
     by false false false false e f g k h = absurd (true_is_not_false (sym h))
 
 -- an atom is as tight as any operator wants
@@ -51,7 +55,8 @@ follows_level i x h = by (follows_by i x h) refl refl
 
 -- What goes on with a tree is what binds no tighter than the level.
 abbrev pub FollowedTo : ℕ → AnnotatedForest → Type 0
-FollowedTo max_bp x = (j : SyntaxKind) → ((1 ≤ binding_power j → binding_power j ≤ max_bp → follows j x ≡ true) × (follows j x ≡ true → (1 ≤ binding_power j) × (binding_power j ≤ max_bp)))
+FollowedTo max_bp x = (j : SyntaxKind) → ((1 ≤ binding_power j → binding_power j ≤ max_bp → follows j x ≡ true)
+    × (follows j x ≡ true → (1 ≤ binding_power j) × (binding_power j ≤ max_bp)))
 
 -- an item of the kind may go on with a tree of the level, which is an atom or is not
 abbrev pub goes_after : SyntaxKind → ℕ → Bool → Bool
@@ -73,9 +78,11 @@ both_ways p max_bp false h = (
 )
 
 -- what is so of all kinds says what goes on with a tree of the level
-pub followed_by : (level : ℕ) (atom : Bool) (max_bp : ℕ) → list_all (is_followed level atom max_bp) all_kinds ≡ true → (x : AnnotatedForest) → row_level x ≡ level → is_atom_row x ≡ atom → FollowedTo max_bp x
+pub followed_by : (level : ℕ) (atom : Bool) (max_bp : ℕ) → list_all (is_followed level atom max_bp) all_kinds ≡ true → (x : AnnotatedForest)
+    → row_level x ≡ level → is_atom_row x ≡ atom → FollowedTo max_bp x
 followed_by level atom max_bp h x e f j =
-    both_ways (binding_power j) max_bp (follows j x) (subst (λ (a : Bool). is_followed (row_level x) a max_bp j ≡ true) (sym f) (subst (λ (l : ℕ). is_followed l atom max_bp j ≡ true) (sym e) (every (is_followed level atom max_bp) h j)))
+    both_ways (binding_power j) max_bp (follows j x) (subst (λ (a : Bool). is_followed (row_level x) a max_bp j ≡ true) (sym f)
+    (subst (λ (l : ℕ). is_followed l atom max_bp j ≡ true) (sym e) (every (is_followed level atom max_bp) h j)))
 
 -- an atom, or an error node
 pub followed_atom : (x : AnnotatedForest) → row_level x ≡ 16 → is_atom_row x ≡ true → FollowedTo 16 x
@@ -106,8 +113,10 @@ pub followed_keyword : (x : AnnotatedForest) → row_level x ≡ 0 → is_atom_r
 followed_keyword = followed_by 0 false 0 refl
 
 -- a binary operator with its operands
-pub followed_infix : (k : SyntaxKind) → is_infix k ≡ true → (x : AnnotatedForest) → row_level x ≡ binding_power k → is_atom_row x ≡ false → FollowedTo (max_bp_of k) x
-followed_infix k h = followed_by (binding_power k) false (max_bp_of k) (implied is_infix (λ i. list_all (is_followed (binding_power i) false (max_bp_of i)) all_kinds) refl k h)
+pub followed_infix : (k : SyntaxKind) → is_infix k ≡ true → (x : AnnotatedForest) → row_level x ≡ binding_power k → is_atom_row x ≡ false
+    → FollowedTo (max_bp_of k) x
+followed_infix k h = followed_by (binding_power k) false (max_bp_of k)
+    (implied is_infix (λ i. list_all (is_followed (binding_power i) false (max_bp_of i)) all_kinds) refl k h)
 
 -- no item goes on with a lone token
 pub follows_token : (i k : SyntaxKind) (t : Token) (f : AnnotatedForest) → follows i (token k t f) ≡ true → ⊥

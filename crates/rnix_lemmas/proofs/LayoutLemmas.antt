@@ -20,7 +20,8 @@ pub from_item-from_item : (ts : List Token) → from_item (from_item ts) ≡ fro
 from_item-from_item [] = refl
 from_item-from_item (t ∷ ts) = advance (from_item-from_item ts) (is_trivia t.kind) refl
   where
-    advance : from_item (from_item ts) ≡ from_item ts → (x : Bool) → is_trivia t.kind ≡ x → from_item (from_item_if x t ts (from_item ts)) ≡ from_item_if x t ts (from_item ts)
+    advance : from_item (from_item ts) ≡ from_item ts → (x : Bool) → is_trivia t.kind ≡ x
+        → from_item (from_item_if x t ts (from_item ts)) ≡ from_item_if x t ts (from_item ts)
     advance ih true e = ih
     advance ih false e = ap (λ y. from_item_if y t ts (from_item ts)) e
 
@@ -43,7 +44,8 @@ items-from_item ts = items-view (from_item ts) ∙ ap items_head (from_item-from
 pub items-++ : (xs ys : List Token) → items (xs ++ ys) ≡ items xs ++ items ys
 items-++ [] ys = refl
 items-++ (x ∷ xs) ys =
-    elim (is_trivia x.kind) as (λ z. item_if z x (items (xs ++ ys)) ≡ item_if z x (items xs) ++ items ys) [ true ↦ items-++ xs ys | false ↦ ap (λ z. x ∷ z) (items-++ xs ys) ]
+    elim (is_trivia x.kind) as (λ z. item_if z x (items (xs ++ ys)) ≡ item_if z x (items xs)
+    ++ items ys) [ true ↦ items-++ xs ys | false ↦ ap (λ z. x ∷ z) (items-++ xs ys) ]
 
 -- the first item, and what comes behind it
 pub record IsFirst (t : Token) (us ts : List Token) : Type 0 where
@@ -64,7 +66,8 @@ pub from_item_item : (ts : List Token) (t : Token) (us : List Token) → from_it
 from_item_item [] t us e = absurd (cc)
 from_item_item (x ∷ xs) t us e = advance (from_item_item xs t us) (is_trivia x.kind) refl e
   where
-    advance : (from_item xs ≡ t ∷ us → is_trivia t.kind ≡ false) → (y : Bool) → is_trivia x.kind ≡ y → from_item_if y x xs (from_item xs) ≡ t ∷ us → is_trivia t.kind ≡ false
+    advance : (from_item xs ≡ t ∷ us → is_trivia t.kind ≡ false) → (y : Bool) → is_trivia x.kind ≡ y → from_item_if y x xs (from_item xs) ≡ t ∷ us
+        → is_trivia t.kind ≡ false
     advance ih true h e = ih e
     advance ih false h e = let same : x ≡ t = cc in ap (λ z. is_trivia z.kind) (sym same) ∙ h
 
@@ -78,7 +81,8 @@ first_item t us ts e =
 pub without_trivia-⊕ : (f g : AnnotatedForest) → without_trivia (f ⊕ g) ≡ without_trivia f ⊕ without_trivia g
 without_trivia-⊕ blank g = refl
 without_trivia-⊕ (token k t f) g =
-    elim (is_trivia t.kind) as (λ x. token_if x k t (without_trivia (f ⊕ g)) ≡ token_if x k t (without_trivia f) ⊕ without_trivia g) [ true ↦ without_trivia-⊕ f g | false ↦ ap (token k t) (without_trivia-⊕ f g) ]
+    elim (is_trivia t.kind) as (λ x. token_if x k t (without_trivia (f ⊕ g)) ≡ token_if x k t (without_trivia f)
+    ⊕ without_trivia g) [ true ↦ without_trivia-⊕ f g | false ↦ ap (token k t) (without_trivia-⊕ f g) ]
 without_trivia-⊕ (branch k c f) g = ap (branch k (without_trivia c)) (without_trivia-⊕ f g)
 without_trivia-⊕ (fault n c f) g = ap (fault n (without_trivia c)) (without_trivia-⊕ f g)
 
@@ -117,7 +121,8 @@ bared (token k t f) ts us e =
     let w : IsFirst t (tokens_in f ++ us) ts = first_item t (tokens_in f ++ us) ts e in
     let ih = bared f (tail_of (from_item ts)) us w.left in
     record {
-      same = without_trivia-behind ts (token k t (with_trivia f (tail_of (from_item ts)))) ∙ ap (λ x. token_if x k t (without_trivia (with_trivia f (tail_of (from_item ts))))) w.item ∙ ap (token k t) ih.same;
+      same = without_trivia-behind ts (token k t (with_trivia f (tail_of (from_item ts))))
+          ∙ ap (λ x. token_if x k t (without_trivia (with_trivia f (tail_of (from_item ts))))) w.item ∙ ap (token k t) ih.same;
       left = ih.left;
     }
 bared (branch k c f) ts us e =
@@ -138,7 +143,8 @@ bared (fault n c f) ts us e =
       same =
           without_trivia-behind ts (fault n (with_trivia c (from_item ts)) (trivia_after (is_last n) rest ⊕ later))
           ∙ ap (λ x. fault n x (without_trivia (trivia_after (is_last n) rest ⊕ later))) inside.same
-          ∙ ap (fault n c) (without_trivia-⊕ (trivia_after (is_last n) rest) later ∙ ap (λ x. x ⊕ without_trivia later) (without_trivia-trivia_after (is_last n) rest) ∙ behind.same);
+          ∙ ap (fault n c) (without_trivia-⊕ (trivia_after (is_last n) rest) later
+          ∙ ap (λ x. x ⊕ without_trivia later) (without_trivia-trivia_after (is_last n) rest) ∙ behind.same);
       left = behind.left;
     }
 
@@ -171,7 +177,8 @@ with_trivia_tokens (branch k c f) ts us e =
     let rest = left_after c (from_item ts) in
     behind_trivia ts (left_after f rest) (branch k (with_trivia c (from_item ts)) (with_trivia f rest))
     (append_assoc (tokens_in (with_trivia c (from_item ts))) (tokens_in (with_trivia f rest)) (left_after f rest)
-    ∙ ap (λ x. tokens_in (with_trivia c (from_item ts)) ++ x) (with_trivia_tokens f rest us inside.left) ∙ with_trivia_tokens c (from_item ts) (tokens_in f ++ us) all)
+    ∙ ap (λ x. tokens_in (with_trivia c (from_item ts)) ++ x) (with_trivia_tokens f rest us inside.left)
+    ∙ with_trivia_tokens c (from_item ts) (tokens_in f ++ us) all)
 with_trivia_tokens (fault n c f) ts us e =
     let all : items (from_item ts) ≡ tokens_in c ++ (tokens_in f ++ us) = items-from_item ts ∙ e ∙ append_assoc (tokens_in c) (tokens_in f) us in
     let inside = bared c (from_item ts) (tokens_in f ++ us) all in
@@ -231,7 +238,8 @@ trivia_after_leaf_kinds p false ts = tt
 pub with_trivia_leaf_kinds : (p : SyntaxKind) (f : AnnotatedForest) (ts : List Token) → HaveLeafKinds p f → HaveLeafKinds p (with_trivia f ts)
 with_trivia_leaf_kinds p blank ts h = tt
 with_trivia_leaf_kinds p (token k t f) ts h =
-    leaf_kind-⊕ p (trivia_before ts) (token k t (with_trivia f (tail_of (from_item ts)))) (trivia_leaf_kinds p ts) (h.0, with_trivia_leaf_kinds p f (tail_of (from_item ts)) h.1)
+    leaf_kind-⊕ p (trivia_before ts) (token k t (with_trivia f (tail_of (from_item ts)))) (trivia_leaf_kinds p ts)
+    (h.0, with_trivia_leaf_kinds p f (tail_of (from_item ts)) h.1)
 with_trivia_leaf_kinds p (branch k c f) ts h =
     leaf_kind-⊕ p (trivia_before ts) (branch k (with_trivia c (from_item ts)) (with_trivia f (left_after c (from_item ts)))) (trivia_leaf_kinds p ts)
     (with_trivia_leaf_kinds k c (from_item ts) h.0, with_trivia_leaf_kinds p f (left_after c (from_item ts)) h.1)
@@ -240,5 +248,6 @@ with_trivia_leaf_kinds p (fault n c f) ts h =
     let later = with_trivia f (rest_after (is_last n) rest) in
     leaf_kind-⊕ p (trivia_before ts) (fault n (with_trivia c (from_item ts)) (trivia_after (is_last n) rest ⊕ later)) (trivia_leaf_kinds p ts) (
       with_trivia_leaf_kinds NODE_ERROR c (from_item ts) h.0,
-      leaf_kind-⊕ p (trivia_after (is_last n) rest) later (trivia_after_leaf_kinds p (is_last n) rest) (with_trivia_leaf_kinds p f (rest_after (is_last n) rest) h.1),
+      leaf_kind-⊕ p (trivia_after (is_last n) rest) later (trivia_after_leaf_kinds p (is_last n) rest)
+          (with_trivia_leaf_kinds p f (rest_after (is_last n) rest) h.1),
     )

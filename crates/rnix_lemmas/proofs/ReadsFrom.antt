@@ -33,7 +33,8 @@ pub plain_from : {p k : SyntaxKind} {d n m : ℕ} {q r s u : Row} {b c f : Annot
     → IsExpected q n ws (is_first_expected q k c) → IsFollowed q b (head_kind ws) → after q k ≡ r
     → Reads p d m r s (b ⊕ one_branch k c) us f es → fs ≡ (ds ++ repeats k b c) ++ es → Reads p d n q s b us (branch k c f) fs
 plain_from {k = k} {d} {n} {u = u} {c = c} {vs = vs} {ds = ds} i v w z e o x y g h j =
-    inner_from v w (subst (λ d. Reads k d n (row k) u blank vs c ds) (sym (i.deep d)) z) e o x (i.room d) y (i.operand (one_branch k c) (one_branch k c) vs) g h j
+    inner_from v w (subst (λ d. Reads k d n (row k) u blank vs c ds) (sym (i.deep d)) z) e o x (i.room d) y
+    (i.operand (one_branch k c) (one_branch k c) vs) g h j
 
 -- the row of a name is its item
 pub name_reads : {d n : ℕ} {us : List Token} (t : Token) → after (row NODE_IDENT) (leaf_kind NODE_IDENT t) ≡ done

@@ -13,8 +13,10 @@ onto_items false k t f us e = ap (λ z. t ∷ z) e
 pub without_trivia_tokens : (f : AnnotatedForest) → tokens_in (without_trivia f) ≡ items (tokens_in f)
 without_trivia_tokens blank = refl
 without_trivia_tokens (token k t f) = onto_items (is_trivia t.kind) k t (without_trivia f) (items (tokens_in f)) (without_trivia_tokens f)
-without_trivia_tokens (branch k c f) = ap (λ x. x ++ tokens_in (without_trivia f)) (without_trivia_tokens c) ∙ ap (λ x. items (tokens_in c) ++ x) (without_trivia_tokens f) ∙ sym (items-++ (tokens_in c) (tokens_in f))
-without_trivia_tokens (fault n c f) = ap (λ x. x ++ tokens_in (without_trivia f)) (without_trivia_tokens c) ∙ ap (λ x. items (tokens_in c) ++ x) (without_trivia_tokens f) ∙ sym (items-++ (tokens_in c) (tokens_in f))
+without_trivia_tokens (branch k c f) = ap (λ x. x ++ tokens_in (without_trivia f)) (without_trivia_tokens c)
+    ∙ ap (λ x. items (tokens_in c) ++ x) (without_trivia_tokens f) ∙ sym (items-++ (tokens_in c) (tokens_in f))
+without_trivia_tokens (fault n c f) = ap (λ x. x ++ tokens_in (without_trivia f)) (without_trivia_tokens c)
+    ∙ ap (λ x. items (tokens_in c) ++ x) (without_trivia_tokens f) ∙ sym (items-++ (tokens_in c) (tokens_in f))
 
 -- trimmed tokens end where their items do
 pub same_end : (n : ℕ) (ts : List Token) → EndsWithItem (token_kinds ts) → end_from n (items ts) ≡ end_from n ts

@@ -101,7 +101,8 @@ no_token : (closer k : SyntaxKind) → is_token closer ≡ true → is_expressio
 no_token closer k h e = by (same_kind closer k) refl
   where
     by : (w : Bool) → same_kind closer k ≡ w → same_kind closer k ≡ false
-    by true i = absurd (true_is_not_false (sym h ∙ ap is_token (same closer k i) ∙ not_if (is_token k) (implied is_expression (λ j. if is_token j then false else true) refl k e)))
+    by true i = absurd (true_is_not_false (sym h ∙ ap is_token (same closer k i)
+        ∙ not_if (is_token k) (implied is_expression (λ j. if is_token j then false else true) refl k e)))
     by false i = i
 
 -- where operands of a level stand, the row goes on after each that fits it as after an error node
@@ -111,7 +112,8 @@ operand_goes (Operand m counted · r) n k i e h =
 operand_goes (Many m closer · r) n k i e h =
     let j : m ≡ n = some_same m n e in
     let goes : (k : SyntaxKind) → fits m k ≡ true → after (Many m closer · r) k ≡ Many m closer · r =
-    λ k h. ap (λ w. if w then r else only (fits m k) (Many m closer · r)) (no_token closer k i (fits_expression m k h)) ∙ ap (λ w. only w (Many m closer · r)) h in
+    λ k h. ap (λ w. if w then r else only (fits m k) (Many m closer · r)) (no_token closer k i (fits_expression m k h))
+    ∙ ap (λ w. only w (Many m closer · r)) h in
     goes k (ap (λ m. fits m k) j ∙ h) ∙ sym (goes NODE_LITERAL (atom_fits m NODE_LITERAL refl))
 operand_goes (Argument · r) n k i e h = absurd (cc)
 operand_goes _ n k i e h = absurd (cc)

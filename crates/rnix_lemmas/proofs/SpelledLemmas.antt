@@ -49,7 +49,8 @@ spelled-++ : (ts us : List Token) → AreSpelled ts → AreSpelled us → AreSpe
 spelled-++ [] us h k = k
 spelled-++ (t ∷ ts) us h k = (h.0, spelled-++ ts us h.1 k)
 
-spelled_if : (w : Bool) (k : SyntaxKind) (t : Token) (f : AnnotatedForest) → is_spelled t.kind t.text ≡ true → AreSpelled (tokens_in f) → AreSpelled (tokens_in (token_if w k t f))
+spelled_if : (w : Bool) (k : SyntaxKind) (t : Token) (f : AnnotatedForest) → is_spelled t.kind t.text ≡ true → AreSpelled (tokens_in f)
+    → AreSpelled (tokens_in (token_if w k t f))
 spelled_if true k t f h s = s
 spelled_if false k t f h s = (h, s)
 
@@ -58,6 +59,8 @@ pub without_trivia_spelled : (f : AnnotatedForest) → AreSpelled (tokens_in f) 
 without_trivia_spelled blank h = tt
 without_trivia_spelled (token k t f) h = spelled_if (is_trivia t.kind) k t (without_trivia f) h.0 (without_trivia_spelled f h.1)
 without_trivia_spelled (branch k c f) h =
-    spelled-++ (tokens_in (without_trivia c)) (tokens_in (without_trivia f)) (without_trivia_spelled c (spelled_first (tokens_in c) (tokens_in f) h)) (without_trivia_spelled f (spelled_rest (tokens_in c) (tokens_in f) h))
+    spelled-++ (tokens_in (without_trivia c)) (tokens_in (without_trivia f)) (without_trivia_spelled c (spelled_first (tokens_in c) (tokens_in f) h))
+    (without_trivia_spelled f (spelled_rest (tokens_in c) (tokens_in f) h))
 without_trivia_spelled (fault n c f) h =
-    spelled-++ (tokens_in (without_trivia c)) (tokens_in (without_trivia f)) (without_trivia_spelled c (spelled_first (tokens_in c) (tokens_in f) h)) (without_trivia_spelled f (spelled_rest (tokens_in c) (tokens_in f) h))
+    spelled-++ (tokens_in (without_trivia c)) (tokens_in (without_trivia f)) (without_trivia_spelled c (spelled_first (tokens_in c) (tokens_in f) h))
+    (without_trivia_spelled f (spelled_rest (tokens_in c) (tokens_in f) h))

@@ -33,11 +33,13 @@ begin_let_inner (Some TOKEN_L_BRACE) = refl
 begin_let_inner (Some _) = (refl, refl)
 
 -- what begins where an expression may stand
-begin_scope_inner : (level : ℕ) (second : Option SyntaxKind) (begin : Begin) → BeginsInner second begin → BeginsInner second (if nat_eq level 0 then begin else b.Stray)
+begin_scope_inner : (level : ℕ) (second : Option SyntaxKind) (begin : Begin) → BeginsInner second begin
+    → BeginsInner second (if nat_eq level 0 then begin else b.Stray)
 begin_scope_inner level second begin h = choice (BeginsInner second) (nat_eq level 0) h tt
 
 -- what any token begins
-pub begin_inner : (level : ℕ) (kind : SyntaxKind) (text : List ℕ) (second third : Option SyntaxKind) → BeginsInner second (begin_of level kind text second third)
+pub begin_inner : (level : ℕ) (kind : SyntaxKind) (text : List ℕ) (second third : Option SyntaxKind)
+    → BeginsInner second (begin_of level kind text second third)
 begin_inner level TOKEN_IDENT text second third = begin_name_inner text second
 begin_inner level TOKEN_L_BRACE text second third = choice (BeginsInner second) (is_pattern second third) tt (refl, refl)
 begin_inner level TOKEN_INVERT text second third = choice (BeginsInner second) (nat_le level 9) (refl, refl) tt
@@ -68,7 +70,8 @@ root_alone head position [] w e = refl
 root_alone head position (g ∷ fs) w e = absurd (true_is_not_false (sym w.1 ∙ ap (may_hold (frame_kind g.position)) e ∙ no_holder (frame_kind g.position)))
 
 -- and is the lowest
-pub root_lowest : (head : Head) (position : Position) (fs : List Frame) → IsStackedOn head position fs → fs ≡ [] → (frame_kind_of_head head ≡ frame_kind position) × (frame_kind position ≡ Root)
+pub root_lowest : (head : Head) (position : Position) (fs : List Frame) → IsStackedOn head position fs → fs ≡ []
+    → (frame_kind_of_head head ≡ frame_kind position) × (frame_kind position ≡ Root)
 root_lowest head position [] w e = w
 root_lowest head position (g ∷ fs) w e = absurd (cc)
 
@@ -77,35 +80,43 @@ pub next_sort : (position : Position) (after : ℕ) (next : Option SyntaxKind) �
 next_sort position after None h = h.0
 next_sort position after (Some kind) h = h
 
-onward : (head : Head) (position after : Position) (fs : List Frame) → frame_kind after ≡ frame_kind position → IsStackedOn head position fs → IsStackedOn head after fs
+onward : (head : Head) (position after : Position) (fs : List Frame) → frame_kind after ≡ frame_kind position → IsStackedOn head position fs
+    → IsStackedOn head after fs
 onward head position after [] e w = (w.0 ∙ sym e, e ∙ w.1)
 onward head position after (g ∷ fs) e w = (w.0 ∙ sym e, ap (may_hold (frame_kind g.position)) e ∙ w.1, w.2)
 
 -- an operand in place of another
-instead : (head : Head) (position : Position) (min_bp max_bp : ℕ) (fs : List Frame) → frame_kind position ≡ OperandFrame → IsStackedOn head position fs → IsStackedOn Operand (p.AfterOperand min_bp max_bp) fs
+instead : (head : Head) (position : Position) (min_bp max_bp : ℕ) (fs : List Frame) → frame_kind position ≡ OperandFrame → IsStackedOn head position fs
+    → IsStackedOn Operand (p.AfterOperand min_bp max_bp) fs
 instead head position min_bp max_bp [] e w = absurd (cc)
 instead head position min_bp max_bp (g ∷ fs) e w = (refl, ap (may_hold (frame_kind g.position)) (sym e) ∙ w.1, w.2)
 
 -- a plain node inside what is open
-inside : (k : SyntaxKind) (position : Position) (f : Frame) (fs : List Frame) → frame_kind_of_node k ≡ NodeFrame → frame_kind position ≡ NodeFrame → is_open (frame_kind f.position) ≡ true → IsStackedOn f.head f.position fs
+inside : (k : SyntaxKind) (position : Position) (f : Frame) (fs : List Frame) → frame_kind_of_node k ≡ NodeFrame → frame_kind position ≡ NodeFrame
+    → is_open (frame_kind f.position) ≡ true → IsStackedOn f.head f.position fs
     → IsStackedOn (Node k) position (f ∷ fs)
 inside k position f fs n e o w = (n ∙ sym e, ap (may_hold (frame_kind f.position)) e ∙ open_holds (frame_kind f.position) o, w)
 
 -- a frame is complete
-closed_stacked : (f : Frame) (fs : List Frame) (ts : List Token) (n : ℕ) (es : List Fault) → IsStackedOn f.head f.position fs → AreStacked (closed f fs ts n es).frames
+closed_stacked : (f : Frame) (fs : List Frame) (ts : List Token) (n : ℕ) (es : List Fault) → IsStackedOn f.head f.position fs
+    → AreStacked (closed f fs ts n es).frames
 closed_stacked f [] ts n es w = w
 closed_stacked f (g ∷ fs) ts n es w = w.2
 
-entry_stacked : (raw : Bool) (f : Frame) (fs : List Frame) (ts : List Token) (n : ℕ) (es : List Fault) → IsStackedOn f.head f.position fs → AreStacked (entry_closed raw f fs ts n es).frames
+entry_stacked : (raw : Bool) (f : Frame) (fs : List Frame) (ts : List Token) (n : ℕ) (es : List Fault) → IsStackedOn f.head f.position fs
+    → AreStacked (entry_closed raw f fs ts n es).frames
 entry_stacked raw f [] ts n es w = w
 entry_stacked raw f (g ∷ fs) ts n es w = w.2
 
 -- an operand begins where one may stand
-begun_stacked : (raw : Bool) (second : Option SyntaxKind) (begin : Begin) (level d : ℕ) (t : Token) (f : Frame) (fs : List Frame) (ts : List Token) (n : ℕ) (es : List Fault)
-    → BeginsInner second begin → may_hold (frame_kind f.position) OperandFrame ≡ true → IsStackedOn f.head f.position fs → AreStacked (begun raw begin level d t f fs ts n es).frames
+begun_stacked : (raw : Bool) (second : Option SyntaxKind) (begin : Begin) (level d : ℕ) (t : Token) (f : Frame) (fs : List Frame) (ts : List Token) (n : ℕ)
+    (es : List Fault)
+    → BeginsInner second begin → may_hold (frame_kind f.position) OperandFrame ≡ true → IsStackedOn f.head f.position fs
+    → AreStacked (begun raw begin level d t f fs ts n es).frames
 begun_stacked raw second (b.Leaf k) level d t f fs ts n es i m w = (refl, m, w)
 begun_stacked raw second (b.Node k position max_bp) level d t f fs ts n es i m w =
-    inside k (p.Left position) (opened Operand (p.AfterOperand level max_bp) d blank) (put f.position (with_leading raw f.row ts) f ∷ fs) i.0 i.1 refl (refl, m, w)
+    inside k (p.Left position) (opened Operand (p.AfterOperand level max_bp) d blank) (put f.position (with_leading raw f.row ts) f ∷ fs) i.0 i.1 refl
+    (refl, m, w)
 begun_stacked raw second b.LegacyLet level d t f fs ts n es i m w = (refl, refl, (refl, m, w))
 begun_stacked raw second b.NameLambda level d t f fs ts n es i m w = (refl, refl, (refl, m, w))
 begun_stacked raw second b.BoundLambda level d t f fs ts n es i m w = (refl, refl, (refl, refl, (refl, m, w)))
@@ -124,7 +135,8 @@ operand_stacked raw level d f fs ts (t ∷ us) n es m w =
 reading_stacked : (raw : Bool) (level : ℕ) (counted : Bool) (f : Frame) (fs : List Frame) (ts : List Token) (n : ℕ) (es : List Fault)
     → may_hold (frame_kind f.position) OperandFrame ≡ true → IsStackedOn f.head f.position fs → AreStacked (reading raw level counted f fs ts n es).frames
 reading_stacked raw level true f fs ts n es m w =
-    elim (nat_le depth_limit f.depth) as (λ x. AreStacked (if x then limited raw f fs ts n es else operand_on raw level (suc f.depth) f fs ts (seen raw ts) n es).frames)
+    elim (nat_le depth_limit f.depth) as (λ x. AreStacked (if x then limited raw f fs ts n es else operand_on raw level (suc f.depth) f fs ts
+    (seen raw ts) n es).frames)
     [ true ↦ w | false ↦ operand_stacked raw level (suc f.depth) f fs ts (seen raw ts) n es m w ]
 reading_stacked raw level false f fs ts n es m w = operand_stacked raw level f.depth f fs ts (seen raw ts) n es m w
 
@@ -152,15 +164,20 @@ perform_stacked raw action f fs ts n es al w = by action al
     by (a.MissWanted until after) al = next after al.1
     by (a.Run until after) al = next after al.1
     by (a.Leaf k after) al = next after al.1
-    by (a.Open k left after) al = inside k (p.Left left) (put (p.Left after) (with_leading raw f.row ts) f) fs al.2 al.3 (ap is_open (same after al.1) ∙ al.4) (next after al.1)
-    by (a.Begin k left after) al = inside k (p.Left left) (put (p.Left after) (with_leading raw f.row ts) f) fs al.1 al.2 (ap is_open al.0 ∙ al.3) (onward f.head f.position (p.Left after) fs al.0 w)
+    by (a.Open k left after) al = inside k (p.Left left) (put (p.Left after) (with_leading raw f.row ts) f) fs al.2 al.3 (ap is_open (same after al.1) ∙ al.4)
+        (next after al.1)
+    by (a.Begin k left after) al = inside k (p.Left left) (put (p.Left after) (with_leading raw f.row ts) f) fs al.1 al.2 (ap is_open al.0 ∙ al.3)
+        (onward f.head f.position (p.Left after) fs al.0 w)
     by (a.Entry after) al = (refl, ap (λ x. may_hold x Entry) (same after al.1 ∙ al.2), next after al.1)
     by (a.DoubleBind after) al = (refl, ap (λ x. may_hold x SecondBindFrame) (same after al.1 ∙ al.2), next after al.1)
-    by (a.Read level counted after) al = reading_stacked raw level counted (put (p.Left after) f.row f) fs ts n es (ap (λ x. may_hold x OperandFrame) (same after al.0) ∙ al.1) (next after al.0)
+    by (a.Read level counted after) al = reading_stacked raw level counted (put (p.Left after) f.row f) fs ts n es
+        (ap (λ x. may_hold x OperandFrame) (same after al.0) ∙ al.1) (next after al.0)
     by (a.Wrap k position max_bp) al =
-        inside k position (opened Operand (p.AfterOperand (min_bp_of f.position) max_bp) f.depth blank) fs al.2 al.3 refl (instead f.head f.position (min_bp_of f.position) max_bp fs al.1 w)
+        inside k position (opened Operand (p.AfterOperand (min_bp_of f.position) max_bp) f.depth blank) fs al.2 al.3 refl
+        (instead f.head f.position (min_bp_of f.position) max_bp fs al.1 w)
     by a.Apply al =
-        reading_stacked raw 16 false (opened (Node NODE_APPLY) (p.Left APPLIED) f.depth f.row) (opened Operand (p.AfterOperand (min_bp_of f.position) 15) f.depth blank ∷ fs) ts n es refl
+        reading_stacked raw 16 false (opened (Node NODE_APPLY) (p.Left APPLIED) f.depth f.row)
+        (opened Operand (p.AfterOperand (min_bp_of f.position) 15) f.depth blank ∷ fs) ts n es refl
         (refl, refl, instead f.head f.position (min_bp_of f.position) 15 fs al.1 w)
     by a.ApplyOr al = instead f.head f.position (min_bp_of f.position) 15 fs al.1 w
 

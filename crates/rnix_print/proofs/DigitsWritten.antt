@@ -25,5 +25,6 @@ digit_written n start digits all h fits some within so_far =
 pub number_written : (n start : ℕ) (digits all : List ℕ) → n < 10 → start < 20 → length digits ≡ 20
     → decimal n ++ drop (start + 1) digits ≡ all → take (20 - start) (drop start (set digits start (48 + n))) ≡ all
 number_written n start digits all one within long so_far =
-    take_all (20 - start) (drop start (set digits start (48 + n))) (omega (arith, length-drop start (set digits start (48 + n)), length-set digits start (48 + n)))
+    take_all (20 - start) (drop start (set digits start (48 + n)))
+        (omega (arith, length-drop start (set digits start (48 + n)), length-set digits start (48 + n)))
     ∙ drop-set digits start (48 + n) (omega arith) ∙ ap (λ x. x ++ drop (start + 1) digits) (sym (decimal_digit n one)) ∙ so_far

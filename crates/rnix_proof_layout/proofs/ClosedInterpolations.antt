@@ -33,7 +33,8 @@ dead h = absurd (true_is_not_false (sym h))
 goes_on : (q : Row) → IsInside q → (k : SyntaxKind) → is_viable (after q k) ≡ true → GoesOn (after q k) k
 goes_on q at_start k l =
     inl (where_one (is_viable (after q k)) l (each_kind (λ k. Where (is_viable (after q k)) (IsInside (after q k))) (assumption (at_operand)) k))
-goes_on q at_operand k l = inl (where_one (is_viable (after q k)) l (each_kind (λ k. Where (is_viable (after q k)) (IsInside (after q k))) (assumption (at_end)) k))
+goes_on q at_operand k l = inl (where_one (is_viable (after q k)) l
+    (each_kind (λ k. Where (is_viable (after q k)) (IsInside (after q k))) (assumption (at_end)) k))
 goes_on q at_end k l =
     inr (where_one (is_viable (after q k)) l (each_kind (λ k. Where (is_viable (after q k)) ((after q k ≡ done) × (k ≡ TOKEN_INTERPOL_END))) (assumption) k))
 
@@ -62,12 +63,14 @@ closes end e at_operand w = dead w
 closes end e at_end w = dead w
 closes {p} {q = q} {s = s} {us = us} (leaf {t = t} {f = f} x o h) e i w =
     either (after q (leaf_kind p t)) (t ∷ []) (tokens_in f) us (goes_on q i (leaf_kind p t) (reads_viable h (end_viable s w))) (λ j. closes h e j w)
-    (λ g. inr (λ prev. ap (λ f. last_kind (Some t.kind) (tokens_in f)) (past_ends h g.0 (end_viable s w)).row ∙ ap Some (sym (ap (λ p. leaf_kind p t) e) ∙ g.1)))
+    (λ g. inr (λ prev. ap (λ f. last_kind (Some t.kind) (tokens_in f)) (past_ends h g.0 (end_viable s w)).row
+    ∙ ap Some (sym (ap (λ p. leaf_kind p t) e) ∙ g.1)))
 closes {p} {q = q} {s = s} {us = us} (inner {k = k} {c = c} {f = f} o r v x z y h) e i w =
     either (after q k) (tokens_in c) (tokens_in f) us (goes_on q i k (reads_viable h (end_viable s w))) (λ j. closes h e j w)
     (λ g. dead (sym (ap has_row g.1) ∙ reads_row r v.0))
 closes (missing_part u n m o h) e i w = inl u
 closes {d = d} {q = q} {s = s} {us = us} (wrong {r = r} {f = f} note ts x o v h) e i w =
-    either r (tokens_in (row_of ts)) (tokens_in f) us (wrong_inside q r i note d ts (tokens_in f ++ us) v (reads_viable h (end_viable s w))) (λ j. closes h e j w)
+    either r (tokens_in (row_of ts)) (tokens_in f) us (wrong_inside q r i note d ts (tokens_in f ++ us) v (reads_viable h (end_viable s w)))
+    (λ j. closes h e j w)
     (λ g. inl (none_right (tokens_in f) us g))
 closes (second r o h) e i w = elim i [ ]

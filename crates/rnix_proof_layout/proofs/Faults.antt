@@ -102,7 +102,8 @@ repeated_same ws a us qs b b' blank e h = tt
 repeated_same ws a us qs b b' (token k t f) e h = tt
 repeated_same ws a us qs b b' (fault n c f) e h = tt
 
-pub repeats_same : (ws a us : List Token) (qs : List Extent) (k : SyntaxKind) (b b' c : AnnotatedForest) → unplaced b ≡ unplaced b' → ws ≡ a ++ (tokens_in c ++ us)
+pub repeats_same : (ws a us : List Token) (qs : List Extent) (k : SyntaxKind) (b b' c : AnnotatedForest) → unplaced b ≡ unplaced b' → ws ≡ a
+    ++ (tokens_in c ++ us)
     → AreSameFaults ws (moved ws qs) (repeats k b c) (repeats k b' (moved_trees c (past a qs)))
 repeats_same ws a us qs NODE_PAT_ENTRY b b' c e h = repeated_same ws a us qs b b' c e h
 repeats_same ws a us qs _ b b' c e h = tt

@@ -101,7 +101,8 @@ some_moved [] ps = refl
 some_moved (t ∷ ts) ps = refl
 
 -- a run
-run_turn : (until : ExpectedSet) (t : Token) (ts : List Token) (ps : List Extent) (w : Bool) → run_of until (moved ts (later ps)) ≡ moved (run_of until ts) (later ps)
+run_turn : (until : ExpectedSet) (t : Token) (ts : List Token) (ps : List Extent) (w : Bool)
+    → run_of until (moved ts (later ps)) ≡ moved (run_of until ts) (later ps)
     → (if w then [] else at t ps ∷ run_of until (moved ts (later ps))) ≡ moved (if w then [] else t ∷ run_of until ts) ps
 run_turn until t ts ps true h = refl
 run_turn until t ts ps false h = ap (λ xs. at t ps ∷ xs) h

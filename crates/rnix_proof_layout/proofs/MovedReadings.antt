@@ -33,7 +33,8 @@ places_after a xs ps qs e = ap (past xs) e ∙ sym (past_two a xs qs)
 
 -- an item
 moved_leaf : {p : SyntaxKind} {d m : ℕ} {q q' : Row} {c : AnnotatedForest} {us : List Token} {t : Token} {f : AnnotatedForest} {es : List Fault}
-    (ws : List Token) (qs ps : List Extent) (prev : Option SyntaxKind) (n : ℕ) (b : AnnotatedForest) → unplaced b ≡ unplaced c → Joins q prev (t ∷ (tokens_in f ++ us))
+    (ws : List Token) (qs ps : List Extent) (prev : Option SyntaxKind) (n : ℕ) (b : AnnotatedForest) → unplaced b ≡ unplaced c
+    → Joins q prev (t ∷ (tokens_in f ++ us))
     → Touching prev n m (t ∷ (tokens_in f ++ us)) ps → IsExpected q n (t ∷ (tokens_in f ++ us)) true
     → IsFollowed q b (Some (leaf_kind p t))
     → IsMoved ws qs (later ps) p d (at t ps).end (after q (leaf_kind p t)) q' (Some t.kind) (c ⊕ one_token (leaf_kind p t) (at t ps)) us f es
@@ -124,7 +125,8 @@ moves {p} {d} {n} {q} {q'} {b} {us} (inner {k = k} {s = s} {c = c} {f = f} {ds =
     (b' ⊕ one_branch k c') us f es =
     moves h ws qs (known_after k known) (last_kind prev (tokens_in c)) (end_from m (tokens_in c')) (b' ⊕ one_branch k c')
     (a ++ tokens_in c) (past (tokens_in c) ps)
-    (unplaced_next b b' (one_branch k c) (one_branch k c') e (ap (λ z. branch k z blank) (sym (unplaced_moved c ps)))) (ew' ∙ sym (append_assoc a (tokens_in c) rest))
+    (unplaced_next b b' (one_branch k c) (one_branch k c') e (ap (λ z. branch k z blank) (sym (unplaced_moved c ps))))
+    (ew' ∙ sym (append_assoc a (tokens_in c) rest))
     (places_after a (tokens_in c) ps qs eps) (node_joins known hr over.0 prev) touch1 in
     let repeated : AreSameFaults ws (moved ws qs) (repeats k b c) (repeats k b' c') =
     subst (λ z. AreSameFaults ws (moved ws qs) (repeats k b c) (repeats k b' (moved_trees c z))) (sym eps) (repeats_same ws a rest qs k b b' c e ew') in
@@ -136,7 +138,8 @@ moves {p} {d} {n} {q} {q'} {b} {us} (inner {k = k} {s = s} {c = c} {f = f} {ds =
           (over_same s (last_kind prev (tokens_in c)) (end_from n (tokens_in c)) (end_from m (tokens_in c')) us f (past (tokens_in c) ps)
           below.joins touch1 over)
           (subst (λ z. IsExpected q m z (is_first_expected q k c')) (both_after c f us ps)
-          (subst (λ v. IsExpected q m (moved (tokens_in c ++ rest) ps) v) (alike (is_first_expected q k) (first_expected_same q k) c c' (sym (unplaced_moved c ps)))
+          (subst (λ v. IsExpected q m (moved (tokens_in c ++ rest) ps) v)
+          (alike (is_first_expected q k) (first_expected_same q k) c c' (sym (unplaced_moved c ps)))
           (expected_same q prev n m (tokens_in c ++ rest) ps (is_first_expected q k c) j' touch' x)))
           (subst (IsFollowed q b') (sym (head_moved (tokens_in c ++ rest) ps) ∙ ap head_kind (both_after c f us ps))
           (followed_same q b b' (head_kind (tokens_in c ++ rest)) e w))
@@ -194,7 +197,8 @@ moves {p = p} {d = d} {n = n} {q' = q'} {b = b} {us = us} (second {s = s} {c = c
     touching_node prev n m c rest ps touch' in
     let below : IsMoved ws qs ps NODE_ERROR d m second_name s prev blank rest c ds =
     moves hr ws qs known_second prev m blank a ps refl ew' eps (no_joins second_name prev (tokens_in c ++ rest) refl) touch' in
-    let next : IsMoved ws qs (past (tokens_in c) ps) p d (end_from m (tokens_in c')) done q' (last_kind prev (tokens_in c)) (b' ⊕ one_fault DoubleBind c') us f es =
+    let next : IsMoved ws qs (past (tokens_in c) ps) p d (end_from m (tokens_in c')) done q' (last_kind prev (tokens_in c))
+    (b' ⊕ one_fault DoubleBind c') us f es =
     moves h ws qs (known_past known) (last_kind prev (tokens_in c)) (end_from m (tokens_in c')) (b' ⊕ one_fault DoubleBind c')
     (a ++ tokens_in c) (past (tokens_in c) ps)
     (unplaced_next b b' (one_fault DoubleBind c) (one_fault DoubleBind c') e (ap (λ z. fault DoubleBind z blank) (sym (unplaced_moved c ps))))
@@ -212,6 +216,7 @@ moves {p = p} {d = d} {n = n} {q' = q'} {b = b} {us = us} (second {s = s} {c = c
           (over_same s (last_kind prev (tokens_in c)) (end_from n (tokens_in c)) (end_from m (tokens_in c')) us f (past (tokens_in c) ps) below.joins touch1
           over) next.reads);
       same = same_append ws (moved ws qs) (ds ++ report DoubleBind (tokens_in c) ∷ []) (below.faults ++ report DoubleBind (tokens_in c') ∷ []) es next.faults
-          (same_append ws (moved ws qs) ds below.faults (report DoubleBind (tokens_in c) ∷ []) (report DoubleBind (tokens_in c') ∷ []) below.same (ranges, tt)) next.same;
+          (same_append ws (moved ws qs) ds below.faults (report DoubleBind (tokens_in c) ∷ []) (report DoubleBind (tokens_in c') ∷ []) below.same
+          (ranges, tt)) next.same;
       joins = rest_joins q' prev (tokens_in c) (tokens_in f) us next.joins;
     }

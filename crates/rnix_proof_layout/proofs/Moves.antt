@@ -20,11 +20,13 @@ use Rattle.rnix_proof_layout.proofs.Unplaced.{unplaced, unplaced_moved, alike, r
 use Rattle.rnix_proof_layout.proofs.Touch.{asks_touch}
 
 -- the next item goes on with a tree, at other places
-goes_same : (level : ℕ) (x y : AnnotatedForest) (ts : List Token) (ps : List Extent) → unplaced x ≡ unplaced y → goes_on level x ts ≡ goes_on level y (moved ts ps)
+goes_same : (level : ℕ) (x y : AnnotatedForest) (ts : List Token) (ps : List Extent) → unplaced x ≡ unplaced y
+    → goes_on level x ts ≡ goes_on level y (moved ts ps)
 goes_same level x y [] ps e = refl
 goes_same level x y (t ∷ ts) ps e = ap (λ w. w && nat_le level (binding_power t.kind)) (alike (follows t.kind) (follows_same t.kind) x y e)
 
-begins_same : (level : ℕ) (x y : AnnotatedForest) (ts : List Token) (ps : List Extent) → unplaced x ≡ unplaced y → BeginsAs level x ts → BeginsAs level y (moved ts ps)
+begins_same : (level : ℕ) (x y : AnnotatedForest) (ts : List Token) (ps : List Extent) → unplaced x ≡ unplaced y → BeginsAs level x ts
+    → BeginsAs level y (moved ts ps)
 begins_same level x y [] ps e h = h
 begins_same level x y (t ∷ ts) ps e h =
     ap (λ next. first_kind level t.kind t.text next (second_kind (moved ts (later ps)))) (head_moved ts (later ps))

@@ -34,12 +34,15 @@ pub unplaced_moved : (f : AnnotatedForest) (ps : List Extent) → unplaced (move
 unplaced_moved blank ps = refl
 unplaced_moved (token k t f) ps = ap (λ x. token k (unplaced_token t) x) (unplaced_moved f (later ps))
 unplaced_moved (branch k c f) ps =
-    ap (λ x. branch k x (unplaced (moved_trees f (past (tokens_in c) ps)))) (unplaced_moved c ps) ∙ ap (λ x. branch k (unplaced c) x) (unplaced_moved f (past (tokens_in c) ps))
+    ap (λ x. branch k x (unplaced (moved_trees f (past (tokens_in c) ps)))) (unplaced_moved c ps)
+    ∙ ap (λ x. branch k (unplaced c) x) (unplaced_moved f (past (tokens_in c) ps))
 unplaced_moved (fault n c f) ps =
-    ap (λ x. fault n x (unplaced (moved_trees f (past (tokens_in c) ps)))) (unplaced_moved c ps) ∙ ap (λ x. fault n (unplaced c) x) (unplaced_moved f (past (tokens_in c) ps))
+    ap (λ x. fault n x (unplaced (moved_trees f (past (tokens_in c) ps)))) (unplaced_moved c ps)
+    ∙ ap (λ x. fault n (unplaced c) x) (unplaced_moved f (past (tokens_in c) ps))
 
 -- what is the same of trees and of trees without ranges is the same of trees that differ in ranges alone
-pub alike : {A : Type 0} (F : AnnotatedForest → A) → ((x : AnnotatedForest) → F (unplaced x) ≡ F x) → (x y : AnnotatedForest) → unplaced x ≡ unplaced y → F x ≡ F y
+pub alike : {A : Type 0} (F : AnnotatedForest → A) → ((x : AnnotatedForest) → F (unplaced x) ≡ F x) → (x y : AnnotatedForest) → unplaced x ≡ unplaced y
+    → F x ≡ F y
 alike F h x y e = sym (h x) ∙ ap F e ∙ h y
 
 or_leaf : (x : AnnotatedForest) → is_or_leaf (unplaced x) ≡ is_or_leaf x
@@ -101,7 +104,8 @@ lambda_same (token k t g) f = refl
 lambda_same (branch k d g) f = refl
 lambda_same (fault n d g) f = refl
 
-first_in : (k : SyntaxKind) (c f : AnnotatedForest) → first_tree (unplaced c) ≡ first_tree c → first_tree (branch k (unplaced c) (unplaced f)) ≡ first_tree (branch k c f)
+first_in : (k : SyntaxKind) (c f : AnnotatedForest) → first_tree (unplaced c) ≡ first_tree c
+    → first_tree (branch k (unplaced c) (unplaced f)) ≡ first_tree (branch k c f)
 first_in k c f h = each_kind (λ k. first_tree (branch k (unplaced c) (unplaced f)) ≡ first_tree (branch k c f)) (assumption (h, lambda_same c f)) k
 
 pub first_same : (x : AnnotatedForest) → first_tree (unplaced x) ≡ first_tree x

@@ -43,18 +43,21 @@ module _ (f : Frame) (fs : List Frame) (ts : List Token) (n : ℕ) (es : List Fa
   inner ms k d gs = ap (started_here k) (erase-settled ms gs ts n es) ∙ erase-started ms k (p.Left APPLIED) d gs us n es
 
   lambda : (level d : ℕ) → lambda_begun (p.AfterOperand level 16) d repaired_nonempty ≡ erase (machine (function level d) us n es)
-  lambda level d = ap (node_started NODE_LAMBDA (p.Left LAMBDA) d) (operand (p.AfterOperand level 16) d) ∙ node NODE_LAMBDA (p.Left LAMBDA) d (on (p.AfterOperand level 16) d)
+  lambda level d = ap (node_started NODE_LAMBDA (p.Left LAMBDA) d) (operand (p.AfterOperand level 16) d)
+      ∙ node NODE_LAMBDA (p.Left LAMBDA) d (on (p.AfterOperand level 16) d)
 
   leafs : (k : SyntaxKind) (level d : ℕ) (t : Token) → begun_as (b.Leaf k) level d t repaired_nonempty ≡ erase (begun true (b.Leaf k) level d t f fs ts n es)
   leafs k level d t =
-      ap (leaf_node_made k) (operand (p.AfterOperand level 16) d) ∙ erase-first _ k (opened Operand (p.AfterOperand level 16) d blank) (put f.position (with_leading true f.row ts) f ∷ fs) ts n es
+      ap (leaf_node_made k) (operand (p.AfterOperand level 16) d) ∙ erase-first _ k (opened Operand (p.AfterOperand level 16) d blank)
+      (put f.position (with_leading true f.row ts) f ∷ fs) ts n es
 
   nodes : (k : SyntaxKind) (left max_bp level d : ℕ) (t : Token)
       → begun_as (b.Node k left max_bp) level d t repaired_nonempty ≡ erase (begun true (b.Node k left max_bp) level d t f fs ts n es)
   nodes k left max_bp level d t =
       let position : Position = p.Left left in
       let gs : List Frame = on (p.AfterOperand level max_bp) d in
-      ap (node_begun k position d) (operand (p.AfterOperand level max_bp) d) ∙ ap (bumped k) (node k position d gs) ∙ erase-next _ k (opened (Node k) position d blank) gs ts n es
+      ap (node_begun k position d) (operand (p.AfterOperand level max_bp) d) ∙ ap (bumped k) (node k position d gs)
+      ∙ erase-next _ k (opened (Node k) position d blank) gs ts n es
 
   -- an operand begins as the machine's
   begins_as : (how : Begin) (level d : ℕ) (t : Token) → begun_as how level d t repaired_nonempty ≡ erase (begun true how level d t f fs ts n es)
@@ -63,7 +66,8 @@ module _ (f : Frame) (fs : List Frame) (ts : List Token) (n : ℕ) (es : List Fa
   begins_as (b.Node k left max_bp) level d t = nodes k left max_bp level d t
   begins_as b.LegacyLet level d t =
       ap (bumped NODE_LEGACY_LET) (nodes NODE_LEGACY_LET LEGACY_LET 0 level d t)
-      ∙ erase-bumped _ NODE_LEGACY_LET (opened (Node NODE_LEGACY_LET) (p.Left LEGACY_LET) d (leaf true NODE_LEGACY_LET ts)) (on (p.AfterOperand level 0) d) (behind true ts) (item_end true n ts) es
+      ∙ erase-bumped _ NODE_LEGACY_LET (opened (Node NODE_LEGACY_LET) (p.Left LEGACY_LET) d (leaf true NODE_LEGACY_LET ts)) (on (p.AfterOperand level 0) d)
+      (behind true ts) (item_end true n ts) es
   begins_as b.NameLambda level d t =
       let gs : List Frame = function level d in
       ap parameter_read (lambda level d) ∙ ap (λ x. ended (leaf_node_made NODE_IDENT x)) (inner _ NODE_IDENT_PARAM d gs)
@@ -74,7 +78,8 @@ module _ (f : Frame) (fs : List Frame) (ts : List Token) (n : ℕ) (es : List Fa
       let pattern : Frame = opened (Node NODE_PATTERN) (p.Left BOUND_PATTERN) d blank in
       let gs : List Frame = function level d in
       let name : AnnotatedForest = one_branch NODE_IDENT (leaf true NODE_IDENT ts) in
-      ap (λ x. binding_read (node_started NODE_PATTERN (p.Left BOUND_PATTERN) d x)) (lambda level d) ∙ ap binding_read (node NODE_PATTERN (p.Left BOUND_PATTERN) d gs)
+      ap (λ x. binding_read (node_started NODE_PATTERN (p.Left BOUND_PATTERN) d x)) (lambda level d)
+      ∙ ap binding_read (node NODE_PATTERN (p.Left BOUND_PATTERN) d gs)
       ∙ ap (λ x. ended (bumped NODE_PAT_BIND (leaf_node_made NODE_IDENT x))) (inner _ NODE_PAT_BIND d (pattern ∷ gs))
       ∙ ap (λ x. ended (bumped NODE_PAT_BIND x)) (erase-first _ NODE_IDENT (opened (Node NODE_PAT_BIND) (p.Left APPLIED) d blank) (pattern ∷ gs) ts n es)
       ∙ ap ended (erase-bumped _ NODE_PAT_BIND (opened (Node NODE_PAT_BIND) (p.Left APPLIED) d name) (pattern ∷ gs) (behind true ts) (item_end true n ts) es)
@@ -88,7 +93,8 @@ module _ (f : Frame) (fs : List Frame) (ts : List Token) (n : ℕ) (es : List Fa
 
   operand_is : (level d : ℕ) → operand_read level d repaired_nonempty ≡ erase (operand_on true level d f fs ts (items ts) n es)
   unfolding failed
-  operand_is level d = elim (items ts) as (λ xs. operand_with level d (head_of xs) (tail_of xs) repaired_nonempty ≡ erase (operand_on true level d f fs ts xs n es))
+  operand_is level d = elim (items ts) as (λ xs. operand_with level d (head_of xs) (tail_of xs) repaired_nonempty ≡ erase
+      (operand_on true level d f fs ts xs n es))
       [ [] ↦ refl | t ∷ xs ↦ begins_as (begins_with level t xs) level d t ]
 
   -- what is nested too deep

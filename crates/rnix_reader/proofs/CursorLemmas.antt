@@ -36,17 +36,20 @@ pub record IsCut (text : List ℕ) (start end : ℕ) : Type 0 where
   pub at_start : IsCharBoundary text start
   pub at_end : IsCharBoundary text end
 
-cut_from : (text : List ℕ) (n : ℕ) (ts : List TokenEnd) (i : ℕ) (d : TokenEnd) → IsCharBoundary text n → AreEnds text n ts → i < length ts → IsCut text (start_of n i ts) (get_or ts i d).end
+cut_from : (text : List ℕ) (n : ℕ) (ts : List TokenEnd) (i : ℕ) (d : TokenEnd) → IsCharBoundary text n → AreEnds text n ts → i < length ts
+    → IsCut text (start_of n i ts) (get_or ts i d).end
 cut_from text n [] i d b e h = absurd (omega arith)
 cut_from text n (t ∷ ts) zero d b e h = record { order = e.0; at_start = b; at_end = e.1 }
 cut_from text n (t ∷ ts) (suc i) d b e h = cut_from text t.end ts i d e.1 e.2 (omega arith)
 
 -- and so for the tokens of a text from its start on
-pub cut_at_token : (text : List ℕ) (ts : List TokenEnd) (i : ℕ) (d : TokenEnd) → IsUtf8 text → AreEnds text 0 ts → i < length ts → IsCut text (start_of 0 i ts) (get_or ts i d).end
+pub cut_at_token : (text : List ℕ) (ts : List TokenEnd) (i : ℕ) (d : TokenEnd) → IsUtf8 text → AreEnds text 0 ts → i < length ts
+    → IsCut text (start_of 0 i ts) (get_or ts i d).end
 cut_at_token text ts i d u e h = cut_from text 0 ts i d (IsCharBoundary-start text u) e h
 
 -- what is behind the first of the tokens of a text
-rest_behind : (text : List ℕ) (n : ℕ) (l : Lexeme) (ls : List Lexeme) → drop n text ≡ flat_map text_of (l ∷ ls) → drop (n + length l.1) text ≡ flat_map text_of ls
+rest_behind : (text : List ℕ) (n : ℕ) (l : Lexeme) (ls : List Lexeme) → drop n text ≡ flat_map text_of (l ∷ ls)
+    → drop (n + length l.1) text ≡ flat_map text_of ls
 rest_behind text n l ls h =
     sym (drop-drop (length l.1) n text) ∙ ap (drop (length l.1)) (h ∙ flat_map-cons text_of l ls) ∙ drop-append_seam l.1 (flat_map text_of ls)
 
@@ -60,31 +63,41 @@ tokens_cut-placed text n [] h = refl
 tokens_cut-placed text n (l ∷ ls) h =
     let end : ℕ = n + length l.1 in
     let cut : take (end - n) (drop n text) ≡ l.1 =
-    ap (λ k. take k (drop n text)) (add-sub_cancel_left n (length l.1)) ∙ ap (take (length l.1)) (h ∙ flat_map-cons text_of l ls) ∙ take-append_seam l.1 (flat_map text_of ls) in
-    ap (λ x. token_with l.0 x n end ∷ tokens_cut text end (ends_from end ls)) cut ∙ ap (λ x. token_with l.0 l.1 n end ∷ x) (tokens_cut-placed text end ls (rest_behind text n l ls h))
+    ap (λ k. take k (drop n text)) (add-sub_cancel_left n (length l.1)) ∙ ap (take (length l.1)) (h ∙ flat_map-cons text_of l ls)
+    ∙ take-append_seam l.1 (flat_map text_of ls) in
+    ap (λ x. token_with l.0 x n end ∷ tokens_cut text end (ends_from end ls)) cut
+    ∙ ap (λ x. token_with l.0 l.1 n end ∷ x) (tokens_cut-placed text end ls (rest_behind text n l ls h))
 
 -- what is cut out at a token's place is that token
 pub token_found : (text : List ℕ) (ts : List TokenEnd) (i : ℕ) (d : TokenEnd) (start : ℕ) (cut : List ℕ) → i < length ts → start ≡ start_of 0 i ts
-    → cut ≡ take ((get_or ts i d).end - start) (drop start text) → Some (token_with (get_or ts i d).kind cut start (get_or ts i d).end) ≡ head_of (drop i (tokens_cut text 0 ts))
+    → cut ≡ take ((get_or ts i d).end - start) (drop start text) → Some (token_with (get_or ts i d).kind cut start (get_or ts i d).end) ≡ head_of
+    (drop i (tokens_cut text 0 ts))
 token_found text ts i d start cut h s e =
     let t : TokenEnd = get_or ts i d in
-    ap (λ x. Some (token_with t.kind x start t.end)) e ∙ ap (λ n. Some (token_with t.kind (take (t.end - n) (drop n text)) n t.end)) s ∙ sym (ap head_of (at_place text 0 ts i d h))
+    ap (λ x. Some (token_with t.kind x start t.end)) e ∙ ap (λ n. Some (token_with t.kind (take (t.end - n) (drop n text)) n t.end)) s
+    ∙ sym (ap head_of (at_place text 0 ts i d h))
 
 -- texts that are UTF-8 are so together
 joined_utf8 : (ls : List Lexeme) → All (λ t. IsUtf8 t.1) ls → IsUtf8 (flat_map text_of ls)
 joined_utf8 [] u = IsUtf8-nil
 joined_utf8 (l ∷ ls) u =
-    subst IsUtf8 (sym (flat_map-cons text_of l ls)) (IsUtf8-append l.1 (flat_map text_of ls) (All-head (λ t. IsUtf8 t.1) l ls u) (joined_utf8 ls (All-tail (λ t. IsUtf8 t.1) l ls u)))
+    subst IsUtf8 (sym (flat_map-cons text_of l ls)) (IsUtf8-append l.1 (flat_map text_of ls) (All-head (λ t. IsUtf8 t.1) l ls u)
+    (joined_utf8 ls (All-tail (λ t. IsUtf8 t.1) l ls u)))
 
 -- the text may be cut where its tokens end
-ends_cut : (text : List ℕ) (n : ℕ) (ls : List Lexeme) → n ≤ length text → drop n text ≡ flat_map text_of ls → All (λ t. IsUtf8 t.1) ls → AreEnds text n (ends_from n ls)
+ends_cut : (text : List ℕ) (n : ℕ) (ls : List Lexeme) → n ≤ length text → drop n text ≡ flat_map text_of ls → All (λ t. IsUtf8 t.1) ls
+    → AreEnds text n (ends_from n ls)
 ends_cut text n [] w h u = tt
 ends_cut text n (l ∷ ls) w h u =
     let rest : drop (n + length l.1) text ≡ flat_map text_of ls = rest_behind text n l ls h in
     let lengths : length text - n ≡ length (l.1 ++ flat_map text_of ls) = sym (length-drop n text) ∙ ap length (h ∙ flat_map-cons text_of l ls) in
     let within : n + length l.1 ≤ length text = omega (arith, lengths, length-append l.1 (flat_map text_of ls)) in
-    let more : All (λ t. IsUtf8 t.1) ls = All-tail (λ t. IsUtf8 t.1) l ls u in
-    (omega arith, IsCharBoundary-from_drop text (n + length l.1) within (subst IsUtf8 (sym rest) (joined_utf8 ls more)), ends_cut text (n + length l.1) ls within rest more)
+    let more : All (λ t. IsUtf8 t.1) ls = All-tail (λ t. IsUtf8 t.1) l ls u in (
+      omega arith,
+      IsCharBoundary-from_drop text (n + length l.1) within (subst IsUtf8 (sym rest) (joined_utf8 ls more)),
+      ends_cut text
+          (n + length l.1) ls within rest more,
+    )
 
 -- so it is for all tokens of a text
 pub sound_ends : (text : List ℕ) (ls : List Lexeme) → AreSound text ls → AreEnds text 0 (ends_from 0 ls)
@@ -116,7 +129,8 @@ from_item-shorter (t ∷ ts) =
     elim (is_trivia t.kind) as (λ b. length (from_item_if b t ts (from_item ts)) ≤ length (t ∷ ts)) [ true ↦ omega (arith, more) | false ↦ omega arith ]
 
 -- before the next item stands trivia
-pub before_item : (ts : List Token) (at next : ℕ) (t : Token) (more : List Token) → drop at ts ≡ t ∷ more → from_item (drop at ts) ≡ drop next ts → at < next → is_trivia t.kind ≡ true
+pub before_item : (ts : List Token) (at next : ℕ) (t : Token) (more : List Token) → drop at ts ≡ t ∷ more → from_item (drop at ts) ≡ drop next ts → at < next
+    → is_trivia t.kind ≡ true
 before_item ts at next t more d f n = by (is_trivia t.kind) refl
   where
     by : (b : Bool) → is_trivia t.kind ≡ b → is_trivia t.kind ≡ true
@@ -140,7 +154,8 @@ at_next_item ts at next f n = by (drop at ts) refl
         advance false i = at_item (t ∷ us) t us refl i
 
 -- where the next item stands, it stands once a token before it is passed
-pub item_kept : (ts : List Token) (at next : ℕ) → at < length ts → from_item (drop at ts) ≡ drop next ts → suc at ≤ next → from_item (drop (suc at) ts) ≡ drop next ts
+pub item_kept : (ts : List Token) (at next : ℕ) → at < length ts → from_item (drop at ts) ≡ drop next ts → suc at ≤ next
+    → from_item (drop (suc at) ts) ≡ drop next ts
 item_kept ts at next h f n = by (drop at ts) refl
   where
     by : (us : List Token) → drop at ts ≡ us → from_item (drop (suc at) ts) ≡ drop next ts
@@ -191,6 +206,7 @@ behind_first_item ts us vs a b =
     sym (ap head_kind (tail_items ts) ∙ head_item (tail_of (from_item ts)) ∙ ap (λ x. head_kind (from_item (tail_of x))) a ∙ ap head_kind b)
 
 -- the kinds of the second item and the third, found one by one
-pub behind_second_item : (ts us vs ws : List Token) → from_item ts ≡ us → from_item (tail_of us) ≡ vs → from_item (tail_of vs) ≡ ws → head_kind ws ≡ head_kind (tail_of (tail_of (items ts)))
+pub behind_second_item : (ts us vs ws : List Token) → from_item ts ≡ us → from_item (tail_of us) ≡ vs → from_item (tail_of vs) ≡ ws
+    → head_kind ws ≡ head_kind (tail_of (tail_of (items ts)))
 behind_second_item ts us vs ws a b c =
     behind_first_item (tail_of us) vs ws b c ∙ ap (λ x. head_kind (tail_of (items (tail_of x)))) (sym a) ∙ ap (λ x. head_kind (tail_of x)) (sym (tail_items ts))

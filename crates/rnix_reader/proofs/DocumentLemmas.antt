@@ -10,9 +10,17 @@ use Rattle.rnix_grammar.specs.declared.position.Position.TheVariants as p
 use Rattle.rnix_grammar.specs.declared.action.Action.TheVariants as a
 
 -- the root is open, and nothing is read
-pub opened_root : (r : List Token) (b b0 : Draft) (errors : List ParseError) (marks : List Mark) (at : ℕ) (s : State) → b0 ≡ blank → b ≡ node_opened NODE_ROOT (tree_count b0.finished) b0
+pub opened_root : (r : List Token) (b b0 : Draft) (errors : List ParseError) (marks : List Mark) (at : ℕ) (s : State) → b0 ≡ blank
+    → b ≡ node_opened NODE_ROOT (tree_count b0.finished) b0
     → errors ≡ [] → marks ≡ [] → at ≡ tree_count b0.finished
-    → s ≡ pushed (mark_at (p.Left ROOT) 0 at) record { rest = r; trees = b.finished; open_nodes = b.open_nodes; faults = map fault_of errors; prev_end = 0; marks = marks }
+    → s ≡ pushed (mark_at (p.Left ROOT) 0 at) record {
+      rest = r;
+      trees = b.finished;
+      open_nodes = b.open_nodes;
+      faults = map fault_of errors;
+      prev_end = 0;
+      marks = marks;
+    }
     → s ≡ erase (begins s.rest)
 unfolding pushed
 opened_root r b b0 errors marks at s e0 e1 e2 e3 e4 e =
@@ -26,7 +34,8 @@ tree_is_node : (t : Tree) (f : Forest) → forest_of t ≡ node NODE_ROOT f empt
 tree_is_node t f e =
     let kinds : t.kind ≡ NODE_ROOT = cc in
     let trees : t.children ≡ f = cc in
-    ap (λ x. let y : Tree = record { kind = x; children = t.children } in y) kinds ∙ ap (λ x. let y : Tree = record { kind = NODE_ROOT; children = x } in y) trees
+    ap (λ x. let y : Tree = record { kind = x; children = t.children } in y) kinds
+    ∙ ap (λ x. let y : Tree = record { kind = NODE_ROOT; children = x } in y) trees
 
 -- at the end of the text the root alone is open
 abbrev pub root_through : {from : Machine} (f : Frame) (fs : List Frame) (ts : List Token) (n : ℕ) (es : List Fault) → Runs true from (machine (f ∷ fs) ts n es)
@@ -57,7 +66,8 @@ read_of ls t tree faults e f = record {
 }
 
 -- and so with what the reader holds
-pub read_made : (ls : List Lexeme) (ts : List Token) (s : State) (tree : Tree) → ts ≡ placed_from 0 ls → IsReadTo ts s → forest_of tree ≡ s.trees → IsRead ls tree s.faults
+pub read_made : (ls : List Lexeme) (ts : List Token) (s : State) (tree : Tree) → ts ≡ placed_from 0 ls → IsReadTo ts s → forest_of tree ≡ s.trees
+    → IsRead ls tree s.faults
 read_made ls ts s tree e r t =
     let all : IsReadTo (placed_from 0 ls) s = subst (λ x. IsReadTo x s) e r in
     read_of ls all.through tree s.faults (tree_is_node tree (forget (with_leading true all.through.root.row all.through.last.left)) (t ∙ all.trees)) all.faults

@@ -13,7 +13,8 @@ finish_is a.Finish e = refl
 finish_is _ e = absurd (true_is_not_false (sym e))
 
 -- a machine with so much to do comes to its end
-through : (c : ℕ) (fs : List Frame) (ts : List Token) (n : ℕ) (es : List Fault) → cost_of (machine fs ts n es) < c → AreStacked fs → IsThrough (machine fs ts n es)
+through : (c : ℕ) (fs : List Frame) (ts : List Token) (n : ℕ) (es : List Fault) → cost_of (machine fs ts n es) < c → AreStacked fs
+    → IsThrough (machine fs ts n es)
 through zero fs ts n es l k = absurd (omega (arith, l))
 through (suc c) [] ts n es l k = absurd k
 through (suc c) (f ∷ fs) ts n es l k = by (λ hs us m gs x y. through c hs us m gs x y) (is_finish action) refl
@@ -30,13 +31,22 @@ through (suc c) (f ∷ fs) ts n es l k = by (λ hs us m gs x y. through c hs us 
     by : ((hs : List Frame) (us : List Token) (m : ℕ) (gs : List Fault) → cost_of (machine hs us m gs) < c → AreStacked hs → IsThrough (machine hs us m gs))
         → (w : Bool) → is_finish action ≡ w → IsThrough (machine (f ∷ fs) ts n es)
     by again true e =
-        let ends : Allowed f.position (head_kind (items ts)) a.Finish = subst (λ (x : Action). Allowed f.position (head_kind (items ts)) x) (finish_is action e) may in
+        let ends : Allowed f.position (head_kind (items ts)) a.Finish =
+        subst (λ (x : Action). Allowed f.position (head_kind (items ts)) x) (finish_is action e) may in
         root_through f fs ts n es here k ends
     by again false e =
         let less : cost_of next < cost_of (machine (f ∷ fs) ts n es) = perform_less f fs ts n es k action may e in
         let rest : IsThrough next =
         again next.frames next.left next.prev_end next.faults (omega (arith, less, l)) (step_stacked true (machine (f ∷ fs) ts n es) k) in
-        record { last = rest.last; runs = further rest.runs; root = rest.root; alone = rest.alone; head = rest.head; position = rest.position; nothing = rest.nothing }
+        record {
+          last = rest.last;
+          runs = further rest.runs;
+          root = rest.root;
+          alone = rest.alone;
+          head = rest.head;
+          position = rest.position;
+          nothing = rest.nothing;
+        }
 
 -- each list of tokens is read as a tree with errors
 pub each_read : (ls : List Lexeme) → (tree : Tree) × ((faults : List Fault) × IsRead ls tree faults)

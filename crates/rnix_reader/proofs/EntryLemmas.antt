@@ -10,7 +10,8 @@ use Rattle.rnix_reader.proofs.FrameKindLemmas.{is_root, head_sort, head_entry, h
 use Rattle.rnix_grammar.specs.declared.action.Action.TheVariants as a
 
 -- a pattern has the last of the sets
-pub known_pattern : (h : Head) (row : AnnotatedForest) (sets : List NameSet) (More : List NameSet → Type 0) → h ≡ Node NODE_PATTERN → AreOpenSetsOn h row sets More → TopSet sets row More
+pub known_pattern : (h : Head) (row : AnnotatedForest) (sets : List NameSet) (More : List NameSet → Type 0) → h ≡ Node NODE_PATTERN
+    → AreOpenSetsOn h row sets More → TopSet sets row More
 known_pattern h row sets More e k = subst (λ x. AreOpenSetsOn x row sets More) e k
 
 -- an entry that is complete, in its pattern: its name, the sets, and what becomes of them
@@ -25,14 +26,16 @@ pub record IsEntry (f g : Frame) (fs : List Frame) (names names' : Names) (again
   pub told : again ≡ (if has_name name.text top_set.set then Some (named_twice (extent_of (name ∷ [])) name.text) else None)
 
 -- so it is at an entry's place
-pub entry_there : (f g : Frame) (fs : List Frame) (names names' : Names) (again : Option Fault) → IsStackedOn f.head f.position (g ∷ fs) → frame_kind f.position ≡ Entry
+pub entry_there : (f g : Frame) (fs : List Frame) (names names' : Names) (again : Option Fault) → IsStackedOn f.head f.position (g ∷ fs)
+    → frame_kind f.position ≡ Entry
     → AreNamed f (g ∷ fs) names → EntryClosed again names names' → IsEntry f g fs names names' again
 entry_there f g fs names names' again st e w c =
     let entry : f.head ≡ Node NODE_PAT_ENTRY = head_entry f.head (st.0 ∙ e) in
     let below : frame_kind g.position ≡ Pattern = holds_entry (frame_kind g.position) (ap (may_hold (frame_kind g.position)) (sym e) ∙ st.1) in
     let pattern : g.head ≡ Node NODE_PATTERN = head_pattern g.head (head_sort g.head g.position fs st.2 ∙ below) in
     let top_set : TopSet names.sets.items g.row (AreOpenSets fs) =
-    known_pattern g.head g.row names.sets.items (AreOpenSets fs) pattern (subst (λ x. AreOpenSetsOn x f.row names.sets.items (AreOpenSets (g ∷ fs))) entry w.sets) in
+    known_pattern g.head g.row names.sets.items (AreOpenSets fs) pattern
+    (subst (λ x. AreOpenSetsOn x f.row names.sets.items (AreOpenSets (g ∷ fs))) entry w.sets) in
     let begun : IsBegun (Node NODE_PAT_ENTRY) f.row = subst (λ x. IsBegun x f.row) entry w.begun.0 in
     let t : Token = begun.0 in
     let named : name_of f.head f.row ≡ Some t = ap (λ x. name_of x f.row) entry ∙ begun.1 in
@@ -48,14 +51,16 @@ reported_once true e f g fs ts n es = refl
 reported_once false e f g fs ts n es = ap (λ x. erase (closed f (g ∷ fs) ts n x)) (sym (append-nil es))
 
 -- an entry is complete
-pub done_entry : (f : Frame) (fs : List Frame) (ts : List Token) (n : ℕ) (es : List Fault) (names names' : Names) (s' : State) → IsStackedOn f.head f.position fs → AreNamed f fs names
+pub done_entry : (f : Frame) (fs : List Frame) (ts : List Token) (n : ℕ) (es : List Fault) (names names' : Names) (s' : State)
+    → IsStackedOn f.head f.position fs → AreNamed f fs names
     → frame_kind f.position ≡ Entry → EntryReported (popped (machine (f ∷ fs) ts n es)) names s' names' → s' ≡ erase (perform true a.CloseEntry f fs ts n es)
 done_entry f [] ts n es names names' s' st w e d = absurd (true_is_not_false (sym (ap is_root st.1) ∙ ap is_root e))
 done_entry f (g ∷ fs) ts n es names names' s' st w e d =
     let q = entry_there f g fs names names' d.again st e w d.closed in
     let fault : Fault = named_twice (extent_of (q.name ∷ [])) q.name.text in
     let old : AnnotatedForest = without_trivia g.row in
-    d.state ∙ ap (λ x. reported_if x (ended (popped (machine (f ∷ (g ∷ fs)) ts n es)))) (q.told ∙ ap (λ x. if x then Some fault else None) (q.top_set.is q.name.text))
+    d.state ∙ ap (λ x. reported_if x (ended (popped (machine (f ∷ (g ∷ fs)) ts n es))))
+    (q.told ∙ ap (λ x. if x then Some fault else None) (q.top_set.is q.name.text))
     ∙ ap (reported_if (if has_entry q.name.text old then Some fault else None)) (closes f (g ∷ fs) ts n es st (ap is_operand_frame e) (ap is_root e))
     ∙ reported_once (has_entry q.name.text old) fault f g fs ts n es
     ∙ ap (λ x. erase (closed f (g ∷ fs) ts n (es ++ repeated_if x old))) (sym q.named)

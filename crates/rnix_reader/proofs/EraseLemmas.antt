@@ -31,13 +31,16 @@ erase-taken ms k f fs us n es = state_is refl (grown (trees_of fs) f.row (leaf_i
 
 -- and so does the next item
 pub erase-bumped : (ms : List Mark) (k : SyntaxKind) (f : Frame) (fs : List Frame) (ts : List Token) (n : ℕ) (es : List Fault)
-    → bumped k (erase_with ms (machine (f ∷ fs) ts n es)) ≡ erase_with ms (machine (put f.position (with_leading true f.row ts ⊕ leaf true k ts) f ∷ fs) (behind true ts) (item_end true n ts) es)
+    → bumped k (erase_with ms (machine (f ∷ fs) ts n es)) ≡ erase_with ms
+    (machine (put f.position (with_leading true f.row ts ⊕ leaf true k ts) f ∷ fs) (behind true ts) (item_end true n ts) es)
 unfolding bumped
-erase-bumped ms k f fs ts n es = ap (taken k) (erase-eaten ms f fs ts n es) ∙ erase-taken ms k (put f.position (with_leading true f.row ts) f) fs (from_item ts) n es
+erase-bumped ms k f fs ts n es = ap (taken k) (erase-eaten ms f fs ts n es)
+    ∙ erase-taken ms k (put f.position (with_leading true f.row ts) f) fs (from_item ts) n es
 
 -- behind the trivia it goes there alone
 pub erase-next : (ms : List Mark) (k : SyntaxKind) (f : Frame) (fs : List Frame) (ts : List Token) (n : ℕ) (es : List Fault)
-    → bumped k (erase_with ms (machine (f ∷ fs) (from_item ts) n es)) ≡ erase_with ms (machine (put f.position (f.row ⊕ leaf true k ts) f ∷ fs) (behind true ts) (item_end true n ts) es)
+    → bumped k (erase_with ms (machine (f ∷ fs) (from_item ts) n es)) ≡ erase_with ms
+    (machine (put f.position (f.row ⊕ leaf true k ts) f ∷ fs) (behind true ts) (item_end true n ts) es)
 unfolding bumped
 erase-next ms k f fs ts n es = ap (taken k) (erase-settled ms (f ∷ fs) ts n es) ∙ erase-taken ms k f fs (from_item ts) n es
 
@@ -60,7 +63,8 @@ unfolding pushed
 erase-operand inside d fs us n es = state_is refl (sym (join_empty (trees_of fs))) refl refl refl refl
 
 -- what is open is complete, if it is a node
-pub erase-closed : (ms : List Mark) (h : Head) (position : Position) (d : ℕ) (row : AnnotatedForest) (g : Frame) (fs : List Frame) (ts : List Token) (n : ℕ) (es : List Fault)
+pub erase-closed : (ms : List Mark) (h : Head) (position : Position) (d : ℕ) (row : AnnotatedForest) (g : Frame) (fs : List Frame) (ts : List Token) (n : ℕ)
+    (es : List Fault)
     → is_operand_frame (frame_kind_of_head h) ≡ false
     → ended (erase_with ms (machine (opened h position d row ∷ (g ∷ fs)) ts n es)) ≡ erase_with ms (closed (opened h position d row) (g ∷ fs) ts n es)
 unfolding ended
@@ -71,19 +75,22 @@ erase-closed ms SecondBind position d row g fs ts n es e =
 erase-closed ms Operand position d row g fs ts n es e = absurd (true_is_not_false e)
 
 -- a node that is not the root is complete
-pub closes : (f : Frame) (fs : List Frame) (ts : List Token) (n : ℕ) (es : List Fault) → IsStackedOn f.head f.position fs → is_operand_frame (frame_kind f.position) ≡ false
+pub closes : (f : Frame) (fs : List Frame) (ts : List Token) (n : ℕ) (es : List Fault) → IsStackedOn f.head f.position fs
+    → is_operand_frame (frame_kind f.position) ≡ false
     → is_root (frame_kind f.position) ≡ false → ended (popped (machine (f ∷ fs) ts n es)) ≡ erase (closed f fs ts n es)
 closes f [] ts n es st l r = absurd (true_is_not_false (sym (ap is_root st.1) ∙ r))
 closes f (g ∷ fs) ts n es st l r = erase-closed _ f.head f.position f.depth f.row g fs ts n es (ap is_operand_frame st.0 ∙ l)
 
 -- an operand is complete
-pub settles : (f : Frame) (fs : List Frame) (ts : List Token) (n : ℕ) (es : List Fault) → IsStackedOn f.head f.position fs → frame_kind f.position ≡ OperandFrame
+pub settles : (f : Frame) (fs : List Frame) (ts : List Token) (n : ℕ) (es : List Fault) → IsStackedOn f.head f.position fs
+    → frame_kind f.position ≡ OperandFrame
     → popped (machine (f ∷ fs) ts n es) ≡ erase (closed f fs ts n es)
 settles f [] ts n es st e = absurd (true_is_not_false (sym (ap is_root st.1) ∙ ap is_root e))
 settles f (g ∷ fs) ts n es st e = rw (head_operand f.head (st.0 ∙ e)) (state_is refl (grown (trees_of fs) g.row f.row) refl refl refl refl)
 
 -- an error is the last of all
-pub closed_failed : (e : Fault) (f : Frame) (fs : List Frame) (ts : List Token) (n : ℕ) (es : List Fault) → failed e (erase (closed f fs ts n es)) ≡ erase (closed f fs ts n (es ++ e ∷ []))
+pub closed_failed : (e : Fault) (f : Frame) (fs : List Frame) (ts : List Token) (n : ℕ) (es : List Fault)
+    → failed e (erase (closed f fs ts n es)) ≡ erase (closed f fs ts n (es ++ e ∷ []))
 unfolding failed
 closed_failed e f [] ts n es = refl
 closed_failed e f (g ∷ fs) ts n es = refl
@@ -101,7 +108,8 @@ pub erase-leaf_node_made : (ms : List Mark) (k : SyntaxKind) (f : Frame) (fs : L
     → leaf_node_made k (erase_with ms (machine (f ∷ fs) ts n es))
     ≡ erase_with ms (machine (put f.position (with_leading true f.row ts ⊕ one_branch k (leaf true k ts)) f ∷ fs) (behind true ts) (item_end true n ts) es)
 erase-leaf_node_made ms k f fs ts n es =
-    ap (λ x. ended (taken k (started_here k x))) (erase-eaten ms f fs ts n es) ∙ leaf_here ms k (put f.position (with_leading true f.row ts) f) fs (from_item ts) n es
+    ap (λ x. ended (taken k (started_here k x))) (erase-eaten ms f fs ts n es)
+    ∙ leaf_here ms k (put f.position (with_leading true f.row ts) f) fs (from_item ts) n es
 
 -- behind the trivia it stands there alone
 pub erase-first : (ms : List Mark) (k : SyntaxKind) (f : Frame) (fs : List Frame) (ts : List Token) (n : ℕ) (es : List Fault)
@@ -110,9 +118,11 @@ pub erase-first : (ms : List Mark) (k : SyntaxKind) (f : Frame) (fs : List Frame
 erase-first ms k f fs ts n es = ap (λ x. ended (taken k (started_here k x))) (erase-settled ms (f ∷ fs) ts n es) ∙ leaf_here ms k f fs (from_item ts) n es
 
 -- an error node over a run
-pub erase-over : (ms : List Mark) (note : Note) (until : ExpectedSet) (run : List Token) (f : Frame) (fs : List Frame) (ts : List Token) (n : ℕ) (es : List Fault) → run_of until (items ts) ≡ run
+pub erase-over : (ms : List Mark) (note : Note) (until : ExpectedSet) (run : List Token) (f : Frame) (fs : List Frame) (ts : List Token) (n : ℕ)
+    (es : List Fault) → run_of until (items ts) ≡ run
     → error_over until (erase_with ms (machine (f ∷ fs) ts n es))
-    ≡ erase_with ms (machine (put f.position (with_leading true f.row ts ⊕ one_fault note (run_row true run ts)) f ∷ fs) (run_rest true run ts) (end_from n run) es)
+    ≡ erase_with ms (machine (put f.position (with_leading true f.row ts ⊕ one_fault note (run_row true run ts)) f ∷ fs) (run_rest true run ts)
+    (end_from n run) es)
 unfolding ended skipped started_at eaten
 erase-over ms note until run f fs ts n es r =
     let row : AnnotatedForest = with_leading true f.row ts in
@@ -120,10 +130,12 @@ erase-over ms note until run f fs ts n es r =
     let s : State = erase_with ms (machine (f ∷ fs) ts n es) in
     ap (λ x. ended (skipped x (started NODE_ERROR s))) (ap (run_of until) (items-from_item ts) ∙ r)
     ∙ ap (λ x. ended (skipped run (started_here NODE_ERROR x))) (erase-eaten ms f fs ts n es)
-    ∙ state_is refl (wrapped-join NODE_ERROR (join (trees_of fs) (forget row)) made ∙ grown (trees_of fs) row (one_fault note (run_row true run ts))) refl refl refl refl
+    ∙ state_is refl (wrapped-join NODE_ERROR (join (trees_of fs) (forget row)) made
+    ∙ grown (trees_of fs) row (one_fault note (run_row true run ts))) refl refl refl refl
 
 -- an operand becomes part of a node
-pub erase-wrapped : (ms : List Mark) (k : SyntaxKind) (inside over : Position) (f : Frame) (fs : List Frame) (ts : List Token) (n : ℕ) (es : List Fault) → f.head ≡ Operand
+pub erase-wrapped : (ms : List Mark) (k : SyntaxKind) (inside over : Position) (f : Frame) (fs : List Frame) (ts : List Token) (n : ℕ) (es : List Fault)
+    → f.head ≡ Operand
     → started_at (tree_count (trees_of fs)) k (erase_with ms (machine (put over f.row f ∷ fs) ts n es))
     ≡ erase_with ms (machine (opened (Node k) inside f.depth f.row ∷ (opened Operand over f.depth blank ∷ fs)) ts n es)
 unfolding started_at

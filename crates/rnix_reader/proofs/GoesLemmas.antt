@@ -23,7 +23,8 @@ pub record Goes (m : Machine) (names : Names) : Type 0 where
   pub order : AreInOrder m.prev_end m.left
 
 -- a machine goes on whose names are known
-pub goes : {f : Frame} {fs : List Frame} {ts : List Token} {n : ℕ} {es : List Fault} {names : Names} → AreNamed f fs names → HasRange names.second n f.head f.row
+pub goes : {f : Frame} {fs : List Frame} {ts : List Token} {n : ℕ} {es : List Fault} {names : Names} → AreNamed f fs names
+    → HasRange names.second n f.head f.row
     → AreInOrder n ts → Goes (machine (f ∷ fs) ts n es) names
 goes {f = f} {fs = fs} w r o = record { top = f; under = fs; frames = refl; named = w; range = r; order = o }
 
@@ -34,7 +35,8 @@ open_range m n SecondBind row e = absurd (true_is_not_false (sym e))
 open_range m n Operand row e = tt
 
 -- and so where no second name is innermost
-pub goes_open : {f : Frame} {fs : List Frame} {ts : List Token} {n : ℕ} {es : List Fault} {names : Names} → is_open (frame_kind_of_head f.head) ≡ true → AreNamed f fs names
+pub goes_open : {f : Frame} {fs : List Frame} {ts : List Token} {n : ℕ} {es : List Fault} {names : Names} → is_open (frame_kind_of_head f.head) ≡ true
+    → AreNamed f fs names
     → AreInOrder n ts → Goes (machine (f ∷ fs) ts n es) names
 goes_open {f = f} {n = n} {names = names} e w o = goes w (open_range names.second n f.head f.row e) o
 
@@ -43,7 +45,8 @@ pub holds_open : (s t : FrameKind) → may_hold s t ≡ true → is_open s ≡ t
 holds_open SecondBindFrame t e = absurd (true_is_not_false (sym e))
 holds_open s t e = refl
 
-pub holder_open : (f : Frame) (fs : List Frame) (s : FrameKind) → IsStackedOn f.head f.position fs → may_hold (frame_kind f.position) s ≡ true → is_open (frame_kind_of_head f.head) ≡ true
+pub holder_open : (f : Frame) (fs : List Frame) (s : FrameKind) → IsStackedOn f.head f.position fs → may_hold (frame_kind f.position) s ≡ true
+    → is_open (frame_kind_of_head f.head) ≡ true
 holder_open f fs s st m = ap is_open (head_sort f.head f.position fs st) ∙ holds_open (frame_kind f.position) s m
 
 -- the same names serve as well
@@ -51,7 +54,8 @@ pub stays : {m : Machine} {names names' : Names} → names' ≡ names → Goes m
 stays {m = m} e w = subst (Goes m) (sym e) w
 
 -- an operand begins, where f waits
-module _ (level d : ℕ) (f : Frame) (fs : List Frame) (ts : List Token) (n : ℕ) (es : List Fault) (names : Names) (w : AreNamed f fs names) (o : AreInOrder n ts) where
+module _ (level d : ℕ) (f : Frame) (fs : List Frame) (ts : List Token) (n : ℕ) (es : List Fault) (names : Names) (w : AreNamed f fs names)
+    (o : AreInOrder n ts) where
   -- the frames below the operand
   abbrev waiting : List Frame
   waiting = put f.position (with_leading true f.row ts) f ∷ fs
@@ -65,7 +69,8 @@ module _ (level d : ℕ) (f : Frame) (fs : List Frame) (ts : List Token) (n : �
   behind_double_bind : AreInOrder (item_end true (item_end true n ts) (behind true ts)) (behind true (behind true ts))
   behind_double_bind = order_behind (item_end true n ts) (behind true ts) (order_behind n ts o)
 
-  begun_goes : (t : Token) (second : Option SyntaxKind) (begin : Begin) (names' : Names) → BeginsInner second begin → NamesFor (opens_pattern begin) names names'
+  begun_goes : (t : Token) (second : Option SyntaxKind) (begin : Begin) (names' : Names) → BeginsInner second begin
+      → NamesFor (opens_pattern begin) names names'
       → Goes (begun true begin level d t f fs ts n es) names'
   begun_goes t second (b.Leaf k) names' fit e = stays e (goes_open refl (operand 16 (one_branch k (leaf true k ts))) (order_behind n ts o))
   begun_goes t second (b.Node k left max_bp) names' fit e =
@@ -88,15 +93,18 @@ module _ (level d : ℕ) (f : Frame) (fs : List Frame) (ts : List Token) (n : �
       → Goes (operand_on true level d f fs ts us n es) names'
   operand_goes [] names' m e = stays e (goes_open m w o)
   operand_goes (t ∷ us) names' m e =
-      begun_goes t (head_kind us) (begin_of level t.kind t.text (head_kind us) (second_kind us)) names' (begin_inner level t.kind t.text (head_kind us) (second_kind us)) e
+      begun_goes t (head_kind us) (begin_of level t.kind t.text (head_kind us) (second_kind us)) names'
+      (begin_inner level t.kind t.text (head_kind us) (second_kind us)) e
 
 -- what is nested too deep
-limited_goes : (f : Frame) (fs : List Frame) (ts : List Token) (n : ℕ) (es : List Fault) (names : Names) → AreNamed f fs names → is_open (frame_kind_of_head f.head) ≡ true → AreInOrder n ts
+limited_goes : (f : Frame) (fs : List Frame) (ts : List Token) (n : ℕ) (es : List Fault) (names : Names) → AreNamed f fs names
+    → is_open (frame_kind_of_head f.head) ≡ true → AreInOrder n ts
     → Goes (limited true f fs ts n es) names
 limited_goes f fs ts n es names w m o =
     let left : List Token = run_rest true (items ts) ts in
     let row : AnnotatedForest = run_row true (items ts) ts in
-    let grown : AreNamed (put f.position (with_leading true f.row ts ⊕ one_fault TooDeep row) f) fs names = grow_behind f.position ts (one_fault TooDeep row) (no_entry_fault TooDeep row) w in
+    let grown : AreNamed (put f.position (with_leading true f.row ts ⊕ one_fault TooDeep row) f) fs names =
+    grow_behind f.position ts (one_fault TooDeep row) (no_entry_fault TooDeep row) w in
     goes_open m (grow_trivia f.position left grown) (order_from (end_from n (items ts)) left (order_all n ts o).0)
 
 -- an operand of a level is read

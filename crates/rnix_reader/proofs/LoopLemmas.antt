@@ -69,7 +69,8 @@ module _ {first : List Token} {s : State} {names : Names} (g : IsGoing first s n
       let q : is_finish action ≡ false = not_finish action other in
       let after : Machine = step true before in
       let done : Goes after names' = perform_goes g.top g.under g.left g.prev_end names g.named g.well action g.faults names' may q k in
-      let whole : after ≡ machine (done.top ∷ done.under) after.left after.prev_end after.faults = ap (λ x. machine x after.left after.prev_end after.faults) done.frames in
+      let whole : after ≡ machine (done.top ∷ done.under) after.left after.prev_end after.faults =
+      ap (λ x. machine x after.left after.prev_end after.faults) done.frames in
       let state : s' ≡ erase after = performs g.top g.under g.left g.prev_end g.faults names g.well action s' names' g.named may q d in (
         record {
           top = done.top;
@@ -95,7 +96,8 @@ module _ {first : List Token} {s : State} {names : Names} (g : IsGoing first s n
   read s' q e =
       let end : Allowed g.top.position (head_kind (items g.left)) a.Finish = subst (Allowed g.top.position (head_kind (items g.left))) q may in
       let through : IsThrough (begins first) = root_through g.top g.under g.left g.prev_end g.faults g.runs g.well.fit end in
-      let state = e ∙ ap (λ x. ended (eaten (popped (machine x g.left g.prev_end g.faults)))) through.alone ∙ ap ended (erase-eaten [] g.top [] g.left g.prev_end g.faults)
+      let state = e ∙ ap (λ x. ended (eaten (popped (machine x g.left g.prev_end g.faults)))) through.alone
+      ∙ ap ended (erase-eaten [] g.top [] g.left g.prev_end g.faults)
       ∙ root_ended g.top.head g.top.position g.top.depth (with_leading true g.top.row g.left) (from_item g.left) g.prev_end g.faults through.head in
       record { through = through; trees = ap (λ x. x.trees) state; nodes = ap (λ x. x.open_nodes) state; faults = ap (λ x. x.faults) state }
 
@@ -105,7 +107,8 @@ module _ {first : List Token} {s : State} {names : Names} (g : IsGoing first s n
       record { ready = needs; goes = going; root = λ e. subst (λ x. IsReady x (mark_of g.top g.under) (popped before) names) e needs; finished = read }
 
   -- so it is for the mark that is taken
-  pub turn : (ms : List Mark) (mark : Mark) (x : Action) → s.marks ≡ ms ++ mark ∷ [] → x ≡ action_of mark.position (with_marks ms s) → Turn first s names mark (with_marks ms s) x
+  pub turn : (ms : List Mark) (mark : Mark) (x : Action) → s.marks ≡ ms ++ mark ∷ [] → x ≡ action_of mark.position (with_marks ms s)
+      → Turn first s names mark (with_marks ms s) x
   turn ms mark x e k =
       let two = same_from_push ms (marks_of g.under) mark (mark_of g.top g.under) (sym e ∙ ap (λ x. x.marks) g.state) in
       let same : with_marks ms s ≡ popped before = ap (with_marks ms) g.state ∙ ap (λ x. with_marks x (erase before)) two.0 in

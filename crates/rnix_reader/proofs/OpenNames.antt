@@ -11,7 +11,8 @@ use Rattle.rnix_reader.proofs.RowLemmas.{name_more, known_more, known_entry}
 use Rattle.rnix_grammar.specs.declared.position.Position.TheVariants as p
 
 -- a row grows at its end
-pub grow : {f : Frame} {fs : List Frame} {names : Names} (after : Position) (g : AnnotatedForest) → (is_pattern (frame_kind_of_head f.head) ≡ true → HasNoEntry g)
+pub grow : {f : Frame} {fs : List Frame} {names : Names} (after : Position) (g : AnnotatedForest)
+    → (is_pattern (frame_kind_of_head f.head) ≡ true → HasNoEntry g)
     → AreNamed f fs names → AreNamed (put after (f.row ⊕ g) f) fs names
 grow {f = f} {fs = fs} {names = names} after g q w = record {
   begun = (begun_more f.head f.row g w.begun.0, w.begun.1);
@@ -39,7 +40,8 @@ has_no_names Pattern = false
 has_no_names Entry = false
 has_no_names s = true
 
-no_names_known : (h : Head) (row : AnnotatedForest) (sets : List NameSet) (More : List NameSet → Type 0) → has_no_names (frame_kind_of_head h) ≡ true → AreOpenSetsOn h row sets More ≡ More sets
+no_names_known : (h : Head) (row : AnnotatedForest) (sets : List NameSet) (More : List NameSet → Type 0) → has_no_names (frame_kind_of_head h) ≡ true
+    → AreOpenSetsOn h row sets More ≡ More sets
 no_names_known (Node NODE_PATTERN) row sets More e = absurd (true_is_not_false (sym e))
 no_names_known (Node k) row sets More e = refl
 no_names_known SecondBind row sets More e = refl
@@ -60,7 +62,8 @@ same_entries : (fs : List Frame) (x : Option Token) → x ≡ None → entries_o
 same_entries fs x e = ap (λ y. entries_of fs ++ named_by y) e ∙ append-nil (entries_of fs)
 
 -- a frame on others
-push : {f : Frame} {fs : List Frame} {names : Names} (h : Head) (position : Position) (d : ℕ) (row : AnnotatedForest) → has_no_names (frame_kind_of_head h) ≡ true
+push : {f : Frame} {fs : List Frame} {names : Names} (h : Head) (position : Position) (d : ℕ) (row : AnnotatedForest)
+    → has_no_names (frame_kind_of_head h) ≡ true
     → IsBegun h row → AreNamed f fs names → AreNamed (opened h position d row) (f ∷ fs) names
 push {f = f} {fs = fs} {names = names} h position d row b i w = record {
   begun = (i, w.begun);
@@ -69,7 +72,8 @@ push {f = f} {fs = fs} {names = names} h position d row b i w = record {
 }
 
 -- a node is opened above a frame
-pub push_node : {f : Frame} {fs : List Frame} {names : Names} (k : SyntaxKind) (position : Position) (d : ℕ) (row : AnnotatedForest) → frame_kind_of_node k ≡ NodeFrame
+pub push_node : {f : Frame} {fs : List Frame} {names : Names} (k : SyntaxKind) (position : Position) (d : ℕ) (row : AnnotatedForest)
+    → frame_kind_of_node k ≡ NodeFrame
     → AreNamed f fs names → AreNamed (opened (Node k) position d row) (f ∷ fs) names
 push_node k position d row s w = push (Node k) position d row (ap has_no_names s) (node_begun k row (ap has_no_names s)) w
 
@@ -80,7 +84,8 @@ push_operand min_bp max_bp d row w = push Operand (p.AfterOperand min_bp max_bp)
 
 -- a second name is opened
 pub push_second : {f : Frame} {fs : List Frame} {names names' : Names} (d : ℕ) (row : AnnotatedForest) → IsBegun SecondBind row
-    → names'.sets.items ≡ names.sets.items → entries_in names' ≡ entries_in names → AreNamed f fs names → AreNamed (opened SecondBind (p.Left SECOND_BIND) d row) (f ∷ fs) names'
+    → names'.sets.items ≡ names.sets.items → entries_in names' ≡ entries_in names → AreNamed f fs names
+    → AreNamed (opened SecondBind (p.Left SECOND_BIND) d row) (f ∷ fs) names'
 push_second {f = f} {fs = fs} d row i s e w = record {
   begun = (i, w.begun);
   sets = subst (AreOpenSets (f ∷ fs)) (sym s) w.sets;
@@ -116,7 +121,8 @@ instead {f = f} {fs = fs} {names = names} min_bp max_bp d row o w = record {
 }
 
 -- what closes has no entry of its own
-made_quiet : (h : Head) (row : AnnotatedForest) (s : FrameKind) → has_no_names (frame_kind_of_head h) ≡ true → may_hold s (frame_kind_of_head h) ≡ true → is_pattern s ≡ true → HasNoEntry (made h row)
+made_quiet : (h : Head) (row : AnnotatedForest) (s : FrameKind) → has_no_names (frame_kind_of_head h) ≡ true → may_hold s (frame_kind_of_head h) ≡ true
+    → is_pattern s ≡ true → HasNoEntry (made h row)
 made_quiet (Node NODE_PAT_ENTRY) row s b m q = absurd (true_is_not_false (sym b))
 made_quiet (Node k) row s b m q = λ name. refl
 made_quiet SecondBind row s b m q = λ name. refl
@@ -124,7 +130,8 @@ made_quiet Operand row Pattern b m q = absurd (true_is_not_false (sym m))
 made_quiet Operand row s b m q = absurd (true_is_not_false (sym q))
 
 -- a frame is complete
-pub pop : {f g : Frame} {fs : List Frame} {names : Names} → IsStackedOn f.head f.position (g ∷ fs) → has_no_names (frame_kind f.position) ≡ true → AreNamed f (g ∷ fs) names
+pub pop : {f g : Frame} {fs : List Frame} {names : Names} → IsStackedOn f.head f.position (g ∷ fs) → has_no_names (frame_kind f.position) ≡ true
+    → AreNamed f (g ∷ fs) names
     → AreNamed (put g.position (g.row ⊕ made f.head f.row) g) fs names
 pop {f = f} {g = g} {fs = fs} {names = names} st b w =
     let bare : has_no_names (frame_kind_of_head f.head) ≡ true = ap has_no_names st.0 ∙ b in
@@ -134,7 +141,8 @@ pop {f = f} {g = g} {fs = fs} {names = names} st b w =
       entries = w.entries ∙ same_entries (g ∷ fs) (name_of f.head f.row) (no_names_name f.head f.row bare);
     } in
     grow g.position (made f.head f.row)
-    (λ q. made_quiet f.head f.row (frame_kind g.position) bare (ap (may_hold (frame_kind g.position)) st.0 ∙ st.1) (ap is_pattern (sym (head_sort g.head g.position fs st.2)) ∙ q)) kept
+    (λ q. made_quiet f.head f.row (frame_kind g.position) bare (ap (may_hold (frame_kind g.position)) st.0 ∙ st.1)
+    (ap is_pattern (sym (head_sort g.head g.position fs st.2)) ∙ q)) kept
 
 -- a pattern is complete, and its set is dropped
 pub pop_pattern : {f g : Frame} {fs : List Frame} {names names' : Names} → f.head ≡ Node NODE_PATTERN → PatternClosed names names' → AreNamed f (g ∷ fs) names
@@ -154,7 +162,8 @@ pub pop_entry : {f g : Frame} {fs : List Frame} {names names' : Names} {again : 
 pop_entry {f = f} {g = g} {fs = fs} {names' = names'} q w = record {
   begun = (begun_more g.head g.row (made f.head f.row) w.begun.1.0, w.begun.1.1);
   sets = subst (λ h. AreOpenSetsOn g.head (g.row ⊕ made h f.row) names'.sets.items (AreOpenSets fs)) (sym q.entry)
-      (known_entry g.head g.row f.row q.name q.top_set.below q.entered.set names'.sets.items (AreOpenSets fs) (ap (λ h. is_pattern (frame_kind_of_head h)) q.pattern) q.named q.entered.sets q.top_set.more
+      (known_entry g.head g.row f.row q.name q.top_set.below q.entered.set names'.sets.items (AreOpenSets fs)
+      (ap (λ h. is_pattern (frame_kind_of_head h)) q.pattern) q.named q.entered.sets q.top_set.more
       (λ other. q.entered.has other ∙ ap (λ x. if bytes_eq q.name.text other then true else x) (q.top_set.is other)));
   entries = q.entries ∙ ap (λ x. entries_of fs ++ named_by x) (sym (name_more g.head g.row (made f.head f.row) w.begun.1.0));
 }

@@ -32,14 +32,16 @@ run_tokens : (note : Note) (run us ts : List Token) → items ts ≡ run ++ us �
 run_tokens note run us ts e =
     append-nil (tokens_in (without_trivia (run_row true run ts))) ∙ ap tokens_in (run_bared run ts us e).same ∙ tokens_in-row_of run
 
-closing_pattern : (f : Frame) (fs : List Frame) (ts : List Token) (n : ℕ) (es : List Fault) (names names' : Names) → AreNamed f fs names → IsWell f fs ts n names.second
+closing_pattern : (f : Frame) (fs : List Frame) (ts : List Token) (n : ℕ) (es : List Fault) (names names' : Names) → AreNamed f fs names
+    → IsWell f fs ts n names.second
     → frame_kind f.position ≡ Pattern → PatternClosed names names' → Goes (closed f fs ts n es) names'
 closing_pattern f [] ts n es names names' w v e c = absurd (true_is_not_false (sym (ap is_root v.fit.1) ∙ ap is_root e))
 closing_pattern f (g ∷ fs) ts n es names names' w v e c =
     goes_open (holder_open g fs (frame_kind f.position) v.fit.2 v.fit.1) (pop_pattern (head_pattern f.head (v.fit.0 ∙ e)) c w) v.order
 
 -- and its entry
-closing_entry : (f : Frame) (fs : List Frame) (ts : List Token) (n : ℕ) (es : List Fault) (names names' : Names) → AreNamed f fs names → IsWell f fs ts n names.second
+closing_entry : (f : Frame) (fs : List Frame) (ts : List Token) (n : ℕ) (es : List Fault) (names names' : Names) → AreNamed f fs names
+    → IsWell f fs ts n names.second
     → frame_kind f.position ≡ Entry → (again : Option Fault) × EntryClosed again names names' → Goes (entry_closed true f fs ts n es) names'
 closing_entry f [] ts n es names names' w v e c = absurd (true_is_not_false (sym (ap is_root v.fit.1) ∙ ap is_root e))
 closing_entry f (g ∷ fs) ts n es names names' w v e c =
@@ -55,12 +57,14 @@ module _ (f : Frame) (fs : List Frame) (ts : List Token) (n : ℕ) (names : Name
       by (g ∷ gs) w st = goes_open (holder_open g gs (frame_kind f.position) st.2 st.1) (pop st b w) v.order
 
   -- the innermost row grows by some items
-  grows : (after : Position) (g : AnnotatedForest) (run us : List Token) (m : ℕ) (es : List Fault) → HasNoEntry g → tokens_in (without_trivia g) ≡ run → m ≡ end_from n run → n ≤ m → AreInOrder m us
+  grows : (after : Position) (g : AnnotatedForest) (run us : List Token) (m : ℕ) (es : List Fault) → HasNoEntry g → tokens_in (without_trivia g) ≡ run
+      → m ≡ end_from n run → n ≤ m → AreInOrder m us
       → Goes (machine (put after (with_leading true f.row ts ⊕ g) f ∷ fs) us m es) names
   grows after g run us m es none i r l o =
       let begun : IsBegun f.head f.row = w.begun.0 in
       let trivia = range_more names.second n n f.head f.row (trivia_before ts) [] begun v.range (ap tokens_in (without_trivia-trivia ts)) refl (omega arith) in
-      goes (grow_behind after ts g none w) (range_more names.second n m f.head (with_leading true f.row ts) g run (begun_more f.head f.row (trivia_before ts) begun) trivia i r l) o
+      goes (grow_behind after ts g none w) (range_more names.second n m f.head (with_leading true f.row ts) g run
+      (begun_more f.head f.row (trivia_before ts) begun) trivia i r l) o
 
   -- at a position behind an operand an operand is open
   loose : frame_kind f.position ≡ OperandFrame → f.head ≡ Operand
@@ -72,7 +76,8 @@ module _ (f : Frame) (fs : List Frame) (ts : List Token) (n : ℕ) (names : Name
   entry_goes after [] es names' e h does = absurd (true_is_not_false (sym h))
   entry_goes after (t ∷ us) es names' e h does =
       let name = ap only_token (leaf_without_trivia NODE_IDENT ts ∙ ap (leaf_in NODE_IDENT) e) in
-      goes_open refl (push_entry f.depth (one_branch NODE_IDENT (leaf true NODE_IDENT ts)) t name (does t (ap head_of e)) (grow_trivia (p.Left after) ts w)) (order_behind n ts v.order)
+      goes_open refl (push_entry f.depth (one_branch NODE_IDENT (leaf true NODE_IDENT ts)) t name (does t (ap head_of e)) (grow_trivia (p.Left after) ts w))
+      (order_behind n ts v.order)
 
   -- a second name begins
   double_bind_goes : (after : ℕ) (us : List Token) (es : List Fault) (names' : Names) → items ts ≡ us → is_there (head_kind us) ≡ true
@@ -87,7 +92,8 @@ module _ (f : Frame) (fs : List Frame) (ts : List Token) (n : ℕ) (names : Name
       let range : (let x : Extent = record { start = names'.second; end = item_end true n ts } in x) ≡ extent_of (tokens_in (without_trivia row)) =
       ap (λ x. let y : Extent = record { start = x; end = item_end true n ts } in y) new.second
       ∙ ap (λ x. let y : Extent = record { start = t.start; end = x } in y) end ∙ sym (ap extent_of tokens) in
-      goes (push_second f.depth row (t, [], tokens) new.sets new.entries (grow_trivia (p.Left after) ts w)) (range, omega (arith, ordered.1, end, new.second)) (order_behind n ts v.order)
+      goes (push_second f.depth row (t, [], tokens) new.sets new.entries (grow_trivia (p.Left after) ts w)) (range, omega (arith, ordered.1, end, new.second))
+      (order_behind n ts v.order)
 
   -- each action leaves a machine that goes on
   pub perform_goes : (action : Action) (es : List Fault) (names' : Names) → Allowed f.position (head_kind (items ts)) action → is_finish action ≡ false
@@ -118,19 +124,23 @@ module _ (f : Frame) (fs : List Frame) (ts : List Token) (n : ℕ) (names : Name
       (run_tokens (Unwanted until) run (dropped run (items ts)) ts (run_prefix until (items ts))) refl all.1 all.0)
   perform_goes (a.Leaf j after) es names' al g k =
       let row : AnnotatedForest = one_branch j (leaf true j ts) in
-      stays k (grows (p.Left after) row (firsts (items ts)) (behind true ts) (item_end true n ts) es (subst (λ x. HasNoEntry (one_branch x (leaf true x ts))) (sym al.2) (λ name. refl))
+      stays k (grows (p.Left after) row (firsts (items ts)) (behind true ts) (item_end true n ts) es
+      (subst (λ x. HasNoEntry (one_branch x (leaf true x ts))) (sym al.2) (λ name. refl))
       (append-nil (tokens_in (without_trivia (leaf true j ts))) ∙ leaf_tokens j ts) (leaf_end n ts) (reach_least n ts v.order) (order_behind n ts v.order))
   perform_goes (a.Open j inside after) es names' al g k =
-      stays k (goes_open (ap is_open al.2) (push_node j (p.Left inside) f.depth (leaf true j ts) al.2 (grow_trivia (p.Left after) ts w)) (order_behind n ts v.order))
+      stays k (goes_open (ap is_open al.2) (push_node j (p.Left inside) f.depth (leaf true j ts) al.2 (grow_trivia (p.Left after) ts w))
+      (order_behind n ts v.order))
   perform_goes (a.Begin j inside after) es names' al g k =
       stays k (goes_open (ap is_open al.1) (push_node j (p.Left inside) f.depth blank al.1 (grow_trivia (p.Left after) ts w)) (order_from n ts v.order))
   perform_goes (a.Entry after) es names' al g k = entry_goes after (items ts) es names' refl (ap is_there al.0) k
   perform_goes (a.DoubleBind after) es names' al g k = double_bind_goes after (items ts) es names' refl al.0 k
   perform_goes (a.Read level counted after) es names' al g k =
-      reading_goes level counted (put (p.Left after) f.row f) fs ts n es names names' (moved_on (p.Left after) w) (holder_open f fs OperandFrame v.fit al.1) v.order k
+      reading_goes level counted (put (p.Left after) f.row f) fs ts n es names names' (moved_on (p.Left after) w)
+      (holder_open f fs OperandFrame v.fit al.1) v.order k
   perform_goes (a.Wrap j inside max_bp) es names' al g k =
       let row : AnnotatedForest = with_leading true f.row ts ⊕ leaf true j ts in
-      stays k (goes_open (ap is_open al.2) (push_node j inside f.depth row al.2 (instead (min_bp_of f.position) max_bp f.depth blank (loose al.1) w)) (order_behind n ts v.order))
+      stays k (goes_open (ap is_open al.2) (push_node j inside f.depth row al.2 (instead (min_bp_of f.position) max_bp f.depth blank (loose al.1) w))
+      (order_behind n ts v.order))
   perform_goes a.Apply es names' al g k =
       let over : Frame = opened Operand (p.AfterOperand (min_bp_of f.position) 15) f.depth blank in
       reading_goes 16 false (opened (Node NODE_APPLY) (p.Left APPLIED) f.depth f.row) (over ∷ fs) ts n es names names'

@@ -44,7 +44,8 @@ one_more false true c = refl
 one_more false false c = refl
 
 -- one more entry adds its name
-pub has_entry-more : (name : List ℕ) (f c : AnnotatedForest) → has_entry name (f ⊕ one_branch NODE_PAT_ENTRY c) ≡ (if is_same_name name (entry_name c) then true else has_entry name f)
+pub has_entry-more : (name : List ℕ) (f c : AnnotatedForest) → has_entry name
+    (f ⊕ one_branch NODE_PAT_ENTRY c) ≡ (if is_same_name name (entry_name c) then true else has_entry name f)
 has_entry-more name blank c = refl
 has_entry-more name (token k t f) c = has_entry-more name f c
 has_entry-more name (branch NODE_PAT_ENTRY d f) c =
@@ -79,7 +80,8 @@ name_more SecondBind f g w = refl
 name_more Operand f g w = refl
 
 -- a row without more entries has the same names
-pub known_more : (h : Head) (f g : AnnotatedForest) (sets : List NameSet) (More : List NameSet → Type 0) → (is_pattern (frame_kind_of_head h) ≡ true → HasNoEntry g)
+pub known_more : (h : Head) (f g : AnnotatedForest) (sets : List NameSet) (More : List NameSet → Type 0)
+    → (is_pattern (frame_kind_of_head h) ≡ true → HasNoEntry g)
     → AreOpenSetsOn h f sets More → AreOpenSetsOn h (f ⊕ g) sets More
 known_more (Node NODE_PATTERN) f g sets More q w = record {
   below = w.below;
@@ -112,11 +114,16 @@ known_entry SecondBind f c t below s sets More q e a m is = absurd (true_is_not_
 known_entry Operand f c t below s sets More q e a m is = absurd (true_is_not_false (sym q))
 
 -- a second name stays where it begins, and ends where the items behind it end
-pub range_more : (n m k : ℕ) (h : Head) (f g : AnnotatedForest) (us : List Token) → IsBegun h f → HasRange n m h f → tokens_in (without_trivia g) ≡ us → k ≡ end_from m us → m ≤ k → HasRange n k h (f ⊕ g)
+pub range_more : (n m k : ℕ) (h : Head) (f g : AnnotatedForest) (us : List Token) → IsBegun h f → HasRange n m h f → tokens_in (without_trivia g) ≡ us
+    → k ≡ end_from m us → m ≤ k → HasRange n k h (f ⊕ g)
 range_more n m k (Node j) f g us w e i r l = tt
 range_more n m k SecondBind f g us w e i r l =
     let old : (let x : Extent = record { start = n; end = m } in x) ≡ extent_of (w.0 ∷ w.1) = e.0 ∙ ap extent_of w.2 in
-    let new : tokens_in (without_trivia (f ⊕ g)) ≡ w.0 ∷ (w.1 ++ us) = tokens_more f g ∙ ap (λ x. x ++ tokens_in (without_trivia g)) w.2 ∙ ap (λ x. w.0 ∷ (w.1 ++ x)) i in
-    let end : k ≡ end_from w.0.end (w.1 ++ us) = r ∙ ap (λ x. end_from x.end us) old ∙ sym (end_behind w.0.end w.1 us) in
-    (ap (λ x. let y : Extent = record { start = x.start; end = k } in y) old ∙ ap (λ x. let y : Extent = record { start = w.0.start; end = x } in y) end ∙ sym (ap extent_of new), omega (arith, e.1, l))
+    let new : tokens_in (without_trivia (f ⊕ g)) ≡ w.0 ∷ (w.1 ++ us) =
+    tokens_more f g ∙ ap (λ x. x ++ tokens_in (without_trivia g)) w.2 ∙ ap (λ x. w.0 ∷ (w.1 ++ x)) i in
+    let end : k ≡ end_from w.0.end (w.1 ++ us) = r ∙ ap (λ x. end_from x.end us) old ∙ sym (end_behind w.0.end w.1 us) in (
+      ap (λ x. let y : Extent = record { start = x.start; end = k } in y) old ∙ ap (λ x. let y : Extent = record { start = w.0.start; end = x } in y) end
+          ∙ sym (ap extent_of new),
+      omega (arith, e.1, l),
+    )
 range_more n m k Operand f g us w e i r l = tt

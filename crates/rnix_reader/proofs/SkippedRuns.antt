@@ -83,12 +83,20 @@ pub in_order_items : (n : ℕ) (ts : List Token) → AreInOrder n ts → AreInOr
 in_order_items n [] o = tt
 in_order_items n (t ∷ ts) o =
     let ih : AreInOrder t.end (items ts) = in_order_items t.end ts o.2 in
-    elim (is_trivia t.kind) as (λ x. AreInOrder n (item_if x t (items ts))) [ true ↦ in_order_from n t.end (items ts) (omega (arith, o.0, o.1)) ih | false ↦ (o.0, o.1, ih) ]
+    elim (is_trivia t.kind) as (λ x. AreInOrder n (item_if x t (items ts))) [
+      | true ↦ in_order_from n t.end (items ts) (omega (arith, o.0, o.1)) ih
+      | false ↦
+          (o.0, o.1, ih)
+    ]
 
 -- a run ends no earlier than it begins
 pub run_end : (u : ExpectedSet) (n : ℕ) (ts : List Token) → AreInOrder n ts → n ≤ end_from n (run_of u ts)
 run_end u n [] o = omega arith
-run_end u n (t ∷ ts) o = elim (is_wanted u t.kind) as (λ x. n ≤ end_from n (if x then [] else t ∷ run_of u ts)) [ true ↦ omega arith | false ↦ omega (arith, o.0, o.1, run_end u t.end ts o.2) ]
+run_end u n (t ∷ ts) o = elim (is_wanted u t.kind) as (λ x. n ≤ end_from n (if x then [] else t ∷ run_of u ts)) [
+  | true ↦ omega arith
+  | false ↦ omega
+      (arith, o.0, o.1, run_end u t.end ts o.2)
+]
 
 -- an item ends no earlier than it begins
 pub item_in_order : (s : State) (t : Token) → AreInOrder 0 s.rest → head_of (items_left s) ≡ Some t → t.start ≤ t.end
@@ -99,18 +107,22 @@ run_first : (u : ExpectedSet) (t : Token) (ts : List Token) → head_of ts ≡ S
 run_first u t ts h off = ap (run_of u) (first_of ts t h) ∙ run_begins u t (tail_of ts) off
 
 -- a run reaches at least as far as its first item begins
-pub run_reach : (u : ExpectedSet) (s s' : State) (t : Token) → AreInOrder 0 s.rest → head_of (items_left s) ≡ Some t → is_wanted u t.kind ≡ false → s' ≡ error_over u s → t.start ≤ s'.prev_end
+pub run_reach : (u : ExpectedSet) (s s' : State) (t : Token) → AreInOrder 0 s.rest → head_of (items_left s) ≡ Some t → is_wanted u t.kind ≡ false
+    → s' ≡ error_over u s → t.start ≤ s'.prev_end
 run_reach u s s' t o h off e =
     let inside : AreInOrder 0 (t ∷ tail_of (items s.rest)) = subst (AreInOrder 0) (first_of (items s.rest) t h) (in_order_items 0 s.rest o) in
-    let is : s'.prev_end ≡ end_from t.end (run_of u (tail_of (items s.rest))) = ap (λ x. x.prev_end) e ∙ reached_over u s ∙ ap (end_from s.prev_end) (run_first u t (items s.rest) h off) in
+    let is : s'.prev_end ≡ end_from t.end (run_of u (tail_of (items s.rest))) =
+    ap (λ x. x.prev_end) e ∙ reached_over u s ∙ ap (end_from s.prev_end) (run_first u t (items s.rest) h off) in
     omega (arith, inside.1, run_end u t.end (tail_of (items s.rest)) inside.2, is)
 
 -- the range of a run is that of its tokens
-pub run_extent : (u : ExpectedSet) (s s' : State) (t : Token) (range : Extent) → head_of (items_left s) ≡ Some t → is_wanted u t.kind ≡ false → s' ≡ error_over u s
+pub run_extent : (u : ExpectedSet) (s s' : State) (t : Token) (range : Extent) → head_of (items_left s) ≡ Some t → is_wanted u t.kind ≡ false
+    → s' ≡ error_over u s
     → range ≡ record { start = t.start; end = s'.prev_end } → range ≡ extent_of (next_run u s)
 run_extent u s s' t range h off e r =
     let first : run_of u (items s.rest) ≡ t ∷ run_of u (tail_of (items s.rest)) = run_first u t (items s.rest) h off in
-    r ∙ ap (λ x. let y : Extent = record { start = t.start; end = x } in y) (ap (λ x. x.prev_end) e ∙ reached_over u s ∙ ap (end_from s.prev_end) first) ∙ sym (ap extent_of first)
+    r ∙ ap (λ x. let y : Extent = record { start = t.start; end = x } in y) (ap (λ x. x.prev_end) e ∙ reached_over u s ∙ ap (end_from s.prev_end) first)
+    ∙ sym (ap extent_of first)
 
 -- what is reported of a token that begins no operand
 pub stray_report : (t : Token) (range : Extent) (wanted : List SyntaxKind) → range ≡ record { start = t.start; end = t.end } → wanted ≡ operand_kinds

@@ -9,7 +9,8 @@ use Rattle.rnix_reader.specs.{Placed.BeginsWithTrivia, State.{State, eaten, take
 use Rattle.rnix_reader.proofs.CursorLemmas.{before_item}
 
 -- states with the same parts are one
-pub state_is : {r r' : List Token} {x x' : Forest} {o o' : List OpenNode} {e e' : List Fault} {n n' : ℕ} {m m' : List Mark} → r ≡ r' → x ≡ x' → o ≡ o' → e ≡ e' → n ≡ n' → m ≡ m'
+pub state_is : {r r' : List Token} {x x' : Forest} {o o' : List OpenNode} {e e' : List Fault} {n n' : ℕ} {m m' : List Mark} → r ≡ r' → x ≡ x' → o ≡ o' → e ≡ e'
+    → n ≡ n' → m ≡ m'
     → (let y : State = record { rest = r; trees = x; open_nodes = o; faults = e; prev_end = n; marks = m } in y)
     ≡ (let z : State = record { rest = r'; trees = x'; open_nodes = o'; faults = e'; prev_end = n'; marks = m' } in z)
 state_is a b c d e f = cc
@@ -46,10 +47,12 @@ first_trivia ts now at next (Some t) v f n e =
 pub eaten-settled : (s : State) → from_item s.rest ≡ s.rest → eaten s ≡ s
 unfolding eaten
 eaten-settled s e =
-    state_is e (ap (λ x. join s.trees (forget (trivia_before x))) (sym e) ∙ ap (λ x. join s.trees (forget x)) (trivia-from_item s.rest) ∙ join_empty s.trees) refl refl refl refl
+    state_is e (ap (λ x. join s.trees (forget (trivia_before x))) (sym e) ∙ ap (λ x. join s.trees (forget x)) (trivia-from_item s.rest)
+    ∙ join_empty s.trees) refl refl refl refl
 
 -- one trivia token is eaten
-pub eaten-trivia : (s s' : State) (t : Token) (more : List Token) → s.rest ≡ t ∷ more → is_trivia t.kind ≡ true → s'.rest ≡ more → s'.trees ≡ join s.trees (leaf t.kind t.text empty)
+pub eaten-trivia : (s s' : State) (t : Token) (more : List Token) → s.rest ≡ t ∷ more → is_trivia t.kind ≡ true → s'.rest ≡ more
+    → s'.trees ≡ join s.trees (leaf t.kind t.text empty)
     → s'.open_nodes ≡ s.open_nodes → s'.faults ≡ s.faults → s'.prev_end ≡ s.prev_end → s'.marks ≡ s.marks → eaten s' ≡ eaten s
 unfolding eaten
 eaten-trivia s s' t more e h r x o f n m =
@@ -61,7 +64,8 @@ eaten-trivia s s' t more e h r x o f n m =
 
 -- the next item as a leaf
 pub bumped-item : (k : SyntaxKind) (s s1 s' : State) (t : Token) → s1 ≡ eaten s → s1.rest ≡ t ∷ tail_of s1.rest → s'.rest ≡ tail_of s1.rest
-    → s'.trees ≡ join s1.trees (leaf (leaf_kind k t) t.text empty) → s'.open_nodes ≡ s1.open_nodes → s'.faults ≡ s1.faults → s'.prev_end ≡ t.end → s'.marks ≡ s1.marks → s' ≡ bumped k s
+    → s'.trees ≡ join s1.trees (leaf (leaf_kind k t) t.text empty) → s'.open_nodes ≡ s1.open_nodes → s'.faults ≡ s1.faults → s'.prev_end ≡ t.end
+    → s'.marks ≡ s1.marks → s' ≡ bumped k s
 unfolding bumped
 bumped-item k s s1 s' t e here r x o f n m =
     state_is r (x ∙ ap (λ y. join s1.trees (forget (leaf_in k y))) (sym here)) o f (n ∙ ap (end_of s1.prev_end) (sym here)) m ∙ ap (taken k) e
@@ -69,7 +73,8 @@ bumped-item k s s1 s' t e here r x o f n m =
 -- nor is an item
 taken-none : (k : SyntaxKind) (s : State) → s.rest ≡ [] → s ≡ taken k s
 taken-none k s none =
-    state_is (none ∙ ap tail_of (sym none)) (sym (join_empty s.trees) ∙ ap (λ y. join s.trees (forget (leaf_in k y))) (sym none)) refl refl (ap (end_of s.prev_end) (sym none)) refl
+    state_is (none ∙ ap tail_of (sym none)) (sym (join_empty s.trees) ∙ ap (λ y. join s.trees (forget (leaf_in k y))) (sym none)) refl refl
+    (ap (end_of s.prev_end) (sym none)) refl
 
 pub bumped-end : (k : SyntaxKind) (s s1 : State) → s1 ≡ eaten s → s1.rest ≡ [] → s1 ≡ bumped k s
 unfolding bumped
@@ -78,16 +83,19 @@ bumped-end k s s1 e none = taken-none k s1 none ∙ ap (taken k) e
 -- a node over the next item
 pub leaf_node_made-item : (k : SyntaxKind) (s s1 s' : State) (t : Token) (d : Draft) → s1 ≡ eaten s → s1.rest ≡ t ∷ tail_of s1.rest
     → d ≡ node_closed (leaf_added (leaf_kind k t) t.text (node_opened k (tree_count s1.trees) record { finished = s1.trees; open_nodes = s1.open_nodes }))
-    → s'.rest ≡ tail_of s1.rest → s'.trees ≡ d.finished → s'.open_nodes ≡ d.open_nodes → s'.faults ≡ s1.faults → s'.prev_end ≡ t.end → s'.marks ≡ s1.marks → s' ≡ leaf_node_made k s
+    → s'.rest ≡ tail_of s1.rest → s'.trees ≡ d.finished → s'.open_nodes ≡ d.open_nodes → s'.faults ≡ s1.faults → s'.prev_end ≡ t.end → s'.marks ≡ s1.marks
+    → s' ≡ leaf_node_made k s
 unfolding ended started_at
 leaf_node_made-item k s s1 s' t d e here b r x o f n m =
-    state_is r (x ∙ ap (λ y. y.finished) b ∙ ap (λ y. wrapped k (tree_count s1.trees) (join s1.trees (forget (leaf_in k y)))) (sym here)) (o ∙ ap (λ y. y.open_nodes) b) f
+    state_is r (x ∙ ap (λ y. y.finished) b ∙ ap (λ y. wrapped k (tree_count s1.trees) (join s1.trees (forget (leaf_in k y)))) (sym here))
+    (o ∙ ap (λ y. y.open_nodes) b) f
     (n ∙ ap (end_of s1.prev_end) (sym here)) m
     ∙ ap (λ y. ended (taken k (started_here k y))) e
 
 -- a node over nothing, where no item is left
 pub leaf_node_made-end : (k : SyntaxKind) (s s1 s2 s' : State) (d : Draft) → s1 ≡ eaten s → s1.rest ≡ []
-    → d ≡ node_opened k (tree_count s1.trees) record { finished = s1.trees; open_nodes = s1.open_nodes } → s2.rest ≡ s1.rest → s2.trees ≡ d.finished → s2.open_nodes ≡ d.open_nodes
+    → d ≡ node_opened k (tree_count s1.trees) record { finished = s1.trees; open_nodes = s1.open_nodes } → s2.rest ≡ s1.rest → s2.trees ≡ d.finished
+    → s2.open_nodes ≡ d.open_nodes
     → s2.faults ≡ s1.faults → s2.prev_end ≡ s1.prev_end → s2.marks ≡ s1.marks → s' ≡ ended s2 → s' ≡ leaf_node_made k s
 unfolding started_at
 leaf_node_made-end k s s1 s2 s' d e none b r x o f n m closed =

@@ -44,7 +44,8 @@ module _ (f : Frame) (fs : List Frame) (ts : List Token) (n : ℕ) (es : List Fa
   checkpoint : IsCheckpoint (mark_of f fs) repaired_nonempty
   checkpoint =
       let at : ℕ = tree_count (trees_of fs) in
-      let le : nat_le at (tree_count (trees_of (f ∷ fs))) ≡ true = le-leb at (tree_count (trees_of (f ∷ fs))) (omega (arith, tree_count-join (trees_of fs) (forget f.row))) in
+      let le : nat_le at (tree_count (trees_of (f ∷ fs))) ≡ true =
+      le-leb at (tree_count (trees_of (f ∷ fs))) (omega (arith, tree_count-join (trees_of fs) (forget f.row))) in
       rw le (inside_head f.head at at (nodes_of fs) (omega arith) (inside fs at (omega arith)))
 
   again : frame_kind f.position ≡ SecondBindFrame → HasRange names.second n SecondBind f.row
@@ -68,15 +69,18 @@ module _ (f : Frame) (fs : List Frame) (ts : List Token) (n : ℕ) (es : List Fa
   opens : (k : SyntaxKind) (inside after : Position) → node_started k inside f.depth (erase (machine (put after f.row f ∷ fs) ts n es))
       ≡ erase (machine (opened (Node k) inside f.depth blank ∷ (put after (with_leading true f.row ts) f ∷ fs)) (from_item ts) n es)
   opens k inside after =
-      ap (node_here k inside f.depth) (erase-eaten _ (put after f.row f) fs ts n es) ∙ erase-node_started k inside f.depth (put after (with_leading true f.row ts) f ∷ fs) (from_item ts) n es
+      ap (node_here k inside f.depth) (erase-eaten _ (put after f.row f) fs ts n es)
+      ∙ erase-node_started k inside f.depth (put after (with_leading true f.row ts) f ∷ fs) (from_item ts) n es
 
   wraps : (k : SyntaxKind) (inside over : Position) → frame_kind f.position ≡ OperandFrame
-      → node_wrapped k inside over (mark_of f fs) repaired_nonempty ≡ erase (machine (opened (Node k) inside f.depth f.row ∷ (opened Operand over f.depth blank ∷ fs)) ts n es)
+      → node_wrapped k inside over (mark_of f fs) repaired_nonempty ≡ erase
+      (machine (opened (Node k) inside f.depth f.row ∷ (opened Operand over f.depth blank ∷ fs)) ts n es)
   unfolding pushed started_at
   wraps k inside over e = rw (head_operand f.head (sort ∙ e), join_empty (trees_of fs)) refl
 
   -- what the reader holds after an action is what the machine makes of it
-  pub performs : (action : Action) (s' : State) (names' : Names) → AreNamed f fs names → Allowed f.position (head_kind (items ts)) action → is_finish action ≡ false
+  pub performs : (action : Action) (s' : State) (names' : Names) → AreNamed f fs names → Allowed f.position (head_kind (items ts)) action
+      → is_finish action ≡ false
       → Performed action (mark_of f fs) repaired_nonempty names s' names' → s' ≡ erase (perform true action f fs ts n es)
   unfolding pushed failed
   performs a.Close s' names' k al g d = d ∙ closes f fs ts n es w.fit (ap is_operand_frame al.0) (ap is_root al.0)
@@ -84,13 +88,15 @@ module _ (f : Frame) (fs : List Frame) (ts : List Token) (n : ℕ) (es : List Fa
   performs a.CloseEntry s' names' k al g d = done_entry f fs ts n es names names' s' w.fit k al d
   performs a.CloseDoubleBind s' names' k al g d =
       let tokens : List Token = tokens_in (without_trivia f.row) in
-      d ∙ ap (λ x. failed (bound_twice x) (ended repaired_nonempty)) (again al).0 ∙ ap (failed (report DoubleBind tokens)) (closes f fs ts n es w.fit (ap is_operand_frame al) (ap is_root al))
+      d ∙ ap (λ x. failed (bound_twice x) (ended repaired_nonempty)) (again al).0
+      ∙ ap (failed (report DoubleBind tokens)) (closes f fs ts n es w.fit (ap is_operand_frame al) (ap is_root al))
       ∙ closed_failed (report DoubleBind tokens) f fs ts n es
   performs a.Finish s' names' k al g d = absurd (true_is_not_false g)
   performs a.EndOperand s' names' k al g d = d ∙ settles f fs ts n es w.fit al
   performs a.Extra s' names' k al g d =
       let run : List Token = items ts in
-      d ∙ ap (λ x. failed (report Extra x) (error_over End (erase (machine (f ∷ fs) ts n es)))) (run_all run) ∙ ap (failed (report Extra run)) (erase-over _ Extra End run f fs ts n es (run_all run))
+      d ∙ ap (λ x. failed (report Extra x) (error_over End (erase (machine (f ∷ fs) ts n es)))) (run_all run)
+      ∙ ap (failed (report Extra run)) (erase-over _ Extra End run f fs ts n es (run_all run))
   performs (a.Take after) s' names' k al g d =
       d ∙ erase-bumped _ NODE_ROOT (put (p.Left after) f.row f) fs ts n es
       ∙ ap (λ x. erase (machine (put (p.Left after) (with_leading true f.row ts ⊕ x) f ∷ fs) (behind true ts) (item_end true n ts) es))
@@ -102,13 +108,16 @@ module _ (f : Frame) (fs : List Frame) (ts : List Token) (n : ℕ) (es : List Fa
       d ∙ ap (failed (report (Unwanted until) run)) (erase-over _ (Unwanted until) until run (put (p.Left after) f.row f) fs ts n es refl)
   performs (a.Leaf j after) s' names' k al g d = d ∙ erase-leaf_node_made _ j (put (p.Left after) f.row f) fs ts n es
   performs (a.Open j inside after) s' names' k al g d =
-      d ∙ ap (bumped j) (opens j (p.Left inside) (p.Left after)) ∙ erase-next _ j (opened (Node j) (p.Left inside) f.depth blank) (put (p.Left after) (with_leading true f.row ts) f ∷ fs) ts n es
+      d ∙ ap (bumped j) (opens j (p.Left inside) (p.Left after)) ∙ erase-next _ j (opened (Node j) (p.Left inside) f.depth blank)
+      (put (p.Left after) (with_leading true f.row ts) f ∷ fs) ts n es
   performs (a.Begin j inside after) s' names' k al g d = d ∙ opens j (p.Left inside) (p.Left after)
   performs (a.Entry after) s' names' k al g d =
       d ∙ ap (leaf_node_made NODE_IDENT) (opens NODE_PAT_ENTRY (p.Left PAT_ENTRY) (p.Left after))
-      ∙ erase-first _ NODE_IDENT (opened (Node NODE_PAT_ENTRY) (p.Left PAT_ENTRY) f.depth blank) (put (p.Left after) (with_leading true f.row ts) f ∷ fs) ts n es
+      ∙ erase-first _ NODE_IDENT (opened (Node NODE_PAT_ENTRY) (p.Left PAT_ENTRY) f.depth blank)
+      (put (p.Left after) (with_leading true f.row ts) f ∷ fs) ts n es
   performs (a.DoubleBind after) s' names' k al g d =
-      d ∙ ap (bumped NODE_ERROR) (opens NODE_ERROR (p.Left SECOND_BIND) (p.Left after)) ∙ erase-next _ NODE_ERROR (opened SecondBind (p.Left SECOND_BIND) f.depth blank) (put (p.Left after) (with_leading true f.row ts) f ∷ fs) ts n es
+      d ∙ ap (bumped NODE_ERROR) (opens NODE_ERROR (p.Left SECOND_BIND) (p.Left after))
+      ∙ erase-next _ NODE_ERROR (opened SecondBind (p.Left SECOND_BIND) f.depth blank) (put (p.Left after) (with_leading true f.row ts) f ∷ fs) ts n es
   performs (a.Read level counted after) s' names' k al g d = d ∙ expression_is (put (p.Left after) f.row f) fs ts n es level counted
   performs (a.Wrap j inside max_bp) s' names' k al g d =
       let over : Position = p.AfterOperand (min_bp_of f.position) max_bp in

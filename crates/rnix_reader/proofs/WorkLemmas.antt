@@ -112,7 +112,8 @@ close_less [] position below z e = omega (arith, measure_some position)
 close_less (t ∷ us) position below z e = omega (arith, e, measure_some position, begin_measure_most below)
 
 ended_less : (us : List Token) (position : Position) (after z : ℕ) → head_kind us ≡ None → IsNext position (head_kind us) after
-    → 100 * length us + (measure (p.Left after) + z) + begin_measure_at us (p.Left after) < 100 * length us + (measure position + z) + begin_measure_at us position
+    → 100 * length us + (measure (p.Left after) + z) + begin_measure_at us
+    (p.Left after) < 100 * length us + (measure position + z) + begin_measure_at us position
 ended_less [] position after z e h = omega (arith, h.1)
 ended_less (t ∷ us) position after z e h = absurd (cc)
 
@@ -121,7 +122,8 @@ next_less [] position after h e = h.1
 next_less (t ∷ us) position after h e = absurd (cc)
 
 -- a node is complete
-closed_less : (f : Frame) (fs : List Frame) (ts : List Token) (n : ℕ) (es : List Fault) → IsStackedOn f.head f.position fs → is_root (frame_kind f.position) ≡ false → begin_measure f.position ≡ 30
+closed_less : (f : Frame) (fs : List Frame) (ts : List Token) (n : ℕ) (es : List Fault) → IsStackedOn f.head f.position fs
+    → is_root (frame_kind f.position) ≡ false → begin_measure f.position ≡ 30
     → cost_of (closed f fs ts n es) < cost_of (machine (f ∷ fs) ts n es)
 closed_less f [] ts n es w r e = absurd (true_is_not_false (sym (ap is_root w.1) ∙ r))
 closed_less f (g ∷ fs) ts n es w r e = close_less (items ts) f.position g.position (measure_of fs) e
@@ -137,9 +139,11 @@ below_end f fs (t ∷ us) c h = omega (arith, h.some refl)
 
 module _ (f : Frame) (fs : List Frame) (ts : List Token) (n : ℕ) (es : List Fault) where
   -- an operand begins
-  begun_less : (begin : Begin) (level d : ℕ) (t : Token) → cost_of (begun true begin level d t f fs ts n es) ≤ 100 * length (tail_of (items ts)) + 51 + measure_of (f ∷ fs)
+  begun_less : (begin : Begin) (level d : ℕ) (t : Token) → cost_of (begun true begin level d t f fs ts n es) ≤ 100 * length
+      (tail_of (items ts)) + 51 + measure_of (f ∷ fs)
   begun_less (b.Leaf k) level d t = omega (arith, left_behind ts, begin_measure_small (items (behind true ts)) (p.AfterOperand level 16))
-  begun_less (b.Node k left max_bp) level d t = omega (arith, left_behind ts, begin_measure_small (items (behind true ts)) (p.Left left), measure_most (p.Left left))
+  begun_less (b.Node k left max_bp) level d t =
+      omega (arith, left_behind ts, begin_measure_small (items (behind true ts)) (p.Left left), measure_most (p.Left left))
   begun_less b.LegacyLet level d t = omega (arith, left_after_two ts, begin_measure_small (items (behind true (behind true ts))) (p.Left LEGACY_LET))
   begun_less b.NameLambda level d t = omega (arith, left_behind ts, begin_measure_small (items (behind true ts)) (p.Left LAMBDA))
   begun_less b.BoundLambda level d t = omega (arith, left_after_two ts, begin_measure_small (items (behind true (behind true ts))) (p.Left BOUND_PATTERN))
@@ -158,12 +162,14 @@ module _ (f : Frame) (fs : List Frame) (ts : List Token) (n : ℕ) (es : List Fa
 
   reading_less : (level : ℕ) (counted : Bool) (c : ℕ) → Below f fs (items ts) c → cost_of (reading true level counted f fs ts n es) < c
   reading_less level true c h =
-      elim (nat_le depth_limit f.depth) as (λ x. cost_of (if x then limited true f fs ts n es else operand_on true level (suc f.depth) f fs ts (items ts) n es) < c)
+      elim (nat_le depth_limit f.depth) as (λ x. cost_of (if x then limited true f fs ts n es else operand_on true level (suc f.depth) f fs ts
+      (items ts) n es) < c)
       [ true ↦ limited_less c h | false ↦ operand_less level (suc f.depth) (items ts) c refl h ]
   reading_less level false c h = operand_less level f.depth (items ts) c refl h
 
 -- a node begins without an item
-begin_less : (us : List Token) (position inside after : Position) (z : ℕ) → begin_measure inside ≡ 0 → measure inside + measure after < measure position + begin_measure position
+begin_less : (us : List Token) (position inside after : Position) (z : ℕ) → begin_measure inside ≡ 0
+    → measure inside + measure after < measure position + begin_measure position
     → ((head_kind us ≡ None) → measure inside + measure after < measure position)
     → 100 * length us + (measure inside + (measure after + z)) + begin_measure_at us inside < 100 * length us + (measure position + z) + begin_measure_at us position
 begin_less [] position inside after z e h k = omega (arith, k refl)
@@ -181,7 +187,8 @@ module _ (f : Frame) (fs : List Frame) (ts : List Token) (n : ℕ) (es : List Fa
   before = cost_of (machine (f ∷ fs) ts n es)
 
   -- each action leaves less
-  pub perform_less : (action : Action) → Allowed f.position (head_kind (items ts)) action → is_finish action ≡ false → cost_of (perform true action f fs ts n es) < before
+  pub perform_less : (action : Action) → Allowed f.position (head_kind (items ts)) action → is_finish action ≡ false
+      → cost_of (perform true action f fs ts n es) < before
   perform_less a.Close al g = closed_less f fs ts n es w (ap is_root al.0) al.1
   perform_less a.ClosePattern al g = closed_less f fs ts n es w (ap is_root al) (begin_measure_full f.position (ap is_plain al))
   perform_less a.CloseEntry al g = entry_less f fs ts n es w al
@@ -205,7 +212,14 @@ module _ (f : Frame) (fs : List Frame) (ts : List Token) (n : ℕ) (es : List Fa
       subst (λ us. 100 * length us + (measure (p.Left inside) + (measure (p.Left after) + measure_of fs)) + begin_measure_at us (p.Left inside) < before)
       (sym (items-from_item ts)) (begin_less (items ts) f.position (p.Left inside) (p.Left after) (measure_of fs) al.4 al.5 al.6)
   perform_less (a.Entry after) al g =
-      omega (arith, there (items ts) (ap is_there al.0), left_behind ts, measure_most (p.Left after), begin_measure_small (items (behind true ts)) (p.Left PAT_ENTRY))
+      omega (
+        arith,
+        there (items ts) (ap is_there al.0),
+        left_behind ts,
+        measure_most (p.Left after),
+        begin_measure_small (items (behind true ts))
+            (p.Left PAT_ENTRY),
+      )
   perform_less (a.DoubleBind after) al g =
       omega (arith, there (items ts) al.0, left_behind ts, measure_most (p.Left after), begin_measure_small (items (behind true ts)) (p.Left SECOND_BIND))
   perform_less (a.Read level counted after) al g = reading_less (put (p.Left after) f.row f) fs ts n es level counted before record {
@@ -220,4 +234,10 @@ module _ (f : Frame) (fs : List Frame) (ts : List Token) (n : ℕ) (es : List Fa
         none = λ e. absurd (true_is_not_false (sym al.0 ∙ ap (λ us. is_there (head_kind us)) e));
         some = λ e. omega (arith, there (items ts) e);
       }
-  perform_less a.ApplyOr al g = omega (arith, there (items ts) al.0, left_behind ts, begin_measure_small (items (behind true ts)) (p.AfterOperand (min_bp_of f.position) 15))
+  perform_less a.ApplyOr al g = omega (
+    arith,
+    there (items ts) al.0,
+    left_behind ts,
+    begin_measure_small (items (behind true ts))
+        (p.AfterOperand (min_bp_of f.position) 15),
+  )

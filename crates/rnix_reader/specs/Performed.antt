@@ -149,5 +149,6 @@ NamesAfter (a.Entry after) m s n n' = (t : Token) → IsNextItem t s → EntryNa
 NamesAfter (a.DoubleBind after) m s n n' = (t : Token) → IsNextItem t s → DoubleBindOpened t.start n n'
 NamesAfter (a.Read level counted after) m s n n' = NamesFor (opens_in m.depth counted level (moved_to (p.Left after) m s)) n n'
 NamesAfter a.Apply m s n n' =
-    NamesFor (opens_in m.depth false selection_level (node_wrapped NODE_APPLY (p.Left APPLIED) (p.AfterOperand (min_bp_of m.position) application_level) m s)) n n'
+    NamesFor (opens_in m.depth false selection_level (node_wrapped NODE_APPLY (p.Left APPLIED)
+    (p.AfterOperand (min_bp_of m.position) application_level) m s)) n n'
 NamesAfter action m s n n' = n' ≡ n

@@ -18,10 +18,12 @@ left_after-⊕ (fault n c f) g ts = left_after-⊕ f g (rest_after (is_last n) (
 pub with_trivia-⊕ : (f g : AnnotatedForest) (ts : List Token) → with_trivia (f ⊕ g) ts ≡ with_trivia f ts ⊕ with_trivia g (left_after f ts)
 with_trivia-⊕ blank g ts = refl
 with_trivia-⊕ (token k t f) g ts =
-    let rest = tail_of (from_item ts) in rw (with_trivia-⊕ f g rest) (sym (⊕-assoc (trivia_before ts) (token k t (with_trivia f rest)) (with_trivia g (left_after f rest))))
+    let rest = tail_of (from_item ts) in rw (with_trivia-⊕ f g rest)
+    (sym (⊕-assoc (trivia_before ts) (token k t (with_trivia f rest)) (with_trivia g (left_after f rest))))
 with_trivia-⊕ (branch k c f) g ts =
     let rest = left_after c (from_item ts) in
-    rw (with_trivia-⊕ f g rest) (sym (⊕-assoc (trivia_before ts) (branch k (with_trivia c (from_item ts)) (with_trivia f rest)) (with_trivia g (left_after f rest))))
+    rw (with_trivia-⊕ f g rest) (sym (⊕-assoc (trivia_before ts) (branch k (with_trivia c (from_item ts)) (with_trivia f rest))
+    (with_trivia g (left_after f rest))))
 with_trivia-⊕ (fault n c f) g ts =
     let later = rest_after (is_last n) (left_after c (from_item ts)) in
     let own = trivia_after (is_last n) (left_after c (from_item ts)) in
@@ -87,11 +89,13 @@ with_trivia_added row g ts us vs h j t =
     }
 
 -- a tree is in a row with trivia and trees behind it
-pub tree_added : (row : AnnotatedForest) (us : List Token) (g : AnnotatedForest) → HasTree (without_trivia g) → HasTree (without_trivia (with_leading true row us ⊕ g))
+pub tree_added : (row : AnnotatedForest) (us : List Token) (g : AnnotatedForest) → HasTree (without_trivia g)
+    → HasTree (without_trivia (with_leading true row us ⊕ g))
 tree_added row us g h = subst HasTree (sym (added_without_trivia row us g refl)) (tree_behind (without_trivia row) (without_trivia g) h)
 
 -- a node over a row
-pub with_trivia_branch : (k : SyntaxKind) (row : AnnotatedForest) (ts us : List Token) → HasNoLeadingTrivia ts → HasTrivia row ts us → HasTrivia (one_branch k row) ts us
+pub with_trivia_branch : (k : SyntaxKind) (row : AnnotatedForest) (ts us : List Token) → HasNoLeadingTrivia ts → HasTrivia row ts us
+    → HasTrivia (one_branch k row) ts us
 with_trivia_branch k row ts us b h = record { same = rw (no_leading_trivia ts b, b, h.same) refl; left = ap (left_after (without_trivia row)) b ∙ h.left }
 
 -- an error node over a row, behind which trivia need not stand
@@ -103,7 +107,8 @@ with_trivia_fault n row ts us e b h = record { same = rw (no_leading_trivia ts b
 pub with_trivia_last : (row : AnnotatedForest) (ts us : List Token) → HasNoLeadingTrivia ts → HasTrivia row ts us
     → HasTrivia (with_leading true (one_fault TooDeep row) us) ts (from_item us)
 with_trivia_last row ts us b h =
-    let bare : without_trivia (with_leading true (one_fault TooDeep row) us) ≡ one_fault TooDeep (without_trivia row) = with_leading_without_trivia (one_fault TooDeep row) us in
+    let bare : without_trivia (with_leading true (one_fault TooDeep row) us) ≡ one_fault TooDeep (without_trivia row) =
+    with_leading_without_trivia (one_fault TooDeep row) us in
     record {
       same = ap (λ x. with_trivia x ts) bare ∙ rw (no_leading_trivia ts b, b, h.same, h.left) (ap (fault TooDeep row) (⊕-blank (trivia_before us)));
       left = ap (λ x. left_after x ts) bare ∙ ap (λ x. from_item (left_after (without_trivia row) x)) b ∙ ap from_item h.left;

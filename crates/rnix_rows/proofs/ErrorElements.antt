@@ -104,5 +104,6 @@ pub row_name : (t : Tree) (e s : ℕ) (c : AnnotatedForest) (x : Token) → (ite
     → AreNamesSingleTokens c → begins_with_node c ≡ true → entry_name (without_trivia c) ≡ Some x → IsEntryName t e (place_of (x ∷ [])) x.text
 row_name t e s (branch j d f) x k h a r b g =
     let w = name_node j (without_trivia d) (without_trivia f) x g in
-    name_here t e s x d f k (subst (λ z. IsRowIn t (e + 1) s (Some e) (node z (forget d) (forget f))) w.0 h) (placed_first s (tokens_in d) (tokens_in f) a) (single_token_name d x (r.0.0 w.0) w.1)
+    name_here t e s x d f k (subst (λ z. IsRowIn t (e + 1) s (Some e) (node z (forget d) (forget f))) w.0 h) (placed_first s (tokens_in d) (tokens_in f) a)
+    (single_token_name d x (r.0.0 w.0) w.1)
 row_name t e s _ x k h a r b g = absurd (true_is_not_false (sym b))

@@ -58,10 +58,12 @@ pub yields_same : (p : SyntaxKind) (f : AnnotatedForest) → AreErrorFreeRows f 
     → yield (forget f) ≡ map lexeme_of (tokens_in f)
 yields_same p blank h t s = refl
 yields_same p (token k x f) h t s =
-    ap (λ z. (z, x.text) ∷ yield (forget f)) (ap (λ z. kind_of_token z x.text) t.0 ∙ remapped_token_kind p x.kind x.text s.0) ∙ ap (λ z. lexeme_of x ∷ z) (yields_same p f h t.1 s.1)
+    ap (λ z. (z, x.text) ∷ yield (forget f)) (ap (λ z. kind_of_token z x.text) t.0 ∙ remapped_token_kind p x.kind x.text s.0)
+    ∙ ap (λ z. lexeme_of x ∷ z) (yields_same p f h t.1 s.1)
 yields_same p (branch k c f) h t s =
     ap (λ z. z ++ yield (forget f)) (yields_same k c h.2 t.0 (spelled_first (tokens_in c) (tokens_in f) s))
-    ∙ ap (λ z. map lexeme_of (tokens_in c) ++ z) (yields_same p f h.3 t.1 (spelled_rest (tokens_in c) (tokens_in f) s)) ∙ sym (map-append lexeme_of (tokens_in c) (tokens_in f))
+    ∙ ap (λ z. map lexeme_of (tokens_in c) ++ z) (yields_same p f h.3 t.1 (spelled_rest (tokens_in c) (tokens_in f) s))
+    ∙ sym (map-append lexeme_of (tokens_in c) (tokens_in f))
 yields_same p (fault n c f) h t s = absurd h
 
 -- where the pieces of its paths touch, such a row is a derivation of its tokens

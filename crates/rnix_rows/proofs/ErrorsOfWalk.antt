@@ -15,7 +15,8 @@ errors_among-++ : (t : Tree) (ms ns : List ℕ) → errors_among t (ms ++ ns) �
 errors_among-++ t [] ns = refl
 errors_among-++ t (m ∷ ms) ns =
     elim (is_error_node (item t m).kind) as
-    (λ b. (if b then m ∷ errors_among t (ms ++ ns) else errors_among t (ms ++ ns)) ≡ (if b then m ∷ errors_among t ms else errors_among t ms) ++ errors_among t ns)
+    (λ b. (if b then m ∷ errors_among t (ms ++ ns) else errors_among t (ms ++ ns)) ≡ (if b then m ∷ errors_among t ms else errors_among t ms)
+    ++ errors_among t ns)
     [ true ↦ ap (λ z. m ∷ z) (errors_among-++ t ms ns) | false ↦ errors_among-++ t ms ns ]
 
 -- the errors of error nodes are of those elements that are error nodes
@@ -37,7 +38,8 @@ errors_left-++ : (xs ys : List Event) → errors_left (xs ++ ys) ≡ errors_left
 errors_left-++ [] ys = refl
 errors_left-++ (x ∷ xs) ys =
     elim (leaves_error x) as
-    (λ b. (if b then x.1.1.number ∷ errors_left (xs ++ ys) else errors_left (xs ++ ys)) ≡ (if b then x.1.1.number ∷ errors_left xs else errors_left xs) ++ errors_left ys)
+    (λ b. (if b then x.1.1.number ∷ errors_left (xs ++ ys) else errors_left (xs ++ ys)) ≡ (if b then x.1.1.number ∷ errors_left xs else errors_left xs)
+    ++ errors_left ys)
     [ true ↦ ap (λ z. x.1.1.number ∷ z) (errors_left-++ xs ys) | false ↦ errors_left-++ xs ys ]
 
 -- those of steps behind others
@@ -74,8 +76,13 @@ walk_errors t n s p names (node k c f) h =
     let below : List ℕ = at_fault_from (n + 1) [] c in
     let behind : List ℕ = at_fault_from (n + 1 + element_count c) (with_name (name_if k c) names) f in
     errors_at-++ t inner ((false, n) ∷ outer)
-    ∙ rw (walk_errors t (n + 1) s _ [] c (row_inside t n s p k c f h), errors_among-++ t below ((if is_error_node k || is_among_if (name_if k c) names then n ∷ [] else []) ++ behind))
+    ∙ rw (
+      walk_errors t (n + 1) s _ [] c (row_inside t n s p k c f h),
+      errors_among-++ t below
+          ((if is_error_node k || is_among_if (name_if k c) names then n ∷ [] else []) ++ behind),
+    )
     (ap (λ z. errors_among t below ++ z)
     (left_at t n true (is_error_node k) outer (ap (λ (i : Item). i.is_node) first) error
-    ∙ ap (λ z. if is_error_node k then n ∷ z else z) (walk_errors t (n + 1 + element_count c) _ p (with_name (name_if k c) names) f (row_behind_node t n s p k c f h))
+    ∙ ap (λ z. if is_error_node k then n ∷ z else z) (walk_errors t (n + 1 + element_count c) _ p (with_name (name_if k c) names) f
+    (row_behind_node t n s p k c f h))
     ∙ sym (own_error t n (is_error_node k) (is_among_if (name_if k c) names) behind error)))

@@ -208,7 +208,8 @@ constrained_0 touch c f t ts = assumption
 constrained_80 : (touch : Bool) (c f : AnnotatedForest) (t : Token) (ts : List Token) → EachRow (AllKnown touch c f t ts) (take 26 (drop 80 known_rows))
 constrained_80 touch c f t ts = assumption
 
-constrained_106 : (touch : Bool) (c f : AnnotatedForest) (t : Token) (ts : List Token) → EachRow (AllKnown touch c f t ts) (take 39 (drop 26 (drop 80 known_rows)))
+constrained_106 : (touch : Bool) (c f : AnnotatedForest) (t : Token) (ts : List Token)
+    → EachRow (AllKnown touch c f t ts) (take 39 (drop 26 (drop 80 known_rows)))
 constrained_106 touch c f t ts = assumption
 
 constrained_145 : (touch : Bool) (c f : AnnotatedForest) (t : Token) (ts : List Token)
@@ -228,7 +229,8 @@ all_known touch c f t ts =
 
 -- so it is of the first items
 settled_known : {p : SyntaxKind} (q : Row) (touch : Bool) (k : SyntaxKind) (c f : AnnotatedForest) (t : Token) (ts : List Token) → IsKnown p q
-    → is_settled p q ≡ true → is_constrained k ≡ true → is_viable (after q k) ≡ true → may_stand p q touch k (branch k c f) t.kind t.text ≡ true → Known q k c (t ∷ ts)
+    → is_settled p q ≡ true → is_constrained k ≡ true → is_viable (after q k) ≡ true → may_stand p q touch k (branch k c f) t.kind t.text ≡ true
+    → Known q k c (t ∷ ts)
 settled_known {p} q touch k c f t ts n s i l h =
     where_one (may_stand p q touch k (branch k c f) t.kind t.text) h
     (each_kind (KnownBy p q touch k c f t ts) (where_one (is_viable (after q k)) l
@@ -260,7 +262,8 @@ asked never n t ts k c h f e = absurd (true_is_not_false h)
 asked (r or s) n t ts k c h f e = absurd (true_is_not_false f)
 
 -- where a row begins with a node, or a name or a parameter may stand
-by_item : {p : SyntaxKind} (q : Row) (k : SyntaxKind) (c f : AnnotatedForest) (n : ℕ) (ts : List Token) → IsKnown p q → is_settled p q ≡ true → is_constrained k ≡ true
+by_item : {p : SyntaxKind} (q : Row) (k : SyntaxKind) (c f : AnnotatedForest) (n : ℕ) (ts : List Token) → IsKnown p q → is_settled p q ≡ true
+    → is_constrained k ≡ true
     → is_viable (after q k) ≡ true → (is_first q ≡ false → is_child q ≡ false) → IsExpected q n ts (is_first_expected q k c) → Fronts p q (branch k c f) ts
     → Known q k c ts
 by_item q k c f n [] i s o l a x h = (tt, where_any (is_first (row k)) tt)
@@ -308,11 +311,13 @@ level_alone _ x h = refl
 
 -- where no level is asked for
 free_known : {p : SyntaxKind} (q : Row) (k : SyntaxKind) (c f : AnnotatedForest) (n : ℕ) (ts : List Token) → IsKnown p q → is_viable (after q k) ≡ true
-    → IsExpected q n ts (is_first_expected q k c) → Fronts p q (branch k c f) ts → level_at q (one_branch k c) ≡ None → is_argument q ≡ false → is_constrained k ≡ true
+    → IsExpected q n ts (is_first_expected q k c) → Fronts p q (branch k c f) ts → level_at q (one_branch k c) ≡ None → is_argument q ≡ false
+    → is_constrained k ≡ true
     → Known q k c ts
 free_known {p} q k c f n ts i l x h e a o = by (is_first q) refl (begins_with_operand p) refl (is_child q) refl
   where
-    settled : (u v : Bool) → is_first q ≡ u → (if u then (if begins_with_operand p then false else true) else is_free (level_at q blank)) ≡ v → is_settled p q ≡ v
+    settled : (u v : Bool) → is_first q ≡ u → (if u then (if begins_with_operand p then false else true) else is_free (level_at q blank)) ≡ v
+        → is_settled p q ≡ v
     settled u v b g = ap (λ w. if w then false else (if is_first q then (if begins_with_operand p then false else true) else is_free (level_at q blank))) a
         ∙ ap (λ w. if w then (if begins_with_operand p then false else true) else is_free (level_at q blank)) b ∙ g
 

@@ -38,7 +38,8 @@ name_heads {p} (leaf {t = t} x o h) i w e =
     (same_kind-decides TOKEN_IDENT (leaf_kind_as NODE_IDENT t.kind)).1 (one.0 ∙ ap (λ p. leaf_kind_as p t.kind) i)
 name_heads (missing_part u n l o h) i w e = absurd (cc)
 name_heads {d = d} {us = us} (wrong {r = r} {f = f} note ts x o v h) i w e =
-    no_wrong note d TOKEN_IDENT done r ts (tokens_in f ++ us) refl (subst (λ q. IsWrong note d q r ts (tokens_in f ++ us)) e v) (reads_viable h (end_viable _ w))
+    no_wrong note d TOKEN_IDENT done r ts (tokens_in f ++ us) refl (subst (λ q. IsWrong note d q r ts (tokens_in f ++ us)) e v)
+    (reads_viable h (end_viable _ w))
 name_heads (second s y h) i w e = absurd (cc)
 name_heads (inner {k = k} o s y x j z h) i w e =
     let one = child_is TOKEN_IDENT k done (ap (λ q. is_viable (after q k)) (sym e) ∙ reads_viable h (end_viable _ w)) in
@@ -102,7 +103,8 @@ is_end_or r = false
 abbrev binds_first : SyntaxKind → Row → Bool
 binds_first p q = if is_viable (after q NODE_PAT_BIND) then (if is_end_or q then true else is_first q && same_kind NODE_PATTERN p) else true
 
-first_bound : {p : SyntaxKind} (q : Row) (c f : AnnotatedForest) (ts : List Token) → IsKnown p q → is_viable (after q NODE_PAT_BIND) ≡ true → is_end_or q ≡ false
+first_bound : {p : SyntaxKind} (q : Row) (c f : AnnotatedForest) (ts : List Token) → IsKnown p q → is_viable (after q NODE_PAT_BIND) ≡ true
+    → is_end_or q ≡ false
     → Fronts p q (branch NODE_PAT_BIND c f) ts → MayBegin NODE_PATTERN ts
 first_bound {p} q c f ts n l e h =
     let both = and_parts (is_first q) (same_kind NODE_PATTERN p) (sym (ap (λ w. if w then true else is_first q && same_kind NODE_PATTERN p) e)

@@ -20,7 +20,8 @@ swapped _ _ = refl
 -- the names before a row, with that of one more node
 lists_node : (names : List (List ℕ)) (b : AnnotatedForest) (k : SyntaxKind) (c : AnnotatedForest) → Lists names b
     → Lists (with_name (name_of (name_of_items k c)) names) (b ⊕ one_branch k c)
-lists_node names b k c h = λ name. has-⊕ name b (one_branch k c) ∙ ap (λ x. if has_entry name b then true else x) (has_branch name k c blank) ∙ by_name name (name_of_items k c)
+lists_node names b k c h = λ name. has-⊕ name b (one_branch k c) ∙ ap (λ x. if has_entry name b then true else x) (has_branch name k c blank)
+    ∙ by_name name (name_of_items k c)
   where
     by_name : (name : List ℕ) (o : Option Token)
         → (if has_entry name b then true else (if is_same_name name o then true else false)) ≡ is_among name (with_name (name_of o) names)
@@ -32,12 +33,14 @@ lists_branch : (names : List (List ℕ)) (b : AnnotatedForest) (k : SyntaxKind) 
     → Lists (with_name (name_if k (forget c)) names) (without_trivia (b ⊕ one_branch k c))
 lists_branch names b k c o h =
     subst (λ z. Lists (with_name z names) (without_trivia (b ⊕ one_branch k c))) (without_trivia_name k c o)
-    (subst (Lists (with_name (name_of (name_of_items k (without_trivia c))) names)) (sym (without_trivia-⊕ b (one_branch k c))) (lists_node names (without_trivia b) k (without_trivia c) h))
+    (subst (Lists (with_name (name_of (name_of_items k (without_trivia c))) names)) (sym (without_trivia-⊕ b (one_branch k c)))
+    (lists_node names (without_trivia b) k (without_trivia c) h))
 
 -- a leaf is no entry
 lists_token : (names : List (List ℕ)) (b : AnnotatedForest) (k : SyntaxKind) (x : Token) → Lists names (without_trivia b)
     → Lists names (without_trivia (b ⊕ one_token k x))
-lists_token names b k x h = λ name. ap (has_entry name) (without_trivia-⊕ b (one_token k x)) ∙ has-⊕ name (without_trivia b) (token_if (is_trivia x.kind) k x blank) ∙ by name (is_trivia x.kind)
+lists_token names b k x h = λ name. ap (has_entry name) (without_trivia-⊕ b (one_token k x))
+    ∙ has-⊕ name (without_trivia b) (token_if (is_trivia x.kind) k x blank) ∙ by name (is_trivia x.kind)
   where
     by : (name : List ℕ) (i : Bool) → (if has_entry name (without_trivia b) then true else has_entry name (token_if i k x blank)) ≡ is_among name names
     by name true = if_not (has_entry name (without_trivia b)) ∙ h name
@@ -46,7 +49,8 @@ lists_token names b k x h = λ name. ap (has_entry name) (without_trivia-⊕ b (
 -- nor is an error node
 lists_fault : (names : List (List ℕ)) (b : AnnotatedForest) (n : Note) (c : AnnotatedForest) → Lists names (without_trivia b)
     → Lists names (without_trivia (b ⊕ one_fault n c))
-lists_fault names b n c h = λ name. ap (has_entry name) (without_trivia-⊕ b (one_fault n c)) ∙ has-⊕ name (without_trivia b) (one_fault n (without_trivia c)) ∙ if_not (has_entry name (without_trivia b)) ∙ h name
+lists_fault names b n c h = λ name. ap (has_entry name) (without_trivia-⊕ b (one_fault n c)) ∙ has-⊕ name (without_trivia b) (one_fault n (without_trivia c))
+    ∙ if_not (has_entry name (without_trivia b)) ∙ h name
 
 -- what has a name is an entry
 named_entry : (k : SyntaxKind) (c : AnnotatedForest) (x : Token) → name_of_items k c ≡ Some x → (k ≡ NODE_PAT_ENTRY) × (entry_name c ≡ Some x)
@@ -60,7 +64,11 @@ entry_error : (t : Tree) (n : ℕ) (names : List (List ℕ)) (b : AnnotatedFores
 entry_error t n names b None l h = tt
 entry_error t n names b (Some x) l h =
     subst (λ z. AreErrorsOf t (if has_entry x.text b then named_twice (place_of (x ∷ [])) x.text ∷ [] else []) (if z then n ∷ [] else [])) (l x.text)
-    (elim (has_entry x.text b) as (λ z. AreErrorsOf t (if z then named_twice (place_of (x ∷ [])) x.text ∷ [] else []) (if z then n ∷ [] else [])) [ true ↦ (h x refl, tt) | false ↦ tt ])
+    (elim (has_entry x.text b) as (λ z. AreErrorsOf t (if z then named_twice (place_of (x ∷ [])) x.text ∷ [] else []) (if z then n ∷ [] else [])) [
+      | true ↦
+          (h x refl, tt)
+      | false ↦ tt
+    ])
 
 -- so is a node
 node_error : (t : Tree) (n : ℕ) (names : List (List ℕ)) (b : AnnotatedForest) (k : SyntaxKind) (c : AnnotatedForest) → is_error_node k ≡ false
@@ -71,7 +79,8 @@ node_error t n names b k c e o l h =
     let same : is_among_if (name_of (name_of_items k (without_trivia c))) names ≡ is_at_fault k (forget c) names =
     ap (λ z. is_among_if z names) (without_trivia_name k c o) ∙ sym (ap (λ z. z || is_among_if (name_if k (forget c)) names) e) in
     subst (λ z. AreErrorsOf t (repeats k b (without_trivia c)) (if z then n ∷ [] else [])) same
-    (subst (λ z. AreErrorsOf t z (if is_among_if (name_of (name_of_items k (without_trivia c))) names then n ∷ [] else [])) (sym (repeats_named k b (without_trivia c)))
+    (subst (λ z. AreErrorsOf t z (if is_among_if (name_of (name_of_items k (without_trivia c))) names then n ∷ [] else []))
+    (sym (repeats_named k b (without_trivia c)))
     (entry_error t n names b (name_of_items k (without_trivia c)) l (λ x g. (let w = named_entry k (without_trivia c) x g in h x w.0 w.1))))
 
 -- the errors of a row are those of its elements
@@ -88,23 +97,40 @@ row_errors t q n s p b names (branch k c f) h a l =
     let inside : IsRowIn t (n + 1) s (Some n) (forget c) = row_inside t n s p k (forget c) (forget f) h in
     let placed : ArePlaced s (tokens_in c) = placed_first s (tokens_in c) (tokens_in f) a.placed in
     errors-++ t (reports_within blank c) _ (at_fault_from (n + 1) [] (forget c)) _
-    (row_errors t k (n + 1) s (Some n) blank [] c inside (record { placed = placed; leaf_kind = a.leaf_kind.0; bare = a.bare.1; marked = a.marked.1 }) (λ name. refl))
+    (row_errors t k (n + 1) s (Some n) blank [] c inside (record { placed = placed; leaf_kind = a.leaf_kind.0; bare = a.bare.1; marked = a.marked.1 })
+    (λ name. refl))
     (errors-++ t (repeats k (without_trivia b) (without_trivia c)) _ (if is_at_fault k (forget c) names then n ∷ [] else []) _
     (node_error t n names (without_trivia b) k c a.marked.0 a.leaf_kind.0 l
     (λ x e g. row_name t n s c x (ap (λ (i : Item). i.kind) first ∙ e) inside placed a.bare.1 (a.bare.0.1 e) g))
     (row_errors t q (n + 1 + element_count (forget c)) (s + length (text_of (forget c))) p (b ⊕ one_branch k c) (with_name (name_if k (forget c)) names) f
     (row_behind_node t n s p k (forget c) (forget f) h)
-    (record { placed = placed_rest s (s + length (text_of (forget c))) (tokens_in c) (tokens_in f) size a.placed; leaf_kind = a.leaf_kind.1; bare = a.bare.2; marked = a.marked.2 })
+    (record {
+      placed = placed_rest s (s + length (text_of (forget c))) (tokens_in c) (tokens_in f) size a.placed;
+      leaf_kind = a.leaf_kind.1;
+      bare = a.bare.2;
+      marked = a.marked.2;
+    })
     (lists_branch names b k c a.leaf_kind.0 l)))
 row_errors t q n s p b names (fault m c f) h a l =
     let first : item t n ≡ _ = row_first t n s p (forget (fault m c f)) h (omega arith) in
     let size : s + length (text_in (tokens_in c)) ≡ s + length (text_of (forget c)) = omega (arith, forget-length c) in
     let inside : IsRowIn t (n + 1) s (Some n) (forget c) = row_inside t n s p NODE_ERROR (forget c) (forget f) h in
-    let sound : IsSound NODE_ERROR s c = record { placed = placed_first s (tokens_in c) (tokens_in f) a.placed; leaf_kind = a.leaf_kind.0; bare = a.bare.0; marked = a.marked.1 } in
+    let sound : IsSound NODE_ERROR s c = record {
+      placed = placed_first s (tokens_in c) (tokens_in f) a.placed;
+      leaf_kind = a.leaf_kind.0;
+      bare = a.bare.0;
+      marked = a.marked.1;
+    } in
     errors-++ t (reports_within blank c) _ (at_fault_from (n + 1) [] (forget c)) _
     (row_errors t NODE_ERROR (n + 1) s (Some n) blank [] c inside sound (λ name. refl)) (
       report_error t n s m c a.marked.0 inside sound (ap (λ (i : Item). i.kind) first) (ap (λ (i : Item). i.start) first) (ap (λ (i : Item). i.end) first),
-      row_errors t q (n + 1 + element_count (forget c)) (s + length (text_of (forget c))) p (b ⊕ one_fault m c) names f (row_behind_node t n s p NODE_ERROR (forget c) (forget f) h)
-          (record { placed = placed_rest s (s + length (text_of (forget c))) (tokens_in c) (tokens_in f) size a.placed; leaf_kind = a.leaf_kind.1; bare = a.bare.1; marked = a.marked.2 })
+      row_errors t q (n + 1 + element_count (forget c)) (s + length (text_of (forget c))) p (b ⊕ one_fault m c) names f
+          (row_behind_node t n s p NODE_ERROR (forget c) (forget f) h)
+          (record {
+            placed = placed_rest s (s + length (text_of (forget c))) (tokens_in c) (tokens_in f) size a.placed;
+            leaf_kind = a.leaf_kind.1;
+            bare = a.bare.1;
+            marked = a.marked.2;
+          })
           (lists_fault names b m c l),
     )

@@ -42,4 +42,5 @@ parsed_order {tree = tree} {faults = faults} h stands =
 pub parsed_nodes : {tokens : List Lexeme} {tree : Tree} {faults : List Fault} → (h : IsParsed tokens tree faults)
     → ReadsRoot (without_trivia h.reading.annotated) faults → AreErrorsOf tree (of_nodes faults) (error_nodes tree)
 parsed_nodes {tree = tree} {faults = faults} h stands =
-    subst (AreErrorsOf tree (of_nodes faults)) (sym (walk_errors tree 0 0 None [] (forest_of tree) (row_of_tree tree))) (node_errors tree faults (at_fault tree) (parsed_order h stands))
+    subst (AreErrorsOf tree (of_nodes faults)) (sym (walk_errors tree 0 0 None [] (forest_of tree) (row_of_tree tree)))
+    (node_errors tree faults (at_fault tree) (parsed_order h stands))

@@ -28,7 +28,8 @@ pub rows_part : (m n : ℕ) (f : Forest) → HasRows f → HasRows (part_of m n 
 rows_part m n empty h = tt
 rows_part m n (leaf k t f) h = choice HasRows (m == n) tt (rows_part m (n + 1) f h)
 rows_part m n (node k c f) h =
-    choice HasRows (m == n) (h.0, h.1, tt) (choice HasRows (nat_lt m (n + 1 + element_count c)) (rows_part m (n + 1) c h.1) (rows_part m (n + 1 + element_count c) f h.2))
+    choice HasRows (m == n) (h.0, h.1, tt) (choice HasRows (nat_lt m (n + 1 + element_count c)) (rows_part m (n + 1) c h.1)
+    (rows_part m (n + 1 + element_count c) f h.2))
 
 -- each leaf has the kind of a token, at each element
 abbrev pub HasTokens : Forest → Type 0
@@ -49,7 +50,8 @@ tokens_part m n (node k c f) h =
 forgotten_tokens : (p : SyntaxKind) (f : AnnotatedForest) → HaveLeafKinds p f → AreSpelled (tokens_in f) → HasTokens (forget f)
 forgotten_tokens p blank t h = refl
 forgotten_tokens p (token k x f) t h =
-    both_true (is_token k) (has_tokens_alone (forget f)) (ap is_token t.0 ∙ remapped_is_token p x.kind (spelled_token x.kind x.text h.0)) (forgotten_tokens p f t.1 h.1)
+    both_true (is_token k) (has_tokens_alone (forget f)) (ap is_token t.0 ∙ remapped_is_token p x.kind (spelled_token x.kind x.text h.0))
+    (forgotten_tokens p f t.1 h.1)
 forgotten_tokens p (branch k c f) t h =
     both_true (has_tokens_alone (forget c)) (has_tokens_alone (forget f)) (forgotten_tokens k c t.0 (spelled_first (tokens_in c) (tokens_in f) h))
     (forgotten_tokens p f t.1 (spelled_rest (tokens_in c) (tokens_in f) h))

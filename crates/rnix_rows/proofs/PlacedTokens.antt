@@ -28,8 +28,20 @@ text_in-length (t ∷ ts) us = omega (arith, length-append t.text (text_in (ts +
 pub forget-length : (f : AnnotatedForest) → length (text_of (forget f)) ≡ length (text_in (tokens_in f))
 forget-length blank = refl
 forget-length (token k t f) = omega (arith, length-append t.text (text_of (forget f)), length-append t.text (text_in (tokens_in f)), forget-length f)
-forget-length (branch k c f) = omega (arith, length-append (text_of (forget c)) (text_of (forget f)), text_in-length (tokens_in c) (tokens_in f), forget-length c, forget-length f)
-forget-length (fault n c f) = omega (arith, length-append (text_of (forget c)) (text_of (forget f)), text_in-length (tokens_in c) (tokens_in f), forget-length c, forget-length f)
+forget-length (branch k c f) = omega (
+  arith,
+  length-append (text_of (forget c)) (text_of (forget f)),
+  text_in-length (tokens_in c) (tokens_in f),
+  forget-length c,
+  forget-length f,
+)
+forget-length (fault n c f) = omega (
+  arith,
+  length-append (text_of (forget c)) (text_of (forget f)),
+  text_in-length (tokens_in c) (tokens_in f),
+  forget-length c,
+  forget-length f,
+)
 
 -- the first of placed tokens are placed
 pub placed_first : (n : ℕ) (ts us : List Token) → ArePlaced n (ts ++ us) → ArePlaced n ts

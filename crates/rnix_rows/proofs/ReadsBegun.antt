@@ -50,19 +50,23 @@ reads_begun {p} {q = q} q0 (leaf {t = t} x o h) w i m =
     record { row = more.row; nodes = more.nodes }
 reads_begun {q = q} q0 (missing_part {f = f} u n l room h) w i m =
     let lives : is_viable q ≡ true = reads_viable (missing_part u n l room h) (end_viable _ w) in
-    none_begun q0 (repaired_nonempty f) (nonempty_none f (no_attrpath_row h (known_missing l i) (end_viable _ w) (missing_no_attrpath i l) u n) n) (simulates_completable m (completed q i lives))
+    none_begun q0 (repaired_nonempty f) (nonempty_none f (no_attrpath_row h (known_missing l i) (end_viable _ w) (missing_no_attrpath i l) u n) n)
+    (simulates_completable m (completed q i lives))
 reads_begun {p} {d} {q = q} {us = us} q0 (wrong {r = r} {f = f} n ts x o v h) w i m =
     by_tokens ts refl (simulates_completable m (completed q i (reads_viable (wrong n ts x o v h) (end_viable _ w))))
     (reads_begun (after_repair n q0) h w (known_wrong n _ _ _ v i) (wrong_simulates n d q0 q r ts (tokens_in f ++ us) i v (reads_viable h (end_viable _ w)) m))
   where
-    by_tokens : (xs : List Token) → ts ≡ xs → IsCompletable q0 → IsBegun (after_repair n q0) (repaired_nonempty f) → IsBegun q0 (repaired_nonempty (fault n (row_of ts) f))
+    by_tokens : (xs : List Token) → ts ≡ xs → IsCompletable q0 → IsBegun (after_repair n q0) (repaired_nonempty f)
+        → IsBegun q0 (repaired_nonempty (fault n (row_of ts) f))
     by_tokens [] e here more =
         let empty = wrong_empty n d q r (tokens_in f ++ us) i (subst (λ z. IsWrong n d q r z (tokens_in f ++ us)) e v) in
         let last : tokens_in f ≡ [] = none_left (tokens_in f) us empty.2 in
-        none_begun q0 (repaired_nonempty (fault n (row_of ts) f)) (ap (λ o. if is_some o then repair n (repaired_nonempty f) else repaired_nonempty f) (tokens_in-row_of ts ∙ e)
+        none_begun q0 (repaired_nonempty (fault n (row_of ts) f)) (ap (λ o. if is_some o then repair n (repaired_nonempty f) else repaired_nonempty f)
+        (tokens_in-row_of ts ∙ e)
         ∙ nonempty_none f (no_attrpath_row h (known_wrong n _ _ _ v i) (end_viable _ w) empty.1 (none_right (tokens_in f) us empty.2) last) last) here
     by_tokens (t ∷ xs) e here more =
-        subst (IsBegun q0) (ap (λ o. if is_some o then repair n (repaired_nonempty f) else repaired_nonempty f) (sym (tokens_in-row_of ts ∙ e))) (begun_repair n q0 (repaired_nonempty f) more)
+        subst (IsBegun q0) (ap (λ o. if is_some o then repair n (repaired_nonempty f) else repaired_nonempty f) (sym (tokens_in-row_of ts ∙ e)))
+        (begun_repair n q0 (repaired_nonempty f) more)
 reads_begun q0 (second {c = c} {f = f} s y h) w i m =
     subst (IsBegun q0) (elim (is_some (tokens_in c)) as (λ u. repaired_nonempty f ≡ (if u then repaired_nonempty f else repaired_nonempty f)) [ true ↦ refl | false ↦ refl ])
     (reads_begun q0 h w (known_past i) (simulates_both m second_simulates))

@@ -82,7 +82,8 @@ name_row {i} q k h = where_one (is_name_row i) h (each_known IsNameRow (λ i. by
     by true = (refl, refl, refl, refl)
     by false = tt
 
-name_row_name : {i : SyntaxKind} (q : Row) (k : SyntaxKind) → IsKnown i q → is_name_row i ≡ true → has_row k ≡ true → is_viable (after q k) ≡ true → k ≡ NODE_IDENT
+name_row_name : {i : SyntaxKind} (q : Row) (k : SyntaxKind) → IsKnown i q → is_name_row i ≡ true → has_row k ≡ true → is_viable (after q k) ≡ true
+    → k ≡ NODE_IDENT
 name_row_name q k n h r l =
     sym ((same_kind-decides NODE_IDENT k).0 (implied (λ k. has_row k && is_viable (after q k)) (same_kind NODE_IDENT) (name_row q n h).3 k (and_from _ _ r l)))
 
@@ -157,10 +158,14 @@ pub reads_fault_tokens : {p : SyntaxKind} {d n : ℕ} {q q' : Row} {b : Annotate
 reads_fault_tokens end = tt
 reads_fault_tokens (leaf x o s) = reads_fault_tokens s
 reads_fault_tokens (missing_part u l m o s) = reads_fault_tokens s
-reads_fault_tokens {d = d} {q = q} {us = us} (wrong {r = r} {f = f} n ts x o v s) = (wrong_some n d q r ts (tokens_in f ++ us) v, marked-row_of ts, reads_fault_tokens s)
+reads_fault_tokens {d = d} {q = q} {us = us} (wrong {r = r} {f = f} n ts x o v s) =
+    (wrong_some n d q r ts (tokens_in f ++ us) v, marked-row_of ts, reads_fault_tokens s)
 reads_fault_tokens (second s y x) = (row_some s known_second refl y.0, reads_fault_tokens s, reads_fault_tokens x)
-reads_fault_tokens (inner {k = k} o s y x j z t) =
-    (not_if (is_error_node k) (implied has_row (λ j. if is_error_node j then false else true) refl k (reads_row s y.0)), reads_fault_tokens s, reads_fault_tokens t)
+reads_fault_tokens (inner {k = k} o s y x j z t) = (
+  not_if (is_error_node k) (implied has_row (λ j. if is_error_node j then false else true) refl k (reads_row s y.0)),
+  reads_fault_tokens s,
+  reads_fault_tokens t,
+)
 
 -- some items are some tokens
 some_tokens : (ts : List Token) → is_some (items ts) ≡ true → is_some ts ≡ true

@@ -18,13 +18,15 @@ use Rattle.rnix_rows.proofs.RepairedRows.{after_repair, after_repair_all, known_
 
 -- what holds no token pays none
 pub needs_token_rest : {p i : SyntaxKind} {d n : ℕ} {q q' : Row} {b : AnnotatedForest} {us : List Token} {f : AnnotatedForest} {es : List Fault}
-    → Reads p d n q q' b us f es → tokens_in f ≡ [] → (q0 : Row) → IsKnown i q0 → needs_token q0 ≡ true → needs_token (after_all q0 (kinds_of (repaired f))) ≡ true
+    → Reads p d n q q' b us f es → tokens_in f ≡ [] → (q0 : Row) → IsKnown i q0 → needs_token q0 ≡ true
+    → needs_token (after_all q0 (kinds_of (repaired f))) ≡ true
 needs_token_rest end n q0 k o = o
 needs_token_rest (leaf x w h) n q0 k o = absurd (not_nil n)
 needs_token_rest (missing_part u l m w h) n q0 k o = needs_token_rest h n q0 k o
 needs_token_rest (wrong {f = f} note ts x w v h) n q0 k o =
     subst (λ r. needs_token r ≡ true) (sym (after_repair_all note q0 (repaired f)))
-    (needs_token_rest h (none_right (tokens_in (row_of ts)) (tokens_in f) n) (after_repair note q0) (known_after_repair note k) (needs_token_after_repair note q0 k o))
+    (needs_token_rest h (none_right (tokens_in (row_of ts)) (tokens_in f) n) (after_repair note q0) (known_after_repair note k)
+    (needs_token_after_repair note q0 k o))
 needs_token_rest (second {c = c} {f = f} s y h) n q0 k o = needs_token_rest h (none_right (tokens_in c) (tokens_in f) n) q0 k o
 needs_token_rest (inner {k = j} {c = c} {f = f} w s y x v z h) n q0 k o =
     needs_token_rest h (none_right (tokens_in c) (tokens_in f) n) (after q0 j) (known_after j k) (needs_token_goes q0 j k o (reads_row s y.0))
@@ -184,7 +186,8 @@ reads_counts {q = q} {b = b} {us = us} q0 (inner {k = k} {c = c} {f = f} {ds = d
     let a1 : half (may_end (after_all (after q0 k) (kinds_of (repaired f)))) + incomplete (repaired f) ≤ ended_count es = here.few in
     let a2 : half (may_end (after_all (row k) (kinds_of (repaired c)))) + incomplete (repaired c) ≤ ended_count ds = below.few in
     let in_lambda : (k ≡ NODE_PATTERN) × (tokens_in f ++ us ≡ []) → half (may_end (after_all (after q0 k) (kinds_of (repaired f)))) ≡ 1 = λ o.
-    let owed : needs_token (after q0 k) ≡ true = ap needs_token (on ∙ ap (after q) o.0) ∙ pattern_owes q i (ap (λ j. is_viable (after q j)) (sym o.0) ∙ lives) in
+    let owed : needs_token (after q0 k) ≡ true =
+    ap needs_token (on ∙ ap (after q) o.0) ∙ pattern_owes q i (ap (λ j. is_viable (after q j)) (sym o.0) ∙ lives) in
     ap half (needs_token_half (after_all (after q0 k) (kinds_of (repaired f)))
     (needs_token_rest h (none_left (tokens_in f) us o.1) (after q0 k) (known_after k k0) owed)) in
     same_counts refl (sym sum) (record {

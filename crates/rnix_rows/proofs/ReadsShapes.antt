@@ -41,7 +41,8 @@ is_item_bind_formed false NODE_PAT_BIND c = begins_with_token c
 is_item_bind_formed first k c = true
 
 -- a bound name is formed by what is left of its row
-bound_formed : (first : Bool) (q : Row) (c : AnnotatedForest) → is_end_or q ≡ not_first first → is_bind_at q c ≡ true → is_item_bind_formed first NODE_PAT_BIND c ≡ true
+bound_formed : (first : Bool) (q : Row) (c : AnnotatedForest) → is_end_or q ≡ not_first first → is_bind_at q c ≡ true
+    → is_item_bind_formed first NODE_PAT_BIND c ≡ true
 bound_formed true (EndOr kind · r) c a h = absurd (true_is_not_false a)
 bound_formed false (EndOr kind · r) c a h = h
 bound_formed true _ c a h = h

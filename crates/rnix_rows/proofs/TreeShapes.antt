@@ -27,7 +27,8 @@ by_leaf false k t f h a b e g = g
 pub without_trivia_kinds : (p : SyntaxKind) (f : AnnotatedForest) → HaveLeafKinds p f → kinds_of (forget (without_trivia f)) ≡ item_kinds (forget f)
 without_trivia_kinds p blank h = refl
 without_trivia_kinds p (token k t f) h =
-    by_leaf (is_trivia t.kind) k t (without_trivia f) (λ x. kinds_of (forget x)) (item_kinds (forget f)) (k ∷ item_kinds (forget f)) (without_trivia_kinds p f h.1) (ap (λ z. k ∷ z) (without_trivia_kinds p f h.1))
+    by_leaf (is_trivia t.kind) k t (without_trivia f) (λ x. kinds_of (forget x)) (item_kinds (forget f)) (k ∷ item_kinds (forget f))
+    (without_trivia_kinds p f h.1) (ap (λ z. k ∷ z) (without_trivia_kinds p f h.1))
     ∙ ap (λ x. if x then item_kinds (forget f) else k ∷ item_kinds (forget f)) (leaf_trivia p k t h.0)
 without_trivia_kinds p (branch k c f) h = ap (λ z. k ∷ z) (without_trivia_kinds p f h.1)
 without_trivia_kinds p (fault n c f) h = ap (λ z. NODE_ERROR ∷ z) (without_trivia_kinds p f h.1)
@@ -57,10 +58,12 @@ without_trivia_binds : (p : SyntaxKind) (first : Bool) (f : AnnotatedForest) →
     → are_item_binds_formed first (without_trivia f) ≡ are_binds_formed first (forget f)
 without_trivia_binds p first blank h = refl
 without_trivia_binds p first (token k t f) h =
-    by_leaf (is_trivia t.kind) k t (without_trivia f) (are_item_binds_formed first) (are_binds_formed first (forget f)) (are_binds_formed false (forget f)) (without_trivia_binds p first f h.1) (without_trivia_binds p false f h.1)
+    by_leaf (is_trivia t.kind) k t (without_trivia f) (are_item_binds_formed first) (are_binds_formed first (forget f)) (are_binds_formed false (forget f))
+    (without_trivia_binds p first f h.1) (without_trivia_binds p false f h.1)
     ∙ ap (λ x. if x then are_binds_formed first (forget f) else are_binds_formed false (forget f)) (leaf_trivia p k t h.0)
 without_trivia_binds p first (branch k c f) h =
-    ap (λ x. x && are_item_binds_formed false (without_trivia f)) (without_trivia_bind first k c h.0) ∙ ap (λ x. is_bind_formed first k (forget c) && x) (without_trivia_binds p false f h.1)
+    ap (λ x. x && are_item_binds_formed false (without_trivia f)) (without_trivia_bind first k c h.0)
+    ∙ ap (λ x. is_bind_formed first k (forget c) && x) (without_trivia_binds p false f h.1)
 without_trivia_binds p first (fault n c f) h = without_trivia_binds p false f h.1 ∙ sym (error_bind first (forget c) (are_binds_formed false (forget f)))
 
 -- an error node has no row
@@ -72,7 +75,8 @@ no_error_row (k ∷ ks) h = true_is_not_false (sym h ∙ ap may_end (nowhere ks)
 are_rows : (p : SyntaxKind) (f : AnnotatedForest) → HaveLeafKinds p f → AreErrorFreeRows (without_trivia f) ↔ AreRows (forget f)
 are_rows p blank h = (λ r. tt, λ r. tt)
 are_rows p (token k t f) h =
-    elim (is_trivia t.kind) as (λ x. AreErrorFreeRows (token_if x k t (without_trivia f)) ↔ AreRows (forget f)) [ true ↦ are_rows p f h.1 | false ↦ are_rows p f h.1 ]
+    elim (is_trivia t.kind) as (λ x. AreErrorFreeRows (token_if x k t (without_trivia f))
+    ↔ AreRows (forget f)) [ true ↦ are_rows p f h.1 | false ↦ are_rows p f h.1 ]
 are_rows p (branch k c f) h =
     let kinds = ap (is_row k) (without_trivia_kinds k c h.0) in
     let binds = without_trivia_binds k true c h.0 in
@@ -161,7 +165,8 @@ new_all before (Some name) names = (λ h. (h.0, h.1), λ h. (h.0, h.1))
 -- what is new is not reported
 new_repeated : (names : List (List ℕ)) (b : AnnotatedForest) (o : Option Token) → Lists names b → (repeated_if o b ≡ []) ↔ IsNew names (text_in o)
 new_repeated names b None h = (λ e. tt, λ e. refl)
-new_repeated names b (Some t) h = subst (λ x. ((if x then named_twice (extent_of (t ∷ [])) t.text ∷ [] else []) ≡ []) ↔ (is_among t.text names ≡ false)) (sym (h t.text)) (by (is_among t.text names))
+new_repeated names b (Some t) h = subst (λ x. ((if x then named_twice (extent_of (t ∷ [])) t.text ∷ [] else []) ≡ []) ↔ (is_among t.text names ≡ false))
+    (sym (h t.text)) (by (is_among t.text names))
   where
     by : (x : Bool) → ((if x then named_twice (extent_of (t ∷ [])) t.text ∷ [] else []) ≡ []) ↔ (x ≡ false)
     by true = (λ e. cc, λ e. cc)
@@ -191,7 +196,8 @@ silent p (branch k c f) b names h l r =
     silent p f (b ⊕ one_branch k d) (added names o) h.1 (lists_branch names b k d l) r.3 in
     let here : (repeated_if (name_of_items k d) b ≡ []) ↔ IsNew names o = new_repeated names b (name_of_items k d) l in
     let all : AreNew names (with_name (name_if k (forget c)) (entry_names (forget f))) ↔ (IsNew names o × AreNew (added names o) (entry_names (forget f))) =
-    subst (λ (x : Option (List ℕ)). AreNew names (with_name x (entry_names (forget f))) ↔ (IsNew names o × AreNew (added names o) (entry_names (forget f)))) (without_trivia_name k c h.0)
+    subst (λ (x : Option (List ℕ)). AreNew names (with_name x (entry_names (forget f))) ↔ (IsNew names o × AreNew (added names o) (entry_names (forget f))))
+    (without_trivia_name k c h.0)
     (new_all names o (entry_names (forget f))) in
     let first = none_all (reports_behind blank d) (repeats k b d ++ reports_behind (b ⊕ one_branch k d) (without_trivia f)) in
     let second = none_all (repeats k b d) (reports_behind (b ⊕ one_branch k d) (without_trivia f)) in (
@@ -241,8 +247,15 @@ leaf_reports false k t b f = refl
 pub without_trivia_reports : (b g : AnnotatedForest) → AreFaultsTrimmed g → reports_behind (without_trivia b) (without_trivia g) ≡ reports_within b g
 without_trivia_reports b blank h = refl
 without_trivia_reports b (token k t f) h =
-    leaf_reports (is_trivia t.kind) k t (without_trivia b) (without_trivia f) ∙ ap (λ z. reports_behind z (without_trivia f)) (sym (without_trivia-⊕ b (one_token k t))) ∙ without_trivia_reports (b ⊕ one_token k t) f h
+    leaf_reports (is_trivia t.kind) k t (without_trivia b) (without_trivia f)
+    ∙ ap (λ z. reports_behind z (without_trivia f)) (sym (without_trivia-⊕ b (one_token k t))) ∙ without_trivia_reports (b ⊕ one_token k t) f h
 without_trivia_reports b (branch k c f) h =
     rw (without_trivia_reports blank c h.0, sym (without_trivia-⊕ b (one_branch k c)), without_trivia_reports (b ⊕ one_branch k c) f h.1) refl
 without_trivia_reports b (fault n c f) h =
-    rw (without_trivia_reports blank c h.2, without_trivia_tokens c, same_report n (tokens_in c) h.0 h.1, sym (without_trivia-⊕ b (one_fault n c)), without_trivia_reports (b ⊕ one_fault n c) f h.3) refl
+    rw (
+      without_trivia_reports blank c h.2,
+      without_trivia_tokens c,
+      same_report n (tokens_in c) h.0 h.1,
+      sym (without_trivia-⊕ b (one_fault n c)),
+      without_trivia_reports (b ⊕ one_fault n c) f h.3,
+    ) refl

@@ -20,12 +20,14 @@ with_all_trivia_tokens f ts e =
     let us : List Token = left_after f ts in
     let w : IsBared f ts [] = bared f ts [] (all_items f ts e) in
     let none : from_item us ≡ [] = nothing_from (from_item us) (sym (items-view us) ∙ w.left) in
-    let rest : tokens_in (trivia_before us) ≡ us = sym (append-nil (tokens_in (trivia_before us))) ∙ ap (λ x. tokens_in (trivia_before us) ++ x) (sym none) ∙ trivia_tokens us in
+    let rest : tokens_in (trivia_before us) ≡ us =
+    sym (append-nil (tokens_in (trivia_before us))) ∙ ap (λ x. tokens_in (trivia_before us) ++ x) (sym none) ∙ trivia_tokens us in
     tokens_in-⊕ (with_trivia f ts) (trivia_before us) ∙ ap (λ x. tokens_in (with_trivia f ts) ++ x) rest ∙ with_trivia_tokens f ts [] (all_items f ts e)
 
 -- their leaves have the kinds that their tokens have below their parents
 pub with_all_trivia_leaf_kinds : (p : SyntaxKind) (f : AnnotatedForest) (ts : List Token) → HaveLeafKinds p f → HaveLeafKinds p (with_all_trivia f ts)
-with_all_trivia_leaf_kinds p f ts h = leaf_kind-⊕ p (with_trivia f ts) (trivia_before (left_after f ts)) (with_trivia_leaf_kinds p f ts h) (trivia_leaf_kinds p (left_after f ts))
+with_all_trivia_leaf_kinds p f ts h = leaf_kind-⊕ p (with_trivia f ts) (trivia_before (left_after f ts)) (with_trivia_leaf_kinds p f ts h)
+    (trivia_leaf_kinds p (left_after f ts))
 
 -- rows over the same tokens, each with its trivia where its items and the tokens determine it, are the same where they have the same items
 pub with_trivia_same : (f g : AnnotatedForest) (ts : List Token) → f ≡ with_all_trivia (without_trivia f) ts → g ≡ with_all_trivia (without_trivia g) ts
@@ -50,18 +52,22 @@ pub placed_faults_trimmed : (f g : AnnotatedForest) (ts : List Token) (es : List
     → AreFaultsTrimmed g
 placed_faults_trimmed f g ts es e i s =
     subst AreFaultsTrimmed (sym e)
-    (faults_trimmed-⊕ (with_trivia f ts) (trivia_before (left_after f ts)) (with_trivia_trimmed f ts [] (all_items f ts i) (reads_filled s)) (faults_trimmed_trivia (left_after f ts)))
+    (faults_trimmed-⊕ (with_trivia f ts) (trivia_before (left_after f ts)) (with_trivia_trimmed f ts [] (all_items f ts i) (reads_filled s))
+    (faults_trimmed_trivia (left_after f ts)))
 
 -- names hold their tokens alone, and an entry of a pattern begins with its name
 pub placed_names : (f g : AnnotatedForest) (ts : List Token) (es : List Fault) → g ≡ with_all_trivia f ts → AreSpelled (tokens_in f) → ReadsRoot f es
     → AreNamesSingleTokens g
 placed_names f g ts es e a s =
-    subst AreNamesSingleTokens (sym e) (bare-⊕ (with_trivia f ts) (trivia_before (left_after f ts)) (with_trivia_names f ts (reads_single_names s a)) (trivia_names (left_after f ts)))
+    subst AreNamesSingleTokens (sym e) (bare-⊕ (with_trivia f ts) (trivia_before (left_after f ts)) (with_trivia_names f ts (reads_single_names s a))
+    (trivia_names (left_after f ts)))
 
 -- without errors no node begins or ends with trivia
-pub placed_nodes_trimmed : (f g : AnnotatedForest) (ts : List Token) (es : List Fault) → g ≡ with_all_trivia f ts → items ts ≡ tokens_in f → ReadsRoot f es → es ≡ []
+pub placed_nodes_trimmed : (f g : AnnotatedForest) (ts : List Token) (es : List Fault) → g ≡ with_all_trivia f ts → items ts ≡ tokens_in f → ReadsRoot f es
+    → es ≡ []
     → AreNodesTrimmed (forget g)
 placed_nodes_trimmed f g ts es e i s n =
     subst (λ (x : AnnotatedForest). AreNodesTrimmed (forget x)) (sym e)
     (nodes_trimmed NODE_ROOT (with_all_trivia f ts) (with_all_trivia_leaf_kinds NODE_ROOT f ts (reads_leaf_kinds s))
-    (edged-⊕ (with_trivia f ts) (trivia_before (left_after f ts)) (with_trivia_edged f ts [] (all_items f ts i) ((root_rows s).0 n).nodes) (edged_trivia (left_after f ts))))
+    (edged-⊕ (with_trivia f ts) (trivia_before (left_after f ts)) (with_trivia_edged f ts [] (all_items f ts i) ((root_rows s).0 n).nodes)
+    (edged_trivia (left_after f ts))))

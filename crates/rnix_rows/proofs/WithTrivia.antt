@@ -80,7 +80,8 @@ operand_tree Operand row t = t
 operand_tree _ row t = tt
 
 -- an operand is no root, so it does not begin with trivia
-on_some : (all : List Token) (head : Head) (position : Position) (fs : List Frame) (ts : List Token) → frame_kind position ≡ OperandFrame → IsStackedOn head position fs
+on_some : (all : List Token) (head : Head) (position : Position) (fs : List Frame) (ts : List Token) → frame_kind position ≡ OperandFrame
+    → IsStackedOn head position fs
     → AreAwaiting all fs ts → HasNoLeadingTrivia ts
 on_some all head position [] ts e w h = absurd (cc)
 on_some all head position (f ∷ fs) ts e w h = awaited_no_leading_trivia f.row h.0 ts h.1.0
@@ -100,8 +101,13 @@ closed_with_trivia all f (g ∷ fs) ts n es h =
     let row : AnnotatedForest = g.row ⊕ made f.head f.row in (
       below.0,
       (
-        came g.row (made f.head f.row) below.0 h.0 ts below.1.0 (made_with_trivia f.head f.row h.0 ts (awaited_no_leading_trivia g.row below.0 h.0 below.1.0) h.1.0) tree,
-        (operand_tree g.head row (subst HasTree (sym (without_trivia-⊕ g.row (made f.head f.row))) (tree_behind (without_trivia g.row) (without_trivia (made f.head f.row)) tree)), below.1.1),
+        came g.row (made f.head f.row) below.0 h.0 ts below.1.0 (made_with_trivia f.head f.row h.0 ts
+            (awaited_no_leading_trivia g.row below.0 h.0 below.1.0) h.1.0) tree,
+        (
+          operand_tree g.head row (subst HasTree (sym (without_trivia-⊕ g.row (made f.head f.row)))
+              (tree_behind (without_trivia g.row) (without_trivia (made f.head f.row)) tree)),
+          below.1.1,
+        ),
       ),
     )
 
@@ -125,7 +131,8 @@ one_with_trivia : (j : SyntaxKind) (ts : List Token) → HasTrivia (one_branch j
 one_with_trivia j ts = with_trivia_branch j (leaf true j ts) (from_item ts) (behind true ts) (from_no_leading_trivia ts) (with_trivia_leaf j ts)
 
 -- an operand begins, where f waits for it
-begun_with_trivia : (all : List Token) (begin : Begin) (level d : ℕ) (t x : Token) (us : List Token) (f : Frame) (fs : List Frame) (ts : List Token) (n : ℕ) (es : List Fault)
+begun_with_trivia : (all : List Token) (begin : Begin) (level d : ℕ) (t x : Token) (us : List Token) (f : Frame) (fs : List Frame) (ts : List Token) (n : ℕ)
+    (es : List Fault)
     → items ts ≡ x ∷ us → BeginsInner (head_kind us) begin → AreAwaiting all (put f.position (with_leading true f.row ts) f ∷ fs) (from_item ts)
     → AttachesTrivia all (begun true begin level d t f fs ts n es)
 begun_with_trivia all (b.Leaf j) level d t x us f fs ts n es i s w = (from_item ts, (one_with_trivia j ts, (tt, w)))
@@ -141,7 +148,8 @@ begun_with_trivia all b.LegacyLet level d t x us f fs ts n es i s w = (
 begun_with_trivia all b.NameLambda level d t x us f fs ts n es i s w = (
   from_item ts,
   (
-    with_trivia_branch NODE_IDENT_PARAM (one_branch NODE_IDENT (leaf true NODE_IDENT ts)) (from_item ts) (behind true ts) (from_no_leading_trivia ts) (one_with_trivia NODE_IDENT ts),
+    with_trivia_branch NODE_IDENT_PARAM (one_branch NODE_IDENT (leaf true NODE_IDENT ts)) (from_item ts) (behind true ts) (from_no_leading_trivia ts)
+        (one_with_trivia NODE_IDENT ts),
     (tt, (from_item ts, (awaits_blank (from_item ts) (from_no_leading_trivia ts), w))),
   ),
 )
@@ -151,15 +159,22 @@ begun_with_trivia all b.BoundLambda level d t x us f fs ts n es i s w =
     let free : IsAwaiting blank (from_item ts) (from_item ts) = awaits_blank (from_item ts) (from_no_leading_trivia ts) in (
       from_item ts,
       (
-        with_trivia_branch NODE_PAT_BIND row (from_item ts) (behind true (behind true ts)) (from_no_leading_trivia ts) (two_with_trivia NODE_PAT_BIND name ts x us i s (one_with_trivia NODE_IDENT ts)),
+        with_trivia_branch NODE_PAT_BIND row (from_item ts) (behind true (behind true ts)) (from_no_leading_trivia ts)
+            (two_with_trivia NODE_PAT_BIND name ts x us i s (one_with_trivia NODE_IDENT ts)),
         (tt, (from_item ts, (free, (from_item ts, (free, w))))),
       ),
     )
 begun_with_trivia all b.PatternLambda level d t x us f fs ts n es i s w =
     let free : IsAwaiting blank (from_item ts) (from_item ts) = awaits_blank (from_item ts) (from_no_leading_trivia ts) in
     (from_item ts, (with_trivia_leaf NODE_PATTERN ts, (tt, (from_item ts, (free, (from_item ts, (free, w)))))))
-begun_with_trivia all b.Stray level d t x us f fs ts n es i s w =
-    (from_item ts, (with_trivia_fault Stray (leaf true NODE_ERROR ts) (from_item ts) (behind true ts) refl (from_no_leading_trivia ts) (with_trivia_leaf NODE_ERROR ts), (tt, w)))
+begun_with_trivia all b.Stray level d t x us f fs ts n es i s w = (
+  from_item ts,
+  (
+    with_trivia_fault Stray (leaf true NODE_ERROR ts) (from_item ts) (behind true ts) refl (from_no_leading_trivia ts)
+        (with_trivia_leaf NODE_ERROR ts),
+    (tt, w),
+  ),
+)
 
 -- an operand of a level, where f waits for it, or the end of the text
 operand_with_trivia : (all : List Token) (level d : ℕ) (f : Frame) (fs : List Frame) (ts xs : List Token) (n : ℕ) (es : List Fault)
@@ -176,14 +191,21 @@ limited_with_trivia all f fs ts n es h =
     let run : List Token = items ts in
     let node : AnnotatedForest = one_fault TooDeep (run_row true run ts) in
     let left : List Token = run_rest true run ts in
-    let last : HasTrivia (with_leading true node left) (from_item ts) (from_item left) = with_trivia_last (run_row true run ts) (from_item ts) left (from_no_leading_trivia ts) (with_trivia_run run ts (dropped run run) (all_prefix run)) in
-    let two : HasTrivia (with_leading true f.row ts ⊕ with_leading true node left) h.0 (from_item left) = with_trivia_added f.row (with_leading true node left) h.0 ts (from_item left) h.1.0 last tt in
-    let same : with_leading true (with_leading true f.row ts ⊕ node) left ≡ with_leading true f.row ts ⊕ with_leading true node left = ⊕-assoc (with_leading true f.row ts) node (trivia_before left) in
+    let last : HasTrivia (with_leading true node left) (from_item ts) (from_item left) =
+    with_trivia_last (run_row true run ts) (from_item ts) left (from_no_leading_trivia ts) (with_trivia_run run ts (dropped run run) (all_prefix run)) in
+    let two : HasTrivia (with_leading true f.row ts ⊕ with_leading true node left) h.0 (from_item left) =
+    with_trivia_added f.row (with_leading true node left) h.0 ts (from_item left) h.1.0 last tt in
+    let same : with_leading true (with_leading true f.row ts ⊕ node) left ≡ with_leading true f.row ts ⊕ with_leading true node left =
+    ⊕-assoc (with_leading true f.row ts) node (trivia_before left) in
     let tree : HasTree (without_trivia (with_leading true f.row ts ⊕ with_leading true node left)) = tree_added f.row ts (with_leading true node left) tt in (
       h.0,
       (
         subst (λ (x : AnnotatedForest). HasTrivia x h.0 (from_item left)) (sym same) two,
-        (operand_tree f.head (with_leading true (with_leading true f.row ts ⊕ node) left) (subst (λ (x : AnnotatedForest). HasTree (without_trivia x)) (sym same) tree), h.1.1.1),
+        (
+          operand_tree f.head (with_leading true (with_leading true f.row ts ⊕ node) left)
+              (subst (λ (x : AnnotatedForest). HasTree (without_trivia x)) (sym same) tree),
+          h.1.1.1,
+        ),
       ),
     )
 
@@ -191,17 +213,20 @@ limited_with_trivia all f fs ts n es h =
 reading_with_trivia : (all : List Token) (level : ℕ) (counted : Bool) (f : Frame) (fs : List Frame) (ts : List Token) (n : ℕ) (es : List Fault)
     → HaveTrivia all (f ∷ fs) ts → AttachesTrivia all (reading true level counted f fs ts n es)
 reading_with_trivia all level true f fs ts n es h =
-    elim (nat_le depth_limit f.depth) as (λ x. AttachesTrivia all (if x then limited true f fs ts n es else operand_on true level (suc f.depth) f fs ts (items ts) n es))
+    elim (nat_le depth_limit f.depth) as (λ x. AttachesTrivia all (if x then limited true f fs ts n es else operand_on true level (suc f.depth) f fs ts
+    (items ts) n es))
     [ true ↦ limited_with_trivia all f fs ts n es h | false ↦ operand_with_trivia all level (suc f.depth) f fs ts (items ts) n es refl h ]
 reading_with_trivia all level false f fs ts n es h = operand_with_trivia all level f.depth f fs ts (items ts) n es refl h
 
 -- a run of items in an error node, behind a row
 run_with_trivia : (until : ExpectedSet) (row : AnnotatedForest) (vs ts : List Token) → HasTrivia row vs ts
-    → HasTrivia (with_leading true row ts ⊕ one_fault (Unwanted until) (run_row true (run_of until (items ts)) ts)) vs (run_rest true (run_of until (items ts)) ts)
+    → HasTrivia (with_leading true row ts ⊕ one_fault (Unwanted until) (run_row true (run_of until (items ts)) ts)) vs
+    (run_rest true (run_of until (items ts)) ts)
 run_with_trivia until row vs ts h =
     let run : List Token = run_of until (items ts) in
     with_trivia_added row (one_fault (Unwanted until) (run_row true run ts)) vs ts (run_rest true run ts) h
-    (with_trivia_fault (Unwanted until) (run_row true run ts) (from_item ts) (run_rest true run ts) refl (from_no_leading_trivia ts) (with_trivia_run run ts (dropped run (items ts)) (run_prefix until (items ts)))) tt
+    (with_trivia_fault (Unwanted until) (run_row true run ts) (from_item ts) (run_rest true run ts) refl (from_no_leading_trivia ts)
+    (with_trivia_run run ts (dropped run (items ts)) (run_prefix until (items ts)))) tt
 
 -- a leaf in a node, behind a row
 name_with_trivia : (j : SyntaxKind) (row : AnnotatedForest) (vs ts : List Token) → HasTrivia row vs ts
@@ -221,7 +246,8 @@ grown all f fs ts us g t d h = (h.0, (d h.0 h.1.0, (operand_tree f.head (with_le
 
 -- what is done by a frame
 perform_with_trivia : (all : List Token) (action : Action) (f : Frame) (fs : List Frame) (ts : List Token) (n : ℕ) (es : List Fault)
-    → Allowed f.position (head_kind (items ts)) action → IsStackedOn f.head f.position fs → HaveTrivia all (f ∷ fs) ts → AttachesTrivia all (perform true action f fs ts n es)
+    → Allowed f.position (head_kind (items ts)) action → IsStackedOn f.head f.position fs → HaveTrivia all (f ∷ fs) ts
+    → AttachesTrivia all (perform true action f fs ts n es)
 perform_with_trivia all a.Close f fs ts n es al w h = closed_with_trivia all f fs ts n es h
 perform_with_trivia all a.ClosePattern f fs ts n es al w h = closed_with_trivia all f fs ts n es h
 perform_with_trivia all a.CloseEntry f fs ts n es al w h = entry_with_trivia all f fs ts n es h
@@ -230,15 +256,20 @@ perform_with_trivia all a.Finish f fs ts n es al w h = h
 perform_with_trivia all a.EndOperand f fs ts n es al w h = closed_with_trivia all f fs ts n es h
 perform_with_trivia all a.Extra f fs ts n es al w h =
     let run : List Token = items ts in
-    let node = with_trivia_fault Extra (run_row true run ts) (from_item ts) (run_rest true run ts) refl (from_no_leading_trivia ts) (with_trivia_run run ts (dropped run run) (all_prefix run)) in
-    grown all f fs ts (run_rest true run ts) (one_fault Extra (run_row true run ts)) tt (λ vs d. with_trivia_added f.row (one_fault Extra (run_row true run ts)) vs ts (run_rest true run ts) d node tt) h
+    let node = with_trivia_fault Extra (run_row true run ts) (from_item ts) (run_rest true run ts) refl (from_no_leading_trivia ts)
+    (with_trivia_run run ts (dropped run run) (all_prefix run)) in
+    grown all f fs ts (run_rest true run ts) (one_fault Extra (run_row true run ts)) tt
+    (λ vs d. with_trivia_added f.row (one_fault Extra (run_row true run ts)) vs ts (run_rest true run ts) d node tt) h
 perform_with_trivia all (a.Take after) f fs ts n es al w h =
-    grown all f fs ts (behind true ts) (leaf true (kind_of f.head) ts) (tree_leaf (kind_of f.head) ts al.0) (λ vs d. next_with_trivia (kind_of f.head) f.row vs ts al.0 d) h
+    grown all f fs ts (behind true ts) (leaf true (kind_of f.head) ts) (tree_leaf (kind_of f.head) ts al.0)
+    (λ vs d. next_with_trivia (kind_of f.head) f.row vs ts al.0 d) h
 perform_with_trivia all (a.Miss after) f fs ts n es al w h = h
 perform_with_trivia all (a.MissWanted until after) f fs ts n es al w h = h
 perform_with_trivia all (a.Run until after) f fs ts n es al w h =
-    grown all f fs ts (run_rest true (run_of until (items ts)) ts) (one_fault (Unwanted until) (run_row true (run_of until (items ts)) ts)) tt (λ vs d. run_with_trivia until f.row vs ts d) h
-perform_with_trivia all (a.Leaf j after) f fs ts n es al w h = grown all f fs ts (behind true ts) (one_branch j (leaf true j ts)) tt (λ vs d. name_with_trivia j f.row vs ts d) h
+    grown all f fs ts (run_rest true (run_of until (items ts)) ts) (one_fault (Unwanted until) (run_row true (run_of until (items ts)) ts)) tt
+    (λ vs d. run_with_trivia until f.row vs ts d) h
+perform_with_trivia all (a.Leaf j after) f fs ts n es al w h =
+    grown all f fs ts (behind true ts) (one_branch j (leaf true j ts)) tt (λ vs d. name_with_trivia j f.row vs ts d) h
 perform_with_trivia all (a.Open j inside after) f fs ts n es al w h = (from_item ts, (with_trivia_leaf j ts, (tt, waiting all f fs ts h)))
 perform_with_trivia all (a.Begin j inside after) f fs ts n es al w h = (from_item ts, (with_trivia_blank (from_item ts), (tt, waiting all f fs ts h)))
 perform_with_trivia all (a.Entry after) f fs ts n es al w h = (from_item ts, (one_with_trivia NODE_IDENT ts, (tt, waiting all f fs ts h)))
@@ -249,10 +280,17 @@ perform_with_trivia all (a.Wrap j inside max_bp) f fs ts n es al w h =
     (h.0, (next_with_trivia j f.row h.0 ts al.0 h.1.0, (tt, (h.0, (free, h.1.1.1)))))
 perform_with_trivia all a.Apply f fs ts n es al w h =
     let free : IsAwaiting blank h.0 h.0 = awaits_blank h.0 (on_some all f.head f.position fs h.0 al.1 w h.1.1.1) in
-    reading_with_trivia all 16 false (opened (Node NODE_APPLY) (p.Left APPLIED) f.depth f.row) (opened Operand (p.AfterOperand (min_bp_of f.position) 15) f.depth blank ∷ fs) ts n es (h.0, (h.1.0, (tt, (h.0, (free, h.1.1.1)))))
+    reading_with_trivia all 16 false (opened (Node NODE_APPLY) (p.Left APPLIED) f.depth f.row)
+    (opened Operand (p.AfterOperand (min_bp_of f.position) 15) f.depth blank ∷ fs) ts n es (h.0, (h.1.0, (tt, (h.0, (free, h.1.1.1)))))
 perform_with_trivia all a.ApplyOr f fs ts n es al w h =
-    let inside : AnnotatedForest = with_leading true f.row ts ⊕ one_branch NODE_IDENT (leaf true NODE_IDENT ts) in
-    (h.0, (with_trivia_branch NODE_APPLY inside h.0 (behind true ts) (on_some all f.head f.position fs h.0 al.1 w h.1.1.1) (name_with_trivia NODE_IDENT f.row h.0 ts h.1.0), (tt, h.1.1.1)))
+    let inside : AnnotatedForest = with_leading true f.row ts ⊕ one_branch NODE_IDENT (leaf true NODE_IDENT ts) in (
+      h.0,
+      (
+        with_trivia_branch NODE_APPLY inside h.0 (behind true ts) (on_some all f.head f.position fs h.0 al.1 w h.1.1.1)
+            (name_with_trivia NODE_IDENT f.row h.0 ts h.1.0),
+        (tt, h.1.1.1),
+      ),
+    )
 
 -- each step keeps the rows as their items and the tokens make them
 pub step_with_trivia : (all : List Token) (m : Machine) → AreStacked m.frames → AttachesTrivia all m → AttachesTrivia all (step true m)
@@ -273,7 +311,8 @@ runs_with_trivia all (further {m = m} r) k h = runs_with_trivia all r (step_stac
 -- the root's row is what its items and the tokens of the text make of it, and the tokens that are left are left behind these items
 pub root_with_trivia : (ts : List Token) {m : Machine} (f : Frame) → Runs true (begins ts) m → m.frames ≡ f ∷ [] → HasTrivia f.row ts m.left
 root_with_trivia ts {m = m} f r e =
-    let all : HaveTrivia ts (f ∷ []) m.left = subst (λ (x : List Frame). HaveTrivia ts x m.left) e (runs_with_trivia ts r (begins_stacked ts) (ts, (with_trivia_blank ts, (tt, refl)))) in
+    let all : HaveTrivia ts (f ∷ []) m.left =
+    subst (λ (x : List Frame). HaveTrivia ts x m.left) e (runs_with_trivia ts r (begins_stacked ts) (ts, (with_trivia_blank ts, (tt, refl)))) in
     subst (λ (x : List Token). HasTrivia f.row x m.left) all.1.1.1 all.1.0
 
 -- the trees of a whole text are what their items and its tokens make of them
@@ -281,4 +320,5 @@ pub root_row_with_trivia : (ts : List Token) (m : Machine) (f : Frame) → Runs 
     → f.row ⊕ trivia_before m.left ≡ with_all_trivia (without_trivia (f.row ⊕ trivia_before m.left)) ts
 root_row_with_trivia ts m f r e z =
     let w : HasTrivia f.row ts m.left = root_with_trivia ts f r e in
-    sym (ap (λ x. with_all_trivia x ts) (with_leading_without_trivia f.row m.left) ∙ ap (λ x. x ⊕ trivia_before (left_after (without_trivia f.row) ts)) w.same ∙ ap (λ x. f.row ⊕ trivia_before x) w.left)
+    sym (ap (λ x. with_all_trivia x ts) (with_leading_without_trivia f.row m.left) ∙ ap (λ x. x ⊕ trivia_before (left_after (without_trivia f.row) ts)) w.same
+    ∙ ap (λ x. f.row ⊕ trivia_before x) w.left)

@@ -44,7 +44,8 @@ record IsEnded (f g : AnnotatedForest) : Type 0 where
 ended_behind : (ts : List Token) (f x : AnnotatedForest) (js ks : List SyntaxKind) → kinds_in x ≡ js ++ ks → IsSome js → EndsWithItem js → EndsWithItem ks
     → IsEnded f (trivia_before ts ⊕ x)
 ended_behind ts f x js ks e s h j =
-    let all : kinds_in (trivia_before ts ⊕ x) ≡ kinds_in (trivia_before ts) ++ (js ++ ks) = kinds_in-⊕ (trivia_before ts) x ∙ ap (λ z. kinds_in (trivia_before ts) ++ z) e in
+    let all : kinds_in (trivia_before ts ⊕ x) ≡ kinds_in (trivia_before ts) ++ (js ++ ks) =
+    kinds_in-⊕ (trivia_before ts) x ∙ ap (λ z. kinds_in (trivia_before ts) ++ z) e in
     let more : IsSome (js ++ ks) = some_before js ks s in
     record {
       some = λ t. subst IsSome (sym all) (some_behind (kinds_in (trivia_before ts)) (js ++ ks) more);
@@ -56,19 +57,22 @@ ended_trees blank ts us e h = record { some = λ t. absurd t; ends = tt }
 ended_trees (token k x f) ts us e h =
     let w : IsFirst x (tokens_in f ++ us) ts = first_item x (tokens_in f ++ us) ts e in
     let rest : List Token = tail_of (from_item ts) in
-    ended_behind ts (token k x f) (token k x (with_trivia f rest)) (x.kind ∷ []) (kinds_in (with_trivia f rest)) refl (some x.kind []) w.item (ended_trees f rest us w.left h).ends
+    ended_behind ts (token k x f) (token k x (with_trivia f rest)) (x.kind ∷ []) (kinds_in (with_trivia f rest)) refl (some x.kind []) w.item
+    (ended_trees f rest us w.left h).ends
 ended_trees (branch k c f) ts us e h =
     let d : AnnotatedForest = with_trivia c (from_item ts) in
     let rest : List Token = left_after c (from_item ts) in
     let below = ended_trees c (from_item ts) (tokens_in f ++ us) (items-from_item ts ∙ e ∙ append_assoc (tokens_in c) (tokens_in f) us) h.1 in
-    ended_behind ts (branch k c f) (branch k d (with_trivia f rest)) (kinds_in d) (kinds_in (with_trivia f rest)) (token_kinds-++ (tokens_in d) (tokens_in (with_trivia f rest)))
+    ended_behind ts (branch k c f) (branch k d (with_trivia f rest)) (kinds_in d) (kinds_in (with_trivia f rest))
+    (token_kinds-++ (tokens_in d) (tokens_in (with_trivia f rest)))
     (below.some h.0) below.ends (ended_trees f rest us (inside c f ts us e).left h.2).ends
 ended_trees (fault n c f) ts us e h =
     let d : AnnotatedForest = with_trivia c (from_item ts) in
     let rest : List Token = left_after c (from_item ts) in
     let below = ended_trees c (from_item ts) (tokens_in f ++ us) (items-from_item ts ∙ e ∙ append_assoc (tokens_in c) (tokens_in f) us) h.2 in
     subst (λ (z : Bool). IsEnded (fault n c f) (trivia_before ts ⊕ fault n d (trivia_after z rest ⊕ with_trivia f (rest_after z rest)))) (sym h.0)
-    (ended_behind ts (fault n c f) (fault n d (with_trivia f rest)) (kinds_in d) (kinds_in (with_trivia f rest)) (token_kinds-++ (tokens_in d) (tokens_in (with_trivia f rest)))
+    (ended_behind ts (fault n c f) (fault n d (with_trivia f rest)) (kinds_in d) (kinds_in (with_trivia f rest))
+    (token_kinds-++ (tokens_in d) (tokens_in (with_trivia f rest)))
     (below.some h.1) below.ends (ended_trees f rest us (inside c f ts us e).left h.3).ends)
 
 -- what is given trivia from an item on begins and ends with items
@@ -77,8 +81,10 @@ edged_from f ts us e h =
     let own : items (from_item ts) ≡ tokens_in f ++ us = items-from_item ts ∙ e in
     let g : AnnotatedForest = with_trivia f (from_item ts) in
     let all : token_kinds (from_item ts) ≡ kinds_in g ++ token_kinds (left_after f (from_item ts)) =
-    ap token_kinds (sym (with_trivia_tokens f (from_item ts) us own)) ∙ token_kinds-++ (tokens_in g) (left_after f (from_item ts)) in
-    (begins_part (kinds_in g) (token_kinds (left_after f (from_item ts))) (subst BeginsWithItem all (begins_item ts)), (ended_trees f (from_item ts) us own h).ends)
+    ap token_kinds (sym (with_trivia_tokens f (from_item ts) us own)) ∙ token_kinds-++ (tokens_in g) (left_after f (from_item ts)) in (
+      begins_part (kinds_in g) (token_kinds (left_after f (from_item ts))) (subst BeginsWithItem all (begins_item ts)),
+      (ended_trees f (from_item ts) us own h).ends,
+    )
 
 -- two rows
 pub edged-⊕ : (f g : AnnotatedForest) → AreEdged f → AreEdged g → AreEdged (f ⊕ g)
@@ -118,7 +124,8 @@ pub with_trivia_trimmed : (f : AnnotatedForest) (ts us : List Token) → items t
 with_trivia_trimmed blank ts us e h = tt
 with_trivia_trimmed (token k x f) ts us e h =
     let rest : List Token = tail_of (from_item ts) in
-    faults_trimmed-⊕ (trivia_before ts) (token k x (with_trivia f rest)) (faults_trimmed_trivia ts) (with_trivia_trimmed f rest us (first_item x (tokens_in f ++ us) ts e).left h)
+    faults_trimmed-⊕ (trivia_before ts) (token k x (with_trivia f rest)) (faults_trimmed_trivia ts)
+    (with_trivia_trimmed f rest us (first_item x (tokens_in f ++ us) ts e).left h)
 with_trivia_trimmed (branch k c f) ts us e h =
     let all : items ts ≡ tokens_in c ++ (tokens_in f ++ us) = e ∙ append_assoc (tokens_in c) (tokens_in f) us in
     let rest : List Token = left_after c (from_item ts) in
@@ -129,7 +136,8 @@ with_trivia_trimmed (fault n c f) ts us e h =
     let rest : List Token = left_after c (from_item ts) in
     let later : List Token = rest_after (is_last n) rest in
     let edges = edged_from c ts (tokens_in f ++ us) all h.0 in
-    faults_trimmed-⊕ (trivia_before ts) (fault n (with_trivia c (from_item ts)) (trivia_after (is_last n) rest ⊕ with_trivia f later)) (faults_trimmed_trivia ts) (
+    faults_trimmed-⊕ (trivia_before ts) (fault n (with_trivia c (from_item ts)) (trivia_after (is_last n) rest ⊕ with_trivia f later))
+    (faults_trimmed_trivia ts) (
       edges.0,
       edges.1,
       with_trivia_trimmed c (from_item ts) (tokens_in f ++ us) (items-from_item ts ∙ all) h.1,

@@ -34,13 +34,20 @@ single_token_with_trivia _ ts h = absurd (true_is_not_false (sym h))
 -- the names of a row with its trivia are single tokens
 pub with_trivia_names : (f : AnnotatedForest) (ts : List Token) → AreNamesSingleTokens f → AreNamesSingleTokens (with_trivia f ts)
 with_trivia_names blank ts h = tt
-with_trivia_names (token k t f) ts h = let rest : List Token = tail_of (from_item ts) in bare-⊕ (trivia_before ts) (token k t (with_trivia f rest)) (trivia_names ts) (with_trivia_names f rest h)
+with_trivia_names (token k t f) ts h = let rest : List Token = tail_of (from_item ts) in bare-⊕ (trivia_before ts) (token k t (with_trivia f rest))
+    (trivia_names ts) (with_trivia_names f rest h)
 with_trivia_names (branch k c f) ts h =
     let rest : List Token = left_after c (from_item ts) in
-    bare-⊕ (trivia_before ts) (branch k (with_trivia c (from_item ts)) (with_trivia f rest)) (trivia_names ts)
-    ((λ e. single_token_with_trivia c ts (h.0.0 e), λ e. begins_with_trivia c ts (h.0.1 e)), with_trivia_names c (from_item ts) h.1, with_trivia_names f rest h.2)
+    bare-⊕ (trivia_before ts) (branch k (with_trivia c (from_item ts)) (with_trivia f rest)) (trivia_names ts) (
+      (λ e. single_token_with_trivia c ts (h.0.0 e), λ e. begins_with_trivia c ts (h.0.1 e)),
+      with_trivia_names c (from_item ts) h.1,
+      with_trivia_names f rest h.2,
+    )
 with_trivia_names (fault n c f) ts h =
     let rest : List Token = left_after c (from_item ts) in
     let later : List Token = rest_after (is_last n) rest in
-    bare-⊕ (trivia_before ts) (fault n (with_trivia c (from_item ts)) (trivia_after (is_last n) rest ⊕ with_trivia f later)) (trivia_names ts)
-    (with_trivia_names c (from_item ts) h.0, bare-⊕ (trivia_after (is_last n) rest) (with_trivia f later) (trivia_after_names (is_last n) rest) (with_trivia_names f later h.1))
+    bare-⊕ (trivia_before ts) (fault n (with_trivia c (from_item ts)) (trivia_after (is_last n) rest ⊕ with_trivia f later)) (trivia_names ts) (
+      with_trivia_names c (from_item ts) h.0,
+      bare-⊕ (trivia_after (is_last n) rest) (with_trivia f later) (trivia_after_names (is_last n) rest)
+          (with_trivia_names f later h.1),
+    )

@@ -132,7 +132,8 @@ sound {k = k} (second {c = c} {f = f} {ds = ds} {es = es} inside over h) complet
       (misses_rest is_ended (ds ++ report DoubleBind (tokens_in c) ∷ []) es l) (misses_rest is_repeated (ds ++ report DoubleBind (tokens_in c) ∷ []) es m),
 )
 sound {k = k₀} {n = n₀} {q = q} {b = b} {us = us} (inner {k = k} {c = c} {f = f} {ds = ds} {es = es} room inside over x y j h) complete w n o l m =
-    let extension = and_parts (if is_extension k₀ k (repaired c) then false else true) (has_no_extension k (repaired c) && has_no_extension k₀ (repaired f)) o in
+    let extension = and_parts (if is_extension k₀ k (repaired c) then false else true)
+    (has_no_extension k (repaired c) && has_no_extension k₀ (repaired f)) o in
     let extensions = and_parts (has_no_extension k (repaired c)) (has_no_extension k₀ (repaired f)) extension.1 in
     let here : Lacks is_repeated (ds ++ repeats k b c) = misses_first is_repeated (ds ++ repeats k b c) es m in
     let s : IsSound k (row k) blank c = sound inside over.0 (spelled_first (tokens_in c) (tokens_in f) w) n.1 extensions.0

@@ -162,7 +162,8 @@ depends_on_tokens K.NODE_BIN_OP = true
 depends_on_tokens k = false
 
 -- what the children of another node are
-pub made : (k : SyntaxKind) (c : AnnotatedForest) (g : Forest) → depends_on_tokens k ≡ false → View k (row k) g → (k ≡ K.NODE_PATTERN → are_entries_new [] g ≡ true)
+pub made : (k : SyntaxKind) (c : AnnotatedForest) (g : Forest) → depends_on_tokens k ≡ false → View k (row k) g
+    → (k ≡ K.NODE_PATTERN → are_entries_new [] g ≡ true)
     → IsMade k c g
 made K.NODE_STRING c _ e (leads v) n =
     record { atom = λ h i. G.string (pieces v); strict = λ h i. G.atom (G.string (pieces v)); part = λ i h. G.string_attr (pieces v) }

@@ -133,7 +133,8 @@ Fits parent q k c = Asks parent q k c × (binds q k c ≡ true)
 pub data GrammarRow (parent : SyntaxKind) : Row → Forest → Type 0 where
   ended : {q : Row} → may_end q ≡ true → GrammarRow parent q empty
   leaf_node_made : {q : Row} {k : SyntaxKind} {t : List ℕ} {f : Forest} → is_token k ≡ true → GrammarRow parent (after q k) f → GrammarRow parent q (leaf k t f)
-  node_started : {q : Row} {k : SyntaxKind} {c f : Forest} → is_node k ≡ true → IsPart k c → Fits parent q k c → GrammarRow parent (after q k) f → GrammarRow parent q (node k c f)
+  node_started : {q : Row} {k : SyntaxKind} {c f : Forest} → is_node k ≡ true → IsPart k c → Fits parent q k c → GrammarRow parent (after q k) f
+      → GrammarRow parent q (node k c f)
   passed : {w : SyntaxKind} {r : Row} {f : Forest} → GrammarRow parent r f → GrammarRow parent (p.Optional w · r) f
 
 -- a row whose first child need not be there
@@ -187,7 +188,8 @@ module _ (parent : SyntaxKind) where
   past_leaf o (leaf_node_made i h) = h
   past_leaf o (passed h) = absurd (true_is_not_false o)
 
-  past_node : {q : Row} {k : SyntaxKind} {c f : Forest} → is_optional q ≡ false → GrammarRow parent q (node k c f) → (is_node k ≡ true) × GrammarRow parent (after q k) f
+  past_node : {q : Row} {k : SyntaxKind} {c f : Forest} → is_optional q ≡ false → GrammarRow parent q (node k c f) → (is_node k ≡ true)
+      × GrammarRow parent (after q k) f
   past_node o (node_started i m a h) = (i, h)
   past_node o (passed h) = absurd (true_is_not_false o)
 
@@ -200,7 +202,8 @@ module _ (parent : SyntaxKind) where
   -- a row goes on as another that goes on with the same children
   pub alike : (q s : Row) → is_optional s ≡ false → (may_end s ≡ true → may_end q ≡ true)
       → ((k : SyntaxKind) (c : Forest) → Fits parent s k c → Fits parent q k c)
-      → ((H : Row → Type 0) (k : SyntaxKind) → ((r : Row) → H never → H r) → H (after s k) → H (after q k)) → {f : Forest} → GrammarRow parent s f → GrammarRow parent q f
+      → ((H : Row → Type 0) (k : SyntaxKind) → ((r : Row) → H never → H r) → H (after s k) → H (after q k)) → {f : Forest} → GrammarRow parent s f
+      → GrammarRow parent q f
   alike q s o e a step (ended h) = ended (e h)
   alike q s o e a step (leaf_node_made {k = k} {f = f} i h) = leaf_node_made i (step (λ r. GrammarRow parent r f) k (λ r w. lost w) h)
   alike q s o e a step (node_started {k = k} {c = c} {f = f} i m x h) = node_started i m (a k c x) (step (λ r. GrammarRow parent r f) k (λ r w. lost w) h)
@@ -225,14 +228,17 @@ module _ (parent : SyntaxKind) where
       → {V : Forest → Type 0} → ((f : Forest) → GrammarRow parent r f → V f) → (f : Forest) → GrammarRow parent q f → One (is_token w) w q V f
   child w q r o e d v _ (ended h) = absurd (true_is_not_false (sym h ∙ e))
   child w q r o e d v _ (leaf_node_made {k = k} {t = t} {f = f} i h) = here_leaf w q r v k t f i (this_kind w k r (subst (λ z. GrammarRow parent z f) (d k) h))
-  child w q r o e d v _ (node_started {k = k} {c = c} {f = f} i m x h) = here_node w q r v k c f i m x.1 (this_kind w k r (subst (λ z. GrammarRow parent z f) (d k) h))
+  child w q r o e d v _ (node_started {k = k} {c = c} {f = f} i m x h) =
+      here_node w q r v k c f i m x.1 (this_kind w k r (subst (λ z. GrammarRow parent z f) (d k) h))
   child w _ r o e d v f (passed h) = absurd (true_is_not_false o)
 
   -- or the row goes on as another
   one : (w : SyntaxKind) (q r s : Row) → (is_optional q ≡ true → q ≡ p.Optional w · s) → (may_end q ≡ true → may_end s ≡ true)
       → ((k : SyntaxKind) (c f : Forest) → GrammarRow parent (after s k) f → Fits parent q k c → Fits parent s k c)
-      → ((k : SyntaxKind) (f : Forest) → GrammarRow parent (after q k) f → ((w ≡ k) × GrammarRow parent r f) ⊎ GrammarRow parent (after s k) f) → {V W : Forest → Type 0}
-      → ((f : Forest) → GrammarRow parent r f → V f) → ((f : Forest) → GrammarRow parent s f → W f) → (f : Forest) → GrammarRow parent q f → One (is_token w) w q V f ⊎ W f
+      → ((k : SyntaxKind) (f : Forest) → GrammarRow parent (after q k) f → ((w ≡ k) × GrammarRow parent r f) ⊎ GrammarRow parent (after s k) f)
+      → {V W : Forest → Type 0}
+      → ((f : Forest) → GrammarRow parent r f → V f) → ((f : Forest) → GrammarRow parent s f → W f) → (f : Forest) → GrammarRow parent q f
+      → One (is_token w) w q V f ⊎ W f
   one w q r s o e a step v u _ (ended h) = inr (u empty (ended (e h)))
   one w q r s o e a step v u _ (leaf_node_made {k = k} {t = t} {f = f} i h) =
       ⊎_elim (λ x. inl (here_leaf w q r v k t f i x)) (λ y. inr (u (leaf k t f) (leaf_node_made i y))) (step k f h)
@@ -241,7 +247,8 @@ module _ (parent : SyntaxKind) where
   one w _ r s o e a step v u f (passed {w = x} {r = y} h) = inr (u f (subst (λ z. GrammarRow parent z f) (same_rest x w y s (o refl)) h))
 
   -- by whether a child is of the kind, in three sorts of rows
-  either : (w k : SyntaxKind) (r z : Row) {f : Forest} → GrammarRow parent (or_else (only (same_kind w k) r) z) f → ((w ≡ k) × GrammarRow parent r f) ⊎ GrammarRow parent z f
+  either : (w k : SyntaxKind) (r z : Row) {f : Forest} → GrammarRow parent (or_else (only (same_kind w k) r) z) f
+      → ((w ≡ k) × GrammarRow parent r f) ⊎ GrammarRow parent z f
   either w k r z {f} h = by (same_kind w k) r refl h
     where
       by : (b : Bool) (r : Row) → same_kind w k ≡ b → GrammarRow parent (or_else (only b r) z) f → ((w ≡ k) × GrammarRow parent r f) ⊎ GrammarRow parent z f
@@ -249,7 +256,8 @@ module _ (parent : SyntaxKind) where
       by true r e h = inl ((same_kind-decides w k).0 e, h)
       by false r e h = inr h
 
-  chosen : (w k : SyntaxKind) (r z : Row) {f : Forest} → GrammarRow parent (if same_kind w k then r else z) f → ((w ≡ k) × GrammarRow parent r f) ⊎ GrammarRow parent z f
+  chosen : (w k : SyntaxKind) (r z : Row) {f : Forest} → GrammarRow parent (if same_kind w k then r else z) f
+      → ((w ≡ k) × GrammarRow parent r f) ⊎ GrammarRow parent z f
   chosen w k r z {f} h = by (same_kind w k) refl h
     where
       by : (b : Bool) → same_kind w k ≡ b → GrammarRow parent (if b then r else z) f → ((w ≡ k) × GrammarRow parent r f) ⊎ GrammarRow parent z f
@@ -258,7 +266,8 @@ module _ (parent : SyntaxKind) where
 
   -- children that pass a test stand in a row, and it behind them
   several : (b : SyntaxKind → Bool) (w : SyntaxKind) (q r : Row) → is_optional q ≡ false → may_end q ≡ false
-      → ((k : SyntaxKind) (f : Forest) → GrammarRow parent (after q k) f → ((w ≡ k) × GrammarRow parent r f) ⊎ ((b k ≡ true) × GrammarRow parent q f)) → {V : Forest → Type 0}
+      → ((k : SyntaxKind) (f : Forest) → GrammarRow parent (after q k) f → ((w ≡ k) × GrammarRow parent r f) ⊎ ((b k ≡ true) × GrammarRow parent q f))
+      → {V : Forest → Type 0}
       → ((f : Forest) → GrammarRow parent r f → V f) → (f : Forest) → GrammarRow parent q f → Several b (Asks parent q) (One (is_token w) w q V) f
   several b w q r o e step v empty (ended h) = absurd (true_is_not_false (sym h ∙ e))
   several b w q r o e step v (leaf k t f) (leaf_node_made i h) =

@@ -25,7 +25,8 @@ ends_from n [] h j d l = absurd (omega (arith, l))
 ends_from n (e ∷ es) h zero d l = omega (arith, h.0, h.1)
 ends_from n (e ∷ es) h (suc j) d l = let s = ends_from e.end es h.2 j d (omega (arith, l)) in omega (arith, h.0, h.1, s)
 
-ends_rise : (n : ℕ) (es : List Edit) → AreAscending n (map change_of es) → (i j : ℕ) (d : Edit) → i ≤ j → j < length es → (get_or es i d).end ≤ (get_or es j d).end
+ends_rise : (n : ℕ) (es : List Edit) → AreAscending n (map change_of es) → (i j : ℕ) (d : Edit) → i ≤ j → j < length es
+    → (get_or es i d).end ≤ (get_or es j d).end
 ends_rise n [] h i j d le l = absurd (omega (arith, l))
 ends_rise n (e ∷ es) h zero zero d le l = omega arith
 ends_rise n (e ∷ es) h zero (suc j) d le l = ends_from e.end es h.2 j d (omega (arith, l))
@@ -51,7 +52,8 @@ parted start es h i j d le l up =
     does_end_by start (get_or es i d) (omega (arith, ends_rise 0 es h i j d le l, ends_by_true start (get_or es j d) up))
 
 -- an edit that overlaps the range is met
-met : (start end : ℕ) (es : List Edit) (at : ℕ) (d : Edit) → at < length es → Overlaps start end (change_of (get_or es at d)) → IsMet start end (map change_of es)
+met : (start end : ℕ) (es : List Edit) (at : ℕ) (d : Edit) → at < length es → Overlaps start end (change_of (get_or es at d))
+    → IsMet start end (map change_of es)
 met start end [] at d l o = absurd (omega (arith, l))
 met start end (e ∷ es) zero d l o = record { front = []; change = change_of e; back = map change_of es; is = refl; overlaps = o }
 met start end (e ∷ es) (suc at) d l o =
@@ -63,11 +65,13 @@ behind_first : (n : ℕ) (c : Change) (cs : List Change) → AreAscending n cs �
 behind_first n c [] h o first = none _
 behind_first n c (x ∷ xs) h o first =
     let f = first x xs refl in
-    cons_all (λ x. (c.start < x.end) × (c.end ≤ x.start)) x xs f (λ k d l. let s = starts x.end xs h.2 k d l in (omega (arith, f.0, s.0, s.1), omega (arith, f.1, h.1, s.0)))
+    cons_all (λ x. (c.start < x.end) × (c.end ≤ x.start)) x xs f (λ k d l. let s =
+    starts x.end xs h.2 k d l in (omega (arith, f.0, s.0, s.1), omega (arith, f.1, h.1, s.0)))
 
 -- an edit is added behind those that end where it begins or before
 added_at : (n : ℕ) (es : List Edit) (at : ℕ) (e : Edit) → AreAscending n (map change_of es) → at ≤ length es → e.start ≤ e.end
-    → ((k : ℕ) (d : Edit) → k < at → (get_or es k d).end ≤ e.start) → ((d : Edit) → at < length es → (e.start < (get_or es at d).end) × (e.end ≤ (get_or es at d).start))
+    → ((k : ℕ) (d : Edit) → k < at → (get_or es k d).end ≤ e.start)
+    → ((d : Edit) → at < length es → (e.start < (get_or es at d).end) × (e.end ≤ (get_or es at d).start))
     → IsAdded (change_of e) (map change_of es) (map change_of (insert es at e))
 added_at n es zero e h l o before behind = record {
   front = [];
@@ -101,9 +105,11 @@ added_at n (x ∷ es) (suc at) e h l o before behind =
       behind = r.behind;
     }
 
-module _ (start end : ℕ) (es : List Edit) (r : ℕ) (bound : r ≤ length es) (point : IsPartitionPoint (λ y. ends_by start y ≡ true) (λ y. ends_by start y ≡ false) es r) where
+module _ (start end : ℕ) (es : List Edit) (r : ℕ) (bound : r ≤ length es)
+    (point : IsPartitionPoint (λ y. ends_by start y ≡ true) (λ y. ends_by start y ≡ false) es r) where
   -- an edit of the range may stand where they are parted
-  pub placed : AreAscending 0 (map change_of es) → start ≤ end → ((d : Edit) → r < length es → end ≤ (get_or es r d).start) → (e : Edit) → e.start ≡ start → e.end ≡ end
+  pub placed : AreAscending 0 (map change_of es) → start ≤ end → ((d : Edit) → r < length es → end ≤ (get_or es r d).start) → (e : Edit) → e.start ≡ start
+      → e.end ≡ end
       → IsAdded (change_of e) (map change_of es) (map change_of (insert es r e))
   placed h o free e s t =
       added_at 0 es r e h bound (omega (arith, o, s, t))
@@ -115,14 +121,16 @@ module _ (start end : ℕ) (es : List Edit) (r : ℕ) (bound : r ≤ length es) 
   met_there x l b = met start end es r x l (ends_by_false start (get_or es r x) (point.1 r x (omega arith) l), b)
 
 kept : (text : List ℕ) (n : ℕ) (c : Change) (front back : List Change) → AreInOrder text n (front ++ back) → n ≤ c.start → c.start ≤ c.end → c.end ≤ length text
-    → IsBetween text c.start c.end → All (λ x. x.end ≤ c.start) front → All (λ x. (c.start < x.end) × (c.end ≤ x.start)) back → AreInOrder text n (front ++ c ∷ back)
+    → IsBetween text c.start c.end → All (λ x. x.end ≤ c.start) front → All (λ x. (c.start < x.end) × (c.end ≤ x.start)) back
+    → AreInOrder text n (front ++ c ∷ back)
 kept text n c [] [] h low o high b before behind = (low, o, b, high)
 kept text n c [] (x ∷ xs) h low o high b before behind = (low, o, b, ((behind 0 x (omega arith)).1, h.1, h.2, h.3))
 kept text n c (f ∷ fs) back h low o high b before behind =
     (h.0, h.1, h.2, kept text f.end c fs back h.3 (before 0 f (omega arith)) o high b (λ k d l. before (suc k) d (omega (arith, l))) behind)
 
 -- and then they are in order
-pub added_in_order : (text : List ℕ) (c : Change) (old new : List Change) → AreInOrder text 0 old → c.start ≤ c.end → c.end ≤ length text → IsBetween text c.start c.end
+pub added_in_order : (text : List ℕ) (c : Change) (old new : List Change) → AreInOrder text 0 old → c.start ≤ c.end → c.end ≤ length text
+    → IsBetween text c.start c.end
     → IsAdded c old new → AreInOrder text 0 new
 added_in_order text c old new h o high b a =
     subst (AreInOrder text 0) (sym a.new_is) (kept text 0 c a.front a.back (subst (AreInOrder text 0) a.old_is h) (omega arith) o high b a.before a.behind)

@@ -12,15 +12,18 @@ found test [] m (suc (suc r)) d h bound point = absurd (omega (arith, bound))
 found test (x ∷ xs) m (suc zero) d h bound point = (omega arith, sym (ap (λ w. if w then last_of test x xs else m) (point.1 1 d (omega arith) (omega arith))))
 found test (x ∷ xs) m (suc (suc r)) d h bound point =
     let passes : test x ≡ true = point.0 1 d (omega arith) (omega arith) in
-    let more = found test xs x (suc r) d passes (omega (arith, bound)) (λ k e a b. point.0 (suc k) e (omega arith) (omega (arith, b)), λ k e a b. point.1 (suc k) e (omega (arith, a)) (omega (arith, b))) in
+    let more = found test xs x (suc r) d passes (omega (arith, bound))
+    (λ k e a b. point.0 (suc k) e (omega arith) (omega (arith, b)), λ k e a b. point.1 (suc k) e (omega (arith, a)) (omega (arith, b))) in
     let next : suc (suc r) - 1 ≡ suc (suc r - 1) = omega arith in
     (omega arith, ap (λ k. get_or (m ∷ x ∷ xs) k d) next ∙ more.1 ∙ sym (ap (λ w. if w then last_of test x xs else m) passes))
 
 -- of two first marks, both or none give way to the marks behind them
-pub last_alike : (test : Mark → Bool) (m n : Mark) (xs : List Mark) → ((last_of test m xs ≡ m) × (last_of test n xs ≡ n)) ⊎ (last_of test m xs ≡ last_of test n xs)
+pub last_alike : (test : Mark → Bool) (m n : Mark) (xs : List Mark)
+    → ((last_of test m xs ≡ m) × (last_of test n xs ≡ n)) ⊎ (last_of test m xs ≡ last_of test n xs)
 last_alike test m n [] = inl (refl, refl)
 last_alike test m n (x ∷ xs) =
-    elim (test x) as (λ w. (((if w then last_of test x xs else m) ≡ m) × ((if w then last_of test x xs else n) ≡ n)) ⊎ ((if w then last_of test x xs else m) ≡ (if w then last_of test x xs else n))) [
+    elim (test x) as (λ w. (((if w then last_of test x xs else m) ≡ m) × ((if w then last_of test x xs else n) ≡ n)) ⊎
+    ((if w then last_of test x xs else m) ≡ (if w then last_of test x xs else n))) [
       | true ↦ inr refl
       | false ↦ inl (refl, refl)
     ]
@@ -49,7 +52,8 @@ module _ (unit : ColumnUnit) (test : Mark → Bool) (back : (m : Mark) (b : ℕ)
         | false ↦ ap (λ w. if w then last_of test next (marks_behind unit next bs) else m) fails
       ]
 
-  at_first : (bs : List ℕ) (m : Mark) (j : ℕ) (d : Mark) → j < length (m ∷ marks_behind unit m bs) → test (get_or (m ∷ marks_behind unit m bs) j d) ≡ true → test m ≡ true
+  at_first : (bs : List ℕ) (m : Mark) (j : ℕ) (d : Mark) → j < length (m ∷ marks_behind unit m bs) → test (get_or (m ∷ marks_behind unit m bs) j d) ≡ true
+      → test m ≡ true
   at_first bs m zero d l h = h
   at_first [] m (suc j) d l h = absurd (omega (arith, l))
   at_first (b ∷ bs) m (suc j) d l h = by (is_plain unit b) (at_first bs (mark_behind unit m b)) l h
@@ -91,5 +95,6 @@ module _ (unit : ColumnUnit) (test : Mark → Bool) (back : (m : Mark) (b : ℕ)
   last_in text items r e h bound point d =
       let rest = marks_behind unit first_mark text in
       let parting = point (subst (IsPartitionedBy test) (sym e) (parted text first_mark)) in
-      let told = found test rest first_mark r d h (subst (λ xs. r ≤ length xs) e bound) (subst (λ xs. IsPartitionPoint (λ y. test y ≡ true) (λ y. test y ≡ false) xs r) e parting) in
+      let told = found test rest first_mark r d h (subst (λ xs. r ≤ length xs) e bound)
+      (subst (λ xs. IsPartitionPoint (λ y. test y ≡ true) (λ y. test y ≡ false) xs r) e parting) in
       (told.0, ap (λ xs. get_or xs (r - 1) d) e ∙ told.1)

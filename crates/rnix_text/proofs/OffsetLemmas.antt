@@ -23,15 +23,19 @@ at_mark o p m e f = record {
 }
 
 -- so it is with the last mark that is up to the position of an offset between characters
-pub led : (unit : ColumnUnit) (o : ℕ) (p : Position) (bs : List ℕ) (m : Mark) (n : ℕ) → n ≤ length bs → (n < length bs → 128 ≤ get_or bs n 0 → 192 ≤ get_or bs n 0)
+pub led : (unit : ColumnUnit) (o : ℕ) (p : Position) (bs : List ℕ) (m : Mark) (n : ℕ) → n ≤ length bs
+    → (n < length bs → 128 ≤ get_or bs n 0 → 192 ≤ get_or bs n 0)
     → m.offset + n ≡ o → fold (step unit) m.position (take n bs) ≡ p → Leads o p (last_of (is_up_to p) m (marks_behind unit m bs))
 led unit o p [] m zero l first e f = at_mark o p m (omega (arith, e)) f
 led unit o p (b ∷ bs) m zero l first e f =
     let next = mark_behind unit m b in
-    let past : is_up_to p next ≡ true → ⊥ = λ t. first_passes unit m.position b (first (omega arith)) (subst (IsUpTo next.position) (sym f) (up_to_true p next t)) in
-    subst (Leads o p) (sym (last_here unit (is_up_to p) (up_to_back unit p) bs b m (false_from_ne_true (is_up_to p next) past))) (at_mark o p m (omega (arith, e)) f)
+    let past : is_up_to p next ≡ true → ⊥ =
+    λ t. first_passes unit m.position b (first (omega arith)) (subst (IsUpTo next.position) (sym f) (up_to_true p next t)) in
+    subst (Leads o p) (sym (last_here unit (is_up_to p) (up_to_back unit p) bs b m (false_from_ne_true (is_up_to p next) past)))
+    (at_mark o p m (omega (arith, e)) f)
 led unit o p [] m (suc n) l first e f = absurd (omega (arith, l))
-led unit o p (b ∷ bs) m (suc n) l first e f = by (is_plain unit b) refl (led unit o p bs (mark_behind unit m b) n (omega (arith, l)) (λ x. first (omega (arith, x))) (omega (arith, e)) f)
+led unit o p (b ∷ bs) m (suc n) l first e f =
+    by (is_plain unit b) refl (led unit o p bs (mark_behind unit m b) n (omega (arith, l)) (λ x. first (omega (arith, x))) (omega (arith, e)) f)
   where
     next : Mark
     next = mark_behind unit m b

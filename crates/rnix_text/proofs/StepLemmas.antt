@@ -35,7 +35,8 @@ weight_first Utf16 b h = grind (arith, nat_tests)
 pub plain_step : (unit : ColumnUnit) (p : Position) (b : ℕ) → is_plain unit b ≡ true → step unit p b ≡ record { line = p.line; column = p.column + 1 }
 plain_step unit p b h =
     let parts = and_parts (not (b == newline)) (weight unit b == 1) h in
-    ap (λ t. if t then (let q : Position = record { line = p.line + 1; column = 0 } in q) else record { line = p.line; column = p.column + weight unit b }) (not-true (b == newline) parts.0)
+    ap (λ t. if t then (let q : Position = record { line = p.line + 1; column = 0 } in q) else record { line = p.line; column = p.column + weight unit b })
+    (not-true (b == newline) parts.0)
     ∙ ap (λ w. let q : Position = record { line = p.line; column = p.column + w } in q) (eqb-true (weight unit b) 1 parts.1)
 
 -- a byte leads on
@@ -74,6 +75,9 @@ column_bound unit [] p = omega arith
 column_bound unit (b ∷ bs) p = by (b == newline) (column_bound unit bs)
   where
     by : (w : Bool) → ((q : Position) → (fold (step unit) q bs).column ≤ q.column + 2 * length bs)
-        → (let q : Position = if w then record { line = p.line + 1; column = 0 } else record { line = p.line; column = p.column + weight unit b } in (fold (step unit) q bs).column ≤ p.column + 2 * suc (length bs))
+        → (let q : Position = if w then record { line = p.line + 1; column = 0 } else record {
+          line = p.line;
+          column = p.column + weight unit b;
+        } in (fold (step unit) q bs).column ≤ p.column + 2 * suc (length bs))
     by true rest = let h = rest record { line = p.line + 1; column = 0 } in omega (arith, h)
     by false rest = let h = rest record { line = p.line; column = p.column + weight unit b } in omega (arith, h, weight_small unit b)

@@ -35,5 +35,6 @@ marks_of_lines : marks_of Bytes (codes "a\nbc") ≡ first_mark ∷ record { offs
 marks_of_lines = refl
 
 -- a letter is replaced, and another is put behind it
-two_changes : changed_from 0 (record { start = 1; end = 2; new = codes "xy" } ∷ record { start = 2; end = 2; new = codes "z" } ∷ []) (codes "abc") ≡ codes "axyzc"
+two_changes : changed_from 0 (record { start = 1; end = 2; new = codes "xy" } ∷ record { start = 2; end = 2; new = codes "z" } ∷ [])
+    (codes "abc") ≡ codes "axyzc"
 two_changes = refl

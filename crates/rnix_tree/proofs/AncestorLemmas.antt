@@ -64,7 +64,8 @@ same_holders t n p (suc k) l e h =
         ]
 
 -- the element comes first, and then what is around its parent
-pub ancestors_step : (t : Tree) (n : ℕ) → n < length (items_of t) → ancestors_of record { tree = t; number = n } ≡ record { tree = t; number = n } ∷ ancestors_if t (item t n).parent
+pub ancestors_step : (t : Tree) (n : ℕ) → n < length (items_of t) → ancestors_of record { tree = t; number = n } ≡ record { tree = t; number = n }
+    ∷ ancestors_if t (item t n).parent
 ancestors_step t n l =
     let one : n + 1 ≡ suc n = omega arith in
     ap (holders t n) one ∙ holds t n n (omega arith) ∙ ap (λ xs. record { tree = t; number = n } ∷ xs) (around (item t n).parent refl)

@@ -1,4 +1,5 @@
--- Behind what a call along siblings or tokens answers there are fewer elements than behind the element that it was asked of, or before it fewer than before that.
+-- Behind what a call along siblings or tokens answers there are fewer elements than behind the element that it was asked of, or before it fewer than
+-- before that.
 use Rattle.std.proofs.{Common.{◌≡◌, ℕ, ◌≤◌, ◌<◌, length, Option, Some, None, refl, ap, arith, inl, inr}, lemmas.{Bool.cases_lt, List.get_or_past}}
 use Rattle.rnix_green.specs.{Tree.{Located, items_of, item_of, no_item}, Relatives.{located, parent_of, IsFirst, IsLast, IsThat, IsTokenIn, IsChild}}
 use Rattle.rnix_green.specs.Relatives.{IsChildNode, IsSibling, IsSiblingNode, IsNextSibling, IsPrevSibling, IsNextSiblingNode, IsPrevSiblingNode, IsNextToken}

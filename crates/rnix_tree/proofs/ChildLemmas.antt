@@ -46,7 +46,8 @@ pub record IsHeldBy (e : Located) (s : Spot) : Type 0 where
   pub sort : (item_of s.1).is_node ≡ s.0
 
 -- each child is inside
-pub children_within : (t : Tree) (n : ℕ) → n < length (items_of t) → Each (IsHeldBy record { tree = t; number = n }) (children_of record { tree = t; number = n })
+pub children_within : (t : Tree) (n : ℕ) → n < length (items_of t)
+    → Each (IsHeldBy record { tree = t; number = n }) (children_of record { tree = t; number = n })
 children_within t n l = go _ (part_there t n l) (one_there t n l)
   where
     go : (part : Forest) → IsPart 0 n part (items_of t) → IsOne part

@@ -22,19 +22,22 @@ row_counts t n s p (node k c f) h =
           (λ m i e l. h m (suc (element_count c + i)) (omega arith) (omega arith) ∙ after i l),
     )
   where
-    after : (i : ℕ) → i < element_count f → (at n s p (node k c f) (suc (element_count c + i))).below ≡ (at (n + 1 + element_count c) (s + length (text_of c)) p f i).below
-    after i l = elim (behind n s p k c f (element_count c + i)) as (λ b. (at n s p (node k c f) (suc (element_count c + i))).below ≡ (at (n + 1 + element_count c) (s + length (text_of c)) p f i).below) [
-      | inside low x ↦ absurd (omega arith)
-      | beyond high x ↦
-          let same : element_count c + i - element_count c ≡ i = omega arith in
-          ap (λ (y : Item). y.below) x ∙ ap (λ j. (at (n + 1 + element_count c) (s + length (text_of c)) p f j).below) same
-    ]
+    after : (i : ℕ) → i < element_count f → (at n s p (node k c f) (suc (element_count c + i))).below ≡ (at (n + 1 + element_count c)
+        (s + length (text_of c)) p f i).below
+    after i l = elim (behind n s p k c f (element_count c + i)) as (λ b. (at n s p (node k c f) (suc (element_count c + i))).below ≡ (at
+        (n + 1 + element_count c) (s + length (text_of c)) p f i).below) [
+          | inside low x ↦ absurd (omega arith)
+          | beyond high x ↦
+              let same : element_count c + i - element_count c ≡ i = omega arith in
+              ap (λ (y : Item). y.below) x ∙ ap (λ j. (at (n + 1 + element_count c) (s + length (text_of c)) p f j).below) same
+        ]
 
 -- the children of an element of a tree, and what is inside them
 counts_there : (t : Tree) (n : ℕ) → n < length (items_of t) → spots_count (children_of record { tree = t; number = n }) ≡ (item t n).below
 counts_there t n l = go _ (part_there t n l) (one_there t n l)
   where
-    go : (part : Forest) → IsPart 0 n part (items_of t) → IsOne part → spots_count (map (spot_at t) (tree_numbers (n + 1) (children_in part))) ≡ (item t n).below
+    go : (part : Forest) → IsPart 0 n part (items_of t) → IsOne part
+        → spots_count (map (spot_at t) (tree_numbers (n + 1) (children_in part))) ≡ (item t n).below
     go _ h (one_leaf k u) =
         let none : suc 0 ≡ suc (item t n).below = below_of_part t n (leaf k u empty) h (one_leaf k u) in
         omega arith
@@ -43,11 +46,14 @@ counts_there t n l = go _ (part_there t n l) (one_there t n l)
         let row = row_counts t (n + 1) h.start (Some n) c (λ m i e l. within k c h m i e l) in
         omega (arith, row)
       where
-        within : (k : _) (c : Forest) (h : IsPart 0 n (node k c empty) (items_of t)) (m i : ℕ) → m ≡ n + 1 + i → i < element_count c → (item t m).below ≡ (at (n + 1) h.start (Some n) c i).below
+        within : (k : _) (c : Forest) (h : IsPart 0 n (node k c empty) (items_of t)) (m i : ℕ) → m ≡ n + 1 + i → i < element_count c
+            → (item t m).below ≡ (at (n + 1) h.start (Some n) c i).below
         within k c h m i e l =
             let step : m - n ≡ suc i = omega arith in
-            ap (λ (x : Item). x.below) (item_of_part t n m (node k c empty) h (omega arith) (omega arith) ∙ ap (λ j. at n h.start h.parent (node k c empty) j) step)
-            ∙ elim (behind n h.start h.parent k c empty i) as (λ b. (at n h.start h.parent (node k c empty) (suc i)).below ≡ (at (n + 1) h.start (Some n) c i).below) [
+            ap (λ (x : Item). x.below) (item_of_part t n m (node k c empty) h (omega arith) (omega arith)
+            ∙ ap (λ j. at n h.start h.parent (node k c empty) j) step)
+            ∙ elim (behind n h.start h.parent k c empty i) as (λ b. (at n h.start h.parent (node k c empty) (suc i)).below ≡ (at (n + 1) h.start
+            (Some n) c i).below) [
               | inside less x ↦ ap (λ (y : Item). y.below) x
               | beyond more x ↦ absurd (omega arith)
             ]

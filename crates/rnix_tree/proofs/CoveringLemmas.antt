@@ -33,7 +33,8 @@ reached_child range e c s r h =
     }
 
 -- fewer elements are inside the child
-pub child_smaller : (range : Extent) (e c : Located) (s : Spot) → IsReached range e c → child_at_range range c ≡ Some s → (item_of s.1).below < (item_of c).below
+pub child_smaller : (range : Extent) (e c : Located) (s : Spot) → IsReached range e c → child_at_range range c ≡ Some s
+    → (item_of s.1).below < (item_of c).below
 child_smaller range e c s r h = (let held = child_held range c s r.there h in omega (arith, held.0.low, held.0.high))
 
 -- it ends where no child has the range

@@ -26,7 +26,8 @@ cut_there text cut utf8 long low nearest e = elim (cases_lt 21 cut) [
 pub start_shown : (P : Option (List ℕ) → Type 0) (text : List ℕ) (cut : ℕ) → IsUtf8 text → 25 ≤ length text → 21 ≤ cut
     → ((i : ℕ) → 21 ≤ i → i < cut → ¬ IsCharBoundary text i) → P None → P (debug_str (take cut text ++ codes " ...")) → P (debug_str (shown text))
 start_shown P text cut utf8 long low nearest none h =
-    subst (λ b. P (debug_str (if b then text else take 21 text ++ codes " ..."))) (sym (is_not_below (length text) 25 long)) (by (list_all is_ascii (take 21 text ++ codes " ...")) refl)
+    subst (λ b. P (debug_str (if b then text else take 21 text ++ codes " ..."))) (sym (is_not_below (length text) 25 long))
+    (by (list_all is_ascii (take 21 text ++ codes " ...")) refl)
   where
     by : (b : Bool) → list_all is_ascii (take 21 text ++ codes " ...") ≡ b → P (debug_str (take 21 text ++ codes " ..."))
     by true e = subst (λ n. P (debug_str (take n text ++ codes " ..."))) (cut_there text cut utf8 long low nearest e) h

@@ -21,7 +21,8 @@ around t n i depth inside more lines e h =
 
 -- the lines of a row that begins with a node, in front of others
 node_lines : (depth s : ℕ) (k : SyntaxKind) (c f : Forest) (more : List ℕ) → lines_from depth s (node k c f) ++ more
-    ≡ line_of depth k record { start = s; end = s + length (text_of c) } ++ (lines_from (depth + 1) s c ++ (lines_from depth (s + length (text_of c)) f ++ more))
+    ≡ line_of depth k record { start = s; end = s + length (text_of c) }
+    ++ (lines_from (depth + 1) s c ++ (lines_from depth (s + length (text_of c)) f ++ more))
 node_lines depth s k c f more =
     let line = line_of depth k record { start = s; end = s + length (text_of c) } in
     let inner = lines_from (depth + 1) s c in
@@ -49,8 +50,10 @@ walk_lines t n s p (node k c f) depth more h =
     let behind = map (event_at t) (steps_from (n + 1 + element_count c) f) ++ more in
     let steps = map (event_at t) (steps_from (n + 1) c) in
     let below : Stands t (n + 1) (xs ++ ys) = back_stands t n (n + 1) (i ∷ []) (xs ++ ys) refl h in
-    ap (λ x. event_lines depth (event_at t (true, n) ∷ (x ++ more))) (map-append (event_at t) (steps_from (n + 1) c) ((false, n) ∷ steps_from (n + 1 + element_count c) f))
-    ∙ ap (λ x. event_lines depth (event_at t (true, n) ∷ x)) (append_assoc steps (event_at t (false, n) ∷ map (event_at t) (steps_from (n + 1 + element_count c) f)) more)
+    ap (λ x. event_lines depth (event_at t (true, n) ∷ (x ++ more)))
+    (map-append (event_at t) (steps_from (n + 1) c) ((false, n) ∷ steps_from (n + 1 + element_count c) f))
+    ∙ ap (λ x. event_lines depth (event_at t (true, n) ∷ x)) (append_assoc steps
+    (event_at t (false, n) ∷ map (event_at t) (steps_from (n + 1 + element_count c) f)) more)
     ∙ around t n i depth steps behind inner (first_item t n i (xs ++ ys) h)
     (walk_lines t (n + 1) s (Some n) c (depth + 1) (event_at t (false, n) ∷ behind) (front_stands t (n + 1) xs ys below))
     ∙ ap (λ x. line ++ (inner ++ x))
@@ -93,7 +96,8 @@ walk_prints e = elim (cases_lt e.number (length (items_of e.tree))) [ inl there 
         let h = part_there e.tree e.number there in
         let events = map (event_at e.tree) (steps_from e.number (part_at e)) in
         ap (λ x. event_lines 0 x) (sym (append-nil events))
-        ∙ walk_lines e.tree e.number h.start h.parent (part_at e) 0 [] (record { before = h.before; after = h.after; split = h.split; counted = omega (arith, h.counted) })
+        ∙ walk_lines e.tree e.number h.start h.parent (part_at e) 0 []
+        (record { before = h.before; after = h.after; split = h.split; counted = omega (arith, h.counted) })
         ∙ append-nil (lines_from 0 h.start (part_at e))
         ∙ ap (λ x. lines_from 0 x (part_at e)) (start_is e there)
 
@@ -134,7 +138,8 @@ walk_nested t n (node k c f) depth more h =
     let back : depth ≡ depth + 1 - 1 = omega arith in
     let inner = map (event_at t) (steps_from (n + 1) c) in
     let outer = map (event_at t) (steps_from (n + 1 + element_count c) f) in
-    let split : map (event_at t) (steps_from (n + 1) c ++ (false, n) ∷ steps_from (n + 1 + element_count c) f) ++ more ≡ inner ++ (event_at t (false, n) ∷ (outer ++ more)) =
+    let split : map (event_at t) (steps_from (n + 1) c ++ (false, n) ∷ steps_from (n + 1 + element_count c) f) ++ more ≡ inner
+    ++ (event_at t (false, n) ∷ (outer ++ more)) =
     ap (λ x. x ++ more) (map-append (event_at t) (steps_from (n + 1) c) ((false, n) ∷ steps_from (n + 1 + element_count c) f))
     ∙ append_assoc inner (event_at t (false, n) ∷ outer) more in (
       λ e. absurd (true≢false e),
@@ -180,5 +185,6 @@ deeper depth left rest event e h steps is =
     (omega arith, nested.1)
 
 -- no event is left: the lines so far are those of the element
-pub finished : (e : Located) (bs : List ℕ) (depth : ℕ) (left : List Event) → bs ++ event_lines depth left ≡ event_lines 0 (preorder_of e) → left ≡ [] → bs ≡ lines_of e
+pub finished : (e : Located) (bs : List ℕ) (depth : ℕ) (left : List Event) → bs ++ event_lines depth left ≡ event_lines 0 (preorder_of e) → left ≡ []
+    → bs ≡ lines_of e
 finished e bs depth left h none = sym (append-nil bs) ∙ sym (ap (λ x. bs ++ event_lines depth x) none) ∙ h ∙ walk_prints e

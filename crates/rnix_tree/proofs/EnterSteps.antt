@@ -17,10 +17,12 @@ enter_step n s p (leaf k t f) m l h =
           enter_next m n k t f low ∙ enter_step (n + 1) (s + length t) p f m (omega arith) (omega arith)
           ∙ ap (λ j. (true, m) ∷ (if nat_lt 0 j then from_enter (m + 1) (n + 1) f else from_leave m (n + 1) f)) (sym b)
           ∙ ap (λ x. (true, m) ∷ x)
-          (same_choice (nat_lt 0 (at n s p (leaf k t f) m).below) _ _ _ _ (λ _. sym (enter_next (m + 1) n k t f (omega arith))) (λ _. sym (leave_next m n k t f low)))
+          (same_choice (nat_lt 0 (at n s p (leaf k t f) m).below) _ _ _ _ (λ _. sym (enter_next (m + 1) n k t f (omega arith)))
+          (λ _. sym (leave_next m n k t f low)))
       | inr high ↦
           let e : m ≡ n = omega arith in
-          let b : (at n s p (leaf k t f) m).below ≡ 0 = ap (λ j. (at n s p (leaf k t f) j).below) e ∙ ap (λ i. i.below) (at_first n s p (leaf k t f) _ _ refl) in
+          let b : (at n s p (leaf k t f) m).below ≡ 0 =
+          ap (λ j. (at n s p (leaf k t f) j).below) e ∙ ap (λ i. i.below) (at_first n s p (leaf k t f) _ _ refl) in
           enter_here m n (leaf k t f) e (omega arith)
           ∙ ap (λ j. (true, j) ∷ ((false, n) ∷ steps_from (n + 1) f)) (sym e)
           ∙ ap (λ x. (true, m) ∷ x) (sym (leave_leaf m n k t f e))
@@ -49,13 +51,16 @@ enter_step n s p (node k c f) m l h =
                 let i : at n s p (node k c f) m ≡ at (n + 1 + element_count c) (s + length (text_of c)) p f m = at_behind n s p k c f m outside in
                 enter_behind m n k c f outside
                 ∙ enter_step (n + 1 + element_count c) (s + length (text_of c)) p f m outside (omega arith)
-                ∙ ap (λ j. (true, m) ∷ (if nat_lt 0 j.below then from_enter (m + 1) (n + 1 + element_count c) f else from_leave m (n + 1 + element_count c) f)) (sym i)
+                ∙ ap (λ j. (true, m) ∷ (if nat_lt 0 j.below then from_enter (m + 1) (n + 1 + element_count c) f else from_leave m (n + 1 + element_count c) f))
+                (sym i)
                 ∙ ap (λ x. (true, m) ∷ x)
-                (same_choice (nat_lt 0 (at n s p (node k c f) m).below) _ _ _ _ (λ _. sym (enter_behind (m + 1) n k c f (omega arith))) (λ _. sym (leave_behind m n k c f outside)))
+                (same_choice (nat_lt 0 (at n s p (node k c f) m).below) _ _ _ _ (λ _. sym (enter_behind (m + 1) n k c f (omega arith)))
+                (λ _. sym (leave_behind m n k c f outside)))
           ]
       | inr high ↦
           let e : m ≡ n = omega arith in
-          let b : (at n s p (node k c f) m).below ≡ element_count c = ap (λ j. (at n s p (node k c f) j).below) e ∙ ap (λ i. i.below) (at_first n s p (node k c f) _ _ refl) in
+          let b : (at n s p (node k c f) m).below ≡ element_count c =
+          ap (λ j. (at n s p (node k c f) j).below) e ∙ ap (λ i. i.below) (at_first n s p (node k c f) _ _ refl) in
           enter_here m n (node k c f) e (omega arith)
           ∙ ap (λ j. (true, j) ∷ (steps_from (n + 1) c ++ tail)) (sym e)
           ∙ ap (λ x. (true, m) ∷ x)

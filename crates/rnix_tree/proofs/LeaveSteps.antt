@@ -40,7 +40,8 @@ later_top n s n' s' p g f m a l h =
           a.leaves m l ∙ h.step
           ∙ ap (λ x. (false, m) ∷ (if nat_lt (m + 1 + x.below) (n' + element_count f) then from_enter (m + 1 + x.below) n' f else [])) (sym i)
           ∙ ap (λ x. (false, m) ∷ (if nat_lt (m + 1 + (at n s p g m).below) x then from_enter (m + 1 + (at n s p g m).below) n' f else [])) a.ends
-          ∙ ap (λ x. (false, m) ∷ (if nat_lt (m + 1 + (at n s p g m).below) (n + element_count g) then x else [])) (sym (a.enters (m + 1 + (at n s p g m).below) (omega arith)));
+          ∙ ap (λ x. (false, m) ∷ (if nat_lt (m + 1 + (at n s p g m).below) (n + element_count g) then x else []))
+          (sym (a.enters (m + 1 + (at n s p g m).below) (omega arith)));
     }
 
 later_inside : (n s n' s' : ℕ) (p : Option ℕ) (g f : Forest) (m : ℕ) → IsLater n s n' s' p g f → n' ≤ m → LeavesInside n' s' p f m → LeavesInside n s p g m
@@ -56,10 +57,14 @@ later_inside n s n' s' p g f m a l h =
       high = h.high;
       step =
           a.leaves m l ∙ h.step
-          ∙ ap (λ x. (false, m) ∷ (if nat_lt (m + 1 + x.below) (h.outer + 1 + (at n' s' p f h.outer).below) then from_enter (m + 1 + x.below) n' f else from_leave h.outer n' f)) (sym i)
-          ∙ ap (λ x. (false, m) ∷ (if nat_lt (m + 1 + (at n s p g m).below) (h.outer + 1 + x.below) then from_enter (m + 1 + (at n s p g m).below) n' f else from_leave h.outer n' f)) (sym o)
-          ∙ ap (λ x. (false, m) ∷ (if nat_lt (m + 1 + (at n s p g m).below) (h.outer + 1 + (at n s p g h.outer).below) then x else from_leave h.outer n' f)) (sym (a.enters (m + 1 + (at n s p g m).below) (omega arith)))
-          ∙ ap (λ x. (false, m) ∷ (if nat_lt (m + 1 + (at n s p g m).below) (h.outer + 1 + (at n s p g h.outer).below) then from_enter (m + 1 + (at n s p g m).below) n g else x)) (sym (a.leaves h.outer h.low));
+          ∙ ap (λ x. (false, m) ∷ (if nat_lt (m + 1 + x.below) (h.outer + 1 + (at n' s' p f h.outer).below) then from_enter
+          (m + 1 + x.below) n' f else from_leave h.outer n' f)) (sym i)
+          ∙ ap (λ x. (false, m) ∷ (if nat_lt (m + 1 + (at n s p g m).below) (h.outer + 1 + x.below) then from_enter
+          (m + 1 + (at n s p g m).below) n' f else from_leave h.outer n' f)) (sym o)
+          ∙ ap (λ x. (false, m) ∷ (if nat_lt (m + 1 + (at n s p g m).below) (h.outer + 1 + (at n s p g h.outer).below) then x else from_leave h.outer n' f))
+          (sym (a.enters (m + 1 + (at n s p g m).below) (omega arith)))
+          ∙ ap (λ x. (false, m) ∷ (if nat_lt (m + 1 + (at n s p g m).below) (h.outer + 1 + (at n s p g h.outer).below) then from_enter
+          (m + 1 + (at n s p g m).below) n g else x)) (sym (a.leaves h.outer h.low));
     }
 
 -- an element right below a node
@@ -96,7 +101,8 @@ inside_inside n s p k c f m l u h =
     let high : h.outer < m = h.high in
     let o = at_inside n s p k c f h.outer (omega arith) (omega arith) in
     let next = m + 1 + (at n s p (node k c f) m).below in
-    let fits : h.outer - (n + 1) + 1 + (at (n + 1) s (Some n) c h.outer).below ≤ element_count c = below_fits (n + 1) s (Some n) c (h.outer - (n + 1)) (omega arith) in
+    let fits : h.outer - (n + 1) + 1 + (at (n + 1) s (Some n) c h.outer).below ≤ element_count c =
+    below_fits (n + 1) s (Some n) c (h.outer - (n + 1)) (omega arith) in
     record {
       outer = h.outer;
       parent = ap (λ x. x.parent) i ∙ h.parent;
@@ -104,9 +110,11 @@ inside_inside n s p k c f m l u h =
       high = h.high;
       step =
           leave_inside m n k c f l u ∙ ap (λ x. x ++ tail) h.step
-          ∙ ap (λ x. (false, m) ∷ ((if nat_lt (m + 1 + x.below) (h.outer + 1 + (at (n + 1) s (Some n) c h.outer).below) then from_enter (m + 1 + x.below) (n + 1) c else from_leave h.outer (n + 1) c) ++ tail)) (sym i)
+          ∙ ap (λ x. (false, m) ∷ ((if nat_lt (m + 1 + x.below) (h.outer + 1 + (at (n + 1) s (Some n) c h.outer).below) then from_enter (m + 1 + x.below)
+          (n + 1) c else from_leave h.outer (n + 1) c) ++ tail)) (sym i)
           ∙ ap (λ x. (false, m) ∷ ((if nat_lt next (h.outer + 1 + x.below) then from_enter next (n + 1) c else from_leave h.outer (n + 1) c) ++ tail)) (sym o)
-          ∙ ap (λ x. (false, m) ∷ x) (append_choice (nat_lt next (h.outer + 1 + (at n s p (node k c f) h.outer).below)) (from_enter next (n + 1) c) (from_leave h.outer (n + 1) c) tail)
+          ∙ ap (λ x. (false, m) ∷ x) (append_choice (nat_lt next (h.outer + 1 + (at n s p (node k c f) h.outer).below)) (from_enter next (n + 1) c)
+          (from_leave h.outer (n + 1) c) tail)
           ∙ ap (λ x. (false, m) ∷ x)
           (same_choice (nat_lt next (h.outer + 1 + (at n s p (node k c f) h.outer).below)) _ _ _ _
           (λ g. let before : next < h.outer + 1 + (at n s p (node k c f) h.outer).below = below_true next _ g in
@@ -186,6 +194,7 @@ leave_step n s p (node k c f) m l h =
                 leave_node n n k c f refl
                 ∙ ap (λ x. (false, n) ∷ x)
                 (first_left n (n + 1 + element_count c) s p (node k c f) f (element_count c) (ap (λ i. i.below) first) refl (omega arith)
-                (λ some. enter_behind (n + 1 + element_count c) n k c f (omega arith) ∙ enter_here (n + 1 + element_count c) (n + 1 + element_count c) f refl some));
+                (λ some. enter_behind (n + 1 + element_count c) n k c f (omega arith)
+                ∙ enter_here (n + 1 + element_count c) (n + 1 + element_count c) f refl some));
           }))
     ]

@@ -5,7 +5,8 @@ use Rattle.rnix_green.proofs.{SiblingLemmas.next_inside, InsideLemmas.{inner_of,
 use Rattle.{rnix_green.proofs.StartLemmas.has_left, rnix_tree.specs.Offset.{IsTouched, IsHolding}}
 
 -- an element before another in preorder
-order : (t : Tree) (i j : ℕ) → i < j → j < length (items_of t) → ((item t i).start ≤ (item t j).start) × (i + (item t i).below < j → (item t i).end ≤ (item t j).start)
+order : (t : Tree) (i j : ℕ) → i < j → j < length (items_of t) → ((item t i).start ≤ (item t j).start)
+    × (i + (item t i).below < j → (item t i).end ≤ (item t j).start)
 order t i j l h = (let o = in_order 0 0 None (forest_of t) i j l (omega (arith, elements_in_all t)) in (o.starts, o.ends))
 
 -- a token that ends behind the start of a later element is not before it
@@ -84,8 +85,11 @@ module _ (t : Tree) (n offset : ℕ) where
       let apart : ¬ (m ≡ n) = (λ e. let a = ap (λ k. (item t k).is_node) e in let x = sym h.token.is_token ∙ a ∙ node.is_node in cc) in
       let low : n < m = elim (cases_lt n m) [ inl less ↦ less | inr same ↦ absurd (apart (let l = h.low in omega arith)) ] in
       let same = inner.items m low h.high in
-      let b = in_text (n + 1) inner.start (Some n) inner.children (m - (n + 1)) (omega (arith, h.high, inner.count)) in
-      (omega (arith, b.low, inner.begins node.is_node, ap (λ (i : Item). i.start) same), omega (arith, b.high, inner.ends node.is_node, ap (λ (i : Item). i.end) same))
+      let b = in_text (n + 1) inner.start (Some n) inner.children (m - (n + 1)) (omega (arith, h.high, inner.count)) in (
+        omega (arith, b.low, inner.begins node.is_node, ap (λ (i : Item). i.start) same),
+        omega
+            (arith, b.high, inner.ends node.is_node, ap (λ (i : Item). i.end) same),
+      )
 
   -- where there is one, the node has a byte, and its closed range holds the offset
   pub touched_inside : (m : ℕ) → IsNodeIn t n → IsTouched record { tree = t; number = n } offset m
@@ -130,7 +134,8 @@ module _ (t : Tree) (n offset : ℕ) where
       elim (cases_lt a b) [
         | inl less ↦ less
         | inr not_less ↦ elim (cases_lt b a) [
-          | inl more ↦ absurd (let l = left.inside in let r = right.inside in let ends = token_last t b a more l.token.is_there r.token.is_token in omega (arith, ends, left.low, right.high))
+          | inl more ↦ absurd (let l = left.inside in let r = right.inside in let ends = token_last t b a more l.token.is_there r.token.is_token in omega
+              (arith, ends, left.low, right.high))
           | inr same ↦ absurd (differs (omega arith))
         ]
       ],

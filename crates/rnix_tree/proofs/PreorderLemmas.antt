@@ -39,7 +39,8 @@ enters t root m there inside =
           (λ g. let some : 0 < (item t m).below = below_true 0 _ g in record { low = omega arith; high = omega arith; there = omega arith });
     }
   where
-    choose : (b : Bool) → nat_lt 0 (item t m).below ≡ b → (nat_lt 0 (item t m).below ≡ true → IsInside t root (m + 1)) → IsNextWithin t root (if b then Enter (m + 1) else Leave m)
+    choose : (b : Bool) → nat_lt 0 (item t m).below ≡ b → (nat_lt 0 (item t m).below ≡ true → IsInside t root (m + 1))
+        → IsNextWithin t root (if b then Enter (m + 1) else Leave m)
     choose true e k = k e
     choose false e k = inside
 
@@ -51,12 +52,14 @@ leaves_root t root _ (one_node k c) = leave_node root root k c empty refl
 behind_root : (t : Tree) (root m : ℕ) (p : Option ℕ) → m ≡ root → behind t root m p ≡ Done
 behind_root t root m None e = refl
 behind_root t root m (Some p) e =
-    ap (λ b. if b then Done else (if nat_lt (m + 1 + (item t m).below) (p + 1 + (item t p).below) then Enter (m + 1 + (item t m).below) else Leave p)) (is_same m root e)
+    ap (λ b. if b then Done else (if nat_lt (m + 1 + (item t m).below) (p + 1 + (item t p).below) then Enter (m + 1 + (item t m).below) else Leave p))
+    (is_same m root e)
 
 behind_inner : (t : Tree) (root m p : ℕ) → root < m → behind t root m (Some p)
     ≡ (if nat_lt (m + 1 + (item t m).below) (p + 1 + (item t p).below) then Enter (m + 1 + (item t m).below) else Leave p)
 behind_inner t root m p l =
-    ap (λ b. if b then Done else (if nat_lt (m + 1 + (item t m).below) (p + 1 + (item t p).below) then Enter (m + 1 + (item t m).below) else Leave p)) (is_above m root l)
+    ap (λ b. if b then Done else (if nat_lt (m + 1 + (item t m).below) (p + 1 + (item t p).below) then Enter (m + 1 + (item t m).below) else Leave p))
+    (is_above m root l)
 
 -- an element below the root of a part has its parent in the part
 inner_step : (root s : ℕ) (p : Option ℕ) (part : Forest) (m : ℕ) → IsOne part → root < m → m < root + element_count part → LeavesInside root s p part m
@@ -100,13 +103,15 @@ leaves t root m there inside =
         let go : after_leave t root m ≡ (if nat_lt next (q + 1 + (item t q).below) then Enter next else Leave q) =
         ap (λ x. behind t root m x) parent ∙ behind_inner t root m q low in
         let here : m < length (items_of t) = inside.there in
-        let fits : q - root + 1 + (at root h.start h.parent part q).below ≤ element_count part = below_fits root h.start h.parent part (q - root) (omega arith) in
+        let fits : q - root + 1 + (at root h.start h.parent part q).below ≤ element_count part =
+        below_fits root h.start h.parent part (q - root) (omega arith) in
         let same : (item t q).below ≡ (at root h.start h.parent part q).below = ap (λ x. x.below) o in
         let outer_there : q + 1 + (item t q).below ≤ length (items_of t) = next_inside t q (omega arith) in
         record {
           step_is =
               w.step
-              ∙ ap (λ x. (false, m) ∷ (if nat_lt (m + 1 + x.below) (q + 1 + (at root h.start h.parent part q).below) then from_enter (m + 1 + x.below) root part else from_leave q root part)) (sym i)
+              ∙ ap (λ x. (false, m) ∷ (if nat_lt (m + 1 + x.below) (q + 1 + (at root h.start h.parent part q).below) then from_enter
+              (m + 1 + x.below) root part else from_leave q root part)) (sym i)
               ∙ ap (λ x. (false, m) ∷ (if nat_lt next (q + 1 + x.below) then from_enter next root part else from_leave q root part)) (sym o)
               ∙ ap (λ x. (false, m) ∷ x) (sym (split_choice (nat_lt next (q + 1 + (item t q).below)) (Enter next) (Leave q) _ _ (steps_left t root) refl refl))
               ∙ ap (λ x. (false, m) ∷ steps_left t root x) (sym go);
@@ -117,7 +122,8 @@ leaves t root m there inside =
               (record { low = w.low; high = omega arith; there = omega arith }));
         }
       where
-        choose : {c : Bool} (b : Bool) → c ≡ b → (x q : ℕ) → (c ≡ true → IsInside t root x) → IsInside t root q → IsNextWithin t root (if b then Enter x else Leave q)
+        choose : {c : Bool} (b : Bool) → c ≡ b → (x q : ℕ) → (c ≡ true → IsInside t root x) → IsInside t root q
+            → IsNextWithin t root (if b then Enter x else Leave q)
         choose true e x q f g = f e
         choose false e x q f g = g
 
@@ -126,7 +132,8 @@ pub begins : (t : Tree) (root : ℕ) → root < length (items_of t) → IsInside
 begins t root l = record { low = omega arith; high = omega arith; there = l }
 
 -- a walk from its root is all of it
-pub whole_walk : (t : Tree) (root : ℕ) → root < length (items_of t) → from_enter root root (part_at record { tree = t; number = root }) ≡ steps_from root (part_at record { tree = t; number = root })
+pub whole_walk : (t : Tree) (root : ℕ) → root < length (items_of t)
+    → from_enter root root (part_at record { tree = t; number = root }) ≡ steps_from root (part_at record { tree = t; number = root })
 whole_walk t root l = one (part_at record { tree = t; number = root }) (one_there t root l)
   where
     one : (part : Forest) → IsOne part → from_enter root root part ≡ steps_from root part

@@ -6,7 +6,8 @@ use Rattle.rnix_green.proofs.{ParentLemmas.parent_is_before, InsideLemmas.{held,
 use Rattle.rnix_tree.specs.Around.{IsNodeIfAny, IsOnWayTo, FirstNodeFrom, LastNodeFrom}
 
 -- an element inside another has another parent than it has
-pub not_beside : (t : Tree) (n p m : ℕ) → n < length (items_of t) → (item t n).parent ≡ Some p → n < m → m ≤ n + (item t n).below → (item t m).parent ≡ Some p → ⊥
+pub not_beside : (t : Tree) (n p m : ℕ) → n < length (items_of t) → (item t n).parent ≡ Some p → n < m → m ≤ n + (item t n).below → (item t m).parent ≡ Some p
+    → ⊥
 not_beside t n p m l e low high same =
     let in_n = held t n m l low high in
     let above = parent_is_before t n p l e in
@@ -27,7 +28,8 @@ module _ (t : Tree) (n : ℕ) (l : n < length (items_of t)) where
   no_prev_of_root e m low h = (let b = root_alone t n l e in omega arith)
 
   -- behind an element and what is inside it stands its next sibling, or its parent has ended
-  pub next_there : (p : ℕ) → (item t n).parent ≡ Some p → n + 1 + (item t n).below ≤ p + (item t p).below → IsFirst (IsSibling record { tree = t; number = n }) n (Some (n + 1 + (item t n).below))
+  pub next_there : (p : ℕ) → (item t n).parent ≡ Some p → n + 1 + (item t n).below ≤ p + (item t p).below
+      → IsFirst (IsSibling record { tree = t; number = n }) n (Some (n + 1 + (item t n).below))
   next_there p e fits =
       let above = below_parent t n p l e in
       let inside = next_inside t p (omega (arith, above.low)) in (
@@ -36,7 +38,8 @@ module _ (t : Tree) (n : ℕ) (l : n < length (items_of t)) where
         λ m low high h. not_beside t n p m l e low (omega arith) (h.parent ∙ e),
       )
 
-  pub no_next : (p : ℕ) → (item t n).parent ≡ Some p → p + (item t p).below < n + 1 + (item t n).below → IsFirst (IsSibling record { tree = t; number = n }) n None
+  pub no_next : (p : ℕ) → (item t n).parent ≡ Some p → p + (item t p).below < n + 1 + (item t n).below
+      → IsFirst (IsSibling record { tree = t; number = n }) n None
   no_next p e past m low h =
       elim (cases_lt (n + (item t n).below) m) [
         | inl behind ↦
@@ -53,7 +56,8 @@ module _ (t : Tree) (n : ℕ) (l : n < length (items_of t)) where
       omega (arith, above.low, here.low)
 
   -- the child in which the element before lies is the previous sibling
-  pub prev_there : (p child : ℕ) → (item t n).parent ≡ Some p → 0 < n → IsOnWayTo t p (n - 1) child → IsLast (IsSibling record { tree = t; number = n }) n (Some child)
+  pub prev_there : (p child : ℕ) → (item t n).parent ≡ Some p → 0 < n → IsOnWayTo t p (n - 1) child
+      → IsLast (IsSibling record { tree = t; number = n }) n (Some child)
   prev_there p child e some h =
       let low = h.low in
       let there : child < length (items_of t) = omega arith in
@@ -82,13 +86,15 @@ module _ (t : Tree) (n : ℕ) (l : n < length (items_of t)) where
   no_last none m low h = no_children none m h
 
   -- the child that ends with the element is the last
-  pub last_there : (child : ℕ) → IsOnWayTo t n (n + (item t n).below) child → IsLast (IsChild record { tree = t; number = n }) (length (items_of t)) (Some child)
+  pub last_there : (child : ℕ) → IsOnWayTo t n (n + (item t n).below) child
+      → IsLast (IsChild record { tree = t; number = n }) (length (items_of t)) (Some child)
   last_there child h =
       let inside = next_inside t n l in
       let there : child < length (items_of t) = omega (arith, h.low) in (
         there,
         record { is_there = there; parent = h.parent },
-        λ m after before s. let in_n = below_parent t m n s.is_there s.parent in not_beside t child n m there h.parent after (omega (arith, h.high, in_n.high)) s.parent,
+        λ m after before s. let in_n = below_parent t m n s.is_there s.parent in not_beside t child n m there h.parent after
+            (omega (arith, h.high, in_n.high)) s.parent,
       )
 
 -- climbing from an element towards one around it
@@ -98,7 +104,8 @@ pub record IsClimbing (t : Tree) (p m child : ℕ) : Type 0 where
   pub high : m ≤ child + (item t child).below
 
 -- the element is inside p, so its parent is p or inside p
-pub climb_step : (t : Tree) (p m child above : ℕ) → p < length (items_of t) → m ≤ p + (item t p).below → IsClimbing t p m child → (item t child).parent ≡ Some above → ¬ (above ≡ p)
+pub climb_step : (t : Tree) (p m child above : ℕ) → p < length (items_of t) → m ≤ p + (item t p).below → IsClimbing t p m child
+    → (item t child).parent ≡ Some above → ¬ (above ≡ p)
     → IsClimbing t p m above
 climb_step t p m child above l high h e differs =
     let inside = next_inside t p l in
@@ -192,16 +199,20 @@ module _ (t : Tree) (Q : ℕ → Type 0) (beside : (c m : ℕ) → Q c → Q m �
 
 -- children and siblings of an element are siblings of one another
 module _ (t : Tree) (n : ℕ) where
-  pub child_beside : (c m : ℕ) → IsChild record { tree = t; number = n } c → IsChild record { tree = t; number = n } m → IsSibling record { tree = t; number = c } m
+  pub child_beside : (c m : ℕ) → IsChild record { tree = t; number = n } c → IsChild record { tree = t; number = n } m
+      → IsSibling record { tree = t; number = c } m
   child_beside c m h k = record { is_there = k.is_there; parent = k.parent ∙ sym h.parent }
 
-  pub child_back : (c m : ℕ) → IsChild record { tree = t; number = n } c → IsSibling record { tree = t; number = c } m → IsChild record { tree = t; number = n } m
+  pub child_back : (c m : ℕ) → IsChild record { tree = t; number = n } c → IsSibling record { tree = t; number = c } m
+      → IsChild record { tree = t; number = n } m
   child_back c m h k = record { is_there = k.is_there; parent = k.parent ∙ h.parent }
 
-  pub sibling_beside : (c m : ℕ) → IsSibling record { tree = t; number = n } c → IsSibling record { tree = t; number = n } m → IsSibling record { tree = t; number = c } m
+  pub sibling_beside : (c m : ℕ) → IsSibling record { tree = t; number = n } c → IsSibling record { tree = t; number = n } m
+      → IsSibling record { tree = t; number = c } m
   sibling_beside c m h k = record { is_there = k.is_there; parent = k.parent ∙ sym h.parent }
 
-  pub sibling_back : (c m : ℕ) → IsSibling record { tree = t; number = n } c → IsSibling record { tree = t; number = c } m → IsSibling record { tree = t; number = n } m
+  pub sibling_back : (c m : ℕ) → IsSibling record { tree = t; number = n } c → IsSibling record { tree = t; number = c } m
+      → IsSibling record { tree = t; number = n } m
   sibling_back c m h k = record { is_there = k.is_there; parent = k.parent ∙ h.parent }
 
 -- the parent of an element is a node

@@ -56,7 +56,8 @@ walk_prints e =
     ap (event_texts 0) (sym (append-nil (preorder_of e))) ∙ walk_texts e.tree e.number (part_at e) 0 [] ∙ nothing_last (text_lines_of e)
 
 -- an element is entered: its line follows the lines so far
-pub entered : (o all : Option (List ℕ)) (depth next : ℕ) (left rest : List Event) (event : WalkEvent (NodeOrToken Located Located)) (e : NodeOrToken Located Located)
+pub entered : (o all : Option (List ℕ)) (depth next : ℕ) (left rest : List Event) (event : WalkEvent (NodeOrToken Located Located))
+    (e : NodeOrToken Located Located)
     → o ++? event_texts depth left ≡ all → left ≡ event_of event ∷ rest → event ≡ Enter e → next ≡ depth + 1
     → (o ++? text_line depth (spot_of e)) ++? event_texts next rest ≡ all
 entered o all depth next left rest event e h steps is deeper =
@@ -89,7 +90,8 @@ written_more took f g h r (Some x) (Some y) a b ok flush =
     let front = a flush in has_written_styled_append took f x g y h front (b front.flush ok)
 
 -- what an inline text took in calls is behind what it had
-folded : {n : ℕ} (w v : InlineText n) (parts : List (List ℕ)) → FoldsTo AppendsIfIntact w parts v → IsIntact w → IsIntact v × (inline_text v ≡ inline_text w ++ concat parts)
+folded : {n : ℕ} (w v : InlineText n) (parts : List (List ℕ)) → FoldsTo AppendsIfIntact w parts v → IsIntact w → IsIntact v
+    × (inline_text v ≡ inline_text w ++ concat parts)
 folded w v [] h intact = (subst IsIntact h intact, sym (ap inline_text h) ∙ sym (append-nil (inline_text w)))
 folded w v (x ∷ parts) h intact =
     let first = h.1 intact in
@@ -101,15 +103,18 @@ pub inline_written : {n : ℕ} (w v : InlineText n) (bs : List ℕ) → WritesIn
 inline_written w v bs h intact = (folded w v h.parts h.calls intact).1 ∙ ap (λ x. inline_text w ++ x) h.whole
 
 -- what a formatter over an empty inline text wrote is what it has
-pub inline_told : {n : ℕ} (f g : Formatter (InlineText n)) (r : Result (Unit {0}) Error) (o : Option (List ℕ)) (v : InlineText n) → IsPlainFormatter f → IsIntact f.writer
+pub inline_told : {n : ℕ} (f g : Formatter (InlineText n)) (r : Result (Unit {0}) Error) (o : Option (List ℕ)) (v : InlineText n) → IsPlainFormatter f
+    → IsIntact f.writer
     → inline_text f.writer ≡ [] → IsOk r → DisplaysOnOk AppendsIfIntact f r o g → v ≡ formatter_writer g → IfSome o (λ bs. inline_text v ≡ bs)
 inline_told f g r None v plain intact none ok h is = tt
 inline_told f g r (Some bs) v plain intact none ok h is =
     ap inline_text is ∙ inline_written f.writer g.writer bs (h plain ok).wrote intact ∙ ap (λ x. x ++ bs) none
 
 -- an indent, what is shown if that is known, and the end of the line
-pub line_written : {W : Type 0} (took : W → List ℕ → W → Type 0) (f g h k : Formatter W) (r s u : Result (Unit {0}) Error) (indent text : List ℕ) (o : Option (List ℕ))
-    → IfSome o (λ bs. text ≡ bs) → WritesStyledOnOk took f r indent g → IsOk r → WritesStyledOnOk took g s text h → IsOk s → WritesStyledOnOk took h u (codes "\n") k
+pub line_written : {W : Type 0} (took : W → List ℕ → W → Type 0) (f g h k : Formatter W) (r s u : Result (Unit {0}) Error) (indent text : List ℕ)
+    (o : Option (List ℕ))
+    → IfSome o (λ bs. text ≡ bs) → WritesStyledOnOk took f r indent g → IsOk r → WritesStyledOnOk took g s text h → IsOk s
+    → WritesStyledOnOk took h u (codes "\n") k
     → DisplaysStyledOnOk took f u (Some indent ++? o ++? Some (codes "\n")) k
 line_written took f g h k r s u indent text None is a oka b okb c = tt
 line_written took f g h k r s u indent text (Some bs) is a oka b okb c = λ flush ok.

@@ -10,13 +10,15 @@ abbrev pub at : ℕ → ℕ → Option ℕ → Forest → ℕ → Item
 at n s p f m = get_or (items_from n s p f) (m - n) no_item
 
 -- an element inside the first tree
-pub at_inside : (n s : ℕ) (p : Option ℕ) (k : SyntaxKind) (c f : Forest) (m : ℕ) → n < m → m < n + 1 + element_count c → at n s p (node k c f) m ≡ at (n + 1) s (Some n) c m
+pub at_inside : (n s : ℕ) (p : Option ℕ) (k : SyntaxKind) (c f : Forest) (m : ℕ) → n < m → m < n + 1 + element_count c
+    → at n s p (node k c f) m ≡ at (n + 1) s (Some n) c m
 at_inside n s p k c f m l h =
     let xs = items_from (n + 1) s (Some n) c in
     let ys = items_from (n + 1 + element_count c) (s + length (text_of c)) p f in
     let count : length xs ≡ element_count c = length-items_from (n + 1) s (Some n) c in
     let same : m - n - 1 ≡ m - (n + 1) = omega arith in
-    get_or_tail _ (xs ++ ys) (m - n) no_item (omega arith) ∙ ap (λ j. get_or (xs ++ ys) j no_item) same ∙ get_or_append_left xs ys no_item (m - (n + 1)) (omega arith)
+    get_or_tail _ (xs ++ ys) (m - n) no_item (omega arith) ∙ ap (λ j. get_or (xs ++ ys) j no_item) same
+    ∙ get_or_append_left xs ys no_item (m - (n + 1)) (omega arith)
 
 -- an element behind a node
 pub at_behind : (n s : ℕ) (p : Option ℕ) (k : SyntaxKind) (c f : Forest) (m : ℕ) → n + 1 + element_count c ≤ m
@@ -33,7 +35,8 @@ at_behind n s p k c f m h =
 pub at_next : (n s : ℕ) (p : Option ℕ) (k : SyntaxKind) (t : List ℕ) (f : Forest) (m : ℕ) → n < m → at n s p (leaf k t f) m ≡ at (n + 1) (s + length t) p f m
 at_next n s p k t f m l =
     let same : m - n - 1 ≡ m - (n + 1) = omega arith in
-    get_or_tail _ (items_from (n + 1) (s + length t) p f) (m - n) no_item (omega arith) ∙ ap (λ j. get_or (items_from (n + 1) (s + length t) p f) j no_item) same
+    get_or_tail _ (items_from (n + 1) (s + length t) p f) (m - n) no_item (omega arith)
+    ∙ ap (λ j. get_or (items_from (n + 1) (s + length t) p f) j no_item) same
 
 -- the first element
 pub at_first : (n s : ℕ) (p : Option ℕ) (f : Forest) (i : Item) (is : List Item) → items_from n s p f ≡ i ∷ is → at n s p f n ≡ i
@@ -49,7 +52,8 @@ enter_inside m n k c f l h =
     ∙ ap (λ b. if b then inner else outer) (is_below m (n + 1 + element_count c) h)
 
 -- and behind a node
-pub enter_behind : (m n : ℕ) (k : SyntaxKind) (c f : Forest) → n + 1 + element_count c ≤ m → from_enter m n (node k c f) ≡ from_enter m (n + 1 + element_count c) f
+pub enter_behind : (m n : ℕ) (k : SyntaxKind) (c f : Forest) → n + 1 + element_count c ≤ m
+    → from_enter m n (node k c f) ≡ from_enter m (n + 1 + element_count c) f
 enter_behind m n k c f h =
     let inner = from_enter m (n + 1) c ++ (false, n) ∷ steps_from (n + 1 + element_count c) f in
     let outer = from_enter m (n + 1 + element_count c) f in
@@ -65,7 +69,8 @@ pub enter_here : (m n : ℕ) (f : Forest) → m ≡ n → 0 < element_count f �
 enter_here m n empty e l = absurd (omega arith)
 enter_here m n (leaf k t f) e l = ap (λ b. if b then steps_from n (leaf k t f) else from_enter m (n + 1) f) (is_same m n e)
 enter_here m n (node k c f) e l =
-    ap (λ b. if b then steps_from n (node k c f) else (if nat_lt m (n + 1 + element_count c) then from_enter m (n + 1) c ++ (false, n) ∷ steps_from (n + 1 + element_count c) f else from_enter m (n + 1 + element_count c) f)) (is_same m n e)
+    ap (λ b. if b then steps_from n (node k c f) else (if nat_lt m (n + 1 + element_count c) then from_enter m (n + 1) c ++ (false, n)
+    ∷ steps_from (n + 1 + element_count c) f else from_enter m (n + 1 + element_count c) f)) (is_same m n e)
 
 -- the same where the walk leaves an element
 pub leave_inside : (m n : ℕ) (k : SyntaxKind) (c f : Forest) → n < m → m < n + 1 + element_count c
@@ -77,11 +82,13 @@ leave_inside m n k c f l h =
     ∙ ap (λ b. if b then inner else outer) (is_below m (n + 1 + element_count c) h)
 
 -- and behind a node
-pub leave_behind : (m n : ℕ) (k : SyntaxKind) (c f : Forest) → n + 1 + element_count c ≤ m → from_leave m n (node k c f) ≡ from_leave m (n + 1 + element_count c) f
+pub leave_behind : (m n : ℕ) (k : SyntaxKind) (c f : Forest) → n + 1 + element_count c ≤ m
+    → from_leave m n (node k c f) ≡ from_leave m (n + 1 + element_count c) f
 leave_behind m n k c f h =
     let inner = from_leave m (n + 1) c ++ (false, n) ∷ steps_from (n + 1 + element_count c) f in
     let outer = from_leave m (n + 1 + element_count c) f in
-    ap (λ b. if b then (false, n) ∷ steps_from (n + 1 + element_count c) f else (if nat_lt m (n + 1 + element_count c) then inner else outer)) (is_above m n (omega arith))
+    ap (λ b. if b then (false, n) ∷ steps_from (n + 1 + element_count c) f else (if nat_lt m (n + 1 + element_count c) then inner else outer))
+    (is_above m n (omega arith))
     ∙ ap (λ b. if b then inner else outer) (is_not_below m (n + 1 + element_count c) h)
 
 -- and behind a leaf
@@ -95,7 +102,8 @@ leave_leaf m n k t f e = ap (λ b. if b then (false, n) ∷ steps_from (n + 1) f
 -- or a node
 pub leave_node : (m n : ℕ) (k : SyntaxKind) (c f : Forest) → m ≡ n → from_leave m n (node k c f) ≡ (false, n) ∷ steps_from (n + 1 + element_count c) f
 leave_node m n k c f e =
-    ap (λ b. if b then (false, n) ∷ steps_from (n + 1 + element_count c) f else (if nat_lt m (n + 1 + element_count c) then from_leave m (n + 1) c ++ (false, n) ∷ steps_from (n + 1 + element_count c) f else from_leave m (n + 1 + element_count c) f)) (is_same m n e)
+    ap (λ b. if b then (false, n) ∷ steps_from (n + 1 + element_count c) f else (if nat_lt m (n + 1 + element_count c) then from_leave m (n + 1) c
+    ++ (false, n) ∷ steps_from (n + 1 + element_count c) f else from_leave m (n + 1 + element_count c) f)) (is_same m n e)
 
 -- a row without elements has no steps
 pub none_from_count : (f : Forest) (n : ℕ) → element_count f ≡ 0 → steps_from n f ≡ []

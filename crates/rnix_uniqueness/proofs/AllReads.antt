@@ -48,7 +48,8 @@ ended_once ts f n es m r q h =
     (ap (λ (z : Machine). row_in z.frames) e, ap (λ (z : Machine). z.faults) e)
 
 -- no reading is lower than none
-lowest : {A : Type 0} {k : SyntaxKind} {d n : ℕ} {q s : Row} {b : AnnotatedForest} {us : List Token} {f : AnnotatedForest} {es : List Fault} → IsLower 0 k d n q s b us f es → A
+lowest : {A : Type 0} {k : SyntaxKind} {d n : ℕ} {q s : Row} {b : AnnotatedForest} {us : List Token} {f : AnnotatedForest} {es : List Fault}
+    → IsLower 0 k d n q s b us f es → A
 lowest h = absurd (by (height h.reads) h.short)
   where
     by : (a : ℕ) → a < 0 → ⊥
@@ -64,7 +65,8 @@ all_read (suc m) = by (all_read m)
 
 -- the root's row ends at one position
 text_ends : (i : ℕ) → Where (is_text_end (left_at i)) (i ≡ root_end)
-text_ends = each_index (λ i. Where (is_text_end (left_at i)) (i ≡ root_end)) (assumption) (λ i e d. subst (λ ss. Where (is_text_end (left_in ss)) (i ≡ root_end)) (sym d) tt)
+text_ends = each_index (λ i. Where (is_text_end (left_at i)) (i ≡ root_end)) (assumption)
+    (λ i e d. subst (λ ss. Where (is_text_end (left_in ss)) (i ≡ root_end)) (sym d) tt)
 
 text_end_at : (x : Position) → rest_at x ≡ TextEnd · done → x ≡ p.Left root_end
 text_end_at (p.Left i) h = ap p.Left (where_one (is_text_end (left_at i)) (ap is_text_end h) (text_ends i))
@@ -72,12 +74,14 @@ text_end_at (p.AfterOperand min_bp max_bp) h = absurd (cc)
 text_end_at (p.Right level) h = absurd (cc)
 
 -- a reading of some items is what the steps make of them
-pub reads_runs : (f : AnnotatedForest) (faults : List Fault) → ReadsRoot f faults → Runs false (begins (tokens_in f)) (ended_with f (end_from 0 (tokens_in f)) faults)
+pub reads_runs : (f : AnnotatedForest) (faults : List Fault) → ReadsRoot f faults
+    → Runs false (begins (tokens_in f)) (ended_with f (end_from 0 (tokens_in f)) faults)
 reads_runs f faults r =
     let w : ReadsTo NODE_ROOT 0 0 (p.Left ROOT) (TextEnd · done) blank [] f faults =
     (all_read (suc (height r))).0 NODE_ROOT 0 0 (p.Left ROOT) (TextEnd · done) blank [] f faults refl (record { reads = r; short = omega arith }) refl in
     subst (λ (ts : List Token). Runs false (begins ts) (ended_with f (end_from 0 (tokens_in f)) faults)) (append-nil (tokens_in f))
-    (subst (λ (y : Position). Runs false (begins (tokens_in f ++ [])) (machine (opened (Node NODE_ROOT) y 0 f ∷ []) [] (end_from 0 (tokens_in f)) faults)) (text_end_at w.position w.is)
+    (subst (λ (y : Position). Runs false (begins (tokens_in f ++ [])) (machine (opened (Node NODE_ROOT) y 0 f ∷ []) [] (end_from 0 (tokens_in f)) faults))
+    (text_end_at w.position w.is)
     (w.row (Node NODE_ROOT) [] [] refl refl))
 
 -- two readings of the same items are one

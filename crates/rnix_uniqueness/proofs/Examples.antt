@@ -27,7 +27,14 @@ formals = record { text = codes "{a,b}:a)"; right = (function_of (item (entry (i
 
 -- `a @ { } @ b`: a function of a pattern with a second name
 abbrev pub second_name : Case
-second_name = record { text = codes "a @ { } @ b"; right = (function_of (node NODE_PAT_BIND (name (item done)) (item (item (wrong DoubleBind (item (name done)) done)))) done done, bound_twice (within 8 11) ∷ missing Colon ∷ ended ∷ []) }
+second_name = record {
+  text = codes "a @ { } @ b";
+  right = (
+    function_of (node NODE_PAT_BIND (name (item done)) (item (item (wrong DoubleBind (item (name done)) done)))) done done,
+    bound_twice (within 8 11)
+        ∷ missing Colon ∷ ended ∷ [],
+  );
+}
 
 -- `[])`: a list with an extra item after it
 abbrev pub closed_list : Case

@@ -34,7 +34,8 @@ led_closed = implied begins_with_item is_closed refl
 
 -- an expression that begins with an item
 led_item : (m : ℕ) → AllRows m → (k : SyntaxKind) (d n : ℕ) (us : List Token) (t : Token) (f : AnnotatedForest) (es : List Fault) → begins_with_item k ≡ true
-    → Complete m k d t.end (after (row_of_kind k) (leaf_kind k t)) (one_token (leaf_kind k t) t) us f es → ReadsTree d n (t ∷ tokens_in f) (one_branch k (token (leaf_kind k t) t f)) us es
+    → Complete m k d t.end (after (row_of_kind k) (leaf_kind k t)) (one_token (leaf_kind k t) t) us f es
+    → ReadsTree d n (t ∷ tokens_in f) (one_branch k (token (leaf_kind k t) t f)) us es
 led_item m rows k d n us t f es h r level F fs gs min_bp begins = by (begins_led k h level t ts (token (leaf_kind k t) t f) begins)
   where
     ts : List Token
@@ -96,10 +97,13 @@ legacy_item m rows d n us t v f es r level F fs gs min_bp begins =
 pub legacy_reads : (m : ℕ) → AllRows m → KindReads m NODE_LEGACY_LET
 legacy_reads m rows d n us c es r =
     let w = item_next refl r in
-    let v = item_next refl (front_of (ap (after (row_of_kind NODE_LEGACY_LET)) (only (λ j. is_viable (after (row_of_kind NODE_LEGACY_LET) j)) TOKEN_LET refl w.item.kind w.alive)) w.rest refl) in
+    let v = item_next refl (front_of (ap (after (row_of_kind NODE_LEGACY_LET))
+    (only (λ j. is_viable (after (row_of_kind NODE_LEGACY_LET) j)) TOKEN_LET refl w.item.kind w.alive)) w.rest refl) in
     let e : c ≡ token w.item.kind w.item (token v.item.kind v.item v.more) = w.is ∙ ap (λ z. token w.item.kind w.item z) v.is in
     subst (λ (z : AnnotatedForest). ReadsTree d n (tokens_in z) (one_branch NODE_LEGACY_LET z) us es) (sym e)
-    (legacy_item m rows d n us w.item v.item v.more es (complete_to (ap (after (Child TOKEN_L_BRACE · left_at LEGACY_LET)) (only (λ j. is_viable (after (Child TOKEN_L_BRACE · left_at LEGACY_LET) j)) TOKEN_L_BRACE refl v.item.kind v.alive)) refl v.rest))
+    (legacy_item m rows d n us w.item v.item v.more es (complete_to
+    (ap (after (Child TOKEN_L_BRACE · left_at LEGACY_LET))
+    (only (λ j. is_viable (after (Child TOKEN_L_BRACE · left_at LEGACY_LET) j)) TOKEN_L_BRACE refl v.item.kind v.alive)) refl v.rest))
 
 -- the steps read the rest of a function's row behind its parameter
 abbrev Body : SyntaxKind → ℕ → ℕ → AnnotatedForest → List Token → AnnotatedForest → List Fault → Type 0
@@ -110,9 +114,11 @@ abbrev IsFunction : SyntaxKind → ℕ → ℕ → AnnotatedForest → Annotated
 IsFunction k d n c f us ds es = Body k d n c us f es → ReadsTree d n (tokens_in c ++ tokens_in f) (one_branch NODE_LAMBDA (branch k c f)) us ((ds ++ []) ++ es)
 
 -- a function whose steps are known behind its beginning
-function_read : (level d n : ℕ) (zs : List Token) (c : AnnotatedForest) (us : List Token) (es : List Fault) (F : Frame) (fs : List Frame) (gs : List Fault) (t : Token) (ts : List Token) (begin : Begin)
+function_read : (level d n : ℕ) (zs : List Token) (c : AnnotatedForest) (us : List Token) (es : List Fault) (F : Frame) (fs : List Frame) (gs : List Fault)
+    (t : Token) (ts : List Token) (begin : Begin)
     → zs ++ us ≡ t ∷ ts → begin_of level t.kind t.text (head_kind ts) (second_kind ts) ≡ begin
-    → Runs false (begun false begin level d t F fs (t ∷ ts) n gs) (machine (opened Operand (p.AfterOperand level 16) d (one_branch NODE_LAMBDA c) ∷ (F ∷ fs)) us (end_from n zs) (gs ++ es))
+    → Runs false (begun false begin level d t F fs (t ∷ ts) n gs) (machine
+    (opened Operand (p.AfterOperand level 16) d (one_branch NODE_LAMBDA c) ∷ (F ∷ fs)) us (end_from n zs) (gs ++ es))
     → IsOperandRead level d n zs (one_branch NODE_LAMBDA c) us es F fs gs
 function_read level d n zs c us es F fs gs t ts begin e h r = record {
   max_bp = 16;
@@ -129,7 +135,8 @@ named_item : (t : Token) (f : AnnotatedForest) (d n : ℕ) (us : List Token) (es
 named_item t f d n us es k r level F fs gs min_bp begins =
     let c : AnnotatedForest = one_branch NODE_IDENT (one_token (leaf_kind NODE_IDENT t) t) in
     let ts : List Token = tokens_in f ++ us in
-    function_read level d n (t ∷ tokens_in f) (branch NODE_IDENT_PARAM c f) us es F fs gs t ts b.NameLambda refl (begins_special NODE_IDENT_PARAM refl level t ts begins).0
+    function_read level d n (t ∷ tokens_in f) (branch NODE_IDENT_PARAM c f) us es F fs gs t ts b.NameLambda refl
+    (begins_special NODE_IDENT_PARAM refl level t ts begins).0
     (operand_read r refl refl (p.AfterOperand level 16) d (F ∷ fs) gs)
 
 -- the parameter of a function is a name
@@ -144,26 +151,32 @@ no_name k e h = other (sym e ∙ h)
     other h = cc
 
 -- so it is by the row of the parameter
-named_reads : (m d n : ℕ) (us : List Token) (c f : AnnotatedForest) (ds es : List Fault) → Complete m NODE_IDENT_PARAM d n (row_of_kind NODE_IDENT_PARAM) blank (tokens_in f ++ us) c ds
+named_reads : (m d n : ℕ) (us : List Token) (c f : AnnotatedForest) (ds es : List Fault)
+    → Complete m NODE_IDENT_PARAM d n (row_of_kind NODE_IDENT_PARAM) blank (tokens_in f ++ us) c ds
     → IsFunction NODE_IDENT_PARAM d n c f us ds es
 named_reads m d n us c f ds es r = by (item_or_name refl (front_of refl r refl))
   where
-    by : Item m NODE_IDENT_PARAM d (row_of_kind NODE_IDENT_PARAM) blank (tokens_in f ++ us) c ds ⊎ Name m NODE_IDENT_PARAM d (row_of_kind NODE_IDENT_PARAM) blank (tokens_in f ++ us) c ds
+    by : Item m NODE_IDENT_PARAM d (row_of_kind NODE_IDENT_PARAM) blank (tokens_in f ++ us) c ds ⊎ Name m NODE_IDENT_PARAM d
+        (row_of_kind NODE_IDENT_PARAM) blank (tokens_in f ++ us) c ds
         → IsFunction NODE_IDENT_PARAM d n c f us ds es
     by (inl t) =
         subst (λ c. IsFunction NODE_IDENT_PARAM d n c f us ds es) (sym t.is) (λ more level F fs gs min_bp begins.
-        absurd (no_name t.item.kind (parameter_first t.item.kind t.alive) (begins_special NODE_IDENT_PARAM refl level t.item ((tokens_in t.more ++ tokens_in f) ++ us) begins).1))
+        absurd (no_name t.item.kind (parameter_first t.item.kind t.alive)
+        (begins_special NODE_IDENT_PARAM refl level t.item ((tokens_in t.more ++ tokens_in f) ++ us) begins).1))
     by (inr t) =
         let u = complete_done t.rest refl in
         subst (λ ds. IsFunction NODE_IDENT_PARAM d n c f us ds es) (sym u.1) (subst (λ c. IsFunction NODE_IDENT_PARAM d n c f us [] es)
         (sym (t.is ∙ ap (λ q. branch NODE_IDENT (one_token (leaf_kind NODE_IDENT t.item) t.item) q) u.0)) (named_item t.item f d n us es t.kind))
 
 -- a pattern that has begun, and the rest of its function
-pattern_runs : {x : Position} {g c f : AnnotatedForest} {level d m : ℕ} {F : Frame} {fs : List Frame} {us : List Token} {es ds gs : List Fault} → ReadOn NODE_PATTERN d m x g (tokens_in f ++ us) c es
+pattern_runs : {x : Position} {g c f : AnnotatedForest} {level d m : ℕ} {F : Frame} {fs : List Frame} {us : List Token} {es ds gs : List Fault}
+    → ReadOn NODE_PATTERN d m x g (tokens_in f ++ us) c es
     → ReadOn NODE_LAMBDA d (end_from m (tokens_in c)) (p.Left LAMBDA) (one_branch NODE_PATTERN (g ⊕ c)) us f ds
-    → Runs false (machine (opened (Node NODE_PATTERN) x d g ∷ (opened (Node NODE_LAMBDA) (p.Left LAMBDA) d blank ∷ (opened Operand (p.AfterOperand level 16) d blank ∷ (F ∷ fs))))
+    → Runs false (machine (opened (Node NODE_PATTERN) x d g ∷ (opened (Node NODE_LAMBDA) (p.Left LAMBDA) d blank
+    ∷ (opened Operand (p.AfterOperand level 16) d blank ∷ (F ∷ fs))))
     ((tokens_in c ++ tokens_in f) ++ us) m gs)
-    (machine (opened Operand (p.AfterOperand level 16) d (one_branch NODE_LAMBDA (branch NODE_PATTERN (g ⊕ c) f)) ∷ (F ∷ fs)) us (end_from m (tokens_in c ++ tokens_in f)) (gs ++ ((es ++ []) ++ ds)))
+    (machine (opened Operand (p.AfterOperand level 16) d (one_branch NODE_LAMBDA (branch NODE_PATTERN (g ⊕ c) f)) ∷ (F ∷ fs)) us
+    (end_from m (tokens_in c ++ tokens_in f)) (gs ++ ((es ++ []) ++ ds)))
 pattern_runs {x} {g} {c} {f} {level} {d} {m} {F} {fs} {us} {es} {ds} {gs} row more =
     let below : Frame = opened Operand (p.AfterOperand level 16) d blank in
     runs_from (cc (append_assoc (tokens_in c) (tokens_in f) us))
@@ -187,8 +200,10 @@ no_bind TOKEN_AT l w = cc
 no_bind _ l w = cc
 
 -- a function of a pattern that begins with a brace
-braced_reads : (m : ℕ) → AllRows m → (d n : ℕ) (t : Token) (us : List Token) (c f : AnnotatedForest) (ds es : List Fault) → is_viable (after (row_of_kind NODE_PATTERN) t.kind) ≡ true
-    → Complete m NODE_PATTERN d t.end (after (row_of_kind NODE_PATTERN) t.kind) (one_token t.kind t) (tokens_in f ++ us) c ds → IsFunction NODE_PATTERN d n (token t.kind t c) f us ds es
+braced_reads : (m : ℕ) → AllRows m → (d n : ℕ) (t : Token) (us : List Token) (c f : AnnotatedForest) (ds es : List Fault)
+    → is_viable (after (row_of_kind NODE_PATTERN) t.kind) ≡ true
+    → Complete m NODE_PATTERN d t.end (after (row_of_kind NODE_PATTERN) t.kind) (one_token t.kind t) (tokens_in f ++ us) c ds
+    → IsFunction NODE_PATTERN d n (token t.kind t c) f us ds es
 braced_reads m rows d n t us c f ds es l r more level F fs gs min_bp begins =
     let ts : List Token = (tokens_in c ++ tokens_in f) ++ us in
     let x : AnnotatedForest = branch NODE_PATTERN (token t.kind t c) f in
@@ -205,13 +220,15 @@ name_at t v = branch NODE_IDENT (one_token (leaf_kind NODE_IDENT t) t) (one_toke
 bound_item : (t v : Token) (c f : AnnotatedForest) (d n : ℕ) (us : List Token) (ds es : List Fault) → leaf_kind NODE_IDENT t ≡ TOKEN_IDENT
     → ReadOn NODE_PATTERN d v.end (p.Left BOUND_PATTERN) (one_branch NODE_PAT_BIND (name_at t v)) (tokens_in f ++ us) c ds
     → Body NODE_PATTERN d n (branch NODE_PAT_BIND (name_at t v) c) us f es
-    → ReadsTree d n (t ∷ (v ∷ (tokens_in c ++ tokens_in f))) (one_branch NODE_LAMBDA (branch NODE_PATTERN (branch NODE_PAT_BIND (name_at t v) c) f)) us ((ds ++ []) ++ es)
+    → ReadsTree d n (t ∷ (v ∷ (tokens_in c ++ tokens_in f))) (one_branch NODE_LAMBDA (branch NODE_PATTERN (branch NODE_PAT_BIND (name_at t v) c) f)) us
+    ((ds ++ []) ++ es)
 bound_item t v c f d n us ds es h r more level F fs gs min_bp begins =
     let ts : List Token = v ∷ ((tokens_in c ++ tokens_in f) ++ us) in
     let x : AnnotatedForest = branch NODE_PATTERN (branch NODE_PAT_BIND (name_at t v) c) f in
     let w = begins_special NODE_PATTERN refl level t ts begins in
     let k : t.kind ≡ TOKEN_IDENT = name_kind t.kind h w.1 in
-    function_read level d n (t ∷ (v ∷ (tokens_in c ++ tokens_in f))) x us ((ds ++ []) ++ es) F fs gs t ts b.BoundLambda refl (w.0 ∙ ap (begin_for NODE_PATTERN) k) (pattern_runs r more)
+    function_read level d n (t ∷ (v ∷ (tokens_in c ++ tokens_in f))) x us ((ds ++ []) ++ es) F fs gs t ts b.BoundLambda refl
+    (w.0 ∙ ap (begin_for NODE_PATTERN) k) (pattern_runs r more)
 
 -- so it is by the row of the name
 bound_reads : (m : ℕ) → AllRows m → (d n : ℕ) (us : List Token) (c g f : AnnotatedForest) (bs ds es : List Fault)
@@ -227,7 +244,8 @@ bound_reads m rows d n us c g f bs ds es r r' = by (item_or_name refl (front_of 
         → IsFunction NODE_PATTERN d n (branch NODE_PAT_BIND c g) f us ((bs ++ []) ++ ds) es
     by (inl t) =
         subst (λ c. IsFunction NODE_PATTERN d n (branch NODE_PAT_BIND c g) f us ((bs ++ []) ++ ds) es) (sym t.is) (λ more level F fs gs min_bp begins.
-        absurd (no_bind t.item.kind t.alive (begins_special NODE_PATTERN refl level t.item (((tokens_in t.more ++ tokens_in g) ++ tokens_in f) ++ us) begins).1))
+        absurd (no_bind t.item.kind t.alive (begins_special NODE_PATTERN refl level t.item
+        (((tokens_in t.more ++ tokens_in g) ++ tokens_in f) ++ us) begins).1))
     by (inr t) =
         let v = item_next refl (front_of refl t.rest refl) in
         let u = item_alone v (ap (after (Child TOKEN_AT · done)) (only (λ j. is_viable (after (Child TOKEN_AT · done) j)) TOKEN_AT refl v.item.kind v.alive)) in
@@ -242,7 +260,8 @@ pattern_reads : (m : ℕ) → AllRows m → (d n : ℕ) (us : List Token) (c f :
     → Front m NODE_PATTERN d n (row_of_kind NODE_PATTERN) blank (tokens_in f ++ us) c ds → IsFunction NODE_PATTERN d n c f us ds es
 pattern_reads m rows d n us _ f _ es (by_leaf {t = t} {f = g} {es = ds} e w l r) =
     subst (λ (j : SyntaxKind). is_viable (after (row_of_kind NODE_PATTERN) j) ≡ true
-    → Complete m NODE_PATTERN d t.end (after (row_of_kind NODE_PATTERN) j) (one_token j t) (tokens_in f ++ us) g ds → IsFunction NODE_PATTERN d n (token j t g) f us ds es) (sym e)
+    → Complete m NODE_PATTERN d t.end (after (row_of_kind NODE_PATTERN) j) (one_token j t) (tokens_in f ++ us) g ds
+    → IsFunction NODE_PATTERN d n (token j t g) f us ds es) (sym e)
     (λ l r. braced_reads m rows d n t us g f ds es l r) l r
 pattern_reads m rows d n us _ f _ es (by_stray o w x l r) = absurd (true_is_not_false (sym l))
 pattern_reads m rows d n us _ f _ es (by_node {k = i} {c = c} {f = g} {ds = bs} {es = ds} r y w x l r') =
@@ -261,7 +280,8 @@ lambda_first _ h = absurd (true_is_not_false (sym h))
 -- the row of a function by its parameter
 abbrev Parameter : ℕ → ℕ → ℕ → List Token → AnnotatedForest → AnnotatedForest → List Fault → List Fault → SyntaxKind → Type 0
 Parameter m d n us c f ds es k =
-    Complete m k d n (row_of_kind k) blank (tokens_in f ++ us) c ds → Complete m NODE_LAMBDA d (end_from n (tokens_in c)) (after (row_of_kind NODE_LAMBDA) k) (one_branch k c) us f es
+    Complete m k d n (row_of_kind k) blank (tokens_in f ++ us) c ds
+    → Complete m NODE_LAMBDA d (end_from n (tokens_in c)) (after (row_of_kind NODE_LAMBDA) k) (one_branch k c) us f es
     → ReadsTree d n (tokens_in c ++ tokens_in f) (one_branch NODE_LAMBDA (branch k c f)) us ((ds ++ repeats k blank c) ++ es)
 
 -- a function is read
@@ -278,4 +298,5 @@ lambda_reads m rows d n us _ _ (by_node {k = i} {c = c} {f = f} {ds = ds} {es = 
     by (inl h) =
         subst (Parameter m d n us c f ds es) (sym h) (λ r r'. named_reads m d n us c f ds es r (read_on rows (p.Left LAMBDA) refl r'))
     by (inr h) =
-        subst (Parameter m d n us c f ds es) (sym h) (λ r r'. pattern_reads m rows d n us c f ds es (front_of refl r refl) (read_on rows (p.Left LAMBDA) refl r'))
+        subst (Parameter m d n us c f ds es) (sym h) (λ r r'. pattern_reads m rows d n us c f ds es (front_of refl r refl)
+        (read_on rows (p.Left LAMBDA) refl r'))

@@ -146,7 +146,8 @@ opens k action = false
 abbrev pub by_own : SyntaxKind → Row → Option SyntaxKind → Action → Bool
 by_own k r None action = true
 by_own k r (Some j) action =
-    asks (is_viable (after r (leaf_kind_as k j))) (same_kind (leaf_kind_as k j) j && (is_take action && lands k action)) && asks (is_bound r) (is_double_bind action && lands k action)
+    asks (is_viable (after r (leaf_kind_as k j))) (same_kind (leaf_kind_as k j) j && (is_take action && lands k action)) && asks (is_bound r)
+    (is_double_bind action && lands k action)
 
 -- where it is not, an operand stands, or the row ends, or a run of other items is read
 abbrev pub by_item : SyntaxKind → Row → Option SyntaxKind → Action → Bool
@@ -155,7 +156,8 @@ by_item k r (Some j) action = asks (is_any (run_at r)) (is_run action && lands k
 
 abbrev pub by_other : SyntaxKind → Row → Option SyntaxKind → Action → Bool
 by_other k r next action =
-    asks (is_any (level_at r blank) || is_viable (after r NODE_LITERAL)) (is_read action && lands k action) && (asks (may_end r) (is_ending k action) && by_item k r next action)
+    asks (is_any (level_at r blank) || is_viable (after r NODE_LITERAL))
+    (is_read action && lands k action) && (asks (may_end r) (is_ending k action) && by_item k r next action)
 
 -- at the end of the text what is missing is reported
 abbrev pub by_end : SyntaxKind → Row → Option SyntaxKind → Action → Bool
@@ -185,7 +187,8 @@ is_same false w = if w then false else true
 
 -- a node of a kind is read where it stands, in the row of another
 abbrev pub by_node : SyntaxKind → Row → Bool → SyntaxKind → Option SyntaxKind → Action → Bool
-by_node q r touch k next action = asks (is_same (expects_next r touch next) (is_first_expected r k blank) && may_begin k next) (opens k action && lands q action)
+by_node q r touch k next action = asks (is_same (expects_next r touch next) (is_first_expected r k blank) && may_begin k next)
+    (opens k action && lands q action)
 
 -- so it is before each item, and at the end of the text
 abbrev all_next : (Option SyntaxKind → Bool) → Bool
@@ -197,7 +200,8 @@ every_next test h (Some k) = every (λ k. test (Some k)) (and_parts (test None) 
 
 abbrev by_nodes : ℕ → Bool → SyntaxKind → Bool
 by_nodes i touch k =
-    asks (is_viable (after (left_at i) k)) (asks (is_viable (row k)) (all_next (λ next. by_node (kind_at i) (left_at i) touch k next (left_action i next touch))))
+    asks (is_viable (after (left_at i) k)) (asks (is_viable (row k))
+    (all_next (λ next. by_node (kind_at i) (left_at i) touch k next (left_action i next touch))))
 
 -- all of it at an index of the table
 abbrev at_index : Bool → ℕ → Bool
@@ -222,19 +226,23 @@ pub record IsDone (k : SyntaxKind) (r : Row) (touch : Bool) (next : Option Synta
   pub nodes : (j : SyntaxKind) → level_at r blank ≡ None → is_viable (after r j) ≡ true → is_viable (row j) ≡ true → by_node k r touch j next action ≡ true
 
 -- so it is at an index
-left_done : (i : ℕ) (touch : Bool) (next : Option SyntaxKind) → is_waiting (left_at i) ≡ true → IsDone (kind_at i) (left_at i) touch next (left_action i next touch)
+left_done : (i : ℕ) (touch : Bool) (next : Option SyntaxKind) → is_waiting (left_at i) ≡ true
+    → IsDone (kind_at i) (left_at i) touch next (left_action i next touch)
 left_done i touch next h =
-    let all = and_parts (all_next (λ next. is_only (kind_at i) (left_at i) touch next (left_action i next touch))) _ (asked (is_waiting (left_at i)) (at_index touch i) (is_index touch i) h) in
+    let all = and_parts (all_next (λ next. is_only (kind_at i) (left_at i) touch next (left_action i next touch))) _
+    (asked (is_waiting (left_at i)) (at_index touch i) (is_index touch i) h) in
     record {
       action_is_at = action_is_at (p.Left i) touch next h;
       only = every_next (λ next. is_only (kind_at i) (left_at i) touch next (left_action i next touch)) all.0 next;
       nodes = λ j n l o.
           let nodes = every (by_nodes i touch) (sym (ap (λ l. is_any l || list_all (by_nodes i touch) all_kinds) n) ∙ all.1) j in
-          every_next (λ next. by_node (kind_at i) (left_at i) touch j next (left_action i next touch)) (asked (is_viable (row j)) _ (asked (is_viable (after (left_at i) j)) _ nodes l) o) next;
+          every_next (λ next. by_node (kind_at i) (left_at i) touch j next (left_action i next touch))
+          (asked (is_viable (row j)) _ (asked (is_viable (after (left_at i) j)) _ nodes l) o) next;
     }
 
 -- so at each position of a row
-pub done_at : (k : SyntaxKind) (x : Position) (touch : Bool) (next : Option SyntaxKind) → is_at k x ≡ true → IsDone k (rest_at x) touch next (action_at x next touch)
+pub done_at : (k : SyntaxKind) (x : Position) (touch : Bool) (next : Option SyntaxKind) → is_at k x ≡ true
+    → IsDone k (rest_at x) touch next (action_at x next touch)
 done_at k (p.Left i) touch next h =
     let w = and_parts (same_kind (kind_at i) k) (is_waiting (left_at i)) h in
     subst (λ k. IsDone k (left_at i) touch next (left_action i next touch)) (same (kind_at i) k w.0) (left_done i touch next w.1)
@@ -252,11 +260,14 @@ pub done_as : {k : SyntaxKind} {r : Row} {touch : Bool} {next : Option SyntaxKin
     → expects_next r touch next ≡ own → by_next own k r next action ≡ true
 done_as {k} {r} {touch} {next} {action} own w e = ap (λ own. by_next own k r next action) (sym e) ∙ (and_parts (by_end k r next action) _ w.only).1
 
-pub other_end : {k : SyntaxKind} {r : Row} {touch : Bool} {next : Option SyntaxKind} {action : Action} → IsDone k r touch next action → expects_next r touch next ≡ false
+pub other_end : {k : SyntaxKind} {r : Row} {touch : Bool} {next : Option SyntaxKind} {action : Action} → IsDone k r touch next action
+    → expects_next r touch next ≡ false
     → (asks (may_end r) (is_ending k action) && by_item k r next action) ≡ true
-other_end {k} {r} {action = action} w o = (and_parts (asks (is_any (level_at r blank) || is_viable (after r NODE_LITERAL)) (is_read action && lands k action)) _ (done_as false w o)).1
+other_end {k} {r} {action = action} w o =
+    (and_parts (asks (is_any (level_at r blank) || is_viable (after r NODE_LITERAL)) (is_read action && lands k action)) _ (done_as false w o)).1
 
-pub other_item : {k : SyntaxKind} {r : Row} {touch : Bool} {next : Option SyntaxKind} {action : Action} → IsDone k r touch next action → expects_next r touch next ≡ false
+pub other_item : {k : SyntaxKind} {r : Row} {touch : Bool} {next : Option SyntaxKind} {action : Action} → IsDone k r touch next action
+    → expects_next r touch next ≡ false
     → by_item k r next action ≡ true
 other_item {k} {r} {action = action} w o = (and_parts (asks (may_end r) (is_ending k action)) _ (other_end w o)).1
 

@@ -80,4 +80,5 @@ IsMade c = steps 60 (begins (items_of c)) ≡ end_with (items_of c) c.right
 -- so the text is read so
 pub holds : (c : Case) → IsMade c → Holds c
 holds c e f faults h w =
-    same (items_of c) (trees_in c.right (items_of c)) f (end_from 0 (items_of c)) c.right.1 faults (subst (Runs false (begins (items_of c))) e (steps_run 60 (begins (items_of c)))) h w
+    same (items_of c) (trees_in c.right (items_of c)) f (end_from 0 (items_of c)) c.right.1 faults
+    (subst (Runs false (begins (items_of c))) e (steps_run 60 (begins (items_of c)))) h w

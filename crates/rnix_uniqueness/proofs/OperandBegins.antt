@@ -18,16 +18,19 @@ use Rattle.rnix_grammar.specs.declared.action.Action.TheVariants as a
 use Rattle.rnix_grammar.specs.declared.begin.Begin.TheVariants as b
 
 -- an item goes on with a tree, as far as the tree's level
-pub goes : (level max_bp : ℕ) (i : SyntaxKind) (x : AnnotatedForest) → FollowedTo max_bp x → follows i x ≡ true → level ≤ binding_power i → more_action level max_bp (Some i) ≡ follow i
+pub goes : (level max_bp : ℕ) (i : SyntaxKind) (x : AnnotatedForest) → FollowedTo max_bp x → follows i x ≡ true → level ≤ binding_power i
+    → more_action level max_bp (Some i) ≡ follow i
 goes level max_bp i x b f l =
     let w = (b i).1 f in
-    ap (λ z. if z then follow i else a.EndOperand) (all_three (nat_le 1 (binding_power i)) (nat_le level (binding_power i)) (nat_le (binding_power i) max_bp) (at_most_true 1 (binding_power i) w.0) (at_most_true level (binding_power i) l) (at_most_true (binding_power i) max_bp w.1))
+    ap (λ z. if z then follow i else a.EndOperand) (all_three (nat_le 1 (binding_power i)) (nat_le level (binding_power i)) (nat_le (binding_power i) max_bp)
+    (at_most_true 1 (binding_power i) w.0) (at_most_true level (binding_power i) l) (at_most_true (binding_power i) max_bp w.1))
   where
     all_three : (u v w : Bool) → u ≡ true → v ≡ true → w ≡ true → (u && (v && w)) ≡ true
     all_three u v w e f g = ap (λ z. z && (v && w)) e ∙ ap (λ z. z && w) f ∙ g
 
 -- an operand that no item goes on with ends
-pub settles : (level max_bp : ℕ) (x : AnnotatedForest) (us : List Token) → FollowedTo max_bp x → goes_on level x us ≡ false → more_action level max_bp (head_kind us) ≡ a.EndOperand
+pub settles : (level max_bp : ℕ) (x : AnnotatedForest) (us : List Token) → FollowedTo max_bp x → goes_on level x us ≡ false
+    → more_action level max_bp (head_kind us) ≡ a.EndOperand
 settles level max_bp x [] b h = refl
 settles level max_bp x (t ∷ ts) b h = by (goes_between level max_bp t.kind) refl
   where
@@ -45,12 +48,17 @@ begun_same level x y [] e h = h
 begun_same level x y (t ∷ ts) e h = h ∙ e
 
 -- a tree with which an item goes on is the first of another that is read, if the steps read the rest of that
-pub continued : (zs xs : List Token) (x z : AnnotatedForest) (i : SyntaxKind) (action : Action) (max_bp d n : ℕ) (us : List Token) (es ds : List Fault) → follows i x ≡ true
-    → head_kind (xs ++ us) ≡ Some i → follow i ≡ action → first_tree z ≡ first_tree x → row_level z ≤ binding_power i → FollowedTo max_bp z → ReadsTree d n zs x (xs ++ us) es
-    → ((level other : ℕ) (f : Frame) (fs : List Frame) (gs : List Fault) → Runs false (perform false action (opened Operand (p.AfterOperand level other) d x) (f ∷ fs) (xs ++ us) (end_from n zs) gs)
-    (machine (opened Operand (p.AfterOperand level max_bp) d z ∷ (f ∷ fs)) us (end_from (end_from n zs) xs) (gs ++ ds))) → ReadsTree d n (zs ++ xs) z us (es ++ ds)
+pub continued : (zs xs : List Token) (x z : AnnotatedForest) (i : SyntaxKind) (action : Action) (max_bp d n : ℕ) (us : List Token) (es ds : List Fault)
+    → follows i x ≡ true
+    → head_kind (xs ++ us) ≡ Some i → follow i ≡ action → first_tree z ≡ first_tree x → row_level z ≤ binding_power i → FollowedTo max_bp z
+    → ReadsTree d n zs x (xs ++ us) es
+    → ((level other : ℕ) (f : Frame) (fs : List Frame) (gs : List Fault)
+    → Runs false (perform false action (opened Operand (p.AfterOperand level other) d x) (f ∷ fs) (xs ++ us) (end_from n zs) gs)
+    (machine (opened Operand (p.AfterOperand level max_bp) d z ∷ (f ∷ fs)) us (end_from (end_from n zs) xs) (gs ++ ds)))
+    → ReadsTree d n (zs ++ xs) z us (es ++ ds)
 continued zs xs x z i action max_bp d n us es ds goes_so next act same least followed tree rest level f fs gs min_bp begins =
-    by (tree level f fs gs (omega (arith, min_bp, least, follows_level i x goes_so)) (begun_same level z x (zs ++ (xs ++ us)) same (subst (IsBegun level z) (append_assoc zs xs us) begins)))
+    by (tree level f fs gs (omega (arith, min_bp, least, follows_level i x goes_so))
+    (begun_same level z x (zs ++ (xs ++ us)) same (subst (IsBegun level z) (append_assoc zs xs us) begins)))
   where
     by : IsOperandRead level d n zs x (xs ++ us) es f fs gs → IsOperandRead level d n (zs ++ xs) z us (es ++ ds) f fs gs
     by r = record {
@@ -64,7 +72,8 @@ continued zs xs x z i action max_bp d n us es ds goes_so next act same least fol
           (ap (more_action level r.max_bp) next ∙ goes level r.max_bp i x r.followed goes_so (omega (arith, min_bp, least)) ∙ act))
           (runs_to
           (ap (λ w. machine (opened Operand (p.AfterOperand level max_bp) d z ∷ (f ∷ fs)) us (end_from (end_from n zs) xs) w) (append_assoc gs es ds)
-          ∙ ap (λ w. machine (opened Operand (p.AfterOperand level max_bp) d z ∷ (f ∷ fs)) us w (gs ++ (es ++ ds))) (sym (end_behind n zs xs))) (rest level r.max_bp f fs (gs ++ es)))));
+          ∙ ap (λ w. machine (opened Operand (p.AfterOperand level max_bp) d z ∷ (f ∷ fs)) us w (gs ++ (es ++ ds))) (sym (end_behind n zs xs)))
+          (rest level r.max_bp f fs (gs ++ es)))));
     }
 
 -- the kinds of expressions that begin with one item
@@ -86,7 +95,8 @@ max_bp_at k i = if is_atom k then 16 else 0
 -- what an item of a kind begins
 abbrev pub BegunBy : SyntaxKind → Begin → Type 0
 BegunBy i (b.Leaf k) = (begins_with_item k ≡ true) × (after (row_of_kind k) (leaf_kind_as k i) ≡ done) × (is_atom k ≡ true)
-BegunBy i (b.Node k z max_bp) = (begins_with_item k ≡ true) × (after (row_of_kind k) (leaf_kind_as k i) ≡ left_at z) × (is_at k (p.Left z) ≡ true) × (max_bp_at k i ≡ max_bp)
+BegunBy i (b.Node k z max_bp) = (begins_with_item k ≡ true) × (after (row_of_kind k) (leaf_kind_as k i) ≡ left_at z) × (is_at k (p.Left z) ≡ true)
+    × (max_bp_at k i ≡ max_bp)
 BegunBy i b.NameLambda = i ≡ TOKEN_IDENT
 BegunBy i b.BoundLambda = i ≡ TOKEN_IDENT
 BegunBy i b.PatternLambda = i ≡ TOKEN_L_BRACE
@@ -136,7 +146,8 @@ special i k begin h e w = ap (λ j. begin_for j i) e
 -- the beginning of some items, if the tree is no expression that begins with an item
 pub begins_special : (k : SyntaxKind) → begins_with_item k ≡ false → (level : ℕ) (t : Token) (ts : List Token)
     → kind_of (begin_of level t.kind t.text (head_kind ts) (second_kind ts)) ≡ k
-    → (begin_of level t.kind t.text (head_kind ts) (second_kind ts) ≡ begin_for k t.kind) × BegunBy t.kind (begin_for k t.kind) × (kind_of (begin_for k t.kind) ≡ k)
+    → (begin_of level t.kind t.text (head_kind ts) (second_kind ts) ≡ begin_for k t.kind) × BegunBy t.kind (begin_for k t.kind)
+    × (kind_of (begin_for k t.kind) ≡ k)
 begins_special k h level t ts e =
     let begin : Begin = begin_of level t.kind t.text (head_kind ts) (second_kind ts) in
     let w : BegunBy t.kind begin = begins_by level t.kind t.text (head_kind ts) (second_kind ts) in
@@ -146,7 +157,8 @@ begins_special k h level t ts e =
 -- how an expression that begins with an item does so: it is the item, or a node that goes on at a position
 pub data BegunByItem (k i : SyntaxKind) (begin : Begin) : Type 0 where
   led_leaf : begin ≡ b.Leaf k → after (row_of_kind k) (leaf_kind_as k i) ≡ done → is_atom k ≡ true → BegunByItem k i begin
-  led_node : (z max_bp : ℕ) → begin ≡ b.Node k z max_bp → after (row_of_kind k) (leaf_kind_as k i) ≡ left_at z → is_at k (p.Left z) ≡ true → max_bp_at k i ≡ max_bp → BegunByItem k i begin
+  led_node : (z max_bp : ℕ) → begin ≡ b.Node k z max_bp → after (row_of_kind k) (leaf_kind_as k i) ≡ left_at z → is_at k (p.Left z) ≡ true
+      → max_bp_at k i ≡ max_bp → BegunByItem k i begin
 
 -- each such expression begins so, by its beginning
 led_by : (k i : SyntaxKind) (begin : Begin) → begins_with_item k ≡ true → kind_of begin ≡ k → BegunBy i begin → BegunByItem k i begin
@@ -180,7 +192,8 @@ keyword_level NODE_BIN_OP c h a u = absurd (true_is_not_false (sym h))
 keyword_level _ c h a u = cc
 
 -- what goes on with it
-followed_plain : (k : SyntaxKind) (c : AnnotatedForest) → begins_with_item k ≡ true → is_unary k ≡ false → FollowedTo (if is_atom k then 16 else 0) (one_branch k c)
+followed_plain : (k : SyntaxKind) (c : AnnotatedForest) → begins_with_item k ≡ true → is_unary k ≡ false
+    → FollowedTo (if is_atom k then 16 else 0) (one_branch k c)
 followed_plain k c h u = by (is_atom k) refl
   where
     by : (w : Bool) → is_atom k ≡ w → FollowedTo (if w then 16 else 0) (one_branch k c)
@@ -188,7 +201,8 @@ followed_plain k c h u = by (is_atom k) refl
     by false a = followed_keyword (one_branch k c) (keyword_level k c h a u) a
 
 -- what goes on with such a tree
-pub followed_item_begun : (k i : SyntaxKind) (t : Token) (f : AnnotatedForest) → begins_with_item k ≡ true → FollowedTo (max_bp_at k i) (one_branch k (token (leaf_kind_as k i) t f))
+pub followed_item_begun : (k i : SyntaxKind) (t : Token) (f : AnnotatedForest) → begins_with_item k ≡ true
+    → FollowedTo (max_bp_at k i) (one_branch k (token (leaf_kind_as k i) t f))
 followed_item_begun NODE_UNARY_OP TOKEN_INVERT t f h = followed_inverted (one_branch NODE_UNARY_OP (token TOKEN_INVERT t f)) refl refl
 followed_item_begun NODE_UNARY_OP i t f h = followed_negated (one_branch NODE_UNARY_OP (token i t f)) refl refl
 followed_item_begun k i t f h = followed_plain k (token (leaf_kind_as k i) t f) h refl

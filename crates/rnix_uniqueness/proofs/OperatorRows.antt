@@ -24,9 +24,11 @@ pub record BeginsWithTree (k : SyntaxKind) (q : Row) (test : SyntaxKind → Bool
   pub deep : (d : ℕ) → deeper (row_of_kind k) d ≡ d
 
 -- a node whose first tree is read is read, if no lone token is first and the rest is read behind the tree
-pub leading : {m : ℕ} {k : SyntaxKind} {d n : ℕ} {q : Row} {us : List Token} {test : SyntaxKind → Bool} {c : AnnotatedForest} {es : List Fault} → Trees m → BeginsWithTree k q test
+pub leading : {m : ℕ} {k : SyntaxKind} {d n : ℕ} {q : Row} {us : List Token} {test : SyntaxKind → Bool} {c : AnnotatedForest} {es : List Fault} → Trees m
+    → BeginsWithTree k q test
     → ((j : SyntaxKind) (t : Token) (f : AnnotatedForest) (fs : List Fault) → Complete m k d t.end q (one_token j t) us f fs → ⊥)
-    → ((zs : List Token) (x f : AnnotatedForest) (es ds : List Fault) → IsSingle x → ReadsTree d n zs x (tokens_in f ++ us) es → Complete m k d (end_from n zs) q x us f ds
+    → ((zs : List Token) (x f : AnnotatedForest) (es ds : List Fault) → IsSingle x → ReadsTree d n zs x (tokens_in f ++ us) es
+    → Complete m k d (end_from n zs) q x us f ds
     → ReadsTree d n (zs ++ tokens_in f) (one_branch k (x ⊕ f)) us (es ++ ds))
     → Front m k d n (row_of_kind k) blank us c es → ReadsTree d n (tokens_in c) (one_branch k c) us es
 leading {m} {k} {d} {n} {q} {us} {test} trees w dead more r = by r
@@ -40,11 +42,13 @@ leading {m} {k} {d} {n} {q} {us} {test} trees w dead more r = by r
     by : {c : AnnotatedForest} {es : List Fault} → Front m k d n (row_of_kind k) blank us c es → ReadsTree d n (tokens_in c) (one_branch k c) us es
     by (by_leaf {k = j} {t = t} {f = f} {es = es} e x l r) = absurd (dead j t f es (complete_to (behind j l) refl r))
     by (by_stray {t = t} {f = f} {es = es} o x y l r) =
-        more (t ∷ []) (one_fault Stray (row_of (t ∷ []))) f (report Stray (t ∷ []) ∷ []) es an_error (stray_reads t d n (tokens_in f ++ us)) (complete_to (behind NODE_LITERAL l) refl r)
+        more (t ∷ []) (one_fault Stray (row_of (t ∷ []))) f (report Stray (t ∷ []) ∷ []) es an_error (stray_reads t d n (tokens_in f ++ us))
+        (complete_to (behind NODE_LITERAL l) refl r)
     by (by_node {k = j} {c = c} {f = f} {ds = ds} {es = es} r y x i l r') =
         let fit : is_expression j ≡ true = w.fitting j (passes j l) in
         let tree = trees j d n (tokens_in f ++ us) c ds (subst (λ d. Complete m j d n (row_of_kind j) blank (tokens_in f ++ us) c ds) (w.deep d) r) fit in
-        subst (λ v. ReadsTree d n (tokens_in c ++ tokens_in f) (one_branch k (branch j c f)) us (v ++ es)) (sym (ap (λ v. ds ++ v) (unreported j blank c fit) ∙ append-nil ds))
+        subst (λ v. ReadsTree d n (tokens_in c ++ tokens_in f) (one_branch k (branch j c f)) us (v ++ es))
+        (sym (ap (λ v. ds ++ v) (unreported j blank c fit) ∙ append-nil ds))
         (more (tokens_in c) (one_branch j c) f ds es a_node tree (complete_to (behind j l) refl r'))
 
 -- a node whose row begins with a tree and an item, which leads to a position
@@ -55,8 +59,10 @@ record Joins (k : SyntaxKind) (q : Row) (test : SyntaxKind → Bool) (z : Syntax
   goes : (i : SyntaxKind) → is_viable (after q i) ≡ true → after q i ≡ rest_at (z i)
   in_row_of : (i : SyntaxKind) → is_at k (z i) ≡ true
   action : (i : SyntaxKind) → is_viable (after q i) ≡ true → follow_of i ≡ a.Wrap k (z i) (max_bp i)
-  level : (i : SyntaxKind) (x : AnnotatedForest) (t : Token) (f : AnnotatedForest) → IsSingle x → is_viable (after q i) ≡ true → row_level (one_branch k (x ⊕ token i t f)) ≡ binding_power i
-  followed : (i : SyntaxKind) (x : AnnotatedForest) → is_viable (after q i) ≡ true → row_level (one_branch k x) ≡ binding_power i → FollowedTo (max_bp i) (one_branch k x)
+  level : (i : SyntaxKind) (x : AnnotatedForest) (t : Token) (f : AnnotatedForest) → IsSingle x → is_viable (after q i) ≡ true
+      → row_level (one_branch k (x ⊕ token i t f)) ≡ binding_power i
+  followed : (i : SyntaxKind) (x : AnnotatedForest) → is_viable (after q i) ≡ true → row_level (one_branch k x) ≡ binding_power i
+      → FollowedTo (max_bp i) (one_branch k x)
   first : (x : AnnotatedForest) → first_tree (one_branch k x) ≡ first_tree x
 
 -- a tree, an item that goes on with it, and the rest of the node's row
@@ -70,8 +76,10 @@ joined {k = k} {z = z} {max_bp = max_bp} w zs x t f d n us es ds one is_viable t
     (w.first (x ⊕ token t.kind t f) ∙ first_in x (token t.kind t f) one) (omega (arith, tight)) (w.followed t.kind (x ⊕ token t.kind t f) is_viable tight) tree
     (λ level other g fs gs.
     runs_from
-    (ap (λ q. machine (opened (Node k) (z t.kind) d (x ⊕ one_token q t) ∷ (opened Operand (p.AfterOperand level (max_bp t.kind)) d blank ∷ (g ∷ fs))) (tokens_in f ++ us) t.end gs) (keeps_kind k t.kind w.known.0))
-    (runs_to (ap (λ q. machine (opened Operand (p.AfterOperand level (max_bp t.kind)) d (one_branch k q) ∷ (g ∷ fs)) us (end_from t.end (tokens_in f)) (gs ++ ds)) (⊕-assoc x (one_token t.kind t) f))
+    (ap (λ q. machine (opened (Node k) (z t.kind) d (x ⊕ one_token q t) ∷ (opened Operand (p.AfterOperand level (max_bp t.kind)) d blank ∷ (g ∷ fs)))
+    (tokens_in f ++ us) t.end gs) (keeps_kind k t.kind w.known.0))
+    (runs_to (ap (λ q. machine (opened Operand (p.AfterOperand level (max_bp t.kind)) d (one_branch k q) ∷ (g ∷ fs)) us (end_from t.end (tokens_in f))
+    (gs ++ ds)) (⊕-assoc x (one_token t.kind t) f))
     (operand_read row w.known.1 w.known.2 (p.AfterOperand level (max_bp t.kind)) d (g ∷ fs) gs)))
   where
     v : AnnotatedForest
@@ -91,7 +99,8 @@ joined_reads m rows trees k q test z max_bp w d n us c es r = leading trees w.be
     lone : (j : SyntaxKind) (t : Token) (f : AnnotatedForest) (fs : List Fault) → Complete m k d t.end q (one_token j t) us f fs → ⊥
     lone j t f fs r = let v = next r in follows_token (leaf_kind k v.item) j t blank (w.follow (leaf_kind k v.item) (one_token j t) v.followed)
 
-    more : (zs : List Token) (x f : AnnotatedForest) (es ds : List Fault) → IsSingle x → ReadsTree d n zs x (tokens_in f ++ us) es → Complete m k d (end_from n zs) q x us f ds
+    more : (zs : List Token) (x f : AnnotatedForest) (es ds : List Fault) → IsSingle x → ReadsTree d n zs x (tokens_in f ++ us) es
+        → Complete m k d (end_from n zs) q x us f ds
         → ReadsTree d n (zs ++ tokens_in f) (one_branch k (x ⊕ f)) us (es ++ ds)
     more zs x f es ds one tree r =
         let v = next r in

@@ -14,7 +14,8 @@ use Rattle.rnix_uniqueness.proofs.{ViableReadings.{reads_viable, no_some}, OneAc
 use Rattle.rnix_uniqueness.proofs.StepReads.{ReadsTree, ReadsTo}
 
 -- how many steps a reading takes to say
-abbrev pub height : {p : SyntaxKind} {d n : ℕ} {q s : Row} {b : AnnotatedForest} {us : List Token} {f : AnnotatedForest} {es : List Fault} → Reads p d n q s b us f es → ℕ
+abbrev pub height : {p : SyntaxKind} {d n : ℕ} {q s : Row} {b : AnnotatedForest} {us : List Token} {f : AnnotatedForest} {es : List Fault}
+    → Reads p d n q s b us f es → ℕ
 height end = 0
 height (leaf x w r) = suc (height r)
 height (inner i c o x w j r) = suc (height c + height r)
@@ -65,7 +66,8 @@ pub data Front (m : ℕ) (p : SyntaxKind) (d n : ℕ) (q : Row) (b : AnnotatedFo
 -- each expression of a kind whose row goes on so is read
 abbrev pub KindReads : ℕ → SyntaxKind → Type 0
 KindReads m k =
-    (d n : ℕ) (us : List Token) (c : AnnotatedForest) (es : List Fault) → Front m k d n (row_of_kind k) blank us c es → ReadsTree d n (tokens_in c) (one_branch k c) us es
+    (d n : ℕ) (us : List Token) (c : AnnotatedForest) (es : List Fault) → Front m k d n (row_of_kind k) blank us c es
+    → ReadsTree d n (tokens_in c) (one_branch k c) us es
 
 -- a child stands here whenever the node does
 abbrev pub is_firm : Row → Bool
@@ -91,11 +93,13 @@ pub complete_to : {m n : ℕ} {p : SyntaxKind} {d : ℕ} {q r : Row} {b c : Anno
 complete_to {m} {n} {p} {d} {q} {b = b} {c} {us} {f} {es} u v h = subst (λ b. Complete m p d n q b us f es) v (subst (λ q. Complete m p d n q c us f es) u h)
 
 -- a row that ends is viable, and where nothing is left of it nothing is read
-pub complete_viable : {m n : ℕ} {p : SyntaxKind} {d : ℕ} {q : Row} {b : AnnotatedForest} {us : List Token} {f : AnnotatedForest} {es : List Fault} → Complete m p d n q b us f es
+pub complete_viable : {m n : ℕ} {p : SyntaxKind} {d : ℕ} {q : Row} {b : AnnotatedForest} {us : List Token} {f : AnnotatedForest} {es : List Fault}
+    → Complete m p d n q b us f es
     → is_viable q ≡ true
 complete_viable w = reads_viable w.part.reads (end_viable w.last w.over.0)
 
-pub complete_done : {m n : ℕ} {p : SyntaxKind} {d : ℕ} {q : Row} {b : AnnotatedForest} {us : List Token} {f : AnnotatedForest} {es : List Fault} → Complete m p d n q b us f es
+pub complete_done : {m n : ℕ} {p : SyntaxKind} {d : ℕ} {q : Row} {b : AnnotatedForest} {us : List Token} {f : AnnotatedForest} {es : List Fault}
+    → Complete m p d n q b us f es
     → q ≡ done → (f ≡ blank) × (es ≡ [])
 complete_done w e = done_ends w.part.reads e (end_viable w.last w.over.0)
 
@@ -112,9 +116,11 @@ pub less_right : (a b m : ℕ) → suc (a + b) < suc m → b < m
 less_right a b m h = omega (arith, h)
 
 -- a row that begins with an error node
-front_wrong : (m : ℕ) (p : SyntaxKind) (d n : ℕ) (q r : Row) (b : AnnotatedForest) (us : List Token) (f : AnnotatedForest) (es : List Fault) (note : Note) (ts : List Token)
+front_wrong : (m : ℕ) (p : SyntaxKind) (d n : ℕ) (q r : Row) (b : AnnotatedForest) (us : List Token) (f : AnnotatedForest) (es : List Fault) (note : Note)
+    (ts : List Token)
     → IsExpected q n (ts ++ (tokens_in f ++ us)) false → IsFollowed q b (head_kind ts) → IsWrong note d q r ts (tokens_in f ++ us)
-    → Complete m p d (end_from n ts) r (b ⊕ one_fault note (row_of ts)) us f es → is_firm q ≡ true → Front m p d n q b us (fault note (row_of ts) f) (report note ts ∷ es)
+    → Complete m p d (end_from n ts) r (b ⊕ one_fault note (row_of ts)) us f es → is_firm q ≡ true
+    → Front m p d n q b us (fault note (row_of ts) f) (report note ts ∷ es)
 front_wrong m p d n q r b us f es Stray [] o w x h a = absurd (cc x.0)
 front_wrong m p d n q r b us f es Stray (t ∷ []) o w x h a = by_stray o w x.2 (ap is_viable x.3 ∙ complete_viable h) (complete_to (sym x.3) refl h)
 front_wrong m p d n q r b us f es Stray (t ∷ (u ∷ ts)) o w x h a = absurd (omega (arith, x.0))
@@ -124,13 +130,15 @@ front_wrong m p d n q r b us f es DoubleBind ts o w x h a = absurd x
 front_wrong m p d n q r b us f es TooDeep ts o w x h a = absurd (true_is_not_false (sym x.1 ∙ (firm q a).1))
 
 -- a row that ends goes on in one of these ways
-pub front : (m : ℕ) {p : SyntaxKind} {d n : ℕ} {q s : Row} {b : AnnotatedForest} {us : List Token} {f : AnnotatedForest} {es : List Fault} (r : Reads p d n q s b us f es)
+pub front : (m : ℕ) {p : SyntaxKind} {d n : ℕ} {q s : Row} {b : AnnotatedForest} {us : List Token} {f : AnnotatedForest} {es : List Fault}
+    (r : Reads p d n q s b us f es)
     → height r < suc m → is_firm q ≡ true → IsOver s (end_from n (tokens_in f)) us → Front m p d n q b us f es
 front m {q = q} end h a o = absurd (true_is_not_false (sym o.0 ∙ (firm q a).0))
 front m {s = s} (leaf x w r) h a o =
     by_leaf refl w (reads_viable r (end_viable s o.0)) (record { last = s; part = record { reads = r; short = less (height r) m h }; over = o })
 front m {n = n} {s = s} {us = us} (inner {s = z} {c = c} {f = f} i r v x w j t) h a o =
-    by_node (record { last = z; part = record { reads = r; short = less_left (height r) (height t) m h }; over = v }) x w j (reads_viable t (end_viable s o.0)) (record {
+    by_node (record { last = z; part = record { reads = r; short = less_left (height r) (height t) m h }; over = v }) x w j (reads_viable t (end_viable s o.0))
+    (record {
       last = s;
       part = record { reads = t; short = less_right (height r) (height t) m h };
       over = subst (λ e. IsOver s e us) (end_behind n (tokens_in c) (tokens_in f)) o;
@@ -169,21 +177,25 @@ pub record Item (m : ℕ) (k : SyntaxKind) (d : ℕ) (q : Row) (b : AnnotatedFor
   pub alive : is_viable (after q (leaf_kind k item)) ≡ true
   pub rest : Complete m k d item.end (after q (leaf_kind k item)) (b ⊕ one_token (leaf_kind k item) item) us more es
 
-leaf_item : {m : ℕ} {k i : SyntaxKind} {d : ℕ} {q : Row} {b : AnnotatedForest} {us : List Token} {t : Token} {f : AnnotatedForest} {es : List Fault} → i ≡ leaf_kind k t
+leaf_item : {m : ℕ} {k i : SyntaxKind} {d : ℕ} {q : Row} {b : AnnotatedForest} {us : List Token} {t : Token} {f : AnnotatedForest} {es : List Fault}
+    → i ≡ leaf_kind k t
     → IsFollowed q b (Some i) → is_viable (after q i) ≡ true → Complete m k d t.end (after q i) (b ⊕ one_token i t) us f es → Item m k d q b us (token i t f) es
 leaf_item {m} {k} {i} {d} {q} {b} {us} {t} {f} {es} e =
-    subst (λ i. IsFollowed q b (Some i) → is_viable (after q i) ≡ true → Complete m k d t.end (after q i) (b ⊕ one_token i t) us f es → Item m k d q b us (token i t f) es) (sym e)
+    subst (λ i. IsFollowed q b (Some i) → is_viable (after q i) ≡ true → Complete m k d t.end (after q i) (b ⊕ one_token i t) us f es
+    → Item m k d q b us (token i t f) es) (sym e)
     (λ y l r. record { item = t; more = f; is = refl; followed = y; alive = l; rest = r })
 
 -- where no node stands, an item does
-pub item_next : {m : ℕ} {k : SyntaxKind} {d n : ℕ} {q : Row} {b : AnnotatedForest} {us : List Token} {f : AnnotatedForest} {es : List Fault} → has_no_node_next q ≡ true
+pub item_next : {m : ℕ} {k : SyntaxKind} {d n : ℕ} {q : Row} {b : AnnotatedForest} {us : List Token} {f : AnnotatedForest} {es : List Fault}
+    → has_no_node_next q ≡ true
     → Front m k d n q b us f es → Item m k d q b us f es
 item_next h (by_leaf e y l r) = leaf_item e y l r
 item_next {q = q} h (by_stray o y z l r) = absurd (true_is_not_false (no_node_row q h NODE_LITERAL l))
 item_next {q = q} h (by_node {k = j} r y v i l r') = absurd (true_is_not_false (sym (complete_viable r) ∙ no_node_row q h j l))
 
 -- an item that is the last of its row
-pub item_alone : {m : ℕ} {k : SyntaxKind} {d : ℕ} {q : Row} {b : AnnotatedForest} {us : List Token} {f : AnnotatedForest} {es : List Fault} (w : Item m k d q b us f es)
+pub item_alone : {m : ℕ} {k : SyntaxKind} {d : ℕ} {q : Row} {b : AnnotatedForest} {us : List Token} {f : AnnotatedForest} {es : List Fault}
+    (w : Item m k d q b us f es)
     → after q (leaf_kind k w.item) ≡ done → (f ≡ one_token (leaf_kind k w.item) w.item) × (es ≡ [])
 item_alone {k = k} w e = let v = complete_done w.rest e in (w.is ∙ ap (λ z. token (leaf_kind k w.item) w.item z) v.0, v.1)
 
@@ -210,15 +222,19 @@ name_item r =
     (v.item, u.0, e, u.1)
 
 -- a node that stands where only a name may is one
-name_next : {m : ℕ} {k : SyntaxKind} {d e n : ℕ} {q : Row} {b : AnnotatedForest} {us vs : List Token} {c f : AnnotatedForest} {ds es : List Fault} (j : SyntaxKind) → j ≡ NODE_IDENT
-    → is_viable (after q j) ≡ true → Complete m j e n (row_of_kind j) blank vs c ds → Complete m k d (end_from n (tokens_in c)) (after q j) (b ⊕ one_branch j c) us f es
+name_next : {m : ℕ} {k : SyntaxKind} {d e n : ℕ} {q : Row} {b : AnnotatedForest} {us vs : List Token} {c f : AnnotatedForest} {ds es : List Fault}
+    (j : SyntaxKind) → j ≡ NODE_IDENT
+    → is_viable (after q j) ≡ true → Complete m j e n (row_of_kind j) blank vs c ds
+    → Complete m k d (end_from n (tokens_in c)) (after q j) (b ⊕ one_branch j c) us f es
     → Name m k d q b us (branch j c f) ((ds ++ repeats j b c) ++ es)
 name_next {m} {k} {d} {e} {n} {q} {b} {us} {vs} {c} {f} {ds} {es} j h =
-    subst (λ (i : SyntaxKind). is_viable (after q i) ≡ true → Complete m i e n (row_of_kind i) blank vs c ds → Complete m k d (end_from n (tokens_in c)) (after q i) (b ⊕ one_branch i c) us f es
+    subst (λ (i : SyntaxKind). is_viable (after q i) ≡ true → Complete m i e n (row_of_kind i) blank vs c ds
+    → Complete m k d (end_from n (tokens_in c)) (after q i) (b ⊕ one_branch i c) us f es
     → Name m k d q b us (branch i c f) ((ds ++ repeats i b c) ++ es)) (sym h) by
   where
     by : is_viable (after q NODE_IDENT) ≡ true → Complete m NODE_IDENT e n (row_of_kind NODE_IDENT) blank vs c ds
-        → Complete m k d (end_from n (tokens_in c)) (after q NODE_IDENT) (b ⊕ one_branch NODE_IDENT c) us f es → Name m k d q b us (branch NODE_IDENT c f) ((ds ++ []) ++ es)
+        → Complete m k d (end_from n (tokens_in c)) (after q NODE_IDENT) (b ⊕ one_branch NODE_IDENT c) us f es
+        → Name m k d q b us (branch NODE_IDENT c f) ((ds ++ []) ++ es)
     by l r r' =
         let v = name_item r in
         record {
@@ -228,12 +244,15 @@ name_next {m} {k} {d} {e} {n} {q} {b} {us} {vs} {c} {f} {ds} {es} j h =
           kind = v.2;
           alive = l;
           rest =
-              subst (λ (fs : List Fault). Complete m k d v.0.end (after q NODE_IDENT) (b ⊕ one_branch NODE_IDENT (one_token (leaf_kind NODE_IDENT v.0) v.0)) us f fs)
-              (ap (λ fs. (fs ++ []) ++ es) (sym v.3)) (subst (λ (g : AnnotatedForest). Complete m k d (end_from n (tokens_in g)) (after q NODE_IDENT) (b ⊕ one_branch NODE_IDENT g) us f es) v.1 r');
+              subst (λ (fs : List Fault). Complete m k d v.0.end (after q NODE_IDENT)
+              (b ⊕ one_branch NODE_IDENT (one_token (leaf_kind NODE_IDENT v.0) v.0)) us f fs)
+              (ap (λ fs. (fs ++ []) ++ es) (sym v.3)) (subst (λ (g : AnnotatedForest). Complete m k d (end_from n (tokens_in g)) (after q NODE_IDENT)
+              (b ⊕ one_branch NODE_IDENT g) us f es) v.1 r');
         }
 
 -- where no node but a name is first, an item or a name stands
-pub item_or_name : {m : ℕ} {k : SyntaxKind} {d n : ℕ} {q : Row} {b : AnnotatedForest} {us : List Token} {f : AnnotatedForest} {es : List Fault} → names_only q ≡ true
+pub item_or_name : {m : ℕ} {k : SyntaxKind} {d n : ℕ} {q : Row} {b : AnnotatedForest} {us : List Token} {f : AnnotatedForest} {es : List Fault}
+    → names_only q ≡ true
     → Front m k d n q b us f es → Item m k d q b us f es ⊎ Name m k d q b us f es
 item_or_name {q = q} h r = by r
   where
@@ -260,10 +279,12 @@ begins_so {m} {k} {d} {n} {us} {c} {es} r = by (begins_with_item k) refl
         ∙ ap (λ w. w || (is_viable (after (row_of_kind k) NODE_IDENT) && is_name t.item.kind)) t.alive
     first (inr t) =
         ap (λ c. is_first k (head_kind (tokens_in c ++ us))) t.is
-        ∙ or_true (is_viable (after (row_of_kind k) (leaf_kind k t.item))) (ap (λ w. w && is_name t.item.kind) t.alive ∙ ap (λ j. same_kind j TOKEN_IDENT) t.kind)
+        ∙ or_true (is_viable (after (row_of_kind k) (leaf_kind k t.item)))
+        (ap (λ w. w && is_name t.item.kind) t.alive ∙ ap (λ j. same_kind j TOKEN_IDENT) t.kind)
 
     by : (v : Bool) → begins_with_item k ≡ v → (if v then is_first k (head_kind (tokens_in c ++ us)) else true) ≡ true
     by true e =
-        let w = and_parts (names_only (row_of_kind k)) (is_firm (row_of_kind k)) (implied begins_with_item (λ k. names_only (row_of_kind k) && is_firm (row_of_kind k)) refl k e) in
+        let w = and_parts (names_only (row_of_kind k)) (is_firm (row_of_kind k))
+        (implied begins_with_item (λ k. names_only (row_of_kind k) && is_firm (row_of_kind k)) refl k e) in
         first (item_or_name w.0 (front_of refl r w.1))
     by false e = refl

@@ -25,10 +25,12 @@ use Rattle.rnix_grammar.specs.declared.action.Action.TheVariants as a
 -- items at a position, in the row of a node, before others, where what is read ends in a row
 module _ (q : SyntaxKind) (d n : ℕ) (x : Position) (r : Row) (b : AnnotatedForest) (here : is_at q x ≡ true) (on : is_viable r ≡ true) where
   -- where an error node stands for an operand, an operand is read
-  stands : (ts : List Token) → after (rest_at x) NODE_LITERAL ≡ r → IsExpected (rest_at x) n ts false → Operands q (rest_at x) r (action_at x (head_kind ts) (touches n ts))
+  stands : (ts : List Token) → after (rest_at x) NODE_LITERAL ≡ r → IsExpected (rest_at x) n ts false
+      → Operands q (rest_at x) r (action_at x (head_kind ts) (touches n ts))
   stands ts h o =
       subst (λ r. Operands q (rest_at x) r (action_at x (head_kind ts) (touches n ts))) h
-      (reads_at (done_at q x (touches n ts) (head_kind ts) here) (next_is q x n ts false here o) (or_true (is_any (level_at (rest_at x) blank)) (ap is_viable h ∙ on)))
+      (reads_at (done_at q x (touches n ts) (head_kind ts) here) (next_is q x n ts false here o)
+      (or_true (is_any (level_at (rest_at x) blank)) (ap is_viable h ∙ on)))
 
   -- an error node at a position is read there
   pub wrong_one : (note : Note) (ts vs : List Token) → IsExpected (rest_at x) n (ts ++ vs) false → IsWrong note d (rest_at x) r ts vs
@@ -38,13 +40,15 @@ module _ (q : SyntaxKind) (d n : ℕ) (x : Position) (r : Row) (b : AnnotatedFor
       let v : Operands q (rest_at x) r (action_at x (Some t.kind) (touches n (t ∷ vs))) = stands (t ∷ vs) w.3 o in
       let g : AnnotatedForest = one_fault Stray (row_of (t ∷ [])) in
       let i = operand_by_steps (Some v.level) g vs (subst (λ (l : Option ℕ). IsOperandOf l g vs) v.is w.2) in
-      goes_one (a.Read v.level (counts (rest_at x))) v.act (λ y h fs gs e. one_operand x b w.1 i.0 i.1 i.2 (stray_reads t (deeper (rest_at x) d) n vs) y h fs gs)
+      goes_one (a.Read v.level (counts (rest_at x))) v.act (λ y h fs gs e. one_operand x b w.1 i.0 i.1 i.2
+      (stray_reads t (deeper (rest_at x) d) n vs) y h fs gs)
   wrong_one Stray (t ∷ (u ∷ ts)) vs o w = absurd (omega (arith, w.0))
   wrong_one (Unwanted until) [] vs o w = absurd (true_is_not_false (sym w.0))
   wrong_one (Unwanted until) (t ∷ ts) vs o w =
       let ws : List Token = t ∷ ts ++ vs in
       goes_one (a.Run until) (runs_at until (done_at q x (touches n ws) (Some t.kind) here) (next_is q x n ws false here o) w.2)
-      (λ y h fs gs e. runs_from (ap (λ (v : List Token). machine (opened h (p.Left y) d (b ⊕ one_fault (Unwanted until) (row_of v)) ∷ fs) (dropped v ws) (end_from n v)
+      (λ y h fs gs e. runs_from (ap (λ (v : List Token). machine (opened h (p.Left y) d (b ⊕ one_fault (Unwanted until) (row_of v)) ∷ fs) (dropped v ws)
+      (end_from n v)
       (gs ++ report (Unwanted until) v ∷ [])) (sym w.1)) (runs_to (cc (dropped_front (t ∷ ts) vs)) stays))
   wrong_one Extra [] vs o w = absurd (true_is_not_false (sym w.0))
   wrong_one Extra (t ∷ ts) vs o w =
@@ -57,18 +61,21 @@ module _ (q : SyntaxKind) (d n : ℕ) (x : Position) (r : Row) (b : AnnotatedFor
         here = here;
         one = λ h fs gs i e.
             step_to (ap (λ z. perform false z (opened h x d b) fs ws n gs) act
-            ∙ ap (λ (v : List Token). machine (opened h x d (b ⊕ one_fault Extra (row_of v)) ∷ fs) (dropped v v) (end_from n v) (gs ++ report Extra v ∷ [])) all)
+            ∙ ap (λ (v : List Token). machine (opened h x d (b ⊕ one_fault Extra (row_of v)) ∷ fs) (dropped v v) (end_from n v)
+            (gs ++ report Extra v ∷ [])) all)
             (runs_to (cc (dropped_all (t ∷ ts), w.1)) stays);
       }
   wrong_one DoubleBind ts vs o w = absurd w
   wrong_one TooDeep ts vs o w =
-      subst (λ (v : List Token). IsExpected (rest_at x) n (ts ++ v) false → OneTo q d n x r b ts v (one_fault TooDeep (row_of ts)) (report TooDeep ts ∷ [])) (sym w.0) deep o
+      subst (λ (v : List Token). IsExpected (rest_at x) n (ts ++ v) false → OneTo q d n x r b ts v (one_fault TooDeep (row_of ts)) (report TooDeep ts ∷ []))
+      (sym w.0) deep o
     where
       deep : IsExpected (rest_at x) n (ts ++ []) false → OneTo q d n x r b ts [] (one_fault TooDeep (row_of ts)) (report TooDeep ts ∷ [])
       deep o =
           let v : Operands q (rest_at x) r (action_at x (head_kind (ts ++ [])) (touches n (ts ++ []))) = stands (ts ++ []) w.3 o in
           goes_one (a.Read v.level (counts (rest_at x))) v.act
-          (λ y h fs gs e. runs_from (ap (λ z. perform false (a.Read v.level z y) (opened h x d b) fs (ts ++ []) n gs) w.1 ∙ too_far v.level d n y x h b fs (ts ++ []) gs w.2)
+          (λ y h fs gs e. runs_from (ap (λ z. perform false (a.Read v.level z y) (opened h x d b) fs (ts ++ []) n gs) w.1
+          ∙ too_far v.level d n y x h b fs (ts ++ []) gs w.2)
           (runs_to (cc (append-nil ts, dropped_all ts)) stays))
 
 -- from a position of a row to another, behind some trees and before some tokens
@@ -92,7 +99,8 @@ module _ (m : ℕ) (q : SyntaxKind) (d n : ℕ) (x : Position) (to : Row) (b : A
     where
       tests : (names_only (row_of_kind k) ≡ true) × ((is_firm (row_of_kind k) ≡ true) × (is_opened k ≡ true))
       tests =
-          let w = and_parts (names_only (row_of_kind k)) _ (implied opens_with_item (λ k. names_only (row_of_kind k) && (is_firm (row_of_kind k) && is_opened k)) refl k o) in
+          let w = and_parts (names_only (row_of_kind k)) _ (implied opens_with_item
+          (λ k. names_only (row_of_kind k) && (is_firm (row_of_kind k) && is_opened k)) refl k o) in
           (w.0, and_parts (is_firm (row_of_kind k)) (is_opened k) w.1)
 
       waits : (r : Row) → r ≡ left_at z → is_viable r ≡ true
@@ -104,11 +112,13 @@ module _ (m : ℕ) (q : SyntaxKind) (d n : ℕ) (x : Position) (to : Row) (b : A
           (λ g act. goes_one (a.Open k z) act (λ y h fs gs e. node_read (read_on rows (p.Left z) l (complete_to g refl t.rest)) i h (p.Left y) d b fs gs)) g act
       by (inr t) =
           let same : after (row_of_kind k) (leaf_kind_as k t.item.kind) ≡ left_at z = subst (Opened k z) t.is g in
-          let other = implied (λ j. is_viable (after (row_of_kind k) (leaf_kind_as k j))) (λ j. if is_name j then false else true) tests.1.1 t.item.kind (waits _ same) in
+          let other = implied (λ j. is_viable (after (row_of_kind k) (leaf_kind_as k j))) (λ j. if is_name j then false else true) tests.1.1 t.item.kind
+          (waits _ same) in
           absurd (true_is_not_false (sym other ∙ ap (λ j. if same_kind j TOKEN_IDENT then false else true) t.kind))
 
   -- a name
-  inner_name : (c : AnnotatedForest) (ds : List Fault) → Complete m NODE_IDENT d n (row_of_kind NODE_IDENT) blank vs c ds → LeadsTo q to (a.Leaf NODE_IDENT) (act_before c) → Inner NODE_IDENT ds c
+  inner_name : (c : AnnotatedForest) (ds : List Fault) → Complete m NODE_IDENT d n (row_of_kind NODE_IDENT) blank vs c ds
+      → LeadsTo q to (a.Leaf NODE_IDENT) (act_before c) → Inner NODE_IDENT ds c
   inner_name c ds r act =
       let w = name_item r in
       subst (λ (v : List Fault). Inner NODE_IDENT v c) (sym w.3)
@@ -120,7 +130,8 @@ module _ (m : ℕ) (q : SyntaxKind) (d n : ℕ) (x : Position) (to : Row) (b : A
       → IfNext (head_kind (tokens_in c ++ vs)) (λ j. j ≡ TOKEN_IDENT) → LeadsTo q to a.Entry (act_before c) → Inner NODE_PAT_ENTRY ds c
   inner_entry rows c ds r next act = by (item_or_name refl (front_of refl r refl))
     where
-      by : Item m NODE_PAT_ENTRY d (row_of_kind NODE_PAT_ENTRY) blank vs c ds ⊎ Name m NODE_PAT_ENTRY d (row_of_kind NODE_PAT_ENTRY) blank vs c ds → Inner NODE_PAT_ENTRY ds c
+      by : Item m NODE_PAT_ENTRY d (row_of_kind NODE_PAT_ENTRY) blank vs c ds ⊎ Name m NODE_PAT_ENTRY d (row_of_kind NODE_PAT_ENTRY) blank vs c ds
+          → Inner NODE_PAT_ENTRY ds c
       by (inl t) =
           let i : t.item.kind ≡ TOKEN_IDENT = subst (λ c. IfNext (head_kind (tokens_in c ++ vs)) (λ j. j ≡ TOKEN_IDENT)) t.is next in
           absurd (true_is_not_false (sym t.alive ∙ ap (λ j. is_viable (after (row_of_kind NODE_PAT_ENTRY) j)) i))
@@ -129,23 +140,29 @@ module _ (m : ℕ) (q : SyntaxKind) (d n : ℕ) (x : Position) (to : Row) (b : A
           (λ act. goes_one a.Entry act (λ y h fs gs e. node_read (read_on rows (p.Left PAT_ENTRY) refl t.rest) refl h (p.Left y) d b fs gs)) act
 
   -- a node that is no operand, by how it begins
-  inner_kind : AllRows m → (k : SyntaxKind) (c : AnnotatedForest) (ds : List Fault) → Complete m k d n (row_of_kind k) blank vs c ds → IsNode k q to (head_kind (tokens_in c ++ vs)) (act_before c)
+  inner_kind : AllRows m → (k : SyntaxKind) (c : AnnotatedForest) (ds : List Fault) → Complete m k d n (row_of_kind k) blank vs c ds
+      → IsNode k q to (head_kind (tokens_in c ++ vs)) (act_before c)
       → Inner k ds c
-  inner_kind rows k c ds r (by_begin z i e act) = goes_one (a.Begin k z) act (λ y h fs gs g. node_read (read_on rows (p.Left z) i.0 (complete_to e refl r)) i.1 h (p.Left y) d b fs gs)
+  inner_kind rows k c ds r (by_begin z i e act) =
+      goes_one (a.Begin k z) act (λ y h fs gs g. node_read (read_on rows (p.Left z) i.0 (complete_to e refl r)) i.1 h (p.Left y) d b fs gs)
   inner_kind rows k c ds r (by_open z i g act) = inner_opens rows z k c ds r i.1 i.0 i.2 g act
   inner_kind rows k c ds r (by_name e act) = subst (λ k. Complete m k d n (row_of_kind k) blank vs c ds → Inner k ds c) (sym e) (λ r. inner_name c ds r act) r
-  inner_kind rows k c ds r (by_entry e next act) = subst (λ k. Complete m k d n (row_of_kind k) blank vs c ds → Inner k ds c) (sym e) (λ r. inner_entry rows c ds r next act) r
+  inner_kind rows k c ds r (by_entry e next act) =
+      subst (λ k. Complete m k d n (row_of_kind k) blank vs c ds → Inner k ds c) (sym e) (λ r. inner_entry rows c ds r next act) r
 
   -- an operand
-  inner_operand : Trees m → (level : ℕ) (k : SyntaxKind) (c : AnnotatedForest) (ds : List Fault) → Complete m k (deeper (rest_at x) d) n (row_of_kind k) blank vs c ds
+  inner_operand : Trees m → (level : ℕ) (k : SyntaxKind) (c : AnnotatedForest) (ds : List Fault)
+      → Complete m k (deeper (rest_at x) d) n (row_of_kind k) blank vs c ds
       → fits level k ≡ true → LeadsTo q to (a.Read level (counts (rest_at x))) (act_before c) → IsRoom (rest_at x) d
       → IsOperandOf (Some level) (one_branch k c) vs → Inner k ds c
   inner_operand trees level k c ds r fit act room op =
       let e : is_expression k ≡ true = fits_expression level k fit in
       let i = operand_by_steps (Some level) (one_branch k c) vs op in
-      let begun : IsBegun level (one_branch k c) (tokens_in c ++ vs) = subst (λ (v : List Token). IsBegun level (one_branch k c) (v ++ vs)) (append-nil (tokens_in c)) i.1 in
+      let begun : IsBegun level (one_branch k c) (tokens_in c ++ vs) =
+      subst (λ (v : List Token). IsBegun level (one_branch k c) (v ++ vs)) (append-nil (tokens_in c)) i.1 in
       subst (λ (v : List Fault). OneTo q d n x to b (tokens_in c) vs (one_branch k c) v) (sym (ap (λ v. ds ++ v) (unreported k b c e) ∙ append-nil ds))
-      (goes_one (a.Read level (counts (rest_at x))) act (λ y h fs gs g. one_operand x b room i.0 begun i.2 (trees k (deeper (rest_at x) d) n vs c ds r e) y h fs gs))
+      (goes_one (a.Read level (counts (rest_at x))) act (λ y h fs gs g. one_operand x b room i.0 begun i.2
+      (trees k (deeper (rest_at x) d) n vs c ds r e) y h fs gs))
 
 -- a node that stands at a position is read there
 pub inner_one : (m : ℕ) → AllRows m → Trees m → {q k : SyntaxKind} {d n : ℕ} {x : Position} {b : AnnotatedForest} {vs : List Token} {c : AnnotatedForest} {ds : List Fault}
@@ -167,7 +184,8 @@ inner_one m rows trees {q} {k} {d} {n} {x} {b} {vs} {c} {ds} l r room o op g = b
 
 -- a second name is read
 second_one : {m : ℕ} → AllRows m → {q : SyntaxKind} {d n : ℕ} {x : Position} {b c : AnnotatedForest} {vs : List Token} {ds : List Fault} → is_at q x ≡ true
-    → rest_at x ≡ BoundAlready · done → Complete m NODE_ERROR d n second_name blank vs c ds → OneTo q d n x done b (tokens_in c) vs (one_fault DoubleBind c) (ds ++ report DoubleBind (tokens_in c) ∷ [])
+    → rest_at x ≡ BoundAlready · done → Complete m NODE_ERROR d n second_name blank vs c ds
+    → OneTo q d n x done b (tokens_in c) vs (one_fault DoubleBind c) (ds ++ report DoubleBind (tokens_in c) ∷ [])
 second_one rows {q} {d} {n} {x} {b} {c} {vs} {ds} l i r =
     let t = item_next refl (front_of refl r refl) in
     let at : t.item.kind ≡ TOKEN_AT = only (λ j. is_viable (after second_name j)) TOKEN_AT refl t.item.kind t.alive in
@@ -180,7 +198,8 @@ second_one rows {q} {d} {n} {x} {b} {c} {vs} {ds} l i r =
     let row = read_on rows (p.Left SECOND_BIND) refl (complete_to (ap (after second_name) at) refl t.rest) in
     let f : Frame = opened h (p.Left y) d b in
     runs_on (row.row SecondBind (f ∷ fs) gs refl refl)
-    (step_to (closes_second row.position d (end_from t.item.end (tokens_in t.more)) (token (leaf_kind NODE_ERROR t.item) t.item t.more) f fs vs (gs ++ ds) row.here row.over)
+    (step_to (closes_second row.position d (end_from t.item.end (tokens_in t.more)) (token (leaf_kind NODE_ERROR t.item) t.item t.more) f fs vs
+    (gs ++ ds) row.here row.over)
     (runs_to (cc (append_assoc gs ds (report DoubleBind (t.item ∷ tokens_in t.more) ∷ []))) stays))))
 
 -- a row that is not so high is read
@@ -194,15 +213,19 @@ row_next m rows trees {k} {d} {n} {q} {b = b} {us} x e i (leaf {t = t} {f = f} o
 row_next m rows trees {d = d} x at i (missing_part u v g room t) h l =
     row_lost rows at u v (ap missing i ∙ g) (subst (λ q. expects_end q ≡ false → IsRoom q d) (sym i) room) (record { reads = t; short = less (height t) m h }) l
 row_next m rows trees {k} {d} {n} {q} {b = b} {us} x e i (wrong {r = r} {f = f} note ts o w v t) h l =
-    row_on rows (wrong_one k d n x r b e (reads_viable t l) note ts (tokens_in f ++ us) (subst (λ q. IsExpected q n (ts ++ (tokens_in f ++ us)) false) (sym i) o)
-    (subst (λ q. IsWrong note d q r ts (tokens_in f ++ us)) (sym i) v)) (record { reads = t; short = less (height t) m h }) l (ap (λ v. v ++ tokens_in f) (tokens_in-row_of ts))
+    row_on rows (wrong_one k d n x r b e (reads_viable t l) note ts (tokens_in f ++ us)
+    (subst (λ q. IsExpected q n (ts ++ (tokens_in f ++ us)) false) (sym i) o)
+    (subst (λ q. IsWrong note d q r ts (tokens_in f ++ us)) (sym i) v)) (record { reads = t; short = less (height t) m h }) l
+    (ap (λ v. v ++ tokens_in f) (tokens_in-row_of ts))
 row_next m rows trees x e i (second {s = y} r over t) h l =
     row_on rows (second_one rows e i (record { last = y; part = record { reads = r; short = less_left (height r) (height t) m h }; over = over }))
     (record { reads = t; short = less_right (height r) (height t) m h }) l refl
 row_next m rows trees {k = p} {d} {n} {b = b} {us} x e i (inner {k = k} {s = y} {c = c} {f = f} {ds = ds} room r over o fo op t) h l =
     let vs : List Token = tokens_in f ++ us in
-    row_on rows (subst (λ q. Complete m k (deeper q d) n (row_of_kind k) blank vs c ds → IsRoom q d → IsExpected q n (tokens_in c ++ vs) (is_first_expected q k c)
-    → IsOperandOf (level_at q (one_branch k c)) (one_branch k c) vs → is_viable (after q k) ≡ true → OneTo p d n x (after q k) b (tokens_in c) vs (one_branch k c) (ds ++ repeats k b c)) i
+    row_on rows (subst (λ q. Complete m k (deeper q d) n (row_of_kind k) blank vs c ds → IsRoom q d
+    → IsExpected q n (tokens_in c ++ vs) (is_first_expected q k c)
+    → IsOperandOf (level_at q (one_branch k c)) (one_branch k c) vs → is_viable (after q k) ≡ true
+    → OneTo p d n x (after q k) b (tokens_in c) vs (one_branch k c) (ds ++ repeats k b c)) i
     (λ r room o op g. inner_one m rows trees e r room o op g)
     (record { last = y; part = record { reads = r; short = less_left (height r) (height t) m h }; over = over }) room o op (reads_viable t l))
     (record { reads = t; short = less_right (height r) (height t) m h }) l refl

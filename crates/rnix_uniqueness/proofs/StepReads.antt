@@ -30,17 +30,20 @@ ReadsRow k d n x y b us f es =
     → Runs false (machine (opened h x d b ∷ fs) (tokens_in f ++ us) n gs) (machine (opened h y d (b ⊕ f) ∷ fs) us (end_from n (tokens_in f)) (gs ++ es))
 
 -- So they do to a position of the row where this is left of it.
-pub record ReadsTo (k : SyntaxKind) (d n : ℕ) (x : Position) (s : Row) (b : AnnotatedForest) (us : List Token) (f : AnnotatedForest) (es : List Fault) : Type 0 where
+pub record ReadsTo (k : SyntaxKind) (d n : ℕ) (x : Position) (s : Row) (b : AnnotatedForest) (us : List Token) (f : AnnotatedForest)
+    (es : List Fault) : Type 0 where
   pub position : Position
   pub is : rest_at position ≡ s
   pub here : is_at k position ≡ true
   pub row : ReadsRow k d n x position b us f es
 
 -- The steps have read a tree of some items as an operand.
-pub record IsOperandRead (level d n : ℕ) (zs : List Token) (x : AnnotatedForest) (us : List Token) (ds : List Fault) (f : Frame) (fs : List Frame) (gs : List Fault) : Type 0 where
+pub record IsOperandRead (level d n : ℕ) (zs : List Token) (x : AnnotatedForest) (us : List Token) (ds : List Fault) (f : Frame) (fs : List Frame)
+    (gs : List Fault) : Type 0 where
   pub max_bp : ℕ
   pub followed : FollowedTo max_bp x
-  pub runs : Runs false (operand_on false level d f fs (zs ++ us) (zs ++ us) n gs) (machine (opened Operand (p.AfterOperand level max_bp) d x ∷ (f ∷ fs)) us (end_from n zs) (gs ++ ds))
+  pub runs : Runs false (operand_on false level d f fs (zs ++ us) (zs ++ us) n gs)
+      (machine (opened Operand (p.AfterOperand level max_bp) d x ∷ (f ∷ fs)) us (end_from n zs) (gs ++ ds))
 
 -- So it is at each level that the tree is tight enough for and begins at, whatever waits for the operand.
 abbrev pub ReadsTree : ℕ → ℕ → List Token → AnnotatedForest → List Token → List Fault → Type 0

@@ -34,12 +34,15 @@ called : (zs xs : List Token) (x v : AnnotatedForest) (i : SyntaxKind) (d n : �
     → is_or_row v ≡ false → 16 ≤ row_level v → IsBegun 16 v (xs ++ us) → goes_on 16 v us ≡ false
     → ReadsTree d n (zs ++ xs) (one_branch NODE_APPLY (x ⊕ v)) us (es ++ ds)
 called zs xs x v i d n us es ds one next arg follow tree passed plain tight begun over =
-    continued zs xs x z i a.Apply 15 d n us es ds follow next (passes i arg) (first_in x v one) (omega (arith, level, alike is_fn_arg binding_power (λ j. 15) refl i arg)) (followed_call z level refl) tree
+    continued zs xs x z i a.Apply 15 d n us es ds follow next (passes i arg) (first_in x v one)
+    (omega (arith, level, alike is_fn_arg binding_power (λ j. 15) refl i arg)) (followed_call z level refl) tree
     (λ level other f fs gs.
     let below : List Frame = opened (Node NODE_APPLY) (p.Left APPLIED) d x ∷ (opened Operand (p.AfterOperand level 15) d blank ∷ (f ∷ fs)) in
-    let q : IsOperandRead 16 d (end_from n zs) xs v us ds _ _ gs = passed 16 (opened (Node NODE_APPLY) (p.Left APPLIED) d x) (opened Operand (p.AfterOperand level 15) d blank ∷ (f ∷ fs)) gs tight begun in
+    let q : IsOperandRead 16 d (end_from n zs) xs v us ds _ _ gs =
+    passed 16 (opened (Node NODE_APPLY) (p.Left APPLIED) d x) (opened Operand (p.AfterOperand level 15) d blank ∷ (f ∷ fs)) gs tight begun in
     runs_on q.runs
-    (step_to (ap (λ w. perform false w (opened Operand (p.AfterOperand 16 q.max_bp) d v) below us (end_from (end_from n zs) xs) (gs ++ ds)) (settles 16 q.max_bp v us q.followed over)) (step_to refl here)))
+    (step_to (ap (λ w. perform false w (opened Operand (p.AfterOperand 16 q.max_bp) d v) below us (end_from (end_from n zs) xs) (gs ++ ds))
+    (settles 16 q.max_bp v us q.followed over)) (step_to refl here)))
   where
     z : AnnotatedForest
     z = one_branch NODE_APPLY (x ⊕ v)
@@ -48,14 +51,16 @@ called zs xs x v i d n us es ds one next arg follow tree passed plain tight begu
     level = call_level x v false one plain
 
 -- a tree and the name `or`
-called_or : (zs : List Token) (x : AnnotatedForest) (t : Token) (d n : ℕ) (us : List Token) (es : List Fault) → IsSingle x → t.kind ≡ TOKEN_OR → follows t.kind x ≡ true
+called_or : (zs : List Token) (x : AnnotatedForest) (t : Token) (d n : ℕ) (us : List Token) (es : List Fault) → IsSingle x → t.kind ≡ TOKEN_OR
+    → follows t.kind x ≡ true
     → is_or_row (one_branch NODE_IDENT (one_token (leaf_kind NODE_IDENT t) t)) ≡ true → ReadsTree d n zs x (t ∷ us) es
     → ReadsTree d n (zs ++ (t ∷ [])) (one_branch NODE_APPLY (x ⊕ one_branch NODE_IDENT (one_token (leaf_kind NODE_IDENT t) t))) us (es ++ [])
 called_or zs x t d n us es one kind follow named tree =
     let v : AnnotatedForest = one_branch NODE_IDENT (one_token (leaf_kind NODE_IDENT t) t) in
     let z : AnnotatedForest = one_branch NODE_APPLY (x ⊕ v) in
     let level : row_level z ≡ 16 = call_level x v true one named in
-    continued zs (t ∷ []) x z t.kind a.ApplyOr 15 d n us es [] follow refl (ap follow_of kind) (first_in x v one) (omega (arith, level, ap binding_power kind)) (followed_selection z level refl) tree
+    continued zs (t ∷ []) x z t.kind a.ApplyOr 15 d n us es [] follow refl (ap follow_of kind) (first_in x v one) (omega (arith, level, ap binding_power kind))
+    (followed_selection z level refl) tree
     (λ level other f fs gs. runs_to (ap (λ w. machine (opened Operand (p.AfterOperand level 15) d z ∷ (f ∷ fs)) us t.end w) (sym (append-nil gs))) here)
 
 -- what goes on with a tree as an argument, by the first item
@@ -83,9 +88,11 @@ no_called_token {n = n} {us = us} j t (by_node {k = i} {c = c} {f = g} r y w x l
     none true y x e = true_is_not_false (sym y)
     none false y x e = subst (BeginsAs 16 (one_branch i c)) (ap (λ z. z ++ (tokens_in g ++ us)) (append-nil (tokens_in c)) ∙ e) x.1
 
-    by : (ts : List Token) → tokens_in c ++ (tokens_in g ++ us) ≡ ts → IsFollowed (Argument · done) (one_token j t) (head_kind (tokens_in c ++ (tokens_in g ++ us))) → ⊥
+    by : (ts : List Token) → tokens_in c ++ (tokens_in g ++ us) ≡ ts
+        → IsFollowed (Argument · done) (one_token j t) (head_kind (tokens_in c ++ (tokens_in g ++ us))) → ⊥
     by [] e w = none (is_or_row (one_branch i c)) (subst (λ z. IsExpected (Argument · done) n z (is_or_row (one_branch i c))) e y) x e
-    by (v ∷ vs) e w = follows_token v.kind j t blank (followed v.kind (one_token j t) (subst (λ z. IsFollowed (Argument · done) (one_token j t) (head_kind z)) e w)).1
+    by (v ∷ vs) e w = follows_token v.kind j t blank (followed v.kind (one_token j t)
+        (subst (λ z. IsFollowed (Argument · done) (one_token j t) (head_kind z)) e w)).1
 
 -- a tree, read, and what is called with it
 abbrev Called : ℕ → ℕ → List Token → AnnotatedForest → List Token → List Fault → List Token → AnnotatedForest → List Fault → Type 0
@@ -103,11 +110,13 @@ argument d n zs xs x v us es ds one reads o w plain tight begun over tree = by (
         → Called d n zs x us es xs v ds
     by [] h o w = absurd (subst (IsBegun 16 v) h begun)
     by (t ∷ ts) h o w =
-        let f = followed t.kind x w in called zs xs x v t.kind d n us es ds one (ap head_kind h) (plainly (is_fn_arg t.kind) (is_or t.kind) f.0 o) f.1 reads tree plain tight begun over
+        let f = followed t.kind x w in called zs xs x v t.kind d n us es ds one (ap head_kind h)
+        (plainly (is_fn_arg t.kind) (is_or t.kind) f.0 o) f.1 reads tree plain tight begun over
 
 -- the name `or` as an argument
 name_or : (m d n : ℕ) (zs : List Token) (x : AnnotatedForest) (j : SyntaxKind) (c : AnnotatedForest) (us : List Token) (es ds : List Fault) → IsSingle x
-    → ReadsTree d n zs x (tokens_in c ++ us) es → Complete m j d (end_from n zs) (row_of_kind j) blank us c ds → IsFollowed (Argument · done) x (head_kind (tokens_in c ++ us))
+    → ReadsTree d n zs x (tokens_in c ++ us) es → Complete m j d (end_from n zs) (row_of_kind j) blank us c ds
+    → IsFollowed (Argument · done) x (head_kind (tokens_in c ++ us))
     → is_or_row (one_branch j c) ≡ true
     → Called d n zs x us es (tokens_in c) (one_branch j c) ds
 name_or m d n zs x j c us es ds one reads r w h =
@@ -172,13 +181,15 @@ last_reads m d n zs x us _ es _ trees one reads (by_node {k = j} {c = c} {f = f}
     by true h reads r y w q = name_or m d n zs x j c us es ds one reads r w h
     by false h reads r y w q =
         let i = operand_by_steps (Some 16) (one_branch j c) us q in
-        argument d n zs (tokens_in c) x (one_branch j c) us es ds one reads y w h i.0 (subst (λ (u : List Token). IsBegun 16 (one_branch j c) (u ++ us)) (append-nil (tokens_in c)) i.1) i.2
+        argument d n zs (tokens_in c) x (one_branch j c) us es ds one reads y w h i.0
+        (subst (λ (u : List Token). IsBegun 16 (one_branch j c) (u ++ us)) (append-nil (tokens_in c)) i.1) i.2
         (trees j d at us c ds r fits)
 
 -- a call is read
 pub called_reads : (m : ℕ) → Trees m → KindReads m NODE_APPLY
 called_reads m trees d n us c es r =
-    leading {q = Argument · done} {test = is_simple} trees (record { goes = λ j. refl; fitting = implied is_simple is_expression refl; deep = λ d. refl }) (λ j t f fs r. no_called_token j t (front_of refl r refl))
+    leading {q = Argument · done} {test = is_simple} trees (record { goes = λ j. refl; fitting = implied is_simple is_expression refl; deep = λ d. refl })
+    (λ j t f fs r. no_called_token j t (front_of refl r refl))
     (λ zs x f es ds one tree r. last_reads m d n zs x us f es ds trees one tree (front_of refl r refl)) r
 
 -- an expression of each kind is read

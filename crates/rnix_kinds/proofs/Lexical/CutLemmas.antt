@@ -21,10 +21,13 @@ use Rattle.rnix_kinds.proofs.Lexical.CutParts.{closing_brace_good, path_some, sl
 use Rattle.rnix_kinds.proofs.Lexical.CutParts.{tilde_good, search_boundary, content_boundary, closer_cut}
 
 module _ (top : Option Mode) (text : List ℕ) (utf8 : IsUtf8 text) (some : 0 < length text) where
-  good_begins : (kind : SyntaxKind) (bytes : List ℕ) → is_free kind ≡ true → 0 < length bytes → list_all is_plain_byte bytes ≡ true → begins bytes text ≡ true → IsCutOf top text (plain kind (length bytes))
-  good_begins kind bytes free some ascii e = good_plain top text kind _ free some (subst (IsCharBoundary text) (zero-add (length bytes)) (stands_end bytes 0 text utf8 some ascii e))
+  good_begins : (kind : SyntaxKind) (bytes : List ℕ) → is_free kind ≡ true → 0 < length bytes → list_all is_plain_byte bytes ≡ true → begins bytes text ≡ true
+      → IsCutOf top text (plain kind (length bytes))
+  good_begins kind bytes free some ascii e =
+      good_plain top text kind _ free some (subst (IsCharBoundary text) (zero-add (length bytes)) (stands_end bytes 0 text utf8 some ascii e))
 
-  first_row_fits : (rows : List (List ℕ × SyntaxKind)) → list_all (λ row. nat_lt 0 (length row.0) && list_all is_plain_byte row.0 && is_free row.1) rows ≡ true → FitsWell top text (first_row rows text)
+  first_row_fits : (rows : List (List ℕ × SyntaxKind)) → list_all (λ row. nat_lt 0 (length row.0) && list_all is_plain_byte row.0 && is_free row.1) rows ≡ true
+      → FitsWell top text (first_row rows text)
   first_row_fits [] ok = tt
   first_row_fits (row ∷ rows) ok =
       let here = and_parts (nat_lt 0 (length row.0) && list_all is_plain_byte row.0 && is_free row.1) _ ok in
@@ -40,10 +43,12 @@ module _ (top : Option Mode) (text : List ℕ) (utf8 : IsUtf8 text) (some : 0 < 
   ellipsis_fits = if_fits top text (begins (codes "...") text) _ _ (good_begins _ (codes "...") refl (omega arith) refl) (λ e. tt)
 
   pub space_fits : FitsWell top text (space text)
-  space_fits = if_fits top text (nat_lt 0 (space_len text)) _ _ (λ e. good_plain top text _ _ refl (grind (arith, nat_tests)) (IsCharBoundary-space_len text utf8)) (λ e. tt)
+  space_fits = if_fits top text (nat_lt 0 (space_len text)) _ _ (λ e. good_plain top text _ _ refl (grind (arith, nat_tests))
+      (IsCharBoundary-space_len text utf8)) (λ e. tt)
 
   -- what begins with a byte of the class and is its longest run from the place i on
-  good_run : (kind : SyntaxKind) (class : Class) → is_free kind ≡ true → class_test class (get_or text 0 0) ≡ true → IsCutOf top text (plain kind (run_end (class_test class) 0 text))
+  good_run : (kind : SyntaxKind) (class : Class) → is_free kind ≡ true → class_test class (get_or text 0 0) ≡ true
+      → IsCutOf top text (plain kind (run_end (class_test class) 0 text))
   good_run kind class free e =
       good_plain top text kind _ free (omega (arith, run_some (class_test class) text some e)) (run_boundary class 0 text utf8 (IsCharBoundary-start text utf8))
 
@@ -61,18 +66,21 @@ module _ (top : Option Mode) (text : List ℕ) (utf8 : IsUtf8 text) (some : 0 < 
   pub word_fits : FitsWell top text (word text)
   word_fits =
       if_fits top text (is_ascii_alphabetic (get_or text 0 0) || get_or text 0 0 == 95) _ _
-      (λ e. good_named top text _ _ (omega (arith, run_some (class_test Name) text some (letter_name (get_or text 0 0) e))) (run_boundary Name 0 text utf8 (IsCharBoundary-start text utf8)) (word_named (take (run_end (class_test Name) 0 text) text))) (λ e. tt)
+      (λ e. good_named top text _ _ (omega (arith, run_some (class_test Name) text some (letter_name (get_or text 0 0) e)))
+      (run_boundary Name 0 text utf8 (IsCharBoundary-start text utf8)) (word_named (take (run_end (class_test Name) 0 text) text))) (λ e. tt)
 
   -- numbers, from a place after the first byte on
   exponent_digits_good : (i : ℕ) → 0 < i → IsCharBoundary text i → IsCutOf top text (exponent_digits i text)
-  exponent_digits_good i more start = good_plain top text _ _ (free_if (run_end is_ascii_digit i text == i) TOKEN_ERROR TOKEN_FLOAT refl refl) (omega arith) (run_boundary Digit i text utf8 start)
+  exponent_digits_good i more start = good_plain top text _ _ (free_if (run_end is_ascii_digit i text == i) TOKEN_ERROR TOKEN_FLOAT refl refl) (omega arith)
+      (run_boundary Digit i text utf8 start)
 
   exponent_good : (i : ℕ) → 0 < i → IsCharBoundary text i → IsCutOf top text (exponent i text)
   exponent_good i more start =
       if_good top text (get_or text i 0 == 101 || get_or text i 0 == 69) _ _
       (λ e. let after : IsCharBoundary text (i + 1) = exponent_mark text i utf8 e in
       if_good top text (get_or text (i + 1) 0 == 43 || get_or text (i + 1) 0 == 45) _ _
-      (λ s. exponent_digits_good (i + 2) (omega arith) (let two : i + 1 + 1 ≡ i + 2 = omega arith in subst (IsCharBoundary text) two (exponent_sign text (i + 1) utf8 s)))
+      (λ s. exponent_digits_good (i + 2) (omega arith) (let two : i + 1 + 1 ≡ i + 2 = omega arith in subst (IsCharBoundary text) two
+      (exponent_sign text (i + 1) utf8 s)))
       (λ s. exponent_digits_good (i + 1) (omega arith) after))
       (λ e. good_plain top text _ _ refl more start)
 
@@ -93,7 +101,8 @@ module _ (top : Option Mode) (text : List ℕ) (utf8 : IsUtf8 text) (some : 0 < 
       (λ e. fraction_good 1 (omega arith) (byte_end text 0 46 utf8 refl (and_parts _ _ e).0))
       (λ e. tt))
 
-  good_change : (kind : SyntaxKind) (bytes : List ℕ) (change : Change) → is_free kind ≡ true → opens_alone kind ≡ true → CountsUp top change → 0 < length bytes → list_all is_plain_byte bytes ≡ true → begins bytes text ≡ true → IsCutOf top text (record { kind = kind; len = length bytes; change = change })
+  good_change : (kind : SyntaxKind) (bytes : List ℕ) (change : Change) → is_free kind ≡ true → opens_alone kind ≡ true → CountsUp top change → 0 < length bytes
+      → list_all is_plain_byte bytes ≡ true → begins bytes text ≡ true → IsCutOf top text (record { kind = kind; len = length bytes; change = change })
   good_change kind bytes change free may counted some ascii e = record {
     some = some;
     boundary = subst (IsCharBoundary text) (zero-add (length bytes)) (stands_end bytes 0 text utf8 some ascii e);
@@ -116,22 +125,40 @@ module _ (top : Option Mode) (text : List ℕ) (utf8 : IsUtf8 text) (some : 0 < 
       (λ e. tt))
 
   -- a segment of a path
-  segment_good : (start : PathStart) (going ended : Change) (from : ℕ) → CountsUp top going → CountsUp top ended → (opens going ≡ true → IsPathBegun going) → (opens ended ≡ true → ⊥) → IsCharBoundary text from → is_path (get_or text from 0) ≡ true → IsCutOf top text (segment start going ended from text)
+  segment_good : (start : PathStart) (going ended : Change) (from : ℕ) → CountsUp top going → CountsUp top ended → (opens going ≡ true → IsPathBegun going)
+      → (opens ended ≡ true → ⊥) → IsCharBoundary text from → is_path (get_or text from 0) ≡ true → IsCutOf top text (segment start going ended from text)
   segment_good start going ended from go stop starts ends begins_at first =
-      let end : IsCharBoundary text (run_end is_path from text) = run_boundary (Rattle.rnix_kinds.specs.declared.tokenizer.text.Class.TheVariants.Path) from text utf8 begins_at in
+      let end : IsCharBoundary text (run_end is_path from text) =
+      run_boundary (Rattle.rnix_kinds.specs.declared.tokenizer.text.Class.TheVariants.Path) from text utf8 begins_at in
       let more : 0 < prefix_len is_path (drop from text) = path_some text from first in
       if_good top text (stands_at (codes "${") (run_end is_path from text) text) _ _
-      (λ e. record { some = omega arith; boundary = end; counted = go; named = free_named (kind_of_path start) _ (free_path start); opener = λ opened. inr (path_opens start, starts opened, interpolation_next (run_end is_path from text) text e) })
-      (λ e. record { some = omega arith; boundary = end; counted = stop; named = free_named (if is_broken (take (run_end is_path from text) text) then TOKEN_ERROR else kind_of_path start) _ (free_if (is_broken (take (run_end is_path from text) text)) TOKEN_ERROR (kind_of_path start) refl (free_path start)); opener = λ e. absurd (ends e) })
+      (λ e. record {
+        some = omega arith;
+        boundary = end;
+        counted = go;
+        named = free_named (kind_of_path start) _ (free_path start);
+        opener = λ opened. inr (path_opens start, starts opened, interpolation_next (run_end is_path from text) text e);
+      })
+      (λ e. record {
+        some = omega arith;
+        boundary = end;
+        counted = stop;
+        named = free_named (if is_broken (take (run_end is_path from text) text) then TOKEN_ERROR else kind_of_path start) _
+            (free_if (is_broken (take (run_end is_path from text) text)) TOKEN_ERROR (kind_of_path start) refl (free_path start));
+        opener =
+            λ e. absurd (ends e);
+      })
 
-  first_segment_good : (start : PathStart) (from : ℕ) → IsCharBoundary text from → is_path (get_or text from 0) ≡ true → IsCutOf top text (first_segment start from text)
+  first_segment_good : (start : PathStart) (from : ℕ) → IsCharBoundary text from → is_path (get_or text from 0) ≡ true
+      → IsCutOf top text (first_segment start from text)
   first_segment_good start from begins_at first = segment_good start (Open (Path start)) Stay from refl tt (λ e. tt) (λ e. cc) begins_at first
 
   pub slash_fits : FitsWell top text (slash text)
   slash_fits =
       if_fits top text (begins (codes "//") text) _ _ (good_begins _ (codes "//") refl (omega arith) refl)
       (λ e. if_fits top text (begins (codes "/${") text || (begins (codes "/") text && is_path (get_or text 1 0))) _ _
-      (λ e. first_segment_good StartSlash 0 (IsCharBoundary-start text utf8) (slash_is_path (get_or text 0 0) (get_or text 1 0 == 36) (get_or text 2 0 == 123) (is_path (get_or text 1 0)) e))
+      (λ e. first_segment_good StartSlash 0 (IsCharBoundary-start text utf8)
+      (slash_is_path (get_or text 0 0) (get_or text 1 0 == 36) (get_or text 2 0 == 123) (is_path (get_or text 1 0)) e))
       (λ e. if_fits top text (begins (codes "/") text) _ _ (good_begins _ (codes "/") refl (omega arith) refl)
       (λ e. tt)))
 
@@ -145,7 +172,8 @@ module _ (top : Option Mode) (text : List ℕ) (utf8 : IsUtf8 text) (some : 0 < 
   relative_fits =
       let n = prefix_len (class_test Step) text in
       if_fits top text (nat_lt 0 n && goes_on_as_path n text) _ _
-      (λ e. first_segment_good StartName 0 (IsCharBoundary-start text utf8) (step_path (get_or text 0 0) (prefix_len_passes (class_test Step) text 0 0 (positive_from n (and_parts _ _ e).0)))) (λ e. tt)
+      (λ e. first_segment_good StartName 0 (IsCharBoundary-start text utf8)
+      (step_path (get_or text 0 0) (prefix_len_passes (class_test Step) text 0 0 (positive_from n (and_parts _ _ e).0)))) (λ e. tt)
 
   pub search_fits : FitsWell top text (search_path text)
   search_fits =
@@ -154,7 +182,8 @@ module _ (top : Option Mode) (text : List ℕ) (utf8 : IsUtf8 text) (some : 0 < 
       let after = byte_end text 0 60 utf8 refl first in
       if_good top text (run_end is_path 1 text == 1) _ _
       (λ s. good_plain top text _ 1 refl (omega arith) after)
-      (λ s. good_plain top text _ _ (free_if (get_or text (run_end is_path 1 text) 0 == 62) TOKEN_PATH_SEARCH TOKEN_ERROR refl refl) (omega arith) (search_boundary text utf8 some first (and_parts _ _ e).1)))
+      (λ s. good_plain top text _ _ (free_if (get_or text (run_end is_path 1 text) 0 == 62) TOKEN_PATH_SEARCH TOKEN_ERROR refl refl) (omega arith)
+      (search_boundary text utf8 some first (and_parts _ _ e).1)))
       (λ e. tt)
 
   pub path_good : (kind : PathStart) → path_goes_on text ≡ true → IsCutOf top text (path_cut kind text)
@@ -162,7 +191,8 @@ module _ (top : Option Mode) (text : List ℕ) (utf8 : IsUtf8 text) (some : 0 < 
       if_good top text (begins (codes "${") text) _ _ (good_change _ (codes "${") (Open (Interpolation 0)) refl refl refl (omega arith) refl)
       (λ e. segment_good kind Stay Close 0 tt tt (λ e. absurd (cc)) (λ e. cc) (IsCharBoundary-start text utf8) (or_right _ _ e going))
 
-  closer_good : (m : Bool) → content_len m text < length text → nat_lt 0 (content_len m text) ≡ false → begins (codes "${") text ≡ false → IsCutOf top text (record { kind = TOKEN_STRING_END; len = cond m 2 1; change = Close })
+  closer_good : (m : Bool) → content_len m text < length text → nat_lt 0 (content_len m text) ≡ false → begins (codes "${") text ≡ false
+      → IsCutOf top text (record { kind = TOKEN_STRING_END; len = cond m 2 1; change = Close })
   closer_good m before s t =
       let none : content_len m text ≡ 0 = none_from (content_len m text) s in
       let stop : piece_len m text ≡ 0 = (let e = content_len-stops m text before in rw none at e) in
@@ -171,7 +201,8 @@ module _ (top : Option Mode) (text : List ℕ) (utf8 : IsUtf8 text) (some : 0 < 
   pub string_good : (multiline : Bool) → IsCutOf top text (string_cut multiline text)
   string_good m =
       if_good top text (content_len m text == length text) _ _
-      (λ e. let all = eqb-true (content_len m text) (length text) e in good_plain top text _ _ refl (omega arith) (subst (IsCharBoundary text) (sym all) (IsCharBoundary-end text)))
+      (λ e. let all = eqb-true (content_len m text) (length text) e in good_plain top text _ _ refl (omega arith)
+      (subst (IsCharBoundary text) (sym all) (IsCharBoundary-end text)))
       (λ e. let before : content_len m text < length text = omega (arith, content_len-le m text, false-eqb _ _ (sym e)) in
       if_good top text (nat_lt 0 (content_len m text)) _ _
       (λ s. good_plain top text _ _ refl (positive_from _ s) (content_boundary m text before))
@@ -183,7 +214,8 @@ abbrev AllFit : Option Mode → List ℕ → List (Option Cut) → Type 0
 AllFit top text [] = Unit {0}
 AllFit top text (rule ∷ rules) = FitsWell top text rule × AllFit top text rules
 
-first_of_good : (top : Option Mode) (text : List ℕ) (rules : List (Option Cut)) (last : Cut) → AllFit top text rules → IsCutOf top text last → IsCutOf top text (first_that_fits rules last)
+first_of_good : (top : Option Mode) (text : List ℕ) (rules : List (Option Cut)) (last : Cut) → AllFit top text rules → IsCutOf top text last
+    → IsCutOf top text (first_that_fits rules last)
 first_of_good top text [] last fit good = good
 first_of_good top text (Some cut ∷ rules) last fit good = fit.0
 first_of_good top text (None ∷ rules) last fit good = first_of_good top text rules last fit.1 good
@@ -192,8 +224,39 @@ module _ (top : Option Mode) (text : List ℕ) (utf8 : IsUtf8 text) (some : 0 < 
   normal_good : IsCutOf top text (normal_cut top text)
   unfolding normal_cut
   normal_good =
-      let fit : AllFit top text (normal_rules top text) = (space_fits top text utf8 some, (comment_fits top text utf8 some, (ellipsis_fits top text utf8 some, (slash_fits top text utf8 some, (home_fits top text utf8 some, (relative_fits top text utf8 some, (search_fits top text utf8 some, (uri_fits top text utf8 some, (word_fits top text utf8 some, (number_fits top text utf8 some, (opener_fits top text utf8 some, (brace_fits top text utf8 some, (operator_fits top text utf8 some, tt))))))))))))) in
-      first_of_good top text (normal_rules top text) _ fit (good_plain top text TOKEN_ERROR _ refl (char_len_some text) (IsCharBoundary-char_len text utf8 some))
+      let fit : AllFit top text (normal_rules top text) = (
+        space_fits top text utf8 some,
+        (
+          comment_fits top text utf8 some,
+          (
+            ellipsis_fits top text utf8 some,
+            (
+              slash_fits top text utf8 some,
+              (
+                home_fits top text utf8 some,
+                (
+                  relative_fits top text utf8 some,
+                  (
+                    search_fits top text utf8 some,
+                    (
+                      uri_fits top text utf8 some,
+                      (
+                        word_fits top text utf8 some,
+                        (
+                          number_fits top text utf8 some,
+                          (opener_fits top text utf8 some, (brace_fits top text utf8 some, (operator_fits top text utf8 some, tt))),
+                        ),
+                      ),
+                    ),
+                  ),
+                ),
+              ),
+            ),
+          ),
+        ),
+      ) in
+      first_of_good top text (normal_rules top text) _ fit (good_plain top text TOKEN_ERROR _ refl (char_len_some text)
+      (IsCharBoundary-char_len text utf8 some))
 
 -- every token is cut well
 pub cut_good : (top : Option Mode) (text : List ℕ) → IsUtf8 text → 0 < length text → IsPathGoingOn top text → IsCutOf top text (cut_at top text)

@@ -19,11 +19,13 @@ abbrev pub FitsWell : Option Mode → List ℕ → Option Cut → Type 0
 FitsWell top text None = Unit {0}
 FitsWell top text (Some cut) = IsCutOf top text cut
 
-pub if_fits : (top : Option Mode) (text : List ℕ) (b : Bool) (x y : Option Cut) → (b ≡ true → FitsWell top text x) → (b ≡ false → FitsWell top text y) → FitsWell top text (cond b x y)
+pub if_fits : (top : Option Mode) (text : List ℕ) (b : Bool) (x y : Option Cut) → (b ≡ true → FitsWell top text x) → (b ≡ false → FitsWell top text y)
+    → FitsWell top text (cond b x y)
 if_fits top text true x y holds fails = holds refl
 if_fits top text false x y holds fails = fails refl
 
-pub if_good : (top : Option Mode) (text : List ℕ) (b : Bool) (x y : Cut) → (b ≡ true → IsCutOf top text x) → (b ≡ false → IsCutOf top text y) → IsCutOf top text (cond b x y)
+pub if_good : (top : Option Mode) (text : List ℕ) (b : Bool) (x y : Cut) → (b ≡ true → IsCutOf top text x) → (b ≡ false → IsCutOf top text y)
+    → IsCutOf top text (cond b x y)
 if_good top text true x y holds fails = holds refl
 if_good top text false x y holds fails = fails refl
 
@@ -62,10 +64,12 @@ named_if : (b : Bool) (k l : SyntaxKind) (word : List ℕ) → (b ≡ true → M
 named_if true k l word holds fails = holds refl
 named_if false k l word holds fails = fails refl
 
-pub good_named : (top : Option Mode) (text : List ℕ) (kind : SyntaxKind) (n : ℕ) → 0 < n → IsCharBoundary text n → MayBe kind (take n text) → IsCutOf top text (plain kind n)
+pub good_named : (top : Option Mode) (text : List ℕ) (kind : SyntaxKind) (n : ℕ) → 0 < n → IsCharBoundary text n → MayBe kind (take n text)
+    → IsCutOf top text (plain kind n)
 good_named top text kind n some boundary named = record { some = some; boundary = boundary; counted = tt; named = named; opener = λ e. absurd (cc) }
 
-pub good_plain : (top : Option Mode) (text : List ℕ) (kind : SyntaxKind) (n : ℕ) → is_free kind ≡ true → 0 < n → IsCharBoundary text n → IsCutOf top text (plain kind n)
+pub good_plain : (top : Option Mode) (text : List ℕ) (kind : SyntaxKind) (n : ℕ) → is_free kind ≡ true → 0 < n → IsCharBoundary text n
+    → IsCutOf top text (plain kind n)
 good_plain top text kind n free some boundary = good_named top text kind n some boundary (free_named kind (take n text) free)
 
 -- an ASCII byte, not 0
@@ -80,7 +84,8 @@ byte_end text i b utf8 ascii e =
     IsCharBoundary-after_ascii text i utf8 (within_from_byte text i (omega arith)) (omega arith)
 
 -- ASCII bytes end where a character does
-pub stands_end : (bytes : List ℕ) (i : ℕ) (text : List ℕ) → IsUtf8 text → 0 < length bytes → list_all is_plain_byte bytes ≡ true → stands_at bytes i text ≡ true → IsCharBoundary text (i + length bytes)
+pub stands_end : (bytes : List ℕ) (i : ℕ) (text : List ℕ) → IsUtf8 text → 0 < length bytes → list_all is_plain_byte bytes ≡ true
+    → stands_at bytes i text ≡ true → IsCharBoundary text (i + length bytes)
 stands_end [] i text utf8 some ascii e = absurd (omega arith)
 stands_end (b ∷ []) i text utf8 some ascii e = byte_end text i b utf8 (and_parts (is_plain_byte b) true ascii).0 e
 stands_end (b ∷ c ∷ bytes) i text utf8 some ascii e =
@@ -134,11 +139,13 @@ exponent_sign text i utf8 e =
     IsCharBoundary-after_ascii text i utf8 (within_from_byte text i low) high
 
 -- a comment ends after its `*/`, or with the text
-block_boundary : (text : List ℕ) → IsUtf8 text → ¬ (before_pair 42 47 (drop 2 text) ≡ length (drop 2 text)) → IsCharBoundary text (before_pair 42 47 (drop 2 text) + 4)
+block_boundary : (text : List ℕ) → IsUtf8 text → ¬ (before_pair 42 47 (drop 2 text) ≡ length (drop 2 text))
+    → IsCharBoundary text (before_pair 42 47 (drop 2 text) + 4)
 block_boundary text utf8 found =
     let n = before_pair 42 47 (drop 2 text) in
     let inside : n < length (drop 2 text) = omega (arith, before_pair-le 42 47 (drop 2 text)) in
-    let close : get_or text (n + 3) 0 ≡ 47 = (let same : 2 + (n + 1) ≡ n + 3 = omega arith in rw (← same, ← get_or-drop 2 text (n + 1) 0) (before_pair-found 42 47 (drop 2 text) inside)) in
+    let close : get_or text (n + 3) 0 ≡ 47 =
+    (let same : 2 + (n + 1) ≡ n + 3 = omega arith in rw (← same, ← get_or-drop 2 text (n + 1) 0) (before_pair-found 42 47 (drop 2 text) inside)) in
     let end : n + 3 + 1 ≡ n + 4 = omega arith in
     subst (IsCharBoundary text) end (IsCharBoundary-after_ascii text (n + 3) utf8 (within_from_byte text (n + 3) (omega arith)) (omega arith))
 
@@ -150,14 +157,16 @@ block_good top text utf8 some =
 
 pub opening_brace_good : (top : Option Mode) (text : List ℕ) → IsCharBoundary text 1 → IsCutOf top text (opening_brace top)
 opening_brace_good None text end = good_plain None text _ 1 refl (omega arith) end
-opening_brace_good (Some (Interpolation n)) text end = record { some = omega arith; boundary = end; counted = omega arith; named = refl; opener = λ e. absurd (cc) }
+opening_brace_good (Some (Interpolation n)) text end =
+    record { some = omega arith; boundary = end; counted = omega arith; named = refl; opener = λ e. absurd (cc) }
 opening_brace_good (Some (Quoted m)) text end = good_plain _ text _ 1 refl (omega arith) end
 opening_brace_good (Some (Path k)) text end = good_plain _ text _ 1 refl (omega arith) end
 
 pub closing_brace_good : (top : Option Mode) (text : List ℕ) → IsCharBoundary text 1 → IsCutOf top text (closing_brace top)
 closing_brace_good None text end = good_plain None text _ 1 refl (omega arith) end
 closing_brace_good (Some (Interpolation zero)) text end = record { some = omega arith; boundary = end; counted = tt; named = refl; opener = λ e. absurd (cc) }
-closing_brace_good (Some (Interpolation (suc n))) text end = record { some = omega arith; boundary = end; counted = omega arith; named = refl; opener = λ e. absurd (cc) }
+closing_brace_good (Some (Interpolation (suc n))) text end =
+    record { some = omega arith; boundary = end; counted = omega arith; named = refl; opener = λ e. absurd (cc) }
 closing_brace_good (Some (Quoted m)) text end = good_plain _ text _ 1 refl (omega arith) end
 closing_brace_good (Some (Path k)) text end = good_plain _ text _ 1 refl (omega arith) end
 
@@ -190,7 +199,8 @@ or_right true b e h = absurd (cc)
 or_right false b e h = h
 
 -- `~` and the next character
-pub tilde_good : (top : Option Mode) (text : List ℕ) → IsUtf8 text → get_or text 0 0 == 126 ≡ true → IsCutOf top text (plain TOKEN_ERROR (cond (length text == 1) 1 (1 + char_len (drop 1 text))))
+pub tilde_good : (top : Option Mode) (text : List ℕ) → IsUtf8 text → get_or text 0 0 == 126 ≡ true
+    → IsCutOf top text (plain TOKEN_ERROR (cond (length text == 1) 1 (1 + char_len (drop 1 text))))
 tilde_good top text utf8 e =
     let after = byte_end text 0 126 utf8 refl e in
     elim (length text == 1) as (λ b. (length text == 1) ≡ b → IsCutOf top text (plain TOKEN_ERROR (cond b 1 (1 + char_len (drop 1 text))))) [
@@ -219,12 +229,14 @@ search_byte text some first last =
       | inl short ↦ angle_ascii (get_or text end 0) (prefix_len_passes (class_test Angle) text end 0 short)
       | inr long ↦ elim (cases_lt n end) [
         | inl past ↦ (let place : 1 + (n - 1) ≡ n = omega arith in
-            absurd (angle_end (get_or text n 0) last (rw (get_or-drop 1 text (n - 1) 0, place) at (prefix_len_passes is_path (drop 1 text) (n - 1) 0 (omega arith)))))
+            absurd (angle_end (get_or text n 0) last (rw (get_or-drop 1 text (n - 1) 0, place) at
+            (prefix_len_passes is_path (drop 1 text) (n - 1) 0 (omega arith)))))
         | inr not_past ↦ (let same : end ≡ n = omega arith in let is = eqb-true (get_or text n 0) 62 last in rw (same, is) (omega arith, omega arith))
       ]
     ]
 
-pub search_boundary : (text : List ℕ) → IsUtf8 text → 0 < length text → get_or text 0 0 == 60 ≡ true → get_or text (prefix_len (class_test Angle) text) 0 == 62 ≡ true → IsCharBoundary text (run_end is_path 1 text + 1)
+pub search_boundary : (text : List ℕ) → IsUtf8 text → 0 < length text → get_or text 0 0 == 60 ≡ true
+    → get_or text (prefix_len (class_test Angle) text) 0 == 62 ≡ true → IsCharBoundary text (run_end is_path 1 text + 1)
 search_boundary text utf8 some first last =
     let byte = search_byte text some first last in
     IsCharBoundary-after_ascii text _ utf8 (within_from_byte text _ byte.0) byte.1
@@ -246,6 +258,19 @@ quote_second text e t = grind (arith, nat_tests)
 quote_first : (text : List ℕ) → piece_len false text ≡ 0 → begins (codes "${") text ≡ false → get_or text 0 0 == 34 ≡ true
 quote_first text e t = grind (arith, nat_tests)
 
-pub closer_cut : (m : Bool) (top : Option Mode) (text : List ℕ) → IsUtf8 text → piece_len m text ≡ 0 → begins (codes "${") text ≡ false → IsCutOf top text (record { kind = TOKEN_STRING_END; len = cond m 2 1; change = Close })
-closer_cut true top text utf8 stop t = record { some = omega arith; boundary = byte_end text 1 39 utf8 refl (quote_second text stop t); counted = tt; named = refl; opener = λ e. absurd (cc) }
-closer_cut false top text utf8 stop t = record { some = omega arith; boundary = byte_end text 0 34 utf8 refl (quote_first text stop t); counted = tt; named = refl; opener = λ e. absurd (cc) }
+pub closer_cut : (m : Bool) (top : Option Mode) (text : List ℕ) → IsUtf8 text → piece_len m text ≡ 0 → begins (codes "${") text ≡ false
+    → IsCutOf top text (record { kind = TOKEN_STRING_END; len = cond m 2 1; change = Close })
+closer_cut true top text utf8 stop t = record {
+  some = omega arith;
+  boundary = byte_end text 1 39 utf8 refl (quote_second text stop t);
+  counted = tt;
+  named = refl;
+  opener = λ e. absurd (cc);
+}
+closer_cut false top text utf8 stop t = record {
+  some = omega arith;
+  boundary = byte_end text 0 34 utf8 refl (quote_first text stop t);
+  counted = tt;
+  named = refl;
+  opener = λ e. absurd (cc);
+}

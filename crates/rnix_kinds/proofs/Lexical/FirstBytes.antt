@@ -18,7 +18,8 @@ no_middle true b c cut e = rw e refl
 no_middle false b c cut e = refl
 
 -- a run of p ends before the byte only where that of q does, if the byte is not in q and p does not go on where q ends
-stops_elsewhere : (p q : ℕ → Bool) (text : List ℕ) (stop : ℕ) → q stop ≡ false → p (get_or text (prefix_len q text) 0) ≡ false → ¬ (get_or text (prefix_len q text) 0 ≡ stop)
+stops_elsewhere : (p q : ℕ → Bool) (text : List ℕ) (stop : ℕ) → q stop ≡ false → p (get_or text (prefix_len q text) 0) ≡ false
+    → ¬ (get_or text (prefix_len q text) 0 ≡ stop)
     → ¬ (get_or text (prefix_len p text) 0 ≡ stop)
 stops_elsewhere p q text stop out ended other is =
     elim (cases_lt (prefix_len p text) (prefix_len q text)) [
@@ -81,10 +82,12 @@ ellipsis-None-short text out =
     no_cut (get_or text 0 0 == 46) (get_or text 1 0 == 46 && get_or text 2 0 == 46) _ (rw no_dot refl)
 
 -- two or three rules that do not fit, and one that does
-pub third_fits : (a b c : Option Cut) (rest : List (Option Cut)) (last cut : Cut) → a ≡ None → b ≡ None → c ≡ Some cut → cut ≡ first_that_fits (a ∷ b ∷ c ∷ rest) last
+pub third_fits : (a b c : Option Cut) (rest : List (Option Cut)) (last cut : Cut) → a ≡ None → b ≡ None → c ≡ Some cut
+    → cut ≡ first_that_fits (a ∷ b ∷ c ∷ rest) last
 third_fits a b c rest last cut e f g = rw (e, f, g) refl
 
-pub none_of_three : (a b c : Option Cut) (rest : List (Option Cut)) (last : Cut) → a ≡ None → b ≡ None → c ≡ None → first_that_fits rest last ≡ first_that_fits (a ∷ b ∷ c ∷ rest) last
+pub none_of_three : (a b c : Option Cut) (rest : List (Option Cut)) (last : Cut) → a ≡ None → b ≡ None → c ≡ None
+    → first_that_fits rest last ≡ first_that_fits (a ∷ b ∷ c ∷ rest) last
 none_of_three a b c rest last e f g = rw (e, f, g) refl
 
 -- rules that do not fit are passed over, down to one that fits
@@ -151,7 +154,8 @@ no_run p (b ∷ text) out = rw out refl
 relative_none : (text : List ℕ) (b : ℕ) → get_or text 0 0 ≡ b → class_test Step b ≡ false → relative text ≡ None
 relative_none text b is e = rw (no_run (class_test Step) text (rw is e)) refl
 
-normal_from : (top : Option Mode) (text : List ℕ) (kept : List (Option Cut)) → Leaves (normal_rules top text) kept → first_that_fits kept (one_error text) ≡ normal_cut top text
+normal_from : (top : Option Mode) (text : List ℕ) (kept : List (Option Cut)) → Leaves (normal_rules top text) kept
+    → first_that_fits kept (one_error text) ≡ normal_cut top text
 unfolding normal_cut
 normal_from top text kept leaves = sym (leaves_first (normal_rules top text) kept (one_error text) leaves)
 
@@ -195,7 +199,8 @@ module _ (top : Option Mode) (text : List ℕ) (b : ℕ) (is : get_or text 0 0 �
       (stays (uri text) _ _
       (ends (word text) (plain (kind_of_word (take (run_end (class_test Name) 0 text) text)) (run_end (class_test Name) 0 text)) _ (rw (is, e) refl))))))))))
 
-  pub normal-stepped : 42 < b → b < 58 → ¬ (b ≡ 47) → first_that_fits (ellipsis text ∷ relative text ∷ number text ∷ operator text ∷ []) (one_error text) ≡ normal_cut top text
+  pub normal-stepped : 42 < b → b < 58 → ¬ (b ≡ 47) → first_that_fits (ellipsis text ∷ relative text ∷ number text ∷ operator text ∷ [])
+      (one_error text) ≡ normal_cut top text
   normal-stepped low high other =
       normal_from top text (ellipsis text ∷ relative text ∷ number text ∷ operator text ∷ [])
       (passed _ _ _ (space_none text b is (omega arith) (visible b (omega arith) (omega arith)))
@@ -234,7 +239,8 @@ module _ (top : Option Mode) (text : List ℕ) (b : ℕ) (is : get_or text 0 0 �
   -- after white space, what begins with none of the bytes of the other rules
   only_operator : begins_word b ≡ false → begins_step b ≡ false → (b == 34) ≡ false → (b == 36) ≡ false → (b == 39) ≡ false
       → (b == 35) ≡ false → (b == 47) ≡ false → (b == 60) ≡ false → (b == 126) ≡ false → (b == 123) ≡ false → (b == 125) ≡ false
-      → Leaves (comment text ∷ ellipsis text ∷ slash text ∷ home text ∷ relative text ∷ search_path text ∷ uri text ∷ word text ∷ number text ∷ opener text ∷ brace top text ∷ operator text ∷ []) (operator text ∷ [])
+      → Leaves (comment text ∷ ellipsis text ∷ slash text ∷ home text ∷ relative text ∷ search_path text ∷ uri text ∷ word text ∷ number text ∷ opener text
+      ∷ brace top text ∷ operator text ∷ []) (operator text ∷ [])
   only_operator not_word not_step double dollar quote hash slashed angle tilde left right =
       passed _ _ _ (comment_none text b is hash slashed)
       (passed _ _ _ (ellipsis_none text b is (grind (arith, nat_tests)))
@@ -261,7 +267,8 @@ module _ (top : Option Mode) (text : List ℕ) (b : ℕ) (is : get_or text 0 0 �
   normal-other e =
       normal_from top text (space text ∷ operator text ∷ [])
       (stays (space text) _ _
-      (only_operator (grind (arith, nat_tests)) (grind (arith, nat_tests)) (grind (arith, nat_tests)) (grind (arith, nat_tests)) (grind (arith, nat_tests)) (grind (arith, nat_tests)) (grind (arith, nat_tests))
+      (only_operator (grind (arith, nat_tests)) (grind (arith, nat_tests)) (grind (arith, nat_tests)) (grind (arith, nat_tests)) (grind (arith, nat_tests))
+      (grind (arith, nat_tests)) (grind (arith, nat_tests))
       (grind (arith, nat_tests)) (grind (arith, nat_tests)) (grind (arith, nat_tests)) (grind (arith, nat_tests))))
 
 -- and by a byte that one rule alone begins with

@@ -5,7 +5,8 @@ use Rattle.rnix_kinds.specs.Lexical.{Strings.{piece_len, content_len}, Texts.bef
 use Rattle.rnix_kinds.proofs.Lexical.{StringsLemmas.{content_len-piece, content_len-stop, content_len-past}, WordsLemmas.{before_pair-le, before_pair-found}}
 use Rattle.rnix_kinds.proofs.Lexical.WordsLemmas.{before_pair-begins, before_pair-first, within_from_byte}
 
-run_step : (p : ℕ → Bool) (x : ℕ) (xs : List ℕ) (b : Bool) → p x ≡ b → list_all p (take (prefix_len p xs) xs) ≡ true → list_all p (take (prefix_len p (x ∷ xs)) (x ∷ xs)) ≡ true
+run_step : (p : ℕ → Bool) (x : ℕ) (xs : List ℕ) (b : Bool) → p x ≡ b → list_all p (take (prefix_len p xs) xs) ≡ true
+    → list_all p (take (prefix_len p (x ∷ xs)) (x ∷ xs)) ≡ true
 run_step p x xs true e h =
     let more : 1 + prefix_len p xs ≡ suc (prefix_len p xs) = omega arith in
     rw (e, more, e) h
@@ -43,7 +44,8 @@ row_case m fuel text (suc n) e h before more =
           let fits : piece_len m text ≤ length text = omega arith in
           let step = content_len-piece m (piece_len m text) text refl some fits in
           let dropped = length-drop (piece_len m text) text in
-          subst (λ k. IsRow m k text) (sym step) (piece (content_len m (drop (piece_len m text) text)) text some fits (more (drop (piece_len m text) text) (omega arith) (omega arith))))
+          subst (λ k. IsRow m k text) (sym step) (piece (content_len m (drop (piece_len m text) text)) text some fits
+          (more (drop (piece_len m text) text) (omega arith) (omega arith))))
     ]
 
 row_member : (m : Bool) (fuel : ℕ) (text : List ℕ) → length text ≤ fuel → content_len m text < length text → IsRow m (content_len m text) text

@@ -24,15 +24,18 @@ fits_no_longer n (row ∷ rows) text m ok (inr later) = fits_no_longer n rows te
 not_here : (b : Bool) → b ≡ false → b ≡ true → ⊥
 not_here b e f = cc
 
-later_only : (row : List ℕ × SyntaxKind) (rows : List (List ℕ × SyntaxKind)) (text : List ℕ) (m : ℕ) → begins row.0 text ≡ false → FitsRow (row ∷ rows) text m → FitsRow rows text m
+later_only : (row : List ℕ × SyntaxKind) (rows : List (List ℕ × SyntaxKind)) (text : List ℕ) (m : ℕ) → begins row.0 text ≡ false → FitsRow (row ∷ rows) text m
+    → FitsRow rows text m
 later_only row rows text m e (inl here) = absurd (not_here (begins row.0 text) e here.0)
 later_only row rows text m e (inr later) = later
 
-first_is_longest : (rows : List (List ℕ × SyntaxKind)) (text : List ℕ) (cut : Cut) → are_descending rows ≡ true → first_row rows text ≡ Some cut → IsLongest (FitsRow rows text) cut.len
+first_is_longest : (rows : List (List ℕ × SyntaxKind)) (text : List ℕ) (cut : Cut) → are_descending rows ≡ true → first_row rows text ≡ Some cut
+    → IsLongest (FitsRow rows text) cut.len
 first_is_longest [] text cut ok e = absurd (cc)
 first_is_longest (row ∷ rows) text cut ok e =
     let parts = and_parts (list_all (is_no_longer (length row.0)) rows) (are_descending rows) ok in
-    elim (begins row.0 text) as (λ b. begins row.0 text ≡ b → cond b (Some (plain row.1 (length row.0))) (first_row rows text) ≡ Some cut → IsLongest (FitsRow (row ∷ rows) text) cut.len) [
+    elim (begins row.0 text) as (λ b. begins row.0 text ≡ b → cond b (Some (plain row.1 (length row.0))) (first_row rows text) ≡ Some cut
+    → IsLongest (FitsRow (row ∷ rows) text) cut.len) [
       | true ↦ λ t same. subst (λ c. IsLongest (FitsRow (row ∷ rows) text) c.len) (same_Some (plain row.1 (length row.0)) cut same) (record {
         member = inl (t, refl);
         longest = λ m fits. elim fits as (λ x. m ≤ length row.0) [

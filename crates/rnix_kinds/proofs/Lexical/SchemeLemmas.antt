@@ -20,7 +20,8 @@ colon_step b e = grind (arith, nat_tests)
 
 -- a byte of the scheme in front changes nothing
 module _ (b : ℕ) (text : List ℕ) where
-  goes_on : class_test Scheme b ≡ true → (IsSchemeEnd text → IsScheme text) × (IsScheme text → IsSchemeEnd text) → (IsSchemeEnd (b ∷ text) → IsScheme (b ∷ text)) × (IsScheme (b ∷ text) → IsSchemeEnd (b ∷ text))
+  goes_on : class_test Scheme b ≡ true → (IsSchemeEnd text → IsScheme text) × (IsScheme text → IsSchemeEnd text)
+      → (IsSchemeEnd (b ∷ text) → IsScheme (b ∷ text)) × (IsScheme (b ∷ text) → IsSchemeEnd (b ∷ text))
   goes_on e more =
       let parts = scheme_step b e in
       let steps : 1 + prefix_len (class_test Step) text ≡ suc (prefix_len (class_test Step) text) = omega arith in
@@ -47,7 +48,8 @@ module _ (b : ℕ) (text : List ℕ) where
 pub scheme_ends : (text : List ℕ) → (IsSchemeEnd text → IsScheme text) × (IsScheme text → IsSchemeEnd text)
 scheme_ends [] = (λ e. absurd (omega arith), λ e. absurd (omega (arith, e.1)))
 scheme_ends (b ∷ text) =
-    elim (class_test Scheme b) as (λ s. class_test Scheme b ≡ s → (IsSchemeEnd (b ∷ text) → IsScheme (b ∷ text)) × (IsScheme (b ∷ text) → IsSchemeEnd (b ∷ text))) [
+    elim (class_test Scheme b) as (λ s. class_test Scheme b ≡ s → (IsSchemeEnd (b ∷ text) → IsScheme (b ∷ text))
+    × (IsScheme (b ∷ text) → IsSchemeEnd (b ∷ text))) [
       | true ↦ λ e. goes_on b text e (scheme_ends text)
       | false ↦ λ e. ends b text e
     ] refl

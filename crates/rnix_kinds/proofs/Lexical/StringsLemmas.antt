@@ -58,22 +58,26 @@ content_run_step m true x xs e h =
 content_run_step m false x xs e h = rw e (omega arith)
 
 -- and so is a run of them a row
-pub content_len-run : (m : Bool) (xs : List ℕ) → content_len m xs ≡ prefix_len (class_test Content) xs + content_len m (drop (prefix_len (class_test Content) xs) xs)
+pub content_len-run : (m : Bool) (xs : List ℕ) → content_len m xs ≡ prefix_len (class_test Content) xs + content_len m
+    (drop (prefix_len (class_test Content) xs) xs)
 content_len-run m [] = omega arith
 content_len-run m (x ∷ xs) = content_run_step m (class_test Content x) x xs refl (content_len-run m xs)
 
 -- what comes before a place and a run from there on
-pub content_len-run_end : (m : Bool) (i end : ℕ) (xs : List ℕ) → content_len m xs ≡ i + content_len m (drop i xs) → end ≡ run_end (class_test Content) i xs → content_len m xs ≡ end + content_len m (drop end xs)
+pub content_len-run_end : (m : Bool) (i end : ℕ) (xs : List ℕ) → content_len m xs ≡ i + content_len m (drop i xs) → end ≡ run_end (class_test Content) i xs
+    → content_len m xs ≡ end + content_len m (drop end xs)
 content_len-run_end m i end xs so_far e =
     let run = content_len-run m (drop i xs) in
     let same = ap (content_len m) (drop-drop (prefix_len (class_test Content) (drop i xs)) i xs) in
     rw e (omega (arith, so_far, run, same))
 
-content_le_step : (m : Bool) (x : ℕ) (xs : List ℕ) (n : ℕ) → piece_len m (x ∷ xs) ≡ n → ((k : ℕ) → content_from m k xs ≤ length xs) → content_len m (x ∷ xs) ≤ suc (length xs)
+content_le_step : (m : Bool) (x : ℕ) (xs : List ℕ) (n : ℕ) → piece_len m (x ∷ xs) ≡ n → ((k : ℕ) → content_from m k xs ≤ length xs)
+    → content_len m (x ∷ xs) ≤ suc (length xs)
 content_le_step m x xs zero e more = omega (arith, content_len-stop m (x ∷ xs) e)
 content_le_step m x xs (suc n) e more = omega (arith, content_step m n x xs e, more n)
 
-content_stops_step : (m : Bool) (x : ℕ) (xs : List ℕ) (n : ℕ) → piece_len m (x ∷ xs) ≡ n → ((k : ℕ) → content_from m k xs < length xs → piece_len m (drop (content_from m k xs) xs) ≡ 0)
+content_stops_step : (m : Bool) (x : ℕ) (xs : List ℕ) (n : ℕ) → piece_len m (x ∷ xs) ≡ n
+    → ((k : ℕ) → content_from m k xs < length xs → piece_len m (drop (content_from m k xs) xs) ≡ 0)
     → content_len m (x ∷ xs) < suc (length xs) → piece_len m (drop (content_len m (x ∷ xs)) (x ∷ xs)) ≡ 0
 content_stops_step m x xs zero e more h = rw (content_len-stop m (x ∷ xs) e) e
 content_stops_step m x xs (suc n) e more h =

@@ -17,7 +17,8 @@ unfolding tokens_behind
 tokens_under-nil modes = refl
 
 first_token : (modes : List Mode) (b : ℕ) (text : List ℕ) (cut : Cut) → cut_at (top (without_ended_paths modes (b ∷ text))) (b ∷ text) ≡ cut
-    → tokens_under modes (b ∷ text) ≡ (cut.kind, take cut.len (b ∷ text)) ∷ tokens_behind (cut.len - 1) (changed cut.change (without_ended_paths modes (b ∷ text))) text
+    → tokens_under modes (b ∷ text) ≡ (cut.kind, take cut.len (b ∷ text))
+    ∷ tokens_behind (cut.len - 1) (changed cut.change (without_ended_paths modes (b ∷ text))) text
 unfolding tokens_behind
 first_token modes b text cut e = rw (← e) refl
 
@@ -26,7 +27,8 @@ drop_one_less zero b text h = absurd (omega arith)
 drop_one_less (suc n) b text h = let e : suc n - 1 ≡ n = omega arith in rw e
 
 -- the token that begins a text, and the tokens of the rest
-pub tokens_under-cut : (modes : List Mode) (text : List ℕ) (cut : Cut) → 0 < length text → cut_at (top (without_ended_paths modes text)) text ≡ cut → 0 < cut.len
+pub tokens_under-cut : (modes : List Mode) (text : List ℕ) (cut : Cut) → 0 < length text → cut_at (top (without_ended_paths modes text)) text ≡ cut
+    → 0 < cut.len
     → tokens_under modes text ≡ (cut.kind, take cut.len text) ∷ tokens_under (changed cut.change (without_ended_paths modes text)) (drop cut.len text)
 tokens_under-cut modes [] cut some e more = absurd (omega arith)
 tokens_under-cut modes (b ∷ text) cut some e more =
@@ -34,17 +36,20 @@ tokens_under-cut modes (b ∷ text) cut some e more =
     ∙ ap (λ ts. (cut.kind, take cut.len (b ∷ text)) ∷ ts)
     (tokens_behind-passed (cut.len - 1) _ text ∙ ap (tokens_under _) (drop_one_less cut.len b text more))
 
-settled_step : (kind : PathStart) (modes : List Mode) (text : List ℕ) (b : Bool) → path_goes_on text ≡ b → without_ended_paths (without_ended_paths modes text) text ≡ without_ended_paths modes text
+settled_step : (kind : PathStart) (modes : List Mode) (text : List ℕ) (b : Bool) → path_goes_on text ≡ b
+    → without_ended_paths (without_ended_paths modes text) text ≡ without_ended_paths modes text
     → without_ended_paths (without_ended_paths (Path kind ∷ modes) text) text ≡ without_ended_paths (Path kind ∷ modes) text
 settled_step kind modes text true e h = rw (e, e) refl
 settled_step kind modes text false e h = rw (e) h
 
-goes_on_step : (kind : PathStart) (modes : List Mode) (text : List ℕ) (b : Bool) → path_goes_on text ≡ b → IsPathGoingOn (top (without_ended_paths modes text)) text → IsPathGoingOn (top (without_ended_paths (Path kind ∷ modes) text)) text
+goes_on_step : (kind : PathStart) (modes : List Mode) (text : List ℕ) (b : Bool) → path_goes_on text ≡ b
+    → IsPathGoingOn (top (without_ended_paths modes text)) text → IsPathGoingOn (top (without_ended_paths (Path kind ∷ modes) text)) text
 goes_on_step kind modes text true e h = rw (e) e
 goes_on_step kind modes text false e h = rw (e) h
 
 -- settling again changes nothing
-pub without_ended_paths-settled : (modes : List Mode) (text : List ℕ) → without_ended_paths (without_ended_paths modes text) text ≡ without_ended_paths modes text
+pub without_ended_paths-settled : (modes : List Mode) (text : List ℕ)
+    → without_ended_paths (without_ended_paths modes text) text ≡ without_ended_paths modes text
 without_ended_paths-settled [] text = refl
 without_ended_paths-settled (Quoted m ∷ modes) text = refl
 without_ended_paths-settled (Interpolation n ∷ modes) text = refl
@@ -61,7 +66,8 @@ CountsFit-settled n [] text fit = fit
 CountsFit-settled n (Quoted m ∷ modes) text fit = fit
 CountsFit-settled n (Interpolation b ∷ modes) text fit = fit
 CountsFit-settled n (Path kind ∷ modes) text fit =
-    elim (path_goes_on text) as (λ b. CountsFit n (cond b (Path kind ∷ modes) (without_ended_paths modes text))) [ true ↦ fit | false ↦ CountsFit-settled n modes text fit.1 ]
+    elim (path_goes_on text) as (λ b. CountsFit n (cond b (Path kind ∷ modes)
+    (without_ended_paths modes text))) [ true ↦ fit | false ↦ CountsFit-settled n modes text fit.1 ]
 
 CountsFit-less : (m n : ℕ) (modes : List Mode) → m ≤ n → CountsFit n modes → CountsFit m modes
 CountsFit-less m n [] h fit = omega arith
@@ -71,7 +77,8 @@ fits_alone : (n : ℕ) (modes : List Mode) → CountsFit n modes → n < 2 ^ 64
 fits_alone n [] fit = fit
 fits_alone n (mode ∷ modes) fit = omega (arith, fit.0)
 
-pub CountsFit-changed : (m n : ℕ) (change : Change) (modes : List Mode) → m < n → CountsUp (top modes) change → CountsFit n modes → CountsFit m (changed change modes)
+pub CountsFit-changed : (m n : ℕ) (change : Change) (modes : List Mode) → m < n → CountsUp (top modes) change → CountsFit n modes
+    → CountsFit m (changed change modes)
 CountsFit-changed m n Stay modes h up fit = CountsFit-less m n modes (omega arith) fit
 CountsFit-changed m n (Open mode) modes h up fit = (omega (arith, up, fits_alone n modes fit), CountsFit-less m n modes (omega arith) fit)
 CountsFit-changed m n Close [] h up fit = CountsFit-less m n [] (omega arith) fit
@@ -102,7 +109,8 @@ tokens_under-settled modes [] = refl
 tokens_under-settled modes (b ∷ text) = rw (without_ended_paths-settled modes (b ∷ text)) refl
 
 -- after `${` in a path comes an interpolation
-interpolation_cut : (start : PathStart) (text : List ℕ) → begins (codes "${") text ≡ true → path_cut start text ≡ record { kind = TOKEN_INTERPOL_START; len = 2; change = Open (Interpolation 0) }
+interpolation_cut : (start : PathStart) (text : List ℕ) → begins (codes "${") text ≡ true
+    → path_cut start text ≡ record { kind = TOKEN_INTERPOL_START; len = 2; change = Open (Interpolation 0) }
 interpolation_cut start text e = rw e refl
 
 begins_some : (text : List ℕ) → begins (codes "${") text ≡ true → 0 < length text
@@ -112,7 +120,8 @@ begins_some (b ∷ text) e = omega arith
 goes_on_there : (text : List ℕ) → begins (codes "${") text ≡ true → path_goes_on text ≡ true
 goes_on_there text e = rw e refl
 
-path_interpolates : (start : PathStart) (modes : List Mode) (text : List ℕ) → begins (codes "${") text ≡ true → InterpolatesFirst (tokens_under (Path start ∷ modes) text)
+path_interpolates : (start : PathStart) (modes : List Mode) (text : List ℕ) → begins (codes "${") text ≡ true
+    → InterpolatesFirst (tokens_under (Path start ∷ modes) text)
 unfolding cut_at
 path_interpolates start modes text e =
     let cut : Cut = record { kind = TOKEN_INTERPOL_START; len = 2; change = Open (Interpolation 0) } in
@@ -121,10 +130,12 @@ path_interpolates start modes text e =
     subst InterpolatesFirst (sym (tokens_under-cut (Path start ∷ modes) text cut (begins_some text e) here (omega arith))) refl
 
 -- a token that opens a mode, before the tokens that follow it
-path_opens_first : (change : Change) (modes : List Mode) (text : List ℕ) → IsPathBegun change → begins (codes "${") text ≡ true → InterpolatesFirst (tokens_under (changed change modes) text)
+path_opens_first : (change : Change) (modes : List Mode) (text : List ℕ) → IsPathBegun change → begins (codes "${") text ≡ true
+    → InterpolatesFirst (tokens_under (changed change modes) text)
 path_opens_first (Open (Path start)) modes text begun e = path_interpolates start modes text e
 path_opens_first change modes text begun e = absurd begun
 
-pub opens_first : (cut : Cut) (modes : List Mode) (word text : List ℕ) → OpensBefore cut text → OpensFirst ((cut.kind, word) ∷ tokens_under (changed cut.change modes) text)
+pub opens_first : (cut : Cut) (modes : List Mode) (word text : List ℕ) → OpensBefore cut text
+    → OpensFirst ((cut.kind, word) ∷ tokens_under (changed cut.change modes) text)
 opens_first cut modes word text (inl alone) = inl alone
 opens_first cut modes word text (inr path) = inr (path.0, path_opens_first cut.change modes text path.1 path.2)

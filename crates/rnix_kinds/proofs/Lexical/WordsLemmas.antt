@@ -34,7 +34,8 @@ unfolding space_len
 space_len-stop [] low out = rw chars-nil refl
 space_len-stop (b ∷ text) low out = rw (chars-ascii b text low, out) refl
 
-blank_more : (b : ℕ) (cs : List ℕ) → b < 128 → is_whitespace b ≡ true → length (encode_utf8_all (take_while is_whitespace (b ∷ cs))) ≡ 1 + length (encode_utf8_all (take_while is_whitespace cs))
+blank_more : (b : ℕ) (cs : List ℕ) → b < 128 → is_whitespace b ≡ true
+    → length (encode_utf8_all (take_while is_whitespace (b ∷ cs))) ≡ 1 + length (encode_utf8_all (take_while is_whitespace cs))
 blank_more b cs low white =
     let more : 1 + prefix_len is_whitespace cs ≡ suc (prefix_len is_whitespace cs) = omega arith in
     rw (white, more) (omega (arith, length-append (encode b) (encode_utf8_all (take_while is_whitespace cs)), ap length (encode_ascii b low)))
@@ -118,7 +119,8 @@ IsCharBoundary-run Line bs utf8 = IsCharBoundary-wide_run (class_test Line) bs (
 IsCharBoundary-run Comment bs utf8 = IsCharBoundary-wide_run (class_test Comment) bs (λ c e. grind (arith, nat_tests))
 IsCharBoundary-run Blank bs utf8 = IsCharBoundary-ascii_run (class_test Blank) bs utf8 (λ c e. grind (arith, nat_tests))
 
-prefix_len_drop_step : (p : ℕ → Bool) (b : Bool) (n x : ℕ) (xs : List ℕ) → p x ≡ b → suc n < prefix_len p (x ∷ xs) → (n < prefix_len p xs → prefix_len p (drop n xs) ≡ prefix_len p xs - n) → prefix_len p (drop n xs) ≡ prefix_len p (x ∷ xs) - suc n
+prefix_len_drop_step : (p : ℕ → Bool) (b : Bool) (n x : ℕ) (xs : List ℕ) → p x ≡ b → suc n < prefix_len p (x ∷ xs)
+    → (n < prefix_len p xs → prefix_len p (drop n xs) ≡ prefix_len p xs - n) → prefix_len p (drop n xs) ≡ prefix_len p (x ∷ xs) - suc n
 prefix_len_drop_step p true n x xs e h more =
     let whole : prefix_len p (x ∷ xs) ≡ 1 + prefix_len p xs = rw e in
     let here = more (omega arith) in
@@ -162,7 +164,8 @@ IsCharBoundary-space_len text utf8 =
     IsCharBoundary-at_seam text _ _ (sym (space_split (chars text) ∙ encodes-chars text utf8))
     (skip_leading_whitespace (chars text), (scalars-skip (chars text) (scalars-chars text utf8), refl))
 
-char_boundary : (text cs : List ℕ) → chars text ≡ cs → encode_utf8_all (chars text) ≡ text → IsUtf8 text → 0 < length text → IsCharBoundary text (len_utf8 (get_or (chars text) 0 0))
+char_boundary : (text cs : List ℕ) → chars text ≡ cs → encode_utf8_all (chars text) ≡ text → IsUtf8 text → 0 < length text
+    → IsCharBoundary text (len_utf8 (get_or (chars text) 0 0))
 char_boundary text [] e spelt utf8 some = let none : [] ≡ text = rw e at spelt in absurd (omega (arith, ap length none))
 char_boundary text (c ∷ cs) e spelt utf8 some =
     let parts = rw e at spelt in
@@ -185,7 +188,8 @@ before_pair-le a b (x ∷ xs) =
       | false ↦ omega (arith, before_pair-le a b xs)
     ]
 
-found_step : (a b x : ℕ) (xs : List ℕ) (t : Bool) → (x == a && get_or xs 0 0 == b) ≡ t → (before_pair a b xs < length xs → get_or xs (before_pair a b xs + 1) 0 ≡ b)
+found_step : (a b x : ℕ) (xs : List ℕ) (t : Bool) → (x == a && get_or xs 0 0 == b) ≡ t
+    → (before_pair a b xs < length xs → get_or xs (before_pair a b xs + 1) 0 ≡ b)
     → before_pair a b (x ∷ xs) < suc (length xs) → get_or (x ∷ xs) (before_pair a b (x ∷ xs) + 1) 0 ≡ b
 unfolding before_pair
 found_step a b x xs true e more h = rw e (eqb-true (get_or xs 0 0) b (and_parts _ _ e).1)
@@ -199,7 +203,8 @@ pub before_pair-found : (a b : ℕ) (xs : List ℕ) → before_pair a b xs < len
 before_pair-found a b [] h = absurd (omega arith)
 before_pair-found a b (x ∷ xs) h = found_step a b x xs _ refl (before_pair-found a b xs) h
 
-begins_step : (a b x : ℕ) (xs : List ℕ) (t : Bool) → (x == a && get_or xs 0 0 == b) ≡ t → (before_pair a b xs < length xs → get_or xs (before_pair a b xs) 0 ≡ a)
+begins_step : (a b x : ℕ) (xs : List ℕ) (t : Bool) → (x == a && get_or xs 0 0 == b) ≡ t
+    → (before_pair a b xs < length xs → get_or xs (before_pair a b xs) 0 ≡ a)
     → before_pair a b (x ∷ xs) < suc (length xs) → get_or (x ∷ xs) (before_pair a b (x ∷ xs)) 0 ≡ a
 unfolding before_pair
 begins_step a b x xs true e more h = rw e (eqb-true x a (and_parts _ _ e).0)

@@ -9,5 +9,6 @@ returns c =
       | in-n w ↦ letter_escapes 110 _ _ _ (text ∙ ap (λ t. t ++ c.in_ok-c.rest.now) w.in-n.is) (ap (λ v. v.now) w.value-is)
       | in-r w ↦ letter_escapes 114 _ _ _ (text ∙ ap (λ t. t ++ c.in_ok-c.rest.now) w.in-r.is) (ap (λ v. v.now) w.value-is)
       | in-t w ↦ letter_escapes 116 _ _ _ (text ∙ ap (λ t. t ++ c.in_ok-c.rest.now) w.in-t.is) (ap (λ v. v.now) w.value-is)
-      | in_default w ↦ rw w.value-is (character_escapes _ _ _ (is_character c.in_ok-c.ensures.0 _ c.in_ok-c.ensures.1) text w.in_default.not-n w.in_default.not-r w.in_default.not-t)
+      | in_default w ↦ rw w.value-is (character_escapes _ _ _
+          (is_character c.in_ok-c.ensures.0 _ c.in_ok-c.ensures.1) text w.in_default.not-n w.in_default.not-r w.in_default.not-t)
     ]

@@ -5,7 +5,9 @@ pub returns-then-starts_with : goal.returns-then-starts_with
 returns-then-starts_with c = quote_end c.args.text.now c.if-starts_with.ensures.cases
 
 pub returns-in-Some : goal.returns-in-Some
-returns-in-Some c = escape_begins false c.args.text.now c.in-Some.rest.now c.escape.result (strip_gives (codes "\\") _ _ c.in-Some.ensures.cases) c.escape.ensures
+returns-in-Some c = escape_begins false c.args.text.now c.in-Some.rest.now c.escape.result
+    (strip_gives (codes "\\") _ _ c.in-Some.ensures.cases) c.escape.ensures
 
 pub returns-in-None : goal.returns-in-None
-returns-in-None c = char_begins false c.args.text.now c.first_char.result (quote_free _ c.if-starts_with.ensures.cases c.in-None.ensures.cases) c.first_char.ensures
+returns-in-None c = char_begins false c.args.text.now c.first_char.result
+    (quote_free _ c.if-starts_with.ensures.cases c.in-None.ensures.cases) c.first_char.ensures

@@ -14,7 +14,9 @@ loop-c-preserved-then-left-gt0 c =
 
 pub loop-c-preserved-then-c-eq10 : goal.loop-c-preserved-then-c-eq10
 loop-c-preserved-then-c-eq10 c =
-    let step = stays_char c.args.least c.loop-c.left c.in-Some.c c.args.least _ _ (not_lost c.loop-c.left c.in-Some.c (λ (e : c.in-Some.c ≡ 32). absurd (omega (arith, c.if-c-eq10.true, e)))) (grind (arith, nat_tests)) c.in-Some.ensures.steps.0 in
+    let step = stays_char c.args.least c.loop-c.left c.in-Some.c c.args.least _ _
+    (not_lost c.loop-c.left c.in-Some.c (λ (e : c.in-Some.c ≡ 32). absurd (omega (arith, c.if-c-eq10.true, e))))
+    (grind (arith, nat_tests)) c.in-Some.ensures.steps.0 in
     record {
       kept = grown _ _ _ (encode_utf8 c.in-Some.c) _ _ c.loop-c.invariant.kept step.0 c.in_ok-push.ensures.bytes;
       left = c.loop-c.invariant.left ∙ step.1;
@@ -35,7 +37,8 @@ loop-c-preserved c =
 pub returns-clause-kept : goal.returns-clause-kept
 returns-clause-kept c =
     let none = nil_from_length c.loop-c.rest.rest.now c.in_default.ensures.steps.0.0 in
-    sym (c.loop-c.invariant.kept ∙ ap (λ t. string_bytes c.loop-c.kept ++ kept c.args.least c.loop-c.left t) none ∙ ap (λ t. string_bytes c.loop-c.kept ++ t) (kept-nil _ _) ∙ append-nil _)
+    sym (c.loop-c.invariant.kept ∙ ap (λ t. string_bytes c.loop-c.kept ++ kept c.args.least c.loop-c.left t) none
+    ∙ ap (λ t. string_bytes c.loop-c.kept ++ t) (kept-nil _ _) ∙ append-nil _)
 
 pub returns-clause-left : goal.returns-clause-left
 returns-clause-left c =

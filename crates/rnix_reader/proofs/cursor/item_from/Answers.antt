@@ -10,7 +10,8 @@ returns-then-not-is_trivia c text =
 pub loop-at-preserved : goal.loop-at-preserved
 loop-at-preserved c text =
     rw (add-one)
-    (sym (from_trivia _ _ _ (at_place text 0 c.args.tokens.now c.loop-at.at _ c.loop-at-test.true) (sym c.is_trivia.ensures ∙ c.if-not-is_trivia.false)) ∙ c.loop-at.invariant text)
+    (sym (from_trivia _ _ _ (at_place text 0 c.args.tokens.now c.loop-at.at _ c.loop-at-test.true) (sym c.is_trivia.ensures ∙ c.if-not-is_trivia.false))
+    ∙ c.loop-at.invariant text)
 
 pub returns : goal.returns
 returns c text =

@@ -3,12 +3,14 @@ use Rattle.rnix_reader.{specs.declared.cursor.TokenEnd.TokenEnd, proofs.CursorLe
 use Rattle.rnix_reader.proofs.cursor.token_at.Goals as goal
 
 pub range-requires-clause-start_le_end : goal.range-requires-clause-start_le_end
-range-requires-clause-start_le_end c = rw (c.start_at-start.ensures) (IsCut.order (cut_at_token c.args.text.now c.args.tokens.now c.args.at _ c.utf8.text c.requires c.if-at-tokens.true))
+range-requires-clause-start_le_end c = rw (c.start_at-start.ensures)
+    (IsCut.order (cut_at_token c.args.text.now c.args.tokens.now c.args.at _ c.utf8.text c.requires c.if-at-tokens.true))
 
 pub range-requires-clause-start_boundary : goal.range-requires-clause-start_boundary
 range-requires-clause-start_boundary c =
     let any : TokenEnd = record { kind = TOKEN_ADD; end = 0 } in
-    λ _. rw (c.start_at-start.ensures) (IsCut.at_start (cut_at_token c.args.text.now c.args.tokens.now c.args.at any c.utf8.text c.requires c.if-at-tokens.true))
+    λ _. rw (c.start_at-start.ensures) (IsCut.at_start
+    (cut_at_token c.args.text.now c.args.tokens.now c.args.at any c.utf8.text c.requires c.if-at-tokens.true))
 
 pub range-requires-clause-end_boundary : goal.range-requires-clause-end_boundary
 range-requires-clause-end_boundary c = IsCut.at_end (cut_at_token c.args.text.now c.args.tokens.now c.args.at _ c.utf8.text c.requires c.if-at-tokens.true)

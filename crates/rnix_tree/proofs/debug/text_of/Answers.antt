@@ -12,10 +12,12 @@ returns c =
     elim c.match-element.branch [
       | in-Node+in_ok-write_place-in-Node w ↦
           subst (λ e. IfSome (spot_text (spot_of e)) (λ bs. inline_text c.into_inner.result ≡ bs)) (sym w.in-Node.is)
-          (inline_told f w.write_place.new.f (Ok w.in_ok-write_place-in-Node.field-0) (Some (element_text (item_of w.in-Node.node).kind (extent_of w.in-Node.node))) c.into_inner.result
+          (inline_told f w.write_place.new.f (Ok w.in_ok-write_place-in-Node.field-0)
+          (Some (element_text (item_of w.in-Node.node).kind (extent_of w.in-Node.node))) c.into_inner.result
           c.new-f.ensures.plain intact none refl
           (displays_on_ok_of_eq AppendsIfIntact _ _ (Ok w.in_ok-write_place-in-Node.field-0) _ _
-          (ap Some (ap (λ k. element_text k (bounds_of w.text_range.result)) w.kind.ensures ∙ ap (element_text (item_of w.in-Node.node).kind) w.text_range.ensures))
+          (ap Some (ap (λ k. element_text k (bounds_of w.text_range.result)) w.kind.ensures
+          ∙ ap (element_text (item_of w.in-Node.node).kind) w.text_range.ensures))
           w.in_ok-write_place-in-Node.ensures) (c.into_inner.ensures ∙ ap formatter_writer w.f-is))
       | in-Token+in_ok-write_token-in-Token w ↦
           subst (λ e. IfSome (spot_text (spot_of e)) (λ bs. inline_text c.into_inner.result ≡ bs)) (sym w.in-Token.is)

@@ -26,4 +26,5 @@ loop-event-preserved-in-Enter g c =
 pub returns : goal.returns
 returns g c =
     let so_far = c.loop-event.invariant in
-    subst (Appends (g.W.Write.contents c.args.out.now) (g.W.Write.contents c.loop-event.out)) (finished c.args.node.now so_far.0 _ _ so_far.2 c.in-None.ensures.steps.0) so_far.1
+    subst (Appends (g.W.Write.contents c.args.out.now) (g.W.Write.contents c.loop-event.out))
+    (finished c.args.node.now so_far.0 _ _ so_far.2 c.in-None.ensures.steps.0) so_far.1

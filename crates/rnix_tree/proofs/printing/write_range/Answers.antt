@@ -61,7 +61,14 @@ returns g c =
     let e : List ℕ = decimal c.end.result in
     let s : List ℕ = decimal c.start.result in
     let long : length bs ≡ 44 = omega (arith, c.write_digits-end.auto.bytes) in
-    let also_long : length ds ≡ 44 = omega (arith, c.write_digits-end.auto.bytes, c.write_digits-start.auto.bytes, length-set bs (p - 1) 46, length-set (set bs (p - 1) 46) (p - 2) 46) in
+    let also_long : length ds ≡ 44 = omega (
+      arith,
+      c.write_digits-end.auto.bytes,
+      c.write_digits-start.auto.bytes,
+      length-set bs (p - 1) 46,
+      length-set
+          (set bs (p - 1) 46) (p - 2) 46,
+    ) in
     subst (λ (xs : List ℕ). Appends (g.W.Write.contents c.args.out.now) (g.W.Write.contents c.write_all.new.self) xs)
     (range_bytes s e bs ds p q long also_long c.write_digits-end.ensures.start c.write_digits-start.ensures.start
     (omega (arith, decimal_short c.end.result fits, c.write_digits-end.ensures.start))

@@ -8,7 +8,8 @@ returns-in_default c =
 
 pub element-requires : goal.element-requires
 element-requires c =
-    let parent : (item c.args.green.now c.args.number).parent ≡ Some c.in-Some.parent = sym (ap (λ (i : Item). i.parent) c.element-element.ensures.is) ∙ c.in-Some.is in
+    let parent : (item c.args.green.now c.args.number).parent ≡ Some c.in-Some.parent =
+    sym (ap (λ (i : Item). i.parent) c.element-element.ensures.is) ∙ c.in-Some.is in
     let below = below_parent c.args.green.now c.args.number c.in-Some.parent c.requires parent in
     let there : c.in-Some.parent < length (items_of c.args.green.now) = omega (arith, below.low, c.requires) in
     there

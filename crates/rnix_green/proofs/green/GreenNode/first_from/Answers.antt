@@ -10,7 +10,8 @@ returns-clause-before c =
     let whole : IsKept t c.self.inside.elements.items text = rw c.self.view_is at c.self.invariant in
     let kept = subst (λ xs. IsKept t xs text) (sym c.deref.ensures.value) whole in
     let parted = partitioned t es text kept c.args.from c.args.end c.args.offset c.requires.ordered c.requires.there in
-    let point = IsPartitionPoint-from_clause (starts_before c.args.offset) _ c.partition_point.result c.partition_point.ensures.partitioned parted (λ a r q k. search rules) in
+    let point = IsPartitionPoint-from_clause (starts_before c.args.offset) _ c.partition_point.result c.partition_point.ensures.partitioned parted
+    (λ a r q k. search rules) in
     before t es text kept c.args.from c.args.end c.args.offset c.requires.ordered c.requires.there c.partition_point.result c.partition_point.ensures.bound point
 
 pub returns-clause-behind : goal.returns-clause-behind
@@ -21,5 +22,6 @@ returns-clause-behind c =
     let whole : IsKept t c.self.inside.elements.items text = rw c.self.view_is at c.self.invariant in
     let kept = subst (λ xs. IsKept t xs text) (sym c.deref.ensures.value) whole in
     let parted = partitioned t es text kept c.args.from c.args.end c.args.offset c.requires.ordered c.requires.there in
-    let point = IsPartitionPoint-from_clause (starts_before c.args.offset) _ c.partition_point.result c.partition_point.ensures.partitioned parted (λ a r q k. search rules) in
+    let point = IsPartitionPoint-from_clause (starts_before c.args.offset) _ c.partition_point.result c.partition_point.ensures.partitioned parted
+    (λ a r q k. search rules) in
     behind t es text kept c.args.from c.args.end c.args.offset c.requires.ordered c.requires.there c.partition_point.result c.partition_point.ensures.bound point

@@ -11,12 +11,14 @@ within c = taken_within _ _ _ c.self.invariant.within (next c)
 
 after : (c : goal.After-self-1) →
     let f = made (take c.self.inside.taken c.self.inside.text.now) c.self.inside.entries.items in
-    IsBuilt (wrapped c.args.node (tree_count f) (with_leaf c.args.kind c.args.part.now f)) (take (c.self.inside.taken + length c.args.part.now) c.self.inside.text.now)
+    IsBuilt (wrapped c.args.node (tree_count f) (with_leaf c.args.kind c.args.part.now f))
+    (take (c.self.inside.taken + length c.args.part.now) c.self.inside.text.now)
     (map entry_of c.push_reserved-2.new.self.items) c.self.inside.pending.items c.push_reserved-3.new.self.items
 after c =
     let b = c.self.inside in
     let h = c.self.invariant in
-    built-leaf_node (made (take b.taken b.text.now) b.entries.items) (take b.taken b.text.now) _ c.args.part.now b.entries.items c.push_reserved.new.self.items _
+    built-leaf_node (made (take b.taken b.text.now) b.entries.items)
+    (take b.taken b.text.now) _ c.args.part.now b.entries.items c.push_reserved.new.self.items _
     b.pending.items b.starts.items _ c.args.node c.args.kind _ _ c.len-start.result h.built c.utf8.part
     (omega (arith, length-take-le b.taken b.text.now h.within, within c, h.short)) (omega (arith, c.len-start.ensures, b.entries.ok.0, c.in_ok-room.ensures.ok))
     c.new.ensures c.new-2.ensures (c.len-start.ensures ∙ b.entries.ok.0) (taken_more b.text.now c.args.part.now b.taken h.within (next c))
@@ -35,7 +37,17 @@ pub returns-clause-ok : goal.returns-clause-ok
 returns-clause-ok c =
     let b = c.self.inside in
     rw (← c.self.view_is)
-    (ap (λ (f : Forest). let d : TextDraft = record { draft = record { finished = f; open_nodes = open_pairs b.pending.items }; left = drop (b.taken + length c.args.part.now) b.text.now } in d)
+    (ap (λ (f : Forest). let d : TextDraft = record {
+      draft = record { finished = f; open_nodes = open_pairs b.pending.items };
+      left = drop (b.taken + length c.args.part.now) b.text.now;
+    } in d)
     (built_is _ _ _ _ _ (after c))
-    ∙ ap (λ (l : List ℕ). let d : TextDraft = record { draft = record { finished = wrapped c.args.node (tree_count (made (take b.taken b.text.now) b.entries.items)) (with_leaf c.args.kind c.args.part.now (made (take b.taken b.text.now) b.entries.items)); open_nodes = open_pairs b.pending.items }; left = l } in d)
+    ∙ ap (λ (l : List ℕ). let d : TextDraft = record {
+      draft = record {
+        finished = wrapped c.args.node
+            (tree_count (made (take b.taken b.text.now) b.entries.items)) (with_leaf c.args.kind c.args.part.now (made (take b.taken b.text.now) b.entries.items));
+        open_nodes = open_pairs b.pending.items;
+      };
+      left = l;
+    } in d)
     (left_more b.text.now c.args.part.now b.taken))

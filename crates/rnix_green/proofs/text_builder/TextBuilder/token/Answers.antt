@@ -34,7 +34,17 @@ pub returns-clause-ok : goal.returns-clause-ok
 returns-clause-ok c =
     let b = c.self.inside in
     rw (← c.self.view_is)
-    (ap (λ (f : Forest). let d : TextDraft = record { draft = record { finished = f; open_nodes = open_pairs b.pending.items }; left = drop (b.taken + length c.args.part.now) b.text.now } in d)
+    (ap (λ (f : Forest). let d : TextDraft = record {
+      draft = record { finished = f; open_nodes = open_pairs b.pending.items };
+      left = drop (b.taken + length c.args.part.now) b.text.now;
+    } in d)
     (built_is _ _ _ _ _ (after c))
-    ∙ ap (λ (l : List ℕ). let d : TextDraft = record { draft = record { finished = with_leaf c.args.kind c.args.part.now (made (take b.taken b.text.now) b.entries.items); open_nodes = open_pairs b.pending.items }; left = l } in d)
+    ∙ ap (λ (l : List ℕ). let d : TextDraft = record {
+      draft = record {
+        finished = with_leaf c.args.kind c.args.part.now
+            (made (take b.taken b.text.now) b.entries.items);
+        open_nodes = open_pairs b.pending.items;
+      };
+      left = l;
+    } in d)
     (left_more b.text.now c.args.part.now b.taken))

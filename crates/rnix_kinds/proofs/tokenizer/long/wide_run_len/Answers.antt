@@ -4,7 +4,8 @@ use Rattle.rnix_kinds.proofs.tokenizer.long.wide_run_len.Goals as goal
 
 pub returns-then-len-lt-LANES-clause-len : goal.returns-then-len-lt-LANES-clause-len
 returns-then-len-lt-LANES-clause-len c =
-    let run = run_ends (class_test (class_of c.args.class)) c.args.bytes.now c.loop-at.at 16 c.lanes_in-len.result (omega arith) c.lanes_in-len.ensures.len (omega arith) in
+    let run = run_ends (class_test (class_of c.args.class)) c.args.bytes.now c.loop-at.at 16 c.lanes_in-len.result (omega arith) c.lanes_in-len.ensures.len
+    (omega arith) in
     omega (arith, run, c.loop-at.invariant.so_far)
 
 pub loop-at-preserved : goal.loop-at-preserved

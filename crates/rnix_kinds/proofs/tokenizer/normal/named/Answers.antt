@@ -11,7 +11,8 @@ returns-clause-cut c =
     let none : (relative text ≡ None) × (uri text ≡ None) = elim c.if-goes_past_name.branch [
       | then-goes_past_name+in_default+in_default-uri w ↦ (sym w.relative.ensures ∙ w.in_default.is, sym w.uri.ensures ∙ w.in_default-uri.is)
       | else-goes_past_name w ↦ (
-          let out : goes_past_name (get_or text (prefix_len (class_test Name) text) 0) ≡ false = sym (ap goes_past_name behind) ∙ sym c.goes_past_name.ensures ∙ w.if-goes_past_name.false in
+          let out : goes_past_name (get_or text (prefix_len (class_test Name) text) 0) ≡ false =
+          sym (ap goes_past_name behind) ∙ sym c.goes_past_name.ensures ∙ w.if-goes_past_name.false in
           (relative-None-named text out, uri-None-named text out))
     ] in
     third_fits (relative text) (uri text) (word text) [] (one_error text) c.word.result none.0 none.1 (sym c.word.ensures)

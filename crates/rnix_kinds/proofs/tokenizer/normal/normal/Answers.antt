@@ -8,10 +8,12 @@ pub returns-in-35-clause-cut : goal.returns-in-35-clause-cut
 returns-in-35-clause-cut c = c.line_comment.ensures ∙ normal-line_comment c.args.top c.args.text.now (sym c.byte_at.ensures ∙ c.in-35.is)
 
 pub returns-in-42-clause-cut : goal.returns-in-42-clause-cut
-returns-in-42-clause-cut c = c.block_comment.ensures ∙ normal-block_comment c.args.top c.args.text.now (sym c.byte_at.ensures ∙ c.in-47.is) (sym c.byte_at-in-47.ensures ∙ c.in-42.is)
+returns-in-42-clause-cut c = c.block_comment.ensures ∙ normal-block_comment c.args.top c.args.text.now (sym c.byte_at.ensures ∙ c.in-47.is)
+    (sym c.byte_at-in-47.ensures ∙ c.in-42.is)
 
 pub returns-in_default-byte_at-clause-cut : goal.returns-in_default-byte_at-clause-cut
-returns-in_default-byte_at-clause-cut c = normal-slash c.args.top c.args.text.now c.slash.result (sym c.byte_at.ensures ∙ c.in-47.is) (λ e. omega arith) c.slash.ensures
+returns-in_default-byte_at-clause-cut c =
+    normal-slash c.args.top c.args.text.now c.slash.result (sym c.byte_at.ensures ∙ c.in-47.is) (λ e. omega arith) c.slash.ensures
 
 pub returns-in-60-clause-cut : goal.returns-in-60-clause-cut
 returns-in-60-clause-cut c = c.angled.ensures.cut ∙ normal-angled c.args.top c.args.text.now (sym c.byte_at.ensures ∙ c.in-60.is)
@@ -58,7 +60,8 @@ returns-in-33-to-126-clause-cut c =
     let no_left : (c.byte_at.result == 123) ≡ false = search rules in
     let no_right : (c.byte_at.result == 125) ≡ false = search rules in
     c.symbol.ensures
-    ∙ normal-symbol c.args.top c.args.text.now c.byte_at.result (sym c.byte_at.ensures) low high no_word no_step no_double no_dollar no_quote no_hash no_slash no_angle no_tilde no_left no_right
+    ∙ normal-symbol c.args.top c.args.text.now c.byte_at.result
+    (sym c.byte_at.ensures) low high no_word no_step no_double no_dollar no_quote no_hash no_slash no_angle no_tilde no_left no_right
 
 pub returns-in_default-clause-cut : goal.returns-in_default-clause-cut
 returns-in_default-clause-cut c =

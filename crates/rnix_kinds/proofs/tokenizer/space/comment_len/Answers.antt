@@ -21,7 +21,8 @@ loop-at-preserved c =
 
 pub returns-else-byte_of-ne47-clause-value : goal.returns-else-byte_of-ne47-clause-value
 returns-else-byte_of-ne47-clause-value c =
-    let found = pair_ends c.loop-at.at c.args.inside.now c.loop-at-test.true (c.loop-at.invariant.star c.loop-at-test.true) (sym c.byte_of.ensures ∙ c.if-byte_of-ne47.false) in
+    let found = pair_ends c.loop-at.at c.args.inside.now c.loop-at-test.true (c.loop-at.invariant.star c.loop-at-test.true)
+    (sym c.byte_of.ensures ∙ c.if-byte_of-ne47.false) in
     omega (arith, found, c.loop-at.invariant.so_far)
 
 pub returns-after-loop-at-clause-value : goal.returns-after-loop-at-clause-value

@@ -11,7 +11,13 @@ returns-then-len-eq0-clause-value c =
 pub returns-then-len-bytes-clause-value : goal.returns-then-len-bytes-clause-value
 returns-then-len-bytes-clause-value c =
     let long : length (drop c.loop-at.at c.args.bytes.now) < c.piece_len-len.result = simp length-drop (omega arith) in
-    omega (arith, c.loop-at.invariant.so_far, length-drop c.loop-at.at c.args.bytes.now, content_len-past c.args.multiline _ (drop c.loop-at.at c.args.bytes.now) (sym (rw take_rest at c.piece_len-len.ensures.value)) long)
+    omega (
+      arith,
+      c.loop-at.invariant.so_far,
+      length-drop c.loop-at.at c.args.bytes.now,
+      content_len-past c.args.multiline _
+          (drop c.loop-at.at c.args.bytes.now) (sym (rw take_rest at c.piece_len-len.ensures.value)) long,
+    )
 
 pub loop-at-init : goal.loop-at-init
 loop-at-init c = record {
@@ -22,8 +28,10 @@ loop-at-init c = record {
 pub loop-at-preserved : goal.loop-at-preserved
 loop-at-preserved c =
     let fits : c.piece_len-len.result ≤ length (drop c.loop-at.at c.args.bytes.now) = simp length-drop (omega arith) in
-    let more = content_len-piece c.args.multiline _ (drop c.loop-at.at c.args.bytes.now) (sym (rw take_rest at c.piece_len-len.ensures.value)) (omega arith) fits in
-    let so_far : content_len c.args.multiline c.args.bytes.now ≡ (c.loop-at.at + c.piece_len-len.result) + content_len c.args.multiline (drop (c.loop-at.at + c.piece_len-len.result) c.args.bytes.now)
+    let more = content_len-piece c.args.multiline _ (drop c.loop-at.at c.args.bytes.now) (sym (rw take_rest at c.piece_len-len.ensures.value))
+    (omega arith) fits in
+    let so_far : content_len c.args.multiline c.args.bytes.now ≡ (c.loop-at.at + c.piece_len-len.result) + content_len c.args.multiline
+    (drop (c.loop-at.at + c.piece_len-len.result) c.args.bytes.now)
     = omega (arith, c.loop-at.invariant.so_far, more, ap (content_len c.args.multiline) (drop-drop c.piece_len-len.result c.loop-at.at c.args.bytes.now)) in
     record {
       within = c.long_run_end-at-in-loop-at.ensures.within;
@@ -32,5 +40,6 @@ loop-at-preserved c =
 
 pub returns-clause-value : goal.returns-clause-value
 returns-clause-value c =
-    let none : content_len c.args.multiline (drop c.loop-at.at c.args.bytes.now) ≡ 0 = rw (drop_all c.loop-at.at c.args.bytes.now (omega arith)) (content_len-nil c.args.multiline) in
+    let none : content_len c.args.multiline (drop c.loop-at.at c.args.bytes.now) ≡ 0 =
+    rw (drop_all c.loop-at.at c.args.bytes.now (omega arith)) (content_len-nil c.args.multiline) in
     omega (arith, c.loop-at.invariant.so_far, none)

@@ -14,7 +14,11 @@ invariant_of-self-else-self c =
     let all : List Token = tokens_cut c.self.inside.text.now 0 ts in
     let at : ℕ = c.self.inside.at in
     let within : at < length all = omega (arith, c.if-self-len.true, c.len.ensures, c.self.inside.tokens.ok.0, length-tokens_cut c.self.inside.text.now 0 ts) in
-    record { ends = c.self.invariant.ends; item = rw (add-one) (item_kept all at c.self.inside.next within c.self.invariant.item (omega (arith, c.if-self.false))) }
+    record {
+      ends = c.self.invariant.ends;
+      item = rw (add-one) (item_kept all at c.self.inside.next within c.self.invariant.item
+          (omega (arith, c.if-self.false)));
+    }
 
 pub returns-then-self : goal.returns-then-self
 returns-then-self c =
@@ -27,5 +31,6 @@ returns-else-self c =
 pub returns-else-self-len : goal.returns-else-self-len
 returns-else-self-len c =
     let none : c.args.self.now ≡ [] =
-    sym c.self.view_is ∙ behind_all c.self.inside.text.now c.self.inside.tokens.items c.self.inside.at (omega (arith, c.if-self-len.false, c.len.ensures, c.self.inside.tokens.ok.0)) in
+    sym c.self.view_is ∙ behind_all c.self.inside.text.now c.self.inside.tokens.items c.self.inside.at
+    (omega (arith, c.if-self-len.false, c.len.ensures, c.self.inside.tokens.ok.0)) in
     none ∙ ap tail_of (sym none)

@@ -5,4 +5,5 @@ pub returns : goal.returns
 returns c =
     let text = c.self.inside.text.now in
     (rw (c.deref.ensures.value) at (c.kind_at.ensures text))
-    ∙ behind_first_item c.args.self.now _ _ (ap from_item (sym c.self.view_is) ∙ c.self.invariant.item) (rw (c.deref-2.ensures.value) at (c.behind_item.ensures text))
+    ∙ behind_first_item c.args.self.now _ _ (ap from_item (sym c.self.view_is) ∙ c.self.invariant.item)
+    (rw (c.deref-2.ensures.value) at (c.behind_item.ensures text))

@@ -11,12 +11,14 @@ returns-in-Some-clause-state c =
     let b = c.eat_trivia.new.self.builder.draft in
     leaf_node_made-item c.args.kind (state c.args.self.now) (state c.eat_trivia.new.self) _ (token_of c.in-Some.token) _ c.in_ok-eat_trivia.ensures.state
     (first_there _ _ _ c.token.ensures c.in-Some.is)
-    (ap (λ x. x.draft) c.in_ok-leaf_node.ensures.ok ∙ ap (λ k. node_closed (leaf_added k c.in-Some.token.text.now (node_opened c.args.kind (tree_count b.finished) b))) c.leaf_kind_as-leaf_kind.ensures)
+    (ap (λ x. x.draft) c.in_ok-leaf_node.ensures.ok ∙ ap (λ k. node_closed
+    (leaf_added k c.in-Some.token.text.now (node_opened c.args.kind (tree_count b.finished) b))) c.leaf_kind_as-leaf_kind.ensures)
     c.advance.ensures refl refl refl refl refl
 
 pub returns-clause-state : goal.returns-clause-state
 returns-clause-state c =
-    leaf_node_made-end c.args.kind (state c.args.self.now) (state c.eat_trivia.new.self) _ _ _ c.in_ok-eat_trivia.ensures.state (none_there _ _ c.token.ensures c.in_default.is)
+    leaf_node_made-end c.args.kind (state c.args.self.now) (state c.eat_trivia.new.self) _ _ _ c.in_ok-eat_trivia.ensures.state
+    (none_there _ _ c.token.ensures c.in_default.is)
     (ap (λ x. x.draft) c.in_ok-start_node.ensures.ok) refl refl refl refl refl refl c.in_ok-finish_node.ensures
 
 pub returns-clause-nodes : goal.returns-clause-nodes

@@ -13,11 +13,13 @@ loop-item-smaller c = shorter (token_of c.in-Some.item) (state c.loop-item.self)
 
 pub loop-item-preserved : goal.loop-item-preserved
 loop-item-preserved c = (
-  skip_turn c.args.until (token_of c.in-Some.item) (state c.loop-item.self) _ (item_there _ _ _ c.item.ensures c.in-Some.is) (sym c.stops.ensures ∙ c.if-stops.false)
+  skip_turn c.args.until (token_of c.in-Some.item) (state c.loop-item.self) _ (item_there _ _ _ c.item.ensures c.in-Some.is)
+      (sym c.stops.ensures ∙ c.if-stops.false)
       c.in_ok-bump.ensures.state
       ∙ c.loop-item.invariant.0,
   c.in_ok-bump.ensures.nodes ∙ c.loop-item.invariant.1,
 )
 
 pub returns-clause-state : goal.returns-clause-state
-returns-clause-state c = sym (skip_none c.args.until (state c.loop-item.self) (sym c.item.ensures ∙ ap (option_map token_of) c.in_default.is)) ∙ c.loop-item.invariant.0
+returns-clause-state c = sym (skip_none c.args.until (state c.loop-item.self) (sym c.item.ensures ∙ ap (option_map token_of) c.in_default.is))
+    ∙ c.loop-item.invariant.0

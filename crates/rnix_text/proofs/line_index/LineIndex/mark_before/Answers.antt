@@ -10,7 +10,8 @@ overflow_sub-behind c =
     let r = c.partition_point-behind.result in
     let same = c.deref.ensures.value in
     let point = λ (p : IsPartitionedBy test items). subst (λ xs. IsPartitionPoint (λ y. test y ≡ true) (λ y. test y ≡ false) xs r) same
-    (IsPartitionPoint-from_clause test _ r c.partition_point-behind.ensures.partitioned (subst (IsPartitionedBy test) (sym same) p) (λ a s q k. search rules)) in
+    (IsPartitionPoint-from_clause test _ r c.partition_point-behind.ensures.partitioned (subst (IsPartitionedBy test) (sym same) p)
+    (λ a s q k. search rules)) in
     (last_in c.self.inside.unit test (before_back c.self.inside.unit c.args.offset) c.self.inside.text.now items r c.self.invariant (first_before c.args.offset)
     (subst (λ xs. r ≤ length xs) same c.partition_point-behind.ensures.bound) point first_mark).0
 
@@ -21,7 +22,9 @@ returns c =
     let r = c.partition_point-behind.result in
     let same = c.deref.ensures.value in
     let point = λ (p : IsPartitionedBy test items). subst (λ xs. IsPartitionPoint (λ y. test y ≡ true) (λ y. test y ≡ false) xs r) same
-    (IsPartitionPoint-from_clause test _ r c.partition_point-behind.ensures.partitioned (subst (IsPartitionedBy test) (sym same) p) (λ a s q k. search rules)) in
+    (IsPartitionPoint-from_clause test _ r c.partition_point-behind.ensures.partitioned (subst (IsPartitionedBy test) (sym same) p)
+    (λ a s q k. search rules)) in
     let bound : r ≤ length items = subst (λ xs. r ≤ length xs) same c.partition_point-behind.ensures.bound in
-    let found = last_in c.self.inside.unit test (before_back c.self.inside.unit c.args.offset) c.self.inside.text.now items r c.self.invariant (first_before c.args.offset) bound point c.index.result.now in
+    let found = last_in c.self.inside.unit test (before_back c.self.inside.unit c.args.offset) c.self.inside.text.now items r c.self.invariant
+    (first_before c.args.offset) bound point c.index.result.now in
     c.index.ensures ∙ found.1 ∙ ap (last_mark test) c.self.view_is

@@ -10,8 +10,10 @@ overflow_sub-behind c =
     let r = c.partition_point-behind.result in
     let same = c.deref.ensures.value in
     let point = λ (p : IsPartitionedBy test items). subst (λ xs. IsPartitionPoint (λ y. test y ≡ true) (λ y. test y ≡ false) xs r) same
-    (IsPartitionPoint-from_clause test _ r c.partition_point-behind.ensures.partitioned (subst (IsPartitionedBy test) (sym same) p) (λ a s q k. search rules)) in
-    (last_in c.self.inside.unit test (up_to_back c.self.inside.unit c.args.position) c.self.inside.text.now items r c.self.invariant (first_up_to c.args.position)
+    (IsPartitionPoint-from_clause test _ r c.partition_point-behind.ensures.partitioned (subst (IsPartitionedBy test) (sym same) p)
+    (λ a s q k. search rules)) in
+    (last_in c.self.inside.unit test (up_to_back c.self.inside.unit c.args.position) c.self.inside.text.now items r c.self.invariant
+    (first_up_to c.args.position)
     (subst (λ xs. r ≤ length xs) same c.partition_point-behind.ensures.bound) point first_mark).0
 
 pub returns-clause-mark : goal.returns-clause-mark
@@ -21,7 +23,9 @@ returns-clause-mark c =
     let r = c.partition_point-behind.result in
     let same = c.deref.ensures.value in
     let point = λ (p : IsPartitionedBy test items). subst (λ xs. IsPartitionPoint (λ y. test y ≡ true) (λ y. test y ≡ false) xs r) same
-    (IsPartitionPoint-from_clause test _ r c.partition_point-behind.ensures.partitioned (subst (IsPartitionedBy test) (sym same) p) (λ a s q k. search rules)) in
+    (IsPartitionPoint-from_clause test _ r c.partition_point-behind.ensures.partitioned (subst (IsPartitionedBy test) (sym same) p)
+    (λ a s q k. search rules)) in
     let bound : r ≤ length items = subst (λ xs. r ≤ length xs) same c.partition_point-behind.ensures.bound in
-    let found = last_in c.self.inside.unit test (up_to_back c.self.inside.unit c.args.position) c.self.inside.text.now items r c.self.invariant (first_up_to c.args.position) bound point c.index.result.now in
+    let found = last_in c.self.inside.unit test (up_to_back c.self.inside.unit c.args.position) c.self.inside.text.now items r c.self.invariant
+    (first_up_to c.args.position) bound point c.index.result.now in
     c.index.ensures ∙ found.1 ∙ ap (last_mark test) c.self.view_is

@@ -8,7 +8,8 @@ returns-clause-count c =
     let n = c.self.inside.number in
     let there = c.self.invariant.is_there in
     let below : (item t n).below ≡ c.element-element.result.below = ap (λ (i : Item). i.below) (sym c.element-element.ensures.is) in
-    let count : element_count (part_at record { tree = t; number = n }) ≡ suc (item t n).below = below_of_part t n _ (part_there t n there) (one_there t n there) in
+    let count : element_count (part_at record { tree = t; number = n }) ≡ suc (item t n).below =
+    below_of_part t n _ (part_there t n there) (one_there t n there) in
     let fits : suc c.element-element.result.below < 2 ^ 64 = omega arith in
     subst (λ (e : Located). element_count (part_at e) < 2 ^ 64) c.self.view_is (subst (λ x. x < 2 ^ 64) (sym (count ∙ ap suc below)) fits)
 

@@ -9,7 +9,8 @@ returns-then-offset-start c =
     let node : IsNodeIn t n = record { is_there = c.self.invariant.is_there; is_node = c.self.invariant.is_node } in
     let start = ap (λ (r : Extent). r.start) c.text_range-range.ensures ∙ ap (λ (e : Located). (item_of e).start) (sym c.self.view_is) in
     let r = c.token_before-number.result in
-    let one = one_at_start t n c.args.offset node (c.if-offset-start.true ∙ c.start.ensures ∙ start) r c.token_before-number.ensures.token c.token_before-number.ensures.only in (
+    let one = one_at_start t n c.args.offset node (c.if-offset-start.true ∙ c.start.ensures
+    ∙ start) r c.token_before-number.ensures.token c.token_before-number.ensures.only in (
       ap (λ (e : Located). e.tree) c.self.view_is,
       subst (λ e. IsTouched e c.args.offset r) c.self.view_is one.0,
       subst (λ e. (m : ℕ) → IsTouched e c.args.offset m → m ≡ r) c.self.view_is one.1,
@@ -22,7 +23,8 @@ returns-then-offset-end c =
     let node : IsNodeIn t n = record { is_there = c.self.invariant.is_there; is_node = c.self.invariant.is_node } in
     let end = ap (λ (r : Extent). r.end) c.text_range-range.ensures ∙ ap (λ (e : Located). (item_of e).end) (sym c.self.view_is) in
     let r = c.token_before-left.result in
-    let one = one_at_end t n c.args.offset node (c.if-offset-end.true ∙ c.end.ensures.value ∙ end) r c.token_before-left.ensures.token c.token_before-left.ensures.only in (
+    let one = one_at_end t n c.args.offset node (c.if-offset-end.true ∙ c.end.ensures.value
+    ∙ end) r c.token_before-left.ensures.token c.token_before-left.ensures.only in (
       ap (λ (e : Located). e.tree) c.self.view_is,
       subst (λ e. IsTouched e c.args.offset r) c.self.view_is one.0,
       subst (λ e. (m : ℕ) → IsTouched e c.args.offset m → m ≡ r) c.self.view_is one.1,

@@ -9,7 +9,8 @@ invariant_of-self c =
     record {
       root_there = c.self.invariant.root_there;
       next_inside =
-          subst (IsNextWithin t s.root) (sym c.after_skip-self-inside.ensures) (skips t s.root s.next c.self.invariant.root_there c.self.invariant.next_inside).within;
+          subst (IsNextWithin t s.root) (sym c.after_skip-self-inside.ensures)
+          (skips t s.root s.next c.self.invariant.root_there c.self.invariant.next_inside).within;
     }
 
 pub returns-clause-walk : goal.returns-clause-walk

@@ -12,7 +12,8 @@ entered c =
     enters t s.root c.in-Enter.number c.self.invariant.root_there inside
 
 left : (c : goal.After-element_at-in-Leave) →
-    Goes c.self.inside.green.now c.self.inside.root (Leave c.in-Leave.number) (false, c.in-Leave.number) (after_leave c.self.inside.green.now c.self.inside.root c.in-Leave.number)
+    Goes c.self.inside.green.now c.self.inside.root (Leave c.in-Leave.number) (false, c.in-Leave.number)
+    (after_leave c.self.inside.green.now c.self.inside.root c.in-Leave.number)
 left c =
     let s = c.self.inside in
     let t = s.green.now in
@@ -40,7 +41,8 @@ returns-in-Enter-clause-steps c =
     let s = c.self.inside in
     let t = s.green.now in
     sym c.self.view_is ∙ ap (λ (n : Next). events_left t s.root n) c.in-Enter.is ∙ ap (map (event_at t)) (entered c).step_is
-    ∙ cons_same (ap (λ (x : Spot). (true, x)) (sym c.element_at.ensures.spot)) (ap (λ (n : Next). events_left t s.root n) (sym c.after_enter-self-inside.ensures))
+    ∙ cons_same (ap (λ (x : Spot). (true, x)) (sym c.element_at.ensures.spot))
+    (ap (λ (n : Next). events_left t s.root n) (sym c.after_enter-self-inside.ensures))
 
 pub returns-in-Enter-clause-goes : goal.returns-in-Enter-clause-goes
 returns-in-Enter-clause-goes c = rw (returns-in-Enter-clause-steps c) (search rules)
@@ -50,7 +52,8 @@ returns-in-Leave-clause-steps c =
     let s = c.self.inside in
     let t = s.green.now in
     sym c.self.view_is ∙ ap (λ (n : Next). events_left t s.root n) c.in-Leave.is ∙ ap (map (event_at t)) (left c).step_is
-    ∙ cons_same (ap (λ (x : Spot). (false, x)) (sym c.element_at-in-Leave.ensures.spot)) (ap (λ (n : Next). events_left t s.root n) (sym c.after_leave-self-inside.ensures))
+    ∙ cons_same (ap (λ (x : Spot). (false, x)) (sym c.element_at-in-Leave.ensures.spot))
+    (ap (λ (n : Next). events_left t s.root n) (sym c.after_leave-self-inside.ensures))
 
 pub returns-in-Leave-clause-goes : goal.returns-in-Leave-clause-goes
 returns-in-Leave-clause-goes c = rw (returns-in-Leave-clause-steps c) (search rules)

@@ -7,7 +7,8 @@ returns-then-number-self-clause-steps c =
     let s = c.self.inside in
     let t = s.green.now in
     sym c.self.view_is
-    ∙ ap (map (spot_at t)) (next_sibling (items_of t) s.next s.end c.element-element.result.below c.if-number-self.true c.self.invariant (ap (λ (i : Item). i.below) c.element-element.ensures.is))
+    ∙ ap (map (spot_at t)) (next_sibling (items_of t) s.next s.end c.element-element.result.below c.if-number-self.true c.self.invariant
+    (ap (λ (i : Item). i.below) c.element-element.ensures.is))
     ∙ cons_same (sym c.element_at.ensures.spot) refl
 
 pub returns-then-number-self-clause-goes : goal.returns-then-number-self-clause-goes
