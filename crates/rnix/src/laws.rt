@@ -3,6 +3,6 @@
 pub use crate::whole::nodes_have_parts;
 pub use rnix_kinds::{longest, one_list};
 pub use rnix_parser::{
-    all_follows, error_forms, has_reading, layout, one_derivation, one_reading, one_text,
-    ranges_of_errors, tree_derivation, tree_text,
+    all_follows, correct_prefix, error_forms, has_reading, layout, one_derivation, one_reading,
+    one_text, ranges_of_errors, size, tree_derivation, tree_text,
 };

@@ -4,3 +4,5 @@ pub mod OneReading
 pub mod Witnesses
 pub mod SignificantTrees
 pub mod AlikeTexts
+pub mod SizedTexts
+pub mod PrefixTexts

@@ -11,7 +11,7 @@ use Rattle.{rnix_uniqueness.proofs.AllReads.one_row, rnix_reader.specs.Placed.te
 use Rattle.{rnix_reader.proofs.{EachText.each_read, TextLeft.placed_text}, rnix_parser.proofs.ParsedLemmas.all_follows}
 
 -- the items of a reading are those of the tokens
-reading_items : {ls : List Lexeme} {tree : Tree} {faults : List Fault} (r : IsReading ls tree faults) → tokens_in (without_trivia r.annotated) ≡ items (placed_from 0 ls)
+pub reading_items : {ls : List Lexeme} {tree : Tree} {faults : List Fault} (r : IsReading ls tree faults) → tokens_in (without_trivia r.annotated) ≡ items (placed_from 0 ls)
 reading_items r = without_trivia_tokens r.annotated ∙ ap items r.leaves
 
 -- two readings of some tokens are one

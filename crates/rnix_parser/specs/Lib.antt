@@ -1,3 +1,4 @@
 pub mod Significant
 pub mod ReadingLaws
 pub mod ReadAlike
+pub mod ReadPrefix

@@ -1,8 +1,8 @@
 -- What the laws say: of each reading, and of each tree with its errors of which all that is promised holds.
 use Rattle.std.specs.Prelude.{◌≡◌, ℕ, List}
 use Rattle.rnix_kinds.specs.Lexical.Tokens.{Lexeme, tokens_of}
-use Rattle.rnix_green.specs.Forest.{Forest}
-use Rattle.rnix_green.specs.Tree.{Tree}
+use Rattle.rnix_green.specs.Forest.{Forest, element_count}
+use Rattle.rnix_green.specs.Tree.{Tree, forest_of}
 use Rattle.rnix_grammar.specs.Fault.{Fault}
 use Rattle.rnix_grammar.specs.AnnotatedForest.{Token, AnnotatedForest, without_trivia}
 use Rattle.rnix_grammar.specs.Derivation.{IsDerivation}
@@ -32,3 +32,7 @@ HaveOneDerivation items = (t u : Forest) → IsDerivation t items → IsDerivati
 -- two texts of which one tree is read are one, with the same errors
 abbrev pub AreOneText : List ℕ → List ℕ → Type 0
 AreOneText x y = (t : Tree) (ds es : List Fault) → IsReading (tokens_of x) t ds → IsReading (tokens_of y) t es → (x ≡ y) × (ds ≡ es)
+
+-- how many elements a tree has: its root and all that is inside
+abbrev pub elements_in : Tree → ℕ
+elements_in tree = element_count (forest_of tree)

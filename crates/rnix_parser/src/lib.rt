@@ -10,5 +10,6 @@ pub use derivation::{one_derivation, tree_derivation};
 pub use parsing::parse;
 pub use ranges::ranges_of_errors;
 pub use readings::{
-    all_follows, error_forms, has_reading, layout, one_reading, one_text, tree_text,
+    all_follows, correct_prefix, error_forms, has_reading, layout, one_reading, one_text, size,
+    tree_text,
 };

@@ -1,6 +1,6 @@
 //! Each text has one reading, and what follows from it.
 
-ghost use Rattle.std.specs.Prelude.{◌≡◌, ◌≤◌, List};
+ghost use Rattle.std.specs.Prelude.{◌≡◌, ◌≤◌, ◌+◌, ◌*◌, List, length};
 ghost use Rattle.rnix_kinds.specs.declared.kinds.SyntaxKind.TheVariants.{NODE_ROOT};
 ghost use Rattle.rnix_kinds.specs.Lexical.Tokens.{Lexeme, tokens_of};
 ghost use Rattle.rnix_green.specs.Forest.{text_of};
@@ -13,8 +13,9 @@ ghost use Rattle.rnix_grammar.specs.ErrorNodes.{AreErrorNodes};
 ghost use Rattle.rnix_grammar.specs.Nesting.{depth_of, AreLimited};
 ghost use Rattle.rnix_grammar.specs.Reading.{IsReading};
 ghost use Rattle.rnix_grammar.specs.Parsed.{IsParsed};
-ghost use Rattle.rnix_parser.specs.ReadAlike.{AreReadAlike};
-ghost use Rattle.rnix_parser.specs.ReadingLaws.{OfRead, OfReadings, HaveOneReading, AreOneText};
+ghost use Rattle.rnix_parser.specs.ReadAlike.{items_of, AreReadAlike};
+ghost use Rattle.rnix_parser.specs.ReadPrefix.{HasCorrectPrefix};
+ghost use Rattle.rnix_parser.specs.ReadingLaws.{OfRead, OfReadings, HaveOneReading, AreOneText, elements_in};
 
 /// Tokens have one reading at most: two trees with their errors that are readings of one list of tokens are equal.
 pub fn one_reading()
@@ -43,6 +44,14 @@ pub fn layout(first: &str, second: &str)
     let _len = first.len().min(second.len());
 }
 
+/// What may begin a correct text is not blamed: if the first items of two texts are alike, as for `layout`, and the second text is read without errors,
+/// each error of the first text that has a range begins behind these items, unless they end with `{` and `...`.
+pub fn correct_prefix(first: &str, second: &str)
+    ensures { HasCorrectPrefix first.now second.now }
+{
+    let _len = first.len().min(second.len());
+}
+
 /// All that is promised of the tree and the errors of a text follows from their being its reading.
 pub fn all_follows(text: &str)
     ensures { OfRead text.now (λ tree faults. IsParsed (tokens_of text.now) tree faults) }
@@ -58,6 +67,16 @@ pub fn error_forms()
     ensures shallow { OfReadings (λ annotated faults. depth_of (row NODE_ROOT) annotated ≤ depth_limit) }
     ensures limited { OfReadings (λ annotated faults. AreLimited 0 (row NODE_ROOT) annotated) }
 {}
+
+/// A tree has at most two nodes for each item of its text, and three more. With the leaves it has at most three elements for each token of the text,
+/// or for each byte, and three more.
+pub fn size(text: &str)
+    ensures items { OfRead text.now (λ tree faults. elements_in tree ≤ 2 * length (items_of text.now) + length (tokens_of text.now) + 3) }
+    ensures tokens { OfRead text.now (λ tree faults. elements_in tree ≤ 3 * length (tokens_of text.now) + 3) }
+    ensures bytes { OfRead text.now (λ tree faults. elements_in tree ≤ 3 * length text.now + 3) }
+{
+    let _len = text.len();
+}
 
 /// The text of the tree that a text is read as is that text, byte for byte.
 pub fn tree_text(text: &str)

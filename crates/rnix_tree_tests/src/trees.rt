@@ -47,3 +47,19 @@ fn parentheses_nest_up_to_the_limit(rt: HostRuntime) -> Result<(), Fail> {
     }
     Ok(())
 }
+
+// The size of a tree with as many elements as its tokens allow: `{${` 511 times, and where nothing more may nest `if`, whose three parts are missing.
+fn largest_size(alloc: Global) -> Result<usize, AllocError> {
+    let mut text = String::new(alloc);
+    repeat(&mut text, "{${", 511)?;
+    text.push_str("if")?;
+    let read = Parsed::new(alloc, text.as_str())?;
+    Ok(read.syntax().descendants_with_tokens().count())
+}
+
+#[test]
+fn a_tree_has_three_elements_for_each_token_and_three_more(rt: HostRuntime) -> Result<(), Fail> {
+    let tokens = 2 * 511 + 1;
+    assert!(rt; largest_size(rt.alloc())? == 3 * tokens + 3);
+    Ok(())
+}

@@ -1,0 +1,66 @@
+-- What follows `{` and a name or `}`, whether a pattern or a set has begun: no error at these items.
+use Rattle.std.proofs.Common.{◌≡◌, ℕ, Bool, true, false, List, [], ◌∷◌, refl, sym, ◌∙◌, subst, ◌⊎◌, inl, inr, if◌then◌else◌}
+use Rattle.rnix_kinds.specs.declared.kinds.SyntaxKind.{SyntaxKind, TheVariants.{TOKEN_IDENT, TOKEN_R_BRACE, NODE_ATTR_SET}}
+use Rattle.rnix_grammar.specs.declared.{slot_table.TheConstants.SET, begin.Begin.Begin}
+use Rattle.rnix_grammar.specs.{Fault.Fault, AnnotatedForest.Token, Levels.selection_level, FrameKinds.AreStacked}
+use Rattle.rnix_grammar.specs.Machine.{Frame, Machine, begun, step, Runs, rest as here, then as further}
+use Rattle.rnix_lemmas.proofs.{Basics.not_nil, StackedFrames.step_stacked}
+use Rattle.{rnix_proof_prefix.specs.Prefix.BeginAllFrom}
+use Rattle.rnix_proof_prefix.proofs.{Late.{AreFrom, AreLate, HasLate}, LateSteps.late_runs}
+use Rattle.rnix_grammar.specs.declared.begin.Begin.TheVariants as b
+
+-- all errors of what is read from here to the end of the text begin at a byte or behind it
+abbrev pub IsApart : ℕ → Machine → Type 0
+IsApart m now = AreStacked now.frames → (first : Machine) → Runs false now first → first.left ≡ [] → BeginAllFrom m first.faults
+
+pub late_apart : (m : ℕ) (now : Machine) → HasLate m now → IsApart m now
+late_apart m now w k first r over = (late_runs m r k w).faults
+
+-- a step is made where items are left
+next_apart : (m : ℕ) (now : Machine) (t : Token) (ts : List Token) → now.left ≡ t ∷ ts → IsApart m (step false now) → IsApart m now
+next_apart m now t ts e a k first here over = absurd (not_nil (sym e ∙ over))
+next_apart m now t ts e a k first (further r) over = a (step_stacked false now k) first r over
+
+-- an item of a kind
+abbrev item : SyntaxKind → Token → Token
+item kind u = record { kind = kind; text = u.text; start = u.start; end = u.end }
+
+item_is : (kind : SyntaxKind) (u : Token) → u.kind ≡ kind → item kind u ≡ u
+item_is kind u e = λ i. record { kind = sym e i; text = u.text; start = u.start; end = u.end }
+
+-- a pattern or a set
+abbrev pub braces : Bool → Begin
+braces w = if w then b.PatternLambda else b.Node NODE_ATTR_SET SET selection_level
+
+module _ (m : ℕ) (xs : List Token) (late : AreFrom m xs) (level d : ℕ) (t : Token) (f : Frame) (fs : List Frame) (n : ℕ) (es : List Fault)
+    (w : AreLate m (f ∷ fs)) (g : BeginAllFrom m es) where
+  -- after the opening brace
+  abbrev opened : Bool → Token → Machine
+  opened pattern u = begun false (braces pattern) level d t f fs (t ∷ (u ∷ xs)) n es
+
+  name_apart : (pattern : Bool) (u : Token) → IsApart m (opened pattern (item TOKEN_IDENT u))
+  name_apart true u =
+      let name : Token = item TOKEN_IDENT u in
+      next_apart m (opened true name) name xs refl
+      (late_apart m (step false (opened true name)) (record { left = late; frames = ((name, refl, tt), (tt, (tt, (tt, w)))); faults = g }))
+  name_apart false u =
+      let name : Token = item TOKEN_IDENT u in
+      let first : Machine = step false (opened false name) in
+      let second : Machine = step false first in
+      next_apart m (opened false name) name xs refl (next_apart m first name xs refl (next_apart m second name xs refl
+      (late_apart m (step false second) (record { left = late; frames = (tt, (tt, (tt, (tt, w)))); faults = g }))))
+
+  brace_apart : (pattern : Bool) (u : Token) → IsApart m (opened pattern (item TOKEN_R_BRACE u))
+  brace_apart true u =
+      let brace : Token = item TOKEN_R_BRACE u in
+      next_apart m (opened true brace) brace xs refl
+      (late_apart m (step false (opened true brace)) (record { left = late; frames = (tt, (tt, (tt, w))); faults = g }))
+  brace_apart false u =
+      let brace : Token = item TOKEN_R_BRACE u in
+      next_apart m (opened false brace) brace xs refl
+      (late_apart m (step false (opened false brace)) (record { left = late; frames = (tt, (tt, w)); faults = g }))
+
+  -- before such an item
+  pub opened_apart : (pattern : Bool) (u : Token) → (u.kind ≡ TOKEN_IDENT) ⊎ (u.kind ≡ TOKEN_R_BRACE) → IsApart m (opened pattern u)
+  opened_apart pattern u (inl e) = subst (λ (z : Token). IsApart m (opened pattern z)) (item_is TOKEN_IDENT u e) (name_apart pattern u)
+  opened_apart pattern u (inr e) = subst (λ (z : Token). IsApart m (opened pattern z)) (item_is TOKEN_R_BRACE u e) (brace_apart pattern u)

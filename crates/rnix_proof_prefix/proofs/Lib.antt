@@ -1,0 +1,10 @@
+pub mod Late
+pub mod LateSteps
+pub mod CleanSteps
+pub mod BraceSteps
+pub mod SharedSteps
+pub mod SharedRuns
+pub mod Ordered
+pub mod NewPlaces
+pub mod PrefixReadings
+pub mod PrefixExamples

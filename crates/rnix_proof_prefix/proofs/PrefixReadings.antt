@@ -1,0 +1,32 @@
+-- The errors of a reading whose items begin like those of a reading without errors.
+use Rattle.std.proofs.{Common.{◌≡◌, ℕ, false, List, [], ◌++◌, take, drop, None, sym, subst}, lemmas.List.take-append-drop}
+use Rattle.rnix_grammar.specs.{Fault.Fault, AnnotatedForest.{Token, AnnotatedForest, tokens_in, end_from}, Reads.ReadsRoot, Machine.{Machine, begins, Runs}}
+use Rattle.{rnix_proof_layout.specs.AlikeItems.AreAlike, rnix_proof_prefix.specs.Prefix.{BeginAllFrom, end_undecided}}
+use Rattle.rnix_proof_prefix.proofs.{CleanSteps.AreClean, SharedRuns.late_errors, Ordered.{AreOrdered, from_end}, NewPlaces.{ReadsOn, reads_on}}
+
+-- the steps read all items, with these errors
+pub record RunsTo (ts : List Token) (ds : List Fault) : Type 0 where
+  pub last : Machine
+  pub runs : Runs false (begins ts) last
+  pub over : last.left ≡ []
+  pub clean : AreClean last.frames
+  pub faults : last.faults ≡ ds
+
+-- so it is with each reading
+abbrev pub AllRun : Type 0
+AllRun = (f : AnnotatedForest) (ds : List Fault) → ReadsRoot f ds → RunsTo (tokens_in f) ds
+
+pub prefix_readings : (all : AllRun) (k : ℕ) (f g : AnnotatedForest) (ds : List Fault) → ReadsRoot f ds → ReadsRoot g [] → AreOrdered 0 (tokens_in f)
+    → AreAlike None 0 0 (take k (tokens_in f)) (take k (tokens_in g)) → end_undecided (take k (tokens_in f)) ≡ false
+    → BeginAllFrom (end_from 0 (take k (tokens_in f))) ds
+prefix_readings all k f g ds r s o alike decided =
+    let p : List Token = take k (tokens_in f) in
+    let more : List Token = drop k (tokens_in f) in
+    let there : ReadsOn p = reads_on k (tokens_in f) g s alike in
+    let rest : List Token = there.begin.rest in
+    let here : tokens_in f ≡ p ++ more = sym (take-append-drop k (tokens_in f)) in
+    let first : RunsTo (p ++ more) ds = subst (λ (z : List Token). RunsTo z ds) here (all f ds r) in
+    let second : RunsTo (p ++ rest) [] = subst (λ (z : List Token). RunsTo z []) there.begin.all (all there.trees [] there.reads) in
+    subst (BeginAllFrom (end_from 0 p)) first.faults
+    (late_errors (end_from 0 p) p more rest first.last second.last (from_end 0 p more (subst (AreOrdered 0) here o)) decided
+    first.runs second.runs first.over second.over (second.clean, second.faults))

@@ -1,0 +1,222 @@
+-- Two lists of items that begin with the same items are read by the same steps, as long as one of these is left; or an error is reported.
+use Rattle.std.proofs.Common.{◌≡◌, ◌⊎◌, inl, inr, ℕ, suc, Bool, true, false, List, [], ◌∷◌, ◌++◌, Option, Some, refl, ap, sym, ◌∙◌, subst}
+use Rattle.std.proofs.Common.{if◌then◌else◌, nat_le, nat_eq}
+use Rattle.rnix_kinds.specs.declared.kinds.SyntaxKind.{SyntaxKind, TheVariants.{TOKEN_COLON, TOKEN_AT, TOKEN_IDENT, TOKEN_L_BRACE, TOKEN_R_BRACE}}
+use Rattle.rnix_kinds.specs.declared.kinds.SyntaxKind.TheVariants.{TOKEN_ELLIPSIS, TOKEN_LET, NODE_APPLY}
+use Rattle.rnix_grammar.specs.declared.{slot_table.TheConstants.APPLIED, action.Action.Action, begin.Begin.Begin}
+use Rattle.rnix_grammar.specs.{Fault.{Fault, too_deep}, Tables.{is_cur_pos, depth_limit}, Begins.{is_pattern, begin_name, begin_let, begin_of, second_kind}}
+use Rattle.rnix_grammar.specs.{AnnotatedForest.{Token, Stray, Unwanted, Extra, blank, head_kind}, Reports.report, UnwantedRun.run_of, Layout.tail_of}
+use Rattle.rnix_grammar.specs.Machine.{Node, Operand, Frame, Machine, put, opened, min_bp_of, machine, closed, entry_closed, begun, limited, operand_on, reading, perform}
+use Rattle.rnix_lemmas.proofs.{Basics.{choice, true_is_not_false, not_nil, none_right}, StackedFrames.{BeginsInner, begin_inner}}
+use Rattle.rnix_proof_prefix.specs.Prefix.{BeginAllFrom, are_undecided, end_undecided}
+use Rattle.rnix_proof_prefix.proofs.{Late.{AreFrom, AreLate}, LateSteps.begun_late, BraceSteps.{IsApart, late_apart, braces, opened_apart}}
+use Rattle.rnix_grammar.specs.declared.position.Position.TheVariants as p
+use Rattle.rnix_grammar.specs.declared.action.Action.TheVariants as a
+use Rattle.rnix_grammar.specs.declared.begin.Begin.TheVariants as b
+
+-- a machine with more items behind those that are left
+abbrev pub onto : List Token → Machine → Machine
+onto ts now = machine now.frames (now.left ++ ts) now.prev_end now.faults
+
+-- the item begins no operand
+abbrev is_stray : Begin → Bool
+is_stray b.Stray = true
+is_stray begin = false
+
+-- that depends on the item alone
+stray_name : (text : List ℕ) (second : Option SyntaxKind) → is_stray (begin_name text second) ≡ false
+stray_name text (Some TOKEN_COLON) = refl
+stray_name text (Some TOKEN_AT) = refl
+stray_name text _ = choice (λ z. is_stray z ≡ false) (is_cur_pos text) refl refl
+
+stray_let : (second : Option SyntaxKind) → is_stray (begin_let second) ≡ false
+stray_let (Some TOKEN_L_BRACE) = refl
+stray_let _ = refl
+
+stray_same : (level : ℕ) (kind : SyntaxKind) (text : List ℕ) (second third next after : Option SyntaxKind)
+    → is_stray (begin_of level kind text second third) ≡ is_stray (begin_of level kind text next after)
+stray_same level TOKEN_IDENT text second third next after = stray_name text second ∙ sym (stray_name text next)
+stray_same level TOKEN_L_BRACE text second third next after =
+    choice (λ z. is_stray z ≡ false) (is_pattern second third) refl refl ∙ sym (choice (λ z. is_stray z ≡ false) (is_pattern next after) refl refl)
+stray_same level TOKEN_LET text second third next after =
+    elim (nat_eq level 0) as (λ x. is_stray (if x then begin_let second else b.Stray) ≡ is_stray (if x then begin_let next else b.Stray))
+    [ true ↦ stray_let second ∙ sym (stray_let next) | false ↦ refl ]
+stray_same level _ text second third next after = refl
+
+-- the third item says how an operand begins only after `{`
+third_counts : (level : ℕ) (kind : SyntaxKind) (text : List ℕ) (second third other : Option SyntaxKind)
+    → (kind ≡ TOKEN_L_BRACE) ⊎ (begin_of level kind text second third ≡ begin_of level kind text second other)
+third_counts level TOKEN_L_BRACE text second third other = inl refl
+third_counts level _ text second third other = inr refl
+
+-- and there only after a name, `}` or `...`
+pattern_counts : (kind : SyntaxKind) (third other : Option SyntaxKind)
+    → ((kind ≡ TOKEN_IDENT) ⊎ (kind ≡ TOKEN_R_BRACE)) ⊎ ((kind ≡ TOKEN_ELLIPSIS) ⊎ (is_pattern (Some kind) third ≡ is_pattern (Some kind) other))
+pattern_counts TOKEN_IDENT third other = inl (inl refl)
+pattern_counts TOKEN_R_BRACE third other = inl (inr refl)
+pattern_counts TOKEN_ELLIPSIS third other = inr (inl refl)
+pattern_counts _ third other = inr (inr refl)
+
+-- items behind the first end as all do
+tail_decided : (ts : List Token) → end_undecided ts ≡ false → end_undecided (tail_of ts) ≡ false
+tail_decided [] h = refl
+tail_decided (t ∷ []) h = refl
+tail_decided (t ∷ (u ∷ [])) h = refl
+tail_decided (t ∷ (u ∷ (v ∷ vs))) h = h
+
+module _ (m : ℕ) (xs zs : List Token) (late : AreFrom m xs) where
+  -- both machines have come equally far, with the same items left before the others
+  pub record IsShared (here there : Machine) : Type 0 where
+    pub at : Machine
+    pub first : here ≡ onto xs at
+    pub second : there ≡ onto zs at
+    pub decided : end_undecided at.left ≡ false
+
+  -- or errors begin behind the shared items in the first, or the second has an error
+  abbrev pub Goes : Machine → Machine → Type 0
+  Goes here there = IsShared here there ⊎ (IsApart m here ⊎ (there.faults ≡ [] → ⊥))
+
+  wrong : (here there : Machine) (es : List Fault) (e : Fault) → there.faults ≡ es ++ e ∷ [] → Goes here there
+  wrong here there es e h = inr (inr (λ none. not_nil (none_right es (e ∷ []) (sym h ∙ none))))
+
+  -- a frame is complete
+  closed_shared : (f : Frame) (fs : List Frame) (q : List Token) (n : ℕ) (es : List Fault) → end_undecided q ≡ false
+      → Goes (closed f fs (q ++ xs) n es) (closed f fs (q ++ zs) n es)
+  closed_shared f [] q n es h = inl (record { at = closed f [] q n es; first = refl; second = refl; decided = h })
+  closed_shared f (g ∷ fs) q n es h = inl (record { at = closed f (g ∷ fs) q n es; first = refl; second = refl; decided = h })
+
+  entry_closed_shared : (f : Frame) (fs : List Frame) (q : List Token) (n : ℕ) (es : List Fault) → end_undecided q ≡ false
+      → Goes (entry_closed false f fs (q ++ xs) n es) (entry_closed false f fs (q ++ zs) n es)
+  entry_closed_shared f [] q n es h = inl (record { at = entry_closed false f [] q n es; first = refl; second = refl; decided = h })
+  entry_closed_shared f (g ∷ fs) q n es h = inl (record { at = entry_closed false f (g ∷ fs) q n es; first = refl; second = refl; decided = h })
+
+  -- an operand begins alike
+  begun_shared : (begin : Begin) (level d : ℕ) (t u : Token) (f : Frame) (fs : List Frame) (q : List Token) (n : ℕ) (es : List Fault)
+      → end_undecided (t ∷ (u ∷ q)) ≡ false
+      → Goes (begun false begin level d t f fs (t ∷ (u ∷ (q ++ xs))) n es) (begun false begin level d t f fs (t ∷ (u ∷ (q ++ zs))) n es)
+  begun_shared begin level d t u f fs q n es h = by begin
+    where
+      one : end_undecided (u ∷ q) ≡ false
+      one = tail_decided (t ∷ (u ∷ q)) h
+
+      by : (begin : Begin)
+          → Goes (begun false begin level d t f fs (t ∷ (u ∷ (q ++ xs))) n es) (begun false begin level d t f fs (t ∷ (u ∷ (q ++ zs))) n es)
+      by (b.Leaf k) = inl (record { at = begun false (b.Leaf k) level d t f fs (t ∷ (u ∷ q)) n es; first = refl; second = refl; decided = one })
+      by (b.Node k place high) =
+          inl (record { at = begun false (b.Node k place high) level d t f fs (t ∷ (u ∷ q)) n es; first = refl; second = refl; decided = one })
+      by b.LegacyLet =
+          inl (record { at = begun false b.LegacyLet level d t f fs (t ∷ (u ∷ q)) n es; first = refl; second = refl; decided = tail_decided (u ∷ q) one })
+      by b.NameLambda = inl (record { at = begun false b.NameLambda level d t f fs (t ∷ (u ∷ q)) n es; first = refl; second = refl; decided = one })
+      by b.BoundLambda =
+          inl (record { at = begun false b.BoundLambda level d t f fs (t ∷ (u ∷ q)) n es; first = refl; second = refl; decided = tail_decided (u ∷ q) one })
+      by b.PatternLambda = inl (record { at = begun false b.PatternLambda level d t f fs (t ∷ (u ∷ q)) n es; first = refl; second = refl; decided = one })
+      by b.Stray = wrong _ _ es (report Stray (t ∷ [])) refl
+
+  -- with the last of the shared items an operand begins in one way or another, or in neither list
+  begun_last : (begin other : Begin) → is_stray begin ≡ is_stray other → (second : Option SyntaxKind) → BeginsInner second begin
+      → (level d : ℕ) (t : Token) (f : Frame) (fs : List Frame) (us : List Token) (n : ℕ) (es : List Fault)
+      → AreLate m (f ∷ fs) → BeginAllFrom m es
+      → Goes (begun false begin level d t f fs (t ∷ xs) n es) (begun false other level d t f fs us n es)
+  begun_last b.Stray b.Stray e second i level d t f fs us n es w g = wrong _ _ es (report Stray (t ∷ [])) refl
+  begun_last b.Stray _ e second i level d t f fs us n es w g = absurd (true_is_not_false e)
+  begun_last (b.Leaf k) other e second i level d t f fs us n es w g =
+      inr (inl (late_apart m _ (begun_late m second (b.Leaf k) level d t f fs xs n es i tt late w g)))
+  begun_last (b.Node k place high) other e second i level d t f fs us n es w g =
+      inr (inl (late_apart m _ (begun_late m second (b.Node k place high) level d t f fs xs n es i tt late w g)))
+  begun_last b.LegacyLet other e second i level d t f fs us n es w g =
+      inr (inl (late_apart m _ (begun_late m second b.LegacyLet level d t f fs xs n es i tt late w g)))
+  begun_last b.NameLambda other e second i level d t f fs us n es w g =
+      inr (inl (late_apart m _ (begun_late m second b.NameLambda level d t f fs xs n es i tt late w g)))
+  begun_last b.BoundLambda other e second i level d t f fs us n es w g =
+      inr (inl (late_apart m _ (begun_late m second b.BoundLambda level d t f fs xs n es i tt late w g)))
+  begun_last b.PatternLambda other e second i level d t f fs us n es w g =
+      inr (inl (late_apart m _ (begun_late m second b.PatternLambda level d t f fs xs n es i tt late w g)))
+
+  -- the next item and the last of the shared items behind it begin an operand
+  module _ (level d : ℕ) (f : Frame) (fs : List Frame) (t u : Token) (n : ℕ) (es : List Fault) (w : AreLate m (f ∷ fs)) (g : BeginAllFrom m es)
+      (h : end_undecided (t ∷ (u ∷ [])) ≡ false) where
+    abbrev Begun : Begin → Begin → Type 0
+    Begun begin other = Goes (begun false begin level d t f fs (t ∷ (u ∷ xs)) n es) (begun false other level d t f fs (t ∷ (u ∷ zs)) n es)
+
+    brace_pair : t.kind ≡ TOKEN_L_BRACE → (third other : Option SyntaxKind)
+        → ((u.kind ≡ TOKEN_IDENT) ⊎ (u.kind ≡ TOKEN_R_BRACE)) ⊎ ((u.kind ≡ TOKEN_ELLIPSIS) ⊎ (is_pattern (Some u.kind) third ≡ is_pattern (Some u.kind) other))
+        → Begun (braces (is_pattern (Some u.kind) third)) (braces (is_pattern (Some u.kind) other))
+    brace_pair e third other (inl k) = inr (inl (opened_apart m xs late level d t f fs n es w g (is_pattern (Some u.kind) third) u k))
+    brace_pair e third other (inr (inl k)) =
+        absurd (true_is_not_false (sym (ap (λ z. are_undecided z u.kind) e ∙ ap (are_undecided TOKEN_L_BRACE) k) ∙ h))
+    brace_pair e third other (inr (inr same)) =
+        subst (λ z. Begun (braces (is_pattern (Some u.kind) third)) (braces z)) same
+        (begun_shared (braces (is_pattern (Some u.kind) third)) level d t u f fs [] n es h)
+
+    pair_shared : (third other : Option SyntaxKind)
+        → (t.kind ≡ TOKEN_L_BRACE) ⊎ (begin_of level t.kind t.text (Some u.kind) third ≡ begin_of level t.kind t.text (Some u.kind) other)
+        → Begun (begin_of level t.kind t.text (Some u.kind) third) (begin_of level t.kind t.text (Some u.kind) other)
+    pair_shared third other (inl e) =
+        subst (λ k. Begun (begin_of level k t.text (Some u.kind) third) (begin_of level k t.text (Some u.kind) other)) (sym e)
+        (brace_pair e third other (pattern_counts u.kind third other))
+    pair_shared third other (inr same) =
+        subst (λ z. Begun (begin_of level t.kind t.text (Some u.kind) third) z) same
+        (begun_shared (begin_of level t.kind t.text (Some u.kind) third) level d t u f fs [] n es h)
+
+  -- an operand of a level
+  operand_shared : (level d : ℕ) (f : Frame) (fs : List Frame) (t : Token) (q : List Token) (n : ℕ) (es : List Fault)
+      → AreLate m (f ∷ fs) → BeginAllFrom m es → end_undecided (t ∷ q) ≡ false
+      → Goes (operand_on false level d f fs (t ∷ (q ++ xs)) (t ∷ (q ++ xs)) n es) (operand_on false level d f fs (t ∷ (q ++ zs)) (t ∷ (q ++ zs)) n es)
+  operand_shared level d f fs t [] n es w g h =
+      let begin : Begin = begin_of level t.kind t.text (head_kind xs) (second_kind xs) in
+      let other : Begin = begin_of level t.kind t.text (head_kind zs) (second_kind zs) in
+      begun_last begin other (stray_same level t.kind t.text (head_kind xs) (second_kind xs) (head_kind zs) (second_kind zs)) (head_kind xs)
+      (begin_inner level t.kind t.text (head_kind xs) (second_kind xs)) level d t f fs (t ∷ zs) n es w g
+  operand_shared level d f fs t (u ∷ []) n es w g h =
+      pair_shared level d f fs t u n es w g h (head_kind xs) (head_kind zs) (third_counts level t.kind t.text (Some u.kind) (head_kind xs) (head_kind zs))
+  operand_shared level d f fs t (u ∷ (v ∷ q)) n es w g h =
+      begun_shared (begin_of level t.kind t.text (Some u.kind) (Some v.kind)) level d t u f fs (v ∷ q) n es h
+
+  -- counted or not
+  reading_shared : (level : ℕ) (counted : Bool) (f : Frame) (fs : List Frame) (t : Token) (q : List Token) (n : ℕ) (es : List Fault)
+      → AreLate m (f ∷ fs) → BeginAllFrom m es → end_undecided (t ∷ q) ≡ false
+      → Goes (reading false level counted f fs (t ∷ (q ++ xs)) n es) (reading false level counted f fs (t ∷ (q ++ zs)) n es)
+  reading_shared level true f fs t q n es w g h =
+      let ts : List Token = t ∷ (q ++ xs) in
+      let us : List Token = t ∷ (q ++ zs) in
+      elim (nat_le depth_limit f.depth)
+      as (λ x. Goes (if x then limited false f fs ts n es else operand_on false level (suc f.depth) f fs ts ts n es)
+      (if x then limited false f fs us n es else operand_on false level (suc f.depth) f fs us us n es)) [
+        | true ↦ wrong _ _ es too_deep refl
+        | false ↦ operand_shared level (suc f.depth) f fs t q n es w g h
+      ]
+  reading_shared level false f fs t q n es w g h = operand_shared level f.depth f fs t q n es w g h
+
+  -- what is done at the innermost frame
+  pub perform_shared : (action : Action) (f : Frame) (fs : List Frame) (t : Token) (q : List Token) (n : ℕ) (es : List Fault)
+      → AreLate m (f ∷ fs) → BeginAllFrom m es → end_undecided (t ∷ q) ≡ false
+      → Goes (perform false action f fs (t ∷ (q ++ xs)) n es) (perform false action f fs (t ∷ (q ++ zs)) n es)
+  perform_shared action f fs t q n es w g h = by action
+    where
+      one : end_undecided q ≡ false
+      one = tail_decided (t ∷ q) h
+
+      by : (action : Action) → Goes (perform false action f fs (t ∷ (q ++ xs)) n es) (perform false action f fs (t ∷ (q ++ zs)) n es)
+      by a.Close = closed_shared f fs (t ∷ q) n es h
+      by a.ClosePattern = closed_shared f fs (t ∷ q) n es h
+      by a.CloseEntry = entry_closed_shared f fs (t ∷ q) n es h
+      by a.CloseDoubleBind = closed_shared f fs (t ∷ q) n _ h
+      by a.Finish = inl (record { at = perform false a.Finish f fs (t ∷ q) n es; first = refl; second = refl; decided = h })
+      by a.EndOperand = closed_shared f fs (t ∷ q) n es h
+      by a.Extra = wrong _ _ es (report Extra (t ∷ (q ++ zs))) refl
+      by (a.Take after) = inl (record { at = perform false (a.Take after) f fs (t ∷ q) n es; first = refl; second = refl; decided = one })
+      by (a.Miss after) = inl (record { at = perform false (a.Miss after) f fs (t ∷ q) n es; first = refl; second = refl; decided = h })
+      by (a.MissWanted until after) =
+          inl (record { at = perform false (a.MissWanted until after) f fs (t ∷ q) n es; first = refl; second = refl; decided = h })
+      by (a.Run until after) = wrong _ _ es (report (Unwanted until) (run_of until (t ∷ (q ++ zs)))) refl
+      by (a.Leaf k after) = inl (record { at = perform false (a.Leaf k after) f fs (t ∷ q) n es; first = refl; second = refl; decided = one })
+      by (a.Open k inside after) = inl (record { at = perform false (a.Open k inside after) f fs (t ∷ q) n es; first = refl; second = refl; decided = one })
+      by (a.Begin k inside after) = inl (record { at = perform false (a.Begin k inside after) f fs (t ∷ q) n es; first = refl; second = refl; decided = h })
+      by (a.Entry after) = inl (record { at = perform false (a.Entry after) f fs (t ∷ q) n es; first = refl; second = refl; decided = one })
+      by (a.DoubleBind after) = inl (record { at = perform false (a.DoubleBind after) f fs (t ∷ q) n es; first = refl; second = refl; decided = one })
+      by (a.Read level counted after) = reading_shared level counted (put (p.Left after) f.row f) fs t q n es w g h
+      by (a.Wrap k inside high) = inl (record { at = perform false (a.Wrap k inside high) f fs (t ∷ q) n es; first = refl; second = refl; decided = one })
+      by a.Apply =
+          reading_shared 16 false (opened (Node NODE_APPLY) (p.Left APPLIED) f.depth f.row)
+          (opened Operand (p.AfterOperand (min_bp_of f.position) 15) f.depth blank ∷ fs) t q n es (tt, (tt, w.1)) g h
+      by a.ApplyOr = inl (record { at = perform false a.ApplyOr f fs (t ∷ q) n es; first = refl; second = refl; decided = one })

@@ -1,0 +1,32 @@
+-- Where errors begin, and how a text may begin without a word on what it becomes.
+use Rattle.std.specs.Prelude.{◌≤◌, ℕ, Bool, true, false, List, [], ◌∷◌}
+use Rattle.rnix_kinds.specs.declared.kinds.SyntaxKind.{SyntaxKind}
+use Rattle.rnix_kinds.specs.declared.kinds.SyntaxKind.TheVariants.{TOKEN_L_BRACE, TOKEN_ELLIPSIS}
+use Rattle.rnix_grammar.specs.Fault.{Fault, untold, extra, unwanted, bound_twice, named_twice}
+use Rattle.rnix_grammar.specs.AnnotatedForest.{Token}
+
+-- an error does not begin before a byte, if it has a range
+abbrev pub BeginsFrom : ℕ → Fault → Type 0
+BeginsFrom m (untold a) = m ≤ a.start
+BeginsFrom m (extra a) = m ≤ a.start
+BeginsFrom m (unwanted kind a wanted) = m ≤ a.start
+BeginsFrom m (bound_twice a) = m ≤ a.start
+BeginsFrom m (named_twice a name) = m ≤ a.start
+BeginsFrom m d = Unit {0}
+
+-- so it is with all errors
+abbrev pub BeginAllFrom : ℕ → List Fault → Type 0
+BeginAllFrom m [] = Unit {0}
+BeginAllFrom m (d ∷ ds) = BeginsFrom m d × BeginAllFrom m ds
+
+-- the tokens `{` and `...`, after which the next item says whether a pattern or a set has begun
+abbrev pub are_undecided : SyntaxKind → SyntaxKind → Bool
+are_undecided TOKEN_L_BRACE TOKEN_ELLIPSIS = true
+are_undecided j k = false
+
+-- some items end with them
+abbrev pub end_undecided : List Token → Bool
+end_undecided [] = false
+end_undecided (t ∷ []) = false
+end_undecided (t ∷ (u ∷ [])) = are_undecided t.kind u.kind
+end_undecided (t ∷ (u ∷ (v ∷ vs))) = end_undecided (u ∷ (v ∷ vs))
