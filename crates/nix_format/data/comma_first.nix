@@ -1,0 +1,6 @@
+{ stdenv # the compiler
+, fetchurl
+# only for tests
+, python3
+, ... }:
+stdenv

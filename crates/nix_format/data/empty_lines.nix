@@ -1,0 +1,26 @@
+
+
+
+{ lib }:
+
+
+let
+
+
+  a = 1;
+
+
+
+  b = 2;
+
+in
+
+{
+
+  inherit a;
+
+  inherit b;
+
+}
+
+

@@ -1,0 +1,12 @@
+{
+  description = "A flake";
+  inputs = { nixpkgs.url = "github:NixOS/nixpkgs/nixos-unstable"; };
+  outputs = { self, nixpkgs, ... }@inputs: let
+      system = "x86_64-linux";
+      pkgs = nixpkgs.legacyPackages.${system};
+    in {
+      packages.${system}.default = pkgs.hello;
+      devShells.${system}.default = pkgs.mkShell { packages = with pkgs; [ cargo rustc
+        clippy ]; };
+    };
+}

@@ -1,0 +1,2 @@
+pub mod SolidLemmas
+pub mod SpotLemmas

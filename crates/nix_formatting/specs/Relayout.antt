@@ -1,0 +1,44 @@
+-- A text that differs from another one in white space alone.
+use Rattle.std.specs.Prelude.{◌≡◌, ◌&&◌, Bool, true, false, ℕ, List, [], ◌∷◌, Option, Some, None}
+use Rattle.rnix_kinds.specs.declared.kinds.SyntaxKind.{SyntaxKind}
+use Rattle.rnix_kinds.specs.declared.kinds.SyntaxKind.TheVariants.{TOKEN_WHITESPACE}
+use Rattle.rnix_kinds.specs.Lexical.Tokens.{Lexeme, tokens_of}
+use Rattle.rnix_green.specs.Equality.{same_kind}
+use Rattle.rnix_green.specs.Tree.{Tree}
+use Rattle.rnix_grammar.specs.Reading.{IsReading}
+use Rattle.rnix_grammar.specs.TokenKinds.{is_piece_start}
+use Rattle.rnix_proof_layout.specs.AlikeItems.{ends_piece}
+use Rattle.rnix_parser.specs.Significant.{significant}
+
+-- a token other than white space: its kind, its text, and whether it touches a part of a path and would go on with that path
+abbrev pub Solid : Type 0
+Solid = SyntaxKind × List ℕ × Bool
+
+-- a token before others, unless it is white space
+abbrev pub solid_if : Bool → Solid → List Solid → List Solid → List Solid
+solid_if true t spaced touching = spaced
+solid_if false t spaced touching = t ∷ touching
+
+-- the tokens other than white space, comments included; before them stands a part of a path, or something else
+abbrev pub solids_from : Bool → List Lexeme → List Solid
+solids_from in_path [] = []
+solids_from in_path (t ∷ ts) =
+    solid_if (same_kind t.0 TOKEN_WHITESPACE) (t.0, t.1, in_path && is_piece_start t.0) (solids_from false ts) (solids_from (ends_piece t.0) ts)
+
+-- those of a text
+abbrev pub solids_of : List ℕ → List Solid
+solids_of text = solids_from false (tokens_of text)
+
+-- both texts are read without errors, and as the same tree but for white space and comments
+pub record AreOneTree (old new : List ℕ) : Type 0 where
+  pub before : Tree
+  pub after : Tree
+  pub old_read : IsReading (tokens_of old) before []
+  pub new_read : IsReading (tokens_of new) after []
+  pub same : significant after.children ≡ significant before.children
+
+-- the new text differs from the old one in white space alone: it has the same tokens in the same order, the same comments among them, and it is read
+-- as the same tree
+pub record IsRelayout (old new : List ℕ) : Type 0 where
+  pub tokens : solids_of new ≡ solids_of old
+  pub tree : AreOneTree old new

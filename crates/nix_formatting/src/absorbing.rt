@@ -1,0 +1,93 @@
+//! Which part of a node may be broken while the rest of the node stays on its line, as in `a = f {` .. `};`.
+
+use crate::layout::Target;
+use rnix::SyntaxKind;
+use rnix::ast::BinOpKind;
+
+// What is broken by itself: sets, lists and strings.
+fn is_term(kind: SyntaxKind) -> bool {
+    matches!(
+        kind,
+        SyntaxKind::NODE_ATTR_SET | SyntaxKind::NODE_LIST | SyntaxKind::NODE_STRING
+    )
+}
+
+// Whether the operator joins sets or lists.
+fn is_joining(operator: Option<BinOpKind>) -> bool {
+    matches!(operator, Some(BinOpKind::Update | BinOpKind::Concat))
+}
+
+// Whether a call is broken at its end, and not between parentheses.
+fn is_tail_call(child: SyntaxKind, target: Target, end: usize) -> bool {
+    let is_last = target.close.saturating_add(1) == end;
+    child == SyntaxKind::NODE_APPLY && is_last && !target.is_paren
+}
+
+// Whether an entry of a set may be broken where its value may be.
+fn entry_takes(child: SyntaxKind) -> bool {
+    is_term(child)
+        || matches!(
+            child,
+            SyntaxKind::NODE_LAMBDA
+                | SyntaxKind::NODE_WITH
+                | SyntaxKind::NODE_PAREN
+                | SyntaxKind::NODE_APPLY
+                | SyntaxKind::NODE_BIN_OP
+        )
+}
+
+/// Whether a node may be broken at the target of a child of it, which ends before the piece `end`.
+pub fn takes_target(
+    parent: SyntaxKind,
+    operator: Option<BinOpKind>,
+    child: SyntaxKind,
+    target: Target,
+    end: usize,
+) -> bool {
+    match parent {
+        SyntaxKind::NODE_WITH => is_term(child),
+        SyntaxKind::NODE_LAMBDA => is_term(child) || child == SyntaxKind::NODE_LAMBDA,
+        SyntaxKind::NODE_APPLY => {
+            is_term(child) || matches!(child, SyntaxKind::NODE_PAREN | SyntaxKind::NODE_APPLY)
+        }
+        SyntaxKind::NODE_PAREN => {
+            is_term(child)
+                || matches!(child, SyntaxKind::NODE_LAMBDA | SyntaxKind::NODE_WITH)
+                || is_tail_call(child, target, end)
+        }
+        SyntaxKind::NODE_BIN_OP if is_joining(operator) => {
+            is_term(child) || is_tail_call(child, target, end)
+        }
+        SyntaxKind::NODE_ATTRPATH_VALUE => entry_takes(child),
+        _ => false,
+    }
+}
+
+/// Whether a node that has a target is broken there wherever that helps. The others wait for the node around them.
+pub fn absorbs(kind: SyntaxKind) -> bool {
+    matches!(
+        kind,
+        SyntaxKind::NODE_ATTRPATH_VALUE
+            | SyntaxKind::NODE_APPLY
+            | SyntaxKind::NODE_PAREN
+            | SyntaxKind::NODE_LAMBDA
+    )
+}
+
+/// What may be broken of a node by itself: what stands between its brackets, from the piece that opens it to the last one before `end`.
+pub fn own_target(kind: SyntaxKind, open: usize, end: usize) -> Option<Target> {
+    let close = end.saturating_sub(1);
+    let is_filled = close > open.saturating_add(1);
+    let is_paren = kind == SyntaxKind::NODE_PAREN;
+    let target = Target {
+        open,
+        close,
+        is_paren,
+    };
+    match kind {
+        SyntaxKind::NODE_ATTR_SET | SyntaxKind::NODE_LIST | SyntaxKind::NODE_PAREN if is_filled => {
+            Some(target)
+        }
+        _ => None,
+    }
+}

@@ -1,0 +1,140 @@
+//! Whether two texts differ in white space alone.
+
+ghost use Rattle.std.specs.Prelude.{◌≡◌, true, IfOk};
+ghost use Rattle.rnix_grammar.specs.TokenKinds.{is_piece_start};
+ghost use Rattle.rnix_proof_layout.specs.AlikeItems.{ends_piece};
+ghost use Rattle.nix_formatting.specs.Relayout.{solids_of};
+ghost use Rattle.nix_formatting.specs.Solids.{IsNextSolid, same_flag, same_solid, AreCompared, IsStep};
+
+use rnix::{SyntaxKind, Tokenizer, tokenize};
+use std::alloc::{AllocError, Global};
+
+// A token other than white space.
+#[derive(Clone, Copy)]
+struct Solid<'t> {
+    kind: SyntaxKind,
+    text: &'t str,
+    // Whether it touches a part of a path and would go on with that path.
+    joins: bool,
+}
+
+// Whether a path may go on behind a token of the kind.
+fn ends_piece(kind: SyntaxKind) -> bool
+    ensures { result ≡ ends_piece kind }
+{
+    matches!(
+        kind,
+        SyntaxKind::TOKEN_PATH_ABS
+            | SyntaxKind::TOKEN_PATH_HOME
+            | SyntaxKind::TOKEN_PATH_REL
+            | SyntaxKind::TOKEN_INTERPOL_END
+    )
+}
+
+// Whether a token of the kind goes on with a path that it touches.
+fn is_piece_start(kind: SyntaxKind) -> bool
+    ensures { result ≡ is_piece_start kind }
+{
+    matches!(
+        kind,
+        SyntaxKind::TOKEN_PATH_ABS
+            | SyntaxKind::TOKEN_PATH_HOME
+            | SyntaxKind::TOKEN_PATH_REL
+            | SyntaxKind::TOKEN_INTERPOL_START
+    )
+}
+
+// Takes the next token other than white space; before the first token stands a part of a path, or something else.
+fn next_solid<'t>(
+    tokens: &mut Tokenizer<'t>,
+    in_path: bool,
+) -> Result<Option<Solid<'t>>, AllocError>
+    ensures { IfOk result (λ found. IsNextSolid in_path tokens.old found tokens.new) }
+{
+    let mut in_path = in_path;
+    while let Some(token) = tokens.next_token() {
+        let (kind, text) = token?;
+        if kind != SyntaxKind::TOKEN_WHITESPACE {
+            let joins = in_path && is_piece_start(kind);
+            return Ok(Some(Solid { kind, text, joins }));
+        }
+        in_path = false;
+    }
+    Ok(None)
+}
+
+// What two texts have next.
+#[derive(Clone, Copy)]
+enum Step {
+    // The same token, of this kind.
+    Same(SyntaxKind),
+    // Two tokens that differ, or a token in one of them.
+    Differ,
+    // Both end.
+    End,
+}
+
+// Whether two flags are the same.
+fn same_flag(old: bool, new: bool) -> bool
+    ensures { result ≡ same_flag old new }
+{
+    if old { new } else { !new }
+}
+
+// Whether two tokens are the same.
+fn is_same(old: &Solid<'_>, new: &Solid<'_>) -> bool
+    ensures { result ≡ same_solid old.now new.now }
+{
+    old.kind == new.kind && old.text == new.text && same_flag(old.joins, new.joins)
+}
+
+// Compares the next tokens of two texts.
+#[tactic(auto, using(crate::proofs::SolidLemmas::solids_same))]
+fn compared<'t>(old: Option<Solid<'t>>, new: Option<Solid<'t>>) -> Step
+    ensures { AreCompared result old.entry new.entry }
+{
+    match (old, new) {
+        (Some(old), Some(new)) => {
+            if is_same(&old, &new) {
+                Step::Same(old.kind)
+            } else {
+                Step::Differ
+            }
+        }
+        (None, None) => Step::End,
+        _ => Step::Differ,
+    }
+}
+
+// Takes the next tokens of two texts.
+#[tactic(auto, using(crate::proofs::SolidLemmas::stepped))]
+fn next_step(
+    olds: &mut Tokenizer<'_>,
+    news: &mut Tokenizer<'_>,
+    in_path: bool,
+) -> Result<Step, AllocError>
+    ensures { IfOk result (IsStep in_path olds.old news.old olds.new news.new) }
+{
+    let old = next_solid(olds, in_path)?;
+    let new = next_solid(news, in_path)?;
+    Ok(compared(old, new))
+}
+
+/// Whether two texts have the same tokens but for white space, and the parts of paths touch alike in both. No is said of texts that differ in
+/// some other way.
+#[tactic(auto, using(crate::proofs::SolidLemmas::same_step, crate::proofs::SolidLemmas::end_step))]
+pub fn have_same_solids(alloc: Global, old: &str, new: &str) -> Result<bool, AllocError>
+    ensures { IfOk result (λ are_same. are_same ≡ true → solids_of new.now ≡ solids_of old.now) }
+{
+    let mut olds = tokenize(alloc, old);
+    let mut news = tokenize(alloc, new);
+    let mut in_path = false;
+    for _ in 0..u64::MAX {
+        match next_step(&mut olds, &mut news, in_path)? {
+            Step::Same(kind) => in_path = ends_piece(kind),
+            Step::Differ => return Ok(false),
+            Step::End => return Ok(true),
+        }
+    }
+    Ok(false)
+}

@@ -1,0 +1,109 @@
+//! The gaps before comments, and before the piece that follows them.
+
+use crate::piece::{Gap, Level, Piece};
+use crate::spacing::Spacing;
+
+// The gap as its spacing has it, for a piece with these line feeds before it.
+fn plain_gap(spacing: Spacing, group: usize, line_feeds: usize) -> Gap {
+    Gap {
+        blanks: spacing.blanks,
+        can_break: spacing.can_break,
+        is_hard: spacing.is_hard || (spacing.keeps_break && line_feeds > 0),
+        has_empty_line: spacing.keeps_empty && line_feeds > 1,
+        group,
+        level: spacing.level,
+    }
+}
+
+// The same gap with a line feed.
+fn ended(gap: Gap, line_feeds: usize, may_be_empty: bool) -> Gap {
+    Gap {
+        is_hard: true,
+        has_empty_line: may_be_empty && line_feeds > 1,
+        ..gap
+    }
+}
+
+// The same gap with a blank.
+fn spaced(gap: Gap) -> Gap {
+    Gap {
+        blanks: 1,
+        can_break: false,
+        is_hard: false,
+        has_empty_line: false,
+        ..gap
+    }
+}
+
+// The level of comments: inside what a bracket closes.
+fn comment_level(spacing: Spacing) -> Level {
+    if spacing.closes {
+        Level::Inner
+    } else {
+        spacing.level
+    }
+}
+
+// The gap before a comment. What is known: whether it is the first in its gap, whether the comment before it ended the line, and whether
+// the line ends behind it.
+fn comment_gap(
+    piece: &Piece,
+    spacing: Spacing,
+    group: usize,
+    is_first: bool,
+    is_ended: bool,
+    ends: bool,
+) -> Gap {
+    let gap = Gap {
+        blanks: if spacing.opens { spacing.blanks } else { 1 },
+        level: comment_level(spacing),
+        ..plain_gap(spacing, group, piece.line_feeds)
+    };
+    let may_be_empty = !(is_first && spacing.opens);
+    if is_ended || (ends && piece.line_feeds > 0) {
+        ended(gap, piece.line_feeds, may_be_empty)
+    } else if ends || !is_first {
+        spaced(gap)
+    } else {
+        gap
+    }
+}
+
+// The gap before the piece that follows comments.
+fn gap_behind(piece: &Piece, spacing: Spacing, group: usize, is_ended: bool) -> Gap {
+    let gap = plain_gap(spacing, group, piece.line_feeds);
+    if is_ended {
+        ended(gap, piece.line_feeds, !spacing.closes)
+    } else if spacing.closes {
+        gap
+    } else {
+        spaced(gap)
+    }
+}
+
+// Whether the line ends behind a comment.
+fn ends_line(pieces: &[Piece], number: usize) -> bool {
+    match (pieces.get(number), pieces.get(number.saturating_add(1))) {
+        (Some(piece), Some(next)) => piece.ends_line || next.line_feeds > 0,
+        _ => true,
+    }
+}
+
+/// Sets the gaps of the pieces from a number on: they are comments, and perhaps a last piece that is none.
+pub fn set_gaps(pieces: &mut Vec<Piece>, from: usize, spacing: Spacing, group: usize) {
+    let mut is_ended = false;
+    for number in from..pieces.len() {
+        let ends = ends_line(pieces, number);
+        let piece = pieces[number];
+        let is_first = number == from;
+        let gap = if piece.is_comment {
+            comment_gap(&piece, spacing, group, is_first, is_ended, ends)
+        } else if is_first {
+            plain_gap(spacing, group, piece.line_feeds)
+        } else {
+            gap_behind(&piece, spacing, group, is_ended)
+        };
+        pieces[number].gap = gap;
+        is_ended = piece.is_comment && ends;
+    }
+}

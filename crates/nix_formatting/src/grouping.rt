@@ -1,0 +1,55 @@
+//! Which nodes are one piece, and which have groups of their own.
+
+use crate::spacing::Child;
+use rnix::{SyntaxKind, SyntaxNode};
+
+/// Whether nodes of a kind are written as they are: strings and paths.
+pub fn is_atom(kind: SyntaxKind) -> bool {
+    matches!(
+        kind,
+        SyntaxKind::NODE_STRING
+            | SyntaxKind::NODE_PATH_ABS
+            | SyntaxKind::NODE_PATH_HOME
+            | SyntaxKind::NODE_PATH_REL
+            | SyntaxKind::NODE_PATH_SEARCH
+    )
+}
+
+/// Whether nodes of a kind have groups of their own, wherever they stand.
+pub fn is_grouped(kind: SyntaxKind) -> bool {
+    matches!(
+        kind,
+        SyntaxKind::NODE_ROOT
+            | SyntaxKind::NODE_LIST
+            | SyntaxKind::NODE_ATTR_SET
+            | SyntaxKind::NODE_PAREN
+            | SyntaxKind::NODE_LET_IN
+            | SyntaxKind::NODE_LEGACY_LET
+            | SyntaxKind::NODE_INHERIT
+            | SyntaxKind::NODE_ATTRPATH_VALUE
+            | SyntaxKind::NODE_WITH
+            | SyntaxKind::NODE_ASSERT
+            | SyntaxKind::NODE_LAMBDA
+            | SyntaxKind::NODE_PATTERN
+    )
+}
+
+// Whether a function has a name as its parameter.
+fn is_named_lambda(node: &SyntaxNode<'_>) -> bool {
+    match node.first_child() {
+        Some(parameter) => {
+            node.kind() == SyntaxKind::NODE_LAMBDA
+                && parameter.kind() == SyntaxKind::NODE_IDENT_PARAM
+        }
+        None => false,
+    }
+}
+
+/// What is known of a node before the walk enters it.
+pub fn child_of(node: &SyntaxNode<'_>) -> Child {
+    Child {
+        kind: node.kind(),
+        is_empty: node.first_child().is_none(),
+        is_named_lambda: is_named_lambda(node),
+    }
+}

@@ -1,0 +1,318 @@
+//! The white space between two children of a node: one table, by the kinds of the node and of the two.
+
+use crate::piece::Level;
+use rnix::SyntaxKind;
+
+/// The white space that the node wants in a gap.
+#[derive(Clone, Copy)]
+pub struct Spacing {
+    /// The blanks, where the line goes on.
+    pub blanks: usize,
+    /// Whether the line ends here if the group is broken.
+    pub can_break: bool,
+    /// Whether the line ends here in any case.
+    pub is_hard: bool,
+    /// Where the next line begins.
+    pub level: Level,
+    /// Whether a line feed that was here stays.
+    pub keeps_break: bool,
+    /// Whether an empty line that was here stays.
+    pub keeps_empty: bool,
+    /// Whether a bracket or its like comes before.
+    pub opens: bool,
+    /// Whether a bracket or its like follows.
+    pub closes: bool,
+    /// Whether the group is that of the condition.
+    pub is_inner: bool,
+}
+
+/// What is known of the child that follows.
+#[derive(Clone, Copy)]
+pub struct Child {
+    pub kind: SyntaxKind,
+    /// Whether no node is in it, as in `{ }`.
+    pub is_empty: bool,
+    /// Whether it is a function whose parameter is a name.
+    pub is_named_lambda: bool,
+}
+
+// Nothing at all.
+const GLUED: Spacing = Spacing {
+    blanks: 0,
+    can_break: false,
+    is_hard: false,
+    level: Level::Inner,
+    keeps_break: false,
+    keeps_empty: false,
+    opens: false,
+    closes: false,
+    is_inner: false,
+};
+
+// One blank.
+const SPACED: Spacing = Spacing { blanks: 1, ..GLUED };
+
+// One blank, or a line feed.
+const LINE: Spacing = Spacing {
+    can_break: true,
+    ..SPACED
+};
+
+// Nothing, or a line feed.
+const SOFT: Spacing = Spacing {
+    can_break: true,
+    ..GLUED
+};
+
+// The same behind an opening bracket and before a closing one.
+fn opening(spacing: Spacing) -> Spacing {
+    Spacing {
+        opens: true,
+        ..spacing
+    }
+}
+
+fn closing(spacing: Spacing) -> Spacing {
+    Spacing {
+        closes: true,
+        level: Level::Same,
+        ..spacing
+    }
+}
+
+// The same at the level of the group.
+fn level(spacing: Spacing) -> Spacing {
+    Spacing {
+        level: Level::Same,
+        ..spacing
+    }
+}
+
+// The same with a line feed in any case.
+fn hard(spacing: Spacing) -> Spacing {
+    Spacing {
+        is_hard: true,
+        ..spacing
+    }
+}
+
+// The same, where a line feed that was there stays.
+fn kept(spacing: Spacing) -> Spacing {
+    Spacing {
+        keeps_break: true,
+        ..spacing
+    }
+}
+
+// The same, where an empty line that was there stays.
+fn airy(spacing: Spacing) -> Spacing {
+    Spacing {
+        keeps_empty: true,
+        ..spacing
+    }
+}
+
+// The same in the group of the condition.
+fn inner(spacing: Spacing) -> Spacing {
+    Spacing {
+        is_inner: true,
+        ..spacing
+    }
+}
+
+// Between the brackets of a set or a list.
+fn bracketed(before: SyntaxKind, next: SyntaxKind) -> Spacing {
+    match (before, next) {
+        (SyntaxKind::TOKEN_REC | SyntaxKind::TOKEN_LET, _) => SPACED,
+        (SyntaxKind::TOKEN_L_BRACE, SyntaxKind::TOKEN_R_BRACE) => closing(SPACED),
+        (SyntaxKind::TOKEN_L_BRACK, SyntaxKind::TOKEN_R_BRACK) => closing(SPACED),
+        (SyntaxKind::TOKEN_L_BRACE | SyntaxKind::TOKEN_L_BRACK, _) => opening(kept(LINE)),
+        (_, SyntaxKind::TOKEN_R_BRACE | SyntaxKind::TOKEN_R_BRACK) => closing(kept(LINE)),
+        _ => airy(kept(LINE)),
+    }
+}
+
+// In a `let`.
+fn in_let(before: SyntaxKind, next: SyntaxKind) -> Spacing {
+    match (before, next) {
+        (_, SyntaxKind::TOKEN_IN) => closing(hard(LINE)),
+        (SyntaxKind::TOKEN_LET, _) => opening(hard(LINE)),
+        (SyntaxKind::TOKEN_IN, _) => level(opening(hard(LINE))),
+        _ => airy(hard(LINE)),
+    }
+}
+
+// In a `with` or an `assert`.
+fn in_prefix(before: SyntaxKind, next: SyntaxKind) -> Spacing {
+    match (before, next) {
+        (_, SyntaxKind::TOKEN_SEMICOLON) => GLUED,
+        (SyntaxKind::TOKEN_SEMICOLON, _) => airy(level(LINE)),
+        _ => SPACED,
+    }
+}
+
+// In a conditional.
+fn in_conditional(before: SyntaxKind, next: SyntaxKind) -> Spacing {
+    match (before, next) {
+        (SyntaxKind::TOKEN_IF, _) => inner(opening(LINE)),
+        (_, SyntaxKind::TOKEN_THEN) => inner(closing(LINE)),
+        (_, SyntaxKind::TOKEN_ELSE) => closing(LINE),
+        (SyntaxKind::TOKEN_ELSE, SyntaxKind::NODE_IF_ELSE) => SPACED,
+        _ => opening(LINE),
+    }
+}
+
+// In a function.
+fn in_lambda(next: Child) -> Spacing {
+    if next.kind == SyntaxKind::TOKEN_COLON {
+        GLUED
+    } else if next.is_named_lambda {
+        SPACED
+    } else {
+        airy(level(LINE))
+    }
+}
+
+// In a pattern.
+fn in_pattern(before: SyntaxKind, next: SyntaxKind) -> Spacing {
+    match (before, next) {
+        (SyntaxKind::TOKEN_L_BRACE, SyntaxKind::TOKEN_R_BRACE) => closing(SPACED),
+        (_, SyntaxKind::TOKEN_COMMA | SyntaxKind::NODE_PAT_BIND) => GLUED,
+        (SyntaxKind::NODE_PAT_BIND, _) => GLUED,
+        (SyntaxKind::TOKEN_L_BRACE, _) => opening(kept(LINE)),
+        (_, SyntaxKind::TOKEN_R_BRACE) => closing(kept(LINE)),
+        _ => kept(LINE),
+    }
+}
+
+// In an `inherit`.
+fn in_inherit(before: SyntaxKind, next: SyntaxKind) -> Spacing {
+    match (before, next) {
+        (SyntaxKind::TOKEN_INHERIT, SyntaxKind::TOKEN_SEMICOLON) => GLUED,
+        (SyntaxKind::NODE_INHERIT_FROM, SyntaxKind::TOKEN_SEMICOLON) => GLUED,
+        (_, SyntaxKind::NODE_INHERIT_FROM) => SPACED,
+        (_, SyntaxKind::TOKEN_SEMICOLON) => kept(SOFT),
+        _ => kept(LINE),
+    }
+}
+
+// In an entry of a set.
+fn in_entry(before: SyntaxKind, next: Child) -> Spacing {
+    match next.kind {
+        SyntaxKind::TOKEN_SEMICOLON => GLUED,
+        SyntaxKind::TOKEN_ASSIGN
+        | SyntaxKind::NODE_STRING
+        | SyntaxKind::NODE_PATH_ABS
+        | SyntaxKind::NODE_PATH_HOME
+        | SyntaxKind::NODE_PATH_REL
+        | SyntaxKind::NODE_PATH_SEARCH => SPACED,
+        SyntaxKind::NODE_ATTR_SET | SyntaxKind::NODE_LIST if next.is_empty => SPACED,
+        _ if before == SyntaxKind::TOKEN_ASSIGN => opening(LINE),
+        _ => SPACED,
+    }
+}
+
+// In a selection: what could be read as a part of a path or of a number keeps its distance.
+fn in_selection(before: SyntaxKind, next: SyntaxKind) -> Spacing {
+    match (before, next) {
+        (_, SyntaxKind::TOKEN_OR) | (SyntaxKind::TOKEN_OR, _) => SPACED,
+        (
+            SyntaxKind::NODE_LITERAL
+            | SyntaxKind::NODE_PATH_ABS
+            | SyntaxKind::NODE_PATH_HOME
+            | SyntaxKind::NODE_PATH_REL,
+            _,
+        ) => SPACED,
+        _ => GLUED,
+    }
+}
+
+// In an attribute that is computed.
+fn in_dynamic(before: SyntaxKind, next: SyntaxKind) -> Spacing {
+    if before == SyntaxKind::TOKEN_INTERPOL_START || next == SyntaxKind::TOKEN_INTERPOL_END {
+        GLUED
+    } else {
+        SPACED
+    }
+}
+
+// In parentheses.
+fn in_paren(before: SyntaxKind) -> Spacing {
+    if before == SyntaxKind::TOKEN_L_PAREN {
+        opening(SOFT)
+    } else {
+        closing(SOFT)
+    }
+}
+
+// In an operation.
+fn in_operation(next: SyntaxKind) -> Spacing {
+    if next < SyntaxKind::NODE_APPLY {
+        Spacing {
+            level: Level::Operator,
+            ..LINE
+        }
+    } else {
+        SPACED
+    }
+}
+
+/// Whether two items next to each other could be read as others: a path may begin with `-`, and a URI may hold a comma.
+pub fn keeps_distance(before: SyntaxKind, next: SyntaxKind) -> bool {
+    matches!(
+        (before, next),
+        (
+            SyntaxKind::TOKEN_SUB,
+            SyntaxKind::NODE_PATH_ABS | SyntaxKind::NODE_PATH_REL
+        ) | (SyntaxKind::TOKEN_URI, SyntaxKind::TOKEN_COMMA)
+    )
+}
+
+/// The same white space, with at least a blank.
+pub fn distant(spacing: Spacing) -> Spacing {
+    Spacing {
+        blanks: 1,
+        ..spacing
+    }
+}
+
+/// The same white space, with a line feed wherever there may be one.
+pub fn broken(spacing: Spacing) -> Spacing {
+    Spacing {
+        is_hard: spacing.can_break,
+        ..spacing
+    }
+}
+
+/// The white space behind a comma that a comment has put at the start of its line.
+pub fn behind_first_comma() -> Spacing {
+    SPACED
+}
+
+/// The white space between a child of a node and the next one.
+pub fn spacing_in(parent: SyntaxKind, before: SyntaxKind, next: Child) -> Spacing {
+    match parent {
+        SyntaxKind::NODE_ROOT => airy(level(GLUED)),
+        SyntaxKind::NODE_LIST | SyntaxKind::NODE_ATTR_SET => bracketed(before, next.kind),
+        SyntaxKind::NODE_LEGACY_LET if before == SyntaxKind::TOKEN_LET => SPACED,
+        SyntaxKind::NODE_LEGACY_LET => hard(bracketed(before, next.kind)),
+        SyntaxKind::NODE_LET_IN => in_let(before, next.kind),
+        SyntaxKind::NODE_WITH => in_prefix(before, next.kind),
+        SyntaxKind::NODE_ASSERT if before == SyntaxKind::TOKEN_SEMICOLON => {
+            hard(in_prefix(before, next.kind))
+        }
+        SyntaxKind::NODE_ASSERT => in_prefix(before, next.kind),
+        SyntaxKind::NODE_IF_ELSE => in_conditional(before, next.kind),
+        SyntaxKind::NODE_LAMBDA => in_lambda(next),
+        SyntaxKind::NODE_PATTERN => in_pattern(before, next.kind),
+        SyntaxKind::NODE_PAT_ENTRY | SyntaxKind::NODE_HAS_ATTR => SPACED,
+        SyntaxKind::NODE_INHERIT => in_inherit(before, next.kind),
+        SyntaxKind::NODE_ATTRPATH_VALUE => in_entry(before, next),
+        SyntaxKind::NODE_SELECT => in_selection(before, next.kind),
+        SyntaxKind::NODE_DYNAMIC => in_dynamic(before, next.kind),
+        SyntaxKind::NODE_APPLY => LINE,
+        SyntaxKind::NODE_BIN_OP => in_operation(next.kind),
+        SyntaxKind::NODE_PAREN => in_paren(before),
+        _ => GLUED,
+    }
+}
