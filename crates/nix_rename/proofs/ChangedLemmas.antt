@@ -2,7 +2,7 @@
 use Rattle.std.proofs.{Common.{◌≡◌, ℕ, ◌≤◌, ◌<◌, suc, List, [], ◌∷◌, ◌++◌, length, get_or, take, map, Some, inl, inr, refl, ap, sym, subst, ◌∙◌, arith}, lemmas.{List.{map-append, get_or-map, get_or-take, length-map, length-take-le, Elements.{All-push, Contains-append_right}}, Option.slice_get-get_or}}
 use Rattle.std.{proofs.lemmas.List.Sorted.{IsPermutation-sym, IsPermutation-middle, IsPermutation-push_more, Contains-permutation}, specs.{Prelude.◌⊎◌, List.{All, Contains}}}
 use Rattle.{std.specs.List.Sorted.IsPermutation, rnix_green.specs.Range.Extent, rnix_text.specs.Changes.{Change, Draft, AreAscending, IsAdded, IsMet}}
-use Rattle.nix_rename.specs.Changed.{StandsAt, change_at, IsElsewhere, DoOverlap, IsUnchangeable}
+use Rattle.nix_rename.specs.Changed.{ContainsAt, change_at, IsElsewhere, DoOverlap, IsUnchangeable}
 
 -- the rest of a list of which something holds
 rest_all : (P : Change → Type 0) (c : Change) (cs : List Change) → All P (c ∷ cs) → All P cs
@@ -34,24 +34,24 @@ added_more c xs old new same added =
     (subst (λ cs. IsPermutation (c ∷ (added.front ++ added.back)) cs) (sym added.new_is)
     (IsPermutation-sym _ _ (IsPermutation-middle added.front c added.back))))
 
--- the changes of a draft are those of these places, at each of which the old name stands
+-- the changes of a draft are those of these places, at each of which its text contains the old name
 pub record IsDrafted (text : List ℕ) (places : List Extent) (old new : List ℕ) (draft : Draft) : Type 0 where
   pub text_is : draft.text ≡ text
   pub exactly : IsPermutation (map (change_at new) places) draft.changes
   pub ascending : AreAscending 0 draft.changes
-  pub each_old : All (StandsAt text old) places
+  pub each_old : All (ContainsAt text old) places
 
 -- the changes of one place more
 pub drafted_more : (text : List ℕ) (places more : List Extent) (place : Extent) (old new : List ℕ) (before after : Draft) →
-    IsDrafted text places old new before → more ≡ places ++ place ∷ [] → place.start ≤ place.end → StandsAt text old place →
+    IsDrafted text places old new before → more ≡ places ++ place ∷ [] → place.start ≤ place.end → ContainsAt before.text old place →
     after.text ≡ before.text → IsAdded (change_at new place) before.changes after.changes → IsDrafted text more old new after
-drafted_more text places more place old new before after is more_is order stands same added =
+drafted_more text places more place old new before after is more_is order contains same added =
     subst (λ ps. IsDrafted text ps old new after) (sym more_is) (record {
       text_is = subst (λ t. t ≡ text) (sym same) is.text_is;
       exactly = subst (λ cs. IsPermutation cs after.changes) (sym (map-append (change_at new) places (place ∷ [])))
           (added_more (change_at new place) _ _ _ is.exactly added);
       ascending = added_ascend (change_at new place) _ _ is.ascending order added;
-      each_old = All-push (StandsAt text old) places place is.each_old stands;
+      each_old = All-push (ContainsAt text old) places place is.each_old (subst (λ t. ContainsAt t old place) is.text_is contains);
     })
 
 -- a change is one of those among which it is
@@ -87,11 +87,11 @@ met_before places so_far place new i cs so_far_is there place_is same met =
       );
     }
 
--- a place at which the old name does not stand, or which overlaps one of the places before it
+-- a place at which the text does not contain the old name, or which overlaps one of the places before it
 pub unfit_found : (text : List ℕ) (places so_far : List Extent) (place : Extent) (old new : List ℕ) (i : ℕ) (draft : Draft) → so_far ≡ take i places →
     i < length places → get_or places i place ≡ place → IsDrafted text so_far old new draft →
-    (IsElsewhere text old place ⊎ IsMet place.start place.end draft.changes) → IsUnchangeable text places old
+    (IsElsewhere draft.text old place ⊎ IsMet place.start place.end draft.changes) → IsUnchangeable text places old
 unfit_found text places so_far place old new i draft so_far_is there place_is is (inl elsewhere) =
-    inl (record { place = place; is_one = (i, there, place_is); elsewhere = elsewhere })
+    inl (record { place = place; is_one = (i, there, place_is); elsewhere = subst (λ t. IsElsewhere t old place) is.text_is elsewhere })
 unfit_found text places so_far place old new i draft so_far_is there place_is is (inr met) =
     inr (met_before places so_far place new i draft.changes so_far_is there place_is is.exactly met)

@@ -1,31 +1,31 @@
--- A text in which another name stands at each of some places.
+-- A text that has another name at each of some places.
 use Rattle.std.specs.Prelude.{◌≡◌, ◌⊎◌, ℕ, ◌<◌, ◌≤◌, Bool, true, false, List, length, map, Some, slice_get, slice_range}
 use Rattle.std.specs.List.{All, Contains}
 use Rattle.std.specs.List.Sorted.{IsPermutation}
 use Rattle.rnix_green.specs.Range.{Extent}
-use Rattle.rnix_text.specs.Changes.{Change, AreAscending, IsAdded, IsBetween, IsMet, changed_from, replacing}
+use Rattle.rnix_text.specs.Changes.{Change, Draft, AreAscending, IsAdded, IsBetween, IsMet, changed_from, replacing}
 
--- a name stands at a place of the text
-abbrev pub StandsAt : List ℕ → List ℕ → Extent → Type 0
-StandsAt text name place = (place.end ≤ length text) × (slice_range text place.start place.end ≡ name)
+-- the text contains a name at a place
+abbrev pub ContainsAt : List ℕ → List ℕ → Extent → Type 0
+ContainsAt text name place = (place.end ≤ length text) × (slice_range text place.start place.end ≡ name)
 
 -- the change of a place into a new name
 abbrev pub change_at : List ℕ → Extent → Change
 change_at new place = replacing place.start place.end new
 
--- the text in which a new name stands in place of the old one at exactly these places, and all else as it was
+-- the text with a new name in place of the old one at exactly these places, and all else as it was
 pub record IsChanged (text : List ℕ) (places : List Extent) (old new made : List ℕ) : Type 0 where
   pub changes : List Change
   pub exactly : IsPermutation (map (change_at new) places) changes
   pub ascending : AreAscending 0 changes
-  pub each_old : All (StandsAt text old) places
+  pub each_old : All (ContainsAt text old) places
   pub made_is : made ≡ changed_from 0 changes text
 
--- the name does not stand at the place, between characters
+-- the text does not contain the name at the place, between characters
 abbrev pub IsElsewhere : List ℕ → List ℕ → Extent → Type 0
-IsElsewhere text name place = ¬ (IsBetween text place.start place.end × StandsAt text name place)
+IsElsewhere text name place = ¬ (IsBetween text place.start place.end × ContainsAt text name place)
 
--- the name does not stand at one of these places
+-- the text does not contain the name at one of these places
 pub record IsMissing (text : List ℕ) (places : List Extent) (name : List ℕ) : Type 0 where
   pub place : Extent
   pub is_one : Contains places place
@@ -42,11 +42,11 @@ pub record DoOverlap (places : List Extent) : Type 0 where
   pub second_is : slice_get places second ≡ Some other
   pub overlap : (place.start < other.end) × (other.start < place.end)
 
--- the old name does not stand at each of these places, or two of them overlap
+-- the text does not contain the old name at each of these places, or two of them overlap
 abbrev pub IsUnchangeable : List ℕ → List Extent → List ℕ → Type 0
 IsUnchangeable text places old = IsMissing text places old ⊎ DoOverlap places
 
--- the change of a place was added to these, or the old name does not stand there, or the place overlaps another one
-abbrev pub IsPlaceTested : List ℕ → Extent → List ℕ → List ℕ → List Change → List Change → Bool → Type 0
-IsPlaceTested text place old new before after true = StandsAt text old place × IsAdded (change_at new place) before after
-IsPlaceTested text place old new before after false = IsElsewhere text old place ⊎ IsMet place.start place.end before
+-- the change of a place was added to a draft, or its text does not contain the old name there, or the place overlaps one that it changes
+abbrev pub IsPlaceTested : Extent → List ℕ → List ℕ → Draft → Draft → Bool → Type 0
+IsPlaceTested place old new before after true = ContainsAt before.text old place × IsAdded (change_at new place) before.changes after.changes
+IsPlaceTested place old new before after false = IsElsewhere before.text old place ⊎ IsMet place.start place.end before.changes

@@ -31,7 +31,7 @@ kept_text kept.InheritedBySet = codes "a set inherits the name: give it its own 
 -- why a name is not renamed
 abbrev pub refusal_text : Refusal → List ℕ
 refusal_text refusal.NotAName = codes "NAME is not a name"
-refusal_text refusal.NoName = codes "no name stands there"
+refusal_text refusal.NoName = codes "there is no name here"
 refusal_text refusal.Unbound = codes "nothing in the text binds the name"
 refusal_text (refusal.Kept reason) = kept_text reason
 refusal_text refusal.OtherSpelling = codes "the name is written in another way at some place"

@@ -20,9 +20,9 @@ const PROGRAM: Program = Program {
     help: "\
 nix-rename [-i] FILE LINE:COLUMN NAME
 
-Prints a Nix text in which what is bound to the name at a place is bound to NAME, with all its uses, and all else is as before. It refuses
-where some name would then mean something else. Lines and columns count from 1, columns in characters; an offset in bytes may stand in
-place of LINE:COLUMN. - stands for standard input.
+Prints a Nix text in which the binding of the name at a place is called NAME, with all its uses, and all else is as before. It refuses
+where some name would then mean something else. Lines and columns count from 1, columns in characters; an offset in bytes may replace
+LINE:COLUMN. - stands for standard input.
 
     -i         write the new text to FILE instead: to FILE.new, which is then renamed
 ",
@@ -64,7 +64,7 @@ fn refuse_text(rt: &HostRuntime, name: &str, text: &str, read: &Parse) -> io::Re
     Ok(FAILED)
 }
 
-// Writes the text with the new name of what stands at a place.
+// Writes the text in which the binding of the name at a place has a new name.
 fn rename_at(
     rt: &HostRuntime,
     name: &str,

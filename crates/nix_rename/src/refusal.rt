@@ -9,7 +9,7 @@ use nix_scopes::{Binding, Reference, Resolution};
 use rnix::SyntaxKind;
 use std::fmt;
 
-/// Why a binding keeps its name.
+/// The reason why a binding keeps its name.
 #[derive(Clone, Copy, PartialEq, Eq, Debug)]
 pub enum Kept {
     /// An `inherit` binds it.
@@ -26,10 +26,10 @@ pub enum Kept {
     InheritedBySet,
 }
 
-/// Why a name is not renamed.
+/// The reason why a name is not renamed.
 #[derive(Clone, Copy, PartialEq, Eq, Debug)]
 pub enum Refusal {
-    /// The new name is no name.
+    /// The new name is not a name.
     NotAName,
     /// There is no name at the offset.
     NoName,
@@ -37,14 +37,14 @@ pub enum Refusal {
     Unbound,
     /// The binding keeps its name.
     Kept(Kept),
-    /// The old name is not what is written at one of the places.
+    /// The text does not contain the old name at one of the places.
     OtherSpelling,
     /// With the new name, the text does not resolve as before.
     OtherMeaning,
 }
 
 impl Kept {
-    // The words for people.
+    // Returns the words for people.
     fn text(self) -> &'static str
         ensures { result.now ≡ kept_text self }
     {
@@ -60,13 +60,13 @@ impl Kept {
 }
 
 impl Refusal {
-    // The words for people.
+    // Returns the words for people.
     fn text(self) -> &'static str
         ensures { result.now ≡ refusal_text self }
     {
         match self {
             Refusal::NotAName => "NAME is not a name",
-            Refusal::NoName => "no name stands there",
+            Refusal::NoName => "there is no name here",
             Refusal::Unbound => "nothing in the text binds the name",
             Refusal::Kept(kept) => kept.text(),
             Refusal::OtherSpelling => "the name is written in another way at some place",
@@ -86,7 +86,7 @@ impl fmt::Display for Refusal {
     }
 }
 
-// Why a part of a binding keeps its name, if it does, where the parent of its node is of this kind.
+// Returns why a part of a binding keeps its name, if it does; the parent of its node is of this kind.
 fn kept_in(parent: SyntaxKind, part: &Binding<'_>) -> Option<Kept>
     ensures { result ≡ kept_in parent (bound_of part.now) }
 {
@@ -106,7 +106,7 @@ fn kept_in(parent: SyntaxKind, part: &Binding<'_>) -> Option<Kept>
     }
 }
 
-// The same, if it is a part of the binding of the number.
+// Returns why a part of a binding keeps its name, if it does and is a part of the binding of the number.
 fn kept_part(part: &Binding<'_>, number: usize) -> Option<Kept>
     ensures { result ≡ kept_part number part.now }
 {
@@ -117,7 +117,7 @@ fn kept_part(part: &Binding<'_>, number: usize) -> Option<Kept>
     }
 }
 
-// Why the first of these parts of the binding of a number keeps its name that does.
+// Returns why the first part that keeps its name does, among these parts of the binding of a number.
 fn kept_among(parts: &[Binding<'_>], number: usize) -> Option<Kept>
     ensures { result ≡ kept_among number parts.now }
 {
@@ -129,7 +129,7 @@ fn kept_among(parts: &[Binding<'_>], number: usize) -> Option<Kept>
     None
 }
 
-// Whether one of these references inherits the binding of a number.
+// Returns whether one of these references inherits the binding of a number.
 fn is_inherited(references: &[Reference<'_>], number: usize) -> bool
     ensures { result ≡ list_any (inherits number) references.now }
 {
@@ -141,7 +141,7 @@ fn is_inherited(references: &[Reference<'_>], number: usize) -> bool
     false
 }
 
-/// Why the binding of a number keeps its name, if it does.
+/// Returns why the binding of a number keeps its name, if it does.
 pub fn kept_name(names: &Resolution<'_>, number: usize) -> Option<Kept>
     ensures { result ≡ kept_name number names.now }
 {

@@ -1,4 +1,4 @@
-//! The text in which a name is renamed with its binding.
+//! Renames a binding and its uses.
 
 ghost use Rattle.std.specs.Prelude.{◌≡◌, map, string_bytes, IfOk, IfSome, IfNone};
 ghost use Rattle.std.specs.Bool.{MatchBool};
@@ -16,21 +16,21 @@ use rnix::{Root, SyntaxKind, SyntaxNode, TextRange};
 use rnix_text::{EditError, Edits};
 use std::alloc::{AllocError, Global};
 
-/// What comes of a renaming: the new text, or why there is none.
+/// The result of a renaming: the new text, or why there is none.
 #[derive(Drop)]
 pub enum Renaming {
     Renamed(String),
     Refused(Refusal),
 }
 
-// Whether a node is a name, and the whole of a text.
+// Returns whether a node is a name whose text is this one.
 fn is_whole_name(node: &SyntaxNode<'_>, text: &str) -> bool
     ensures { result ≡ is_whole_name node.now text.now }
 {
     node.kind() == SyntaxKind::NODE_IDENT && node.text() == text
 }
 
-// Whether the expression of a tree is a name, and the whole of a text.
+// Returns whether the expression of a tree is a name whose text is this one.
 fn is_name_whole(root: &Root<'_>, text: &str) -> bool
     ensures { result ≡ is_name_whole (child_of is_expr 0 root.now) text.now }
 {
@@ -40,7 +40,7 @@ fn is_name_whole(root: &Root<'_>, text: &str) -> bool
     }
 }
 
-// Whether a text is a name and nothing else.
+// Returns whether a text is a name and nothing else.
 fn is_name(alloc: Global, text: &str) -> Result<bool, AllocError>
     ensures { IfOk result (λ passes. MatchBool passes (IsName text.now) (IsNoName text.now)) }
 {
@@ -49,7 +49,7 @@ fn is_name(alloc: Global, text: &str) -> Result<bool, AllocError>
     Ok(is_whole && read.errors().is_empty())
 }
 
-// Adds the change of a place, if the old name stands there and the place overlaps no other one that is changed.
+// Adds the change of a place, if the text contains the old name there and the place overlaps none that is changed already.
 fn add_change(
     edits: &mut Edits<'_>,
     text: &str,
@@ -59,7 +59,7 @@ fn add_change(
 ) -> Result<bool, AllocError>
     requires { edits.old.text ≡ text.now }
     ensures text { edits.new.text ≡ edits.old.text }
-    ensures tested { IfOk result (λ is_added. IsPlaceTested text.now (bounds_of place) old.now new.now edits.old.changes edits.new.changes is_added) }
+    ensures tested { IfOk result (IsPlaceTested (bounds_of place) old.now new.now edits.old edits.new) }
 {
     let (start, end) = (place.start(), place.end());
     match text.get(start..end) {
@@ -72,7 +72,7 @@ fn add_change(
     }
 }
 
-// The text with a new name at these places, if the old one stands at each of them.
+// Returns the text with a new name at these places, if it contains the old one at each of them.
 fn changed(
     alloc: Global,
     text: &str,
@@ -93,7 +93,7 @@ fn changed(
     Ok(Some(edits.apply(alloc)?))
 }
 
-// Whether a text has no errors, and the same bindings and references as these, with a new name for one of the bindings.
+// Returns whether a text has no errors, and the same bindings and references as these, with a new name for one of the bindings.
 fn resolves_like(
     alloc: Global,
     names: &Resolution<'_>,
@@ -110,7 +110,7 @@ fn resolves_like(
     Ok(is_like && read.errors().is_empty())
 }
 
-// The text in which a binding has a new name.
+// Returns the text in which a binding has a new name.
 fn named(
     alloc: Global,
     text: &str,
@@ -135,8 +135,8 @@ fn named(
     }
 }
 
-/// The text in which what the name at an offset refers to is renamed. It is refused where the text binds no such name, where others see
-/// the name (inherited names, attributes of sets, arguments by name), and where a name would then mean something else.
+/// Returns the text in which the binding of the name at an offset has a new name. It is refused where the text does not bind the name,
+/// where others see it (inherited names, attributes of sets, arguments by name), and where a name would then mean something else.
 pub fn rename(
     alloc: Global,
     text: &str,

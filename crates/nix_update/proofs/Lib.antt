@@ -1,2 +1,1 @@
-pub mod OneChange
 mod QuotedLemmas

@@ -1,9 +1,8 @@
 //! The new string, and the text with it.
 
-ghost use Rattle.std.specs.Prelude.{◌≡◌, ◌++◌, IfOk, option_map, string_bytes, take, drop};
+ghost use Rattle.std.specs.Prelude.{◌≡◌, option_map, string_bytes, IfOk};
 ghost use Rattle.nix_update.specs.Quoted.{escape_of, IsQuoted};
 
-use rnix_text::{EditError, Edits};
 use std::alloc::{AllocError, Global};
 
 // How a character of a value is escaped between `"` if this rest follows it; None if it stands for itself there.
@@ -36,19 +35,4 @@ pub fn quoted(alloc: Global, value: &str) -> Result<String, AllocError>
     }
     text.push('"')?;
     Ok(text)
-}
-
-/// The text in which the bytes from `start` up to `end` are the new ones.
-pub fn replaced(
-    alloc: Global,
-    text: &str,
-    start: usize,
-    end: usize,
-    new: &str,
-) -> Result<String, EditError>
-    ensures { IfOk result (λ made. string_bytes made ≡ take start text.now ++ (new.now ++ drop end text.now)) }
-{
-    let mut edits = Edits::new(alloc, text);
-    edits.replace(start..end, new)?;
-    Ok(edits.apply(alloc)?)
 }

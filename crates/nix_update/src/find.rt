@@ -1,36 +1,17 @@
 //! Finds an attribute by its dotted path.
 
+use crate::path::behind_entries;
 use rnix::ast::{AstNode, AttrpathValue, Expr, InterpolPart, Str};
-use rnix::{SyntaxKind, SyntaxNode, TextRange, WalkEvent};
+use rnix::{SyntaxKind, SyntaxNode, WalkEvent};
 use std::alloc::{AllocError, Global};
 
-/// What was found: the place of one string, or why there is none.
-#[derive(Clone, Copy, PartialEq, Eq)]
-pub enum Search {
-    One(TextRange),
+/// What was found: the only entry of a path, or why there is none.
+#[derive(Drop)]
+pub enum Search<'t> {
+    One(AttrpathValue<'t>),
     Nothing,
-    Several,
-    /// The value is no string, or one with interpolations.
-    NoString,
-}
-
-// Where a name ends in a path, each name behind a dot, if the path has this name at an offset.
-fn behind_name(path: &str, start: usize, name: &str) -> Option<usize> {
-    let rest = path.get(start..)?.strip_prefix('.')?.strip_prefix(name)?;
-    if rest.is_empty() || rest.starts_with('.') {
-        Some(path.len().saturating_sub(rest.len()))
-    } else {
-        None
-    }
-}
-
-// And where the names of an entry end.
-fn behind_entry(path: &str, start: usize, entry: &AttrpathValue<'_>) -> Option<usize> {
-    let mut end = start;
-    for attr in entry.attrpath()?.attrs() {
-        end = behind_name(path, end, attr.syntax().text())?;
-    }
-    Some(end)
+    /// Several, of which this is the second.
+    Several(AttrpathValue<'t>),
 }
 
 // Whether a string has an interpolation.
@@ -43,19 +24,28 @@ fn has_interpolation(string: &Str<'_>) -> bool {
     false
 }
 
-// The place of an entry's value, if it is a plain string.
-fn place(entry: &AttrpathValue<'_>) -> Search {
-    match entry.value() {
-        Some(Expr::Str(string)) if !has_interpolation(&string) => {
-            Search::One(string.syntax().text_range())
-        }
-        _ => Search::NoString,
+/// Returns whether an expression is a string without interpolations.
+pub fn is_plain_string(expr: &Expr<'_>) -> bool {
+    match expr {
+        Expr::Str(string) => !has_interpolation(string),
+        _ => false,
     }
 }
 
-/// The place of the string, with its quotes, that the only attribute of a dotted path is.
-pub fn find(alloc: Global, root: &SyntaxNode<'_>, path: &str) -> Result<Search, AllocError> {
-    let path = format!(in alloc; ".{path}")?;
+// An entry that was found behind others.
+fn and_entry<'t>(found: Search<'t>, entry: AttrpathValue<'t>) -> Search<'t> {
+    match found {
+        Search::Nothing => Search::One(entry),
+        Search::One(_) | Search::Several(_) => Search::Several(entry),
+    }
+}
+
+/// Returns the only entry of a dotted path, in which each name is behind a dot.
+pub fn find<'t>(
+    alloc: Global,
+    root: &SyntaxNode<'t>,
+    path: &str,
+) -> Result<Search<'t>, AllocError> {
     let mut found = Search::Nothing;
     // Where the names of each entry around end in the path, the innermost last.
     let mut around = Vec::new(alloc);
@@ -63,16 +53,14 @@ pub fn find(alloc: Global, root: &SyntaxNode<'_>, path: &str) -> Result<Search, 
         match event {
             WalkEvent::Enter(node) => {
                 if let Some(entry) = AttrpathValue::cast(node) {
-                    let end = match around.last().copied().unwrap_or(Some(0)) {
-                        Some(start) => behind_entry(path.as_str(), start, &entry),
-                        None => None,
-                    };
+                    let end = behind_entries(
+                        path,
+                        around.last().copied().unwrap_or(Some(0)),
+                        &entry,
+                    );
                     around.push(end)?;
                     if end == Some(path.len()) {
-                        if found != Search::Nothing {
-                            return Ok(Search::Several);
-                        }
-                        found = place(&entry);
+                        found = and_entry(found, entry);
                     }
                 }
             }

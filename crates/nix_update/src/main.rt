@@ -1,117 +1,157 @@
-//! Replaces one string of a Nix text, and nothing else: `nix-update [-i] PATH VALUE [FILE]` prints the text of FILE or of standard input
-//! in which the attribute of the dotted PATH is the string VALUE. In PATH names stand as in the text, quotes included.
+//! Sets, adds and removes attributes of a Nix text, and changes nothing else: `nix-update [OPTION..] PATH VALUE [FILE]` prints the text of
+//! FILE or of standard input in which the attribute of the dotted PATH has the VALUE. In PATH names stand as in the text, quotes included.
 #![tactic(auto)]
 
 mod edit;
 mod find;
+mod home;
+mod outcome;
+mod path;
+#[cfg(test)]
+mod tests;
+mod update;
+mod value;
 
-use edit::{quoted, replaced};
-use find::{Search, find};
 use nix_cli::{
     Arguments, FAILED, FOUND, Program, Start, end, place_of, read_arguments, read_text, refuse,
     shown_name, write_text,
 };
-use rnix::{Parse, Root};
+use outcome::{Outcome, Reason};
 use std::io;
 use std::process::ExitCode;
+use update::{Action, Update, updated};
+use value::Form;
 
 const PROGRAM: Program = Program {
     name: "nix-update",
     help: "\
-nix-update [-i] PATH VALUE [FILE]
+nix-update [OPTION..] PATH VALUE [FILE]
+nix-update [OPTION..] --remove PATH [FILE]
 
-Prints a Nix text in which the attribute of the dotted PATH is the string VALUE, and all else is as before. In PATH, names stand as in the
-text, quotes included. - and no FILE stand for standard input.
+Prints a Nix text in which the attribute of the dotted PATH is the string VALUE in place of another string, and all else is as before. In
+PATH, names are written as in the text, quotes included. - and no FILE stand for standard input.
 
+    --raw      VALUE is a Nix expression, as 1, true, null or [ a ], and replaces any value
+    --list     VALUE is a list of strings, separated by white space, and replaces any value
+    --add      add the attribute if none has the path, after the others of its set
+    --remove   remove the attribute with its line, and the comments behind it
     -i         write the new text to FILE instead: to FILE.new, which is then renamed
 ",
     statuses: "
-Ends with 0, with 1 if not just one plain string has the path, or with 2 if the text is not Nix, or cannot be read or written.
+Ends with 0, with 1 if not just one attribute has the path, or it cannot be changed so, or with 2 if the text or VALUE is not Nix, or
+something cannot be read or written.
 ",
-    flags: &["-i"],
+    flags: &["--raw", "--list", "--add", "--remove", "-i"],
     has_colors: false,
-    least: 2,
+    least: 1,
     most: 3,
 };
 
-// Says that a text is not Nix, and where its first error is.
-fn refuse_text(rt: &HostRuntime, name: &str, text: &str, read: &Parse) -> io::Result<u8> {
-    let range = read.errors().first().and_then(|error| error.range());
-    let (line, column) = place_of(text, range.map_or(text.len(), |range| range.start()));
-    eprintln!(rt;
-        "nix-update: {}:{line}:{column}: this is not Nix",
-        shown_name(name)
-    )?;
-    Ok(FAILED)
+// Returns what is wrong with a command line, if something is.
+fn wrong_with(arguments: &Arguments) -> Option<&'static str> {
+    let (is_raw, is_list) = (arguments.has("--raw"), arguments.has("--list"));
+    let count = arguments.words.len();
+    let is_removed = arguments.has("--remove");
+    if is_raw && is_list {
+        Some("--raw and --list exclude each other")
+    } else if is_removed && (is_raw || is_list || arguments.has("--add")) {
+        Some("--remove and --raw, --list or --add exclude each other")
+    } else if is_removed && count > 2 {
+        Some("an argument is too many: --remove has no VALUE")
+    } else if !is_removed && count < 2 {
+        Some("an argument is missing")
+    } else {
+        None
+    }
 }
 
-// Says why a path has no string.
-fn refuse_path(rt: &HostRuntime, name: &str, reason: &str) -> io::Result<u8> {
-    eprintln!(rt; "nix-update: {}: {reason}", shown_name(name))?;
-    Ok(FOUND)
+// Returns what is done.
+fn action_of(arguments: &Arguments) -> Action {
+    if arguments.has("--remove") {
+        Action::Remove
+    } else if arguments.has("--add") {
+        Action::Add
+    } else {
+        Action::Set
+    }
 }
 
-// Writes the text with the new value.
-fn update(
+// Returns what VALUE is.
+fn form_of(arguments: &Arguments) -> Form {
+    if arguments.has("--raw") {
+        Form::Raw
+    } else if arguments.has("--list") {
+        Form::List
+    } else {
+        Form::Text
+    }
+}
+
+// Says why a text is not updated, and where.
+fn refuse_update(
     rt: &HostRuntime,
     name: &str,
     text: &str,
-    path: &str,
-    value: &str,
-    in_place: bool,
+    reason: Reason,
+    offset: Option<usize>,
 ) -> io::Result<u8> {
-    let read = Root::parse(rt.alloc(), text)?;
-    if !read.errors().is_empty() {
-        return refuse_text(rt, name, text, &read);
-    }
-    let range = match find(rt.alloc(), &read.syntax(), path)? {
-        Search::One(range) => range,
-        Search::Nothing => return refuse_path(rt, name, "no attribute has this path"),
-        Search::Several => return refuse_path(rt, name, "several attributes have this path"),
-        Search::NoString => return refuse_path(rt, name, "its value is not a plain string"),
-    };
-    let new = quoted(rt.alloc(), value)?;
-    match replaced(rt.alloc(), text, range.start(), range.end(), new.as_str()) {
-        Ok(made) => {
-            write_text(rt, name, made.as_str(), in_place)?;
-            Ok(0)
+    let shown = shown_name(name);
+    match offset {
+        Some(offset) => {
+            let (line, column) = place_of(text, offset);
+            eprintln!(rt; "nix-update: {shown}:{line}:{column}: {reason}")?;
         }
-        Err(_) => {
-            refuse(rt, &PROGRAM, "out of memory")?;
-            Ok(FAILED)
-        }
+        None => eprintln!(rt; "nix-update: {shown}: {reason}")?,
     }
+    Ok(if reason.is_failure() { FAILED } else { FOUND })
 }
 
-// Updates the file that the command line names.
-fn update_file(rt: &HostRuntime, arguments: &Arguments) -> io::Result<u8> {
-    let mut words = arguments.words.iter();
-    let (Some(path), Some(value)) = (words.next(), words.next()) else {
-        return Ok(FAILED);
-    };
-    let name = words.next().map_or("-", |name| name.as_str());
-    let in_place = arguments.has("-i");
+// Writes the updated text of a file.
+fn update_file(rt: &HostRuntime, name: &str, update: Update<'_>, in_place: bool) -> io::Result<u8> {
     if in_place && name == "-" {
         refuse(rt, &PROGRAM, "-i needs a FILE")?;
         return Ok(FAILED);
     }
-    match read_text(rt, &PROGRAM, name)? {
-        Some(text) => update(
-            rt,
-            name,
-            text.as_str(),
-            path.as_str(),
-            value.as_str(),
-            in_place,
-        ),
-        None => Ok(FAILED),
+    let Some(text) = read_text(rt, &PROGRAM, name)? else {
+        return Ok(FAILED);
+    };
+    match updated(rt.alloc(), text.as_str(), update)? {
+        Outcome::Updated(made) => {
+            write_text(rt, name, made.as_str(), in_place)?;
+            Ok(0)
+        }
+        Outcome::Refused(reason, offset) => refuse_update(rt, name, text.as_str(), reason, offset),
     }
+}
+
+// Does what some arguments ask for.
+fn run_with(rt: &HostRuntime, arguments: &Arguments) -> io::Result<u8> {
+    if let Some(reason) = wrong_with(arguments) {
+        refuse(rt, &PROGRAM, reason)?;
+        return Ok(FAILED);
+    }
+    let action = action_of(arguments);
+    let mut words = arguments.words.iter();
+    let path = words.next().map_or("", |word| word.as_str());
+    let value = match action {
+        Action::Remove => "",
+        Action::Set | Action::Add => words.next().map_or("", |word| word.as_str()),
+    };
+    let name = words.next().map_or("-", |word| word.as_str());
+    let path = format!(in rt.alloc(); ".{path}")?;
+    let update = Update {
+        action,
+        path: path.as_str(),
+        form: form_of(arguments),
+        value,
+    };
+    update_file(rt, name, update, arguments.has("-i"))
 }
 
 // Does what the command line asks for.
 fn run(rt: &HostRuntime) -> io::Result<u8> {
     match read_arguments(rt, &PROGRAM)? {
-        Start::Run(arguments) => update_file(rt, &arguments),
+        Start::Run(arguments) => run_with(rt, &arguments),
         Start::End(status) => Ok(status),
     }
 }

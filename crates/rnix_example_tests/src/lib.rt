@@ -1,8 +1,10 @@
-//! Tests of the examples that the documents show: uses of typed nodes, recursions and loops over them, and an `unwrap` that never fails.
+//! Tests of the examples that the documents show: uses of typed nodes, an edit, recursions and loops, and an `unwrap` that never fails.
 #![tactic(auto)]
 
 #[cfg(test)]
 mod chains;
+#[cfg(test)]
+mod edits;
 #[cfg(test)]
 mod recursion;
 #[cfg(test)]

@@ -11,7 +11,7 @@ returns-then-not-branch-clause-unchanged c =
     unfit_found c.args.text.now (map bounds_of places) (map bounds_of (take i places)) (bounds_of place) c.args.old.now c.args.new.now i c.loop-place.edits
     (sym (take-map bounds_of i places)) (omega (arith, c.loop-place-test.true, length-map places bounds_of))
     (get_or-map bounds_of places i place (bounds_of place) c.loop-place-test.true ∙ ap bounds_of (sym c.place-item.is)) c.loop-place.invariant
-    (subst (IsPlaceTested c.args.text.now (bounds_of place) c.args.old.now c.args.new.now c.loop-place.edits.changes c.add_change.new.edits.changes)
+    (subst (IsPlaceTested (bounds_of place) c.args.old.now c.args.new.now c.loop-place.edits c.add_change.new.edits)
     c.if-not-branch.true c.in_ok-add_change.ensures.tested)
 
 pub loop-place-preserved : goal.loop-place-preserved
@@ -21,8 +21,8 @@ loop-place-preserved c =
     let place = c.place-item.result in
     let more : map bounds_of (take (i + 1) places) ≡ map bounds_of (take i places) ++ bounds_of place ∷ [] =
     search (map_more bounds_of places i place, c.place-item.is, rules) in
-    let tested : IsPlaceTested c.args.text.now (bounds_of place) c.args.old.now c.args.new.now c.loop-place.edits.changes c.add_change.new.edits.changes true =
-    subst (IsPlaceTested c.args.text.now (bounds_of place) c.args.old.now c.args.new.now c.loop-place.edits.changes c.add_change.new.edits.changes)
+    let tested : IsPlaceTested (bounds_of place) c.args.old.now c.args.new.now c.loop-place.edits c.add_change.new.edits true =
+    subst (IsPlaceTested (bounds_of place) c.args.old.now c.args.new.now c.loop-place.edits c.add_change.new.edits)
     c.if-not-branch.false c.in_ok-add_change.ensures.tested in
     drafted_more c.args.text.now (map bounds_of (take i places)) (map bounds_of (take (i + 1) places)) (bounds_of place) c.args.old.now c.args.new.now
     c.loop-place.edits c.add_change.new.edits c.loop-place.invariant more place.ordered tested.0 c.in_ok-add_change.ensures.text tested.1

@@ -1,0 +1,37 @@
+-- New values, and a text with one.
+use Rattle.std.specs.Prelude.{◌≡◌, ℕ, List, [], Some}
+use Rattle.rnix_kinds.specs.declared.kinds.SyntaxKind.{SyntaxKind}
+use Rattle.rnix_kinds.specs.declared.kinds.SyntaxKind.TheVariants as k
+use Rattle.rnix_kinds.specs.Lexical.Tokens.{tokens_of}
+use Rattle.rnix_green.specs.Tree.{Located, item_of, text_at}
+use Rattle.rnix_base.specs.Select.{child_of}
+use Rattle.rnix_grammar.specs.Parsed.{IsParsed}
+use Rattle.rnix.specs.NodeKinds.{is_expr}
+use Rattle.rnix.specs.Reading.{Reading, root_of}
+use Rattle.rnix_edit.specs.Edited.{IsReplaced}
+use Rattle.nix_update.specs.declared.value.Form.{Form}
+use Rattle.nix_update.specs.declared.value.Form.TheVariants as form
+use Rattle.nix_update.specs.Quoted.{IsQuoted}
+
+-- a text is read without errors, and its expression has this kind and this text
+pub record IsExpression (text : List ℕ) (kind : SyntaxKind) (new : List ℕ) : Type 0 where
+  pub read : Reading
+  pub is_read : IsParsed (tokens_of text) read.tree read.faults
+  pub none : read.faults ≡ []
+  pub expr : Located
+  pub expr_is : child_of is_expr 0 (root_of read) ≡ Some expr
+  pub kind_is : kind ≡ (item_of expr).kind
+  pub text_is : new ≡ text_at expr
+
+-- what a text stands for: a string that stands for it, a list, or the expression that it is
+abbrev pub IsValueOf : Form → List ℕ → SyntaxKind → List ℕ → Type 0
+IsValueOf form.Text value kind new = (kind ≡ k.NODE_STRING) × IsQuoted value new
+IsValueOf form.List value kind new = kind ≡ k.NODE_LIST
+IsValueOf form.Raw value kind new = IsExpression value kind new
+
+-- the text in which a node is what another text stands for, and the tree around it is as before
+pub record IsSetTo (form : Form) (value text : List ℕ) (root node : Located) (made : List ℕ) : Type 0 where
+  pub kind : SyntaxKind
+  pub new : List ℕ
+  pub is_value : IsValueOf form value kind new
+  pub replaced : IsReplaced text root node kind new made

@@ -1,0 +1,55 @@
+-- What was tested of a text with one change that was read again.
+use Rattle.std.proofs.Common.{◌≡◌, ℕ, Bool, false, List, [], ◌∷◌, ◌++◌, length, sym, ap, ◌∙◌, subst, arith}
+use Rattle.std.proofs.lemmas.{List.length-append, Bool.false≢true}
+use Rattle.rnix_kinds.specs.Lexical.Tokens.{tokens_of}
+use Rattle.rnix_green.specs.Tree.{Located}
+use Rattle.rnix_grammar.specs.Parsed.{IsParsed}
+use Rattle.rnix.specs.Reading.{Reading, root_of}
+use Rattle.rnix_text.specs.Changes.{Draft, IsInside, IsBetween, IsCause}
+use Rattle.rnix_text.specs.declared.edit_error.EditError.{EditError}
+use Rattle.rnix_text.specs.declared.edit_error.EditError.TheVariants as cause
+use Rattle.rnix_edit.specs.declared.edited.Refusal.{Refusal}
+use Rattle.rnix_edit.specs.declared.edited.Refusal.TheVariants as refusal
+use Rattle.rnix_edit.specs.Edited.{spliced, IsMade, IsHindered}
+use Rattle.rnix_edit.specs.Tried.{is_memory, IsReadAs, IsUnread}
+
+module _ (text : List ℕ) (start end : ℕ) (new : List ℕ) (so : Located → Type 0) where
+  -- a text that is not read without errors is not the one that is wanted
+  pub hindered : (reason : Refusal) → IsUnread reason text start end new → IsHindered reason text start end new so
+  hindered refusal.NotInText unread = unread
+  hindered refusal.HasErrors unread = unread
+  hindered refusal.ReadOtherwise unread = absurd unread
+
+  -- a text that is read so is the one that is wanted
+  pub made_so : (made : List ℕ) (read : Reading) → made ≡ spliced text start end new → IsReadAs (spliced text start end new) read →
+      so (root_of read) → IsMade text start end new so made
+  made_so made read is h holds = record {
+    made_is = is;
+    read = record {
+      tree = read.tree;
+      is_read = subst (λ t. IsParsed (tokens_of t) read.tree []) (sym is)
+          (subst (λ faults. IsParsed (tokens_of (spliced text start end new)) read.tree faults) h.none h.is_read);
+      is_so = holds;
+    };
+  }
+
+  -- and if it is not read so, it is not
+  pub otherwise : (read : Reading) → IsReadAs (spliced text start end new) read → ¬ so (root_of read) →
+      IsHindered refusal.ReadOtherwise text start end new so
+  otherwise read h fails = record {
+    tree = read.tree;
+    is_read = subst (λ faults. IsParsed (tokens_of (spliced text start end new)) read.tree faults) h.none h.is_read;
+    is_not = fails;
+  }
+
+-- a list with an element is not empty
+met_none : {X : Type 0} (front : List X) (x : X) (back : List X) → front ++ x ∷ back ≡ [] → ⊥
+met_none front x back none = absurd (omega (arith, ap length none, length-append front (x ∷ back)))
+
+-- a change of a text without changes is refused, other than for memory, only where its range is not one of characters of the text
+pub not_in_text : (text : List ℕ) (start end : ℕ) (draft : Draft) (error : EditError) → draft ≡ record { text = text; changes = [] } →
+    is_memory error ≡ false → IsCause error draft start end → ¬ (IsInside text start end × IsBetween text start end)
+not_in_text text start end draft cause.OutOfText is other why = λ both. subst (λ (d : Draft). ¬ IsInside d.text start end) is why both.0
+not_in_text text start end draft cause.InsideCharacter is other why = λ both. subst (λ (d : Draft). ¬ IsBetween d.text start end) is why both.1
+not_in_text text start end draft cause.Overlap is other why = λ both. met_none why.front why.change why.back (sym why.is ∙ ap (λ (d : Draft). d.changes) is)
+not_in_text text start end draft cause.Memory is other why = absurd (false≢true (sym other))

@@ -1,0 +1,4 @@
+pub mod StepLemmas
+pub mod CheckLemmas
+pub mod EditLemmas
+pub mod OneChange

@@ -1,0 +1,4 @@
+pub mod Steps
+pub mod SameSteps
+pub mod Edited
+pub mod Tried

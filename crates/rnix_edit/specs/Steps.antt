@@ -1,0 +1,98 @@
+-- A tree as the steps of a walk over it, without white space.
+use Rattle.std.specs.Prelude.{ℕ, ◌-◌, ◌==◌, ◌&&◌, Bool, true, not, List, [], ◌∷◌, flat_map, if◌then◌else◌}
+use Rattle.std.specs.Bool.{beq}
+use Rattle.std.specs.Str.{bytes_eq}
+use Rattle.std.specs.List.{list_any}
+use Rattle.rnix_kinds.specs.declared.kinds.SyntaxKind.{SyntaxKind}
+use Rattle.rnix_kinds.specs.declared.kinds.SyntaxKind.TheVariants as k
+use Rattle.rnix_green.specs.Equality.{same_kind}
+use Rattle.rnix_green.specs.Tree.{Located, item_of, text_at}
+use Rattle.rnix_green.specs.Walk.{Event, preorder_of, elements_of, nodes_in}
+use Rattle.rnix_edit.specs.declared.place.Place.{Place}
+use Rattle.rnix_edit.specs.declared.steps.Step.{Step as Made}
+
+-- a node is entered or left, and then has no text, or a token is passed
+pub record Step : Type 0 where
+  pub enters : Bool
+  pub kind : SyntaxKind
+  pub text : List ℕ
+
+-- a step of the program
+abbrev pub step_of : Made → Step
+step_of step = record { enters = step.enters; kind = step.kind; text = step.text.now }
+
+-- two steps are equal
+abbrev pub same_step : Step → Step → Bool
+same_step a b = beq a.enters b.enters && (same_kind a.kind b.kind && bytes_eq a.text b.text)
+
+-- the step of a node that is entered or left
+abbrev pub node_step : Bool → SyntaxKind → Step
+node_step enters kind = record { enters = enters; kind = kind; text = [] }
+
+-- the step of a token
+abbrev pub token_step : SyntaxKind → List ℕ → Step
+token_step kind text = record { enters = true; kind = kind; text = text }
+
+-- the step of a token of a kind, if that is not white space
+abbrev pub token_steps : SyntaxKind → List ℕ → List Step
+token_steps kind text = if same_kind kind k.TOKEN_WHITESPACE then [] else token_step kind text ∷ []
+
+-- the step of an event of a walk: none for white space, and none where a token is left
+abbrev pub step_at : Event → List Step
+step_at event =
+    if event.1.0 then node_step event.0 (item_of event.1.1).kind ∷ []
+    else (if event.0 then token_steps (item_of event.1.1).kind (text_at event.1.1) else [])
+
+-- the steps of the events of a walk
+abbrev pub steps_of : List Event → List Step
+steps_of events = flat_map step_at events
+
+-- the steps of a walk over an element
+abbrev pub steps_in : Located → List Step
+steps_in root = steps_of (preorder_of root)
+
+-- the place of an element: its kind, where it begins, and its length
+abbrev pub place_of : Located → Place
+place_of e = record { kind = (item_of e).kind; start = (item_of e).start; len = (item_of e).end - (item_of e).start }
+
+-- two places are one
+abbrev pub same_place : Place → Place → Bool
+same_place a b = same_kind a.kind b.kind && (a.start == b.start && a.len == b.len)
+
+-- whether an element is at a place
+abbrev pub is_at : Place → Located → Bool
+is_at place e = same_place (place_of e) place
+
+-- whether a node inside an element is at a place
+abbrev pub has_node : Place → Located → Bool
+has_node place root = list_any (is_at place) (nodes_in (elements_of root))
+
+-- whether an event enters a node at a place
+abbrev pub enters : Place → Event → Bool
+enters place event = event.0 && (event.1.0 && is_at place event.1.1)
+
+-- whether an event leaves a node at a place
+abbrev pub leaves : Place → Event → Bool
+leaves place event = not event.0 && (event.1.0 && is_at place event.1.1)
+
+-- the events before the node at a place is entered
+abbrev pub events_before : Place → List Event → List Event
+events_before place [] = []
+events_before place (event ∷ events) = if enters place event then [] else event ∷ events_before place events
+
+-- the events after the node at a place is left
+abbrev pub events_after : Place → List Event → List Event
+events_after place [] = []
+events_after place (event ∷ events) = if leaves place event then events else events_after place events
+
+-- the steps of a walk over an element before the node at a place
+abbrev pub steps_before : Place → Located → List Step
+steps_before place root = steps_of (events_before place (preorder_of root))
+
+-- the steps of a walk over an element after the node at a place
+abbrev pub steps_after : Place → Located → List Step
+steps_after place root = steps_of (events_after place (preorder_of root))
+
+-- whether a step passes a comment
+abbrev pub is_comment : Step → Bool
+is_comment step = same_kind step.kind k.TOKEN_COMMENT

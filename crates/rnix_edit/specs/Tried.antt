@@ -1,0 +1,44 @@
+-- A text with one change that was read again.
+use Rattle.std.specs.Prelude.{◌≡◌, ℕ, Bool, true, false, List, [], string_bytes}
+use Rattle.rnix_kinds.specs.Lexical.Tokens.{tokens_of}
+use Rattle.rnix_grammar.specs.Parsed.{IsParsed}
+use Rattle.rnix.specs.Reading.{Reading}
+use Rattle.rnix_text.specs.Changes.{IsInside, IsBetween}
+use Rattle.rnix_text.specs.declared.edit_error.EditError.{EditError}
+use Rattle.rnix_text.specs.declared.edit_error.EditError.TheVariants as cause
+use Rattle.rnix_edit.specs.Edited.{Gap, spliced, IsReadWithErrors}
+use Rattle.rnix_edit.specs.declared.gap.Gap.{Gap as Found}
+use Rattle.rnix_edit.specs.declared.edited.Refusal.{Refusal}
+use Rattle.rnix_edit.specs.declared.edited.Refusal.TheVariants as refusal
+use Rattle.rnix_edit.specs.declared.tried.Tried.{Tried}
+use Rattle.rnix_edit.specs.declared.tried.Tried.TheVariants as tried
+
+-- whether an edit was refused for want of memory
+abbrev pub is_memory : EditError → Bool
+is_memory cause.Memory = true
+is_memory _ = false
+
+-- a text is read so, without errors
+pub record IsReadAs (text : List ℕ) (read : Reading) : Type 0 where
+  pub is_read : IsParsed (tokens_of text) read.tree read.faults
+  pub none : read.faults ≡ []
+
+-- why the text with a change is not read without errors
+abbrev pub IsUnread : Refusal → List ℕ → ℕ → ℕ → List ℕ → Type 0
+IsUnread refusal.NotInText text start end new = ¬ (IsInside text start end × IsBetween text start end)
+IsUnread refusal.HasErrors text start end new = IsReadWithErrors (spliced text start end new)
+IsUnread refusal.ReadOtherwise text start end new = ⊥
+
+-- the text is this one, and is read so
+abbrev pub IfRead : List ℕ → Tried → Type 0
+IfRead text (tried.Read made read) = (string_bytes made ≡ text) × IsReadAs text read
+IfRead text (tried.Refused refusal) = Unit {0}
+
+-- P holds of the refusal, if there is one
+abbrev pub IfNotRead : (Refusal → Type 0) → Tried → Type 0
+IfNotRead P (tried.Read made read) = Unit {0}
+IfNotRead P (tried.Refused refusal) = P refusal
+
+-- a gap of the program
+abbrev pub gap_of : Found → Gap
+gap_of gap = record { start = gap.start; end = gap.end; before = string_bytes gap.before; after = gap.after.now }

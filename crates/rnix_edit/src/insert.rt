@@ -1,0 +1,101 @@
+//! Inserting nodes.
+
+ghost use Rattle.std.specs.Prelude.{◌≡◌, ◌++◌, string_bytes, IfOk};
+ghost use Rattle.rnix_edit.specs.Edited.{IfDone, IfRefused, spliced, put_in, place_in, IsInsertedAfter, IsNotInsertedAfter, IsInsertedInside, IsNotInsertedInside};
+ghost use Rattle.rnix_edit.specs.Tried.{IsUnread, IfRead, IfNotRead, gap_of};
+
+use crate::check::{is_after, is_inside};
+use crate::edited::{Edited, Refusal};
+use crate::gap::{Gap, gap_after, gap_inside};
+use crate::place::{Place, place_of};
+use crate::tried::{Tried, read_spliced};
+use rnix::{SyntaxKind, SyntaxNode};
+use std::alloc::{AllocError, Global};
+
+// Returns three texts, joined.
+fn joined(alloc: Global, before: &str, new: &str, after: &str) -> Result<String, AllocError>
+    ensures { IfOk result (λ text. string_bytes text ≡ before.now ++ (new.now ++ after.now)) }
+{
+    let mut text = String::from_str(alloc, before)?;
+    text.push_str(new)?;
+    text.push_str(after)?;
+    Ok(text)
+}
+
+// Returns the text with a new text in a gap, read without errors.
+fn read_filled(alloc: Global, text: &str, gap: &Gap, new: &str) -> Result<Tried, AllocError>
+    ensures read { IfOk result (IfRead (spliced text.now gap.now.start gap.now.end (put_in (gap_of gap.now) new.now))) }
+    ensures refused { IfOk result (IfNotRead (λ refusal. IsUnread refusal text.now gap.now.start gap.now.end (put_in (gap_of gap.now) new.now))) }
+{
+    let put = joined(alloc, gap.before.as_str(), new, gap.after)?;
+    read_spliced(alloc, text, gap.start, gap.end, put.as_str())
+}
+
+// Returns the place of a node of a kind that is put into a gap.
+fn place_in(gap: &Gap, kind: SyntaxKind, new: &str) -> Result<Place, AllocError>
+    ensures { IfOk result (λ place. place ≡ place_in (gap_of gap.now) kind new.now) }
+{
+    match gap.start.checked_add(gap.before.len()) {
+        Some(start) => Ok(Place {
+            kind,
+            start,
+            len: new.len(),
+        }),
+        None => Err(AllocError),
+    }
+}
+
+/// Returns the text with a new node after another one: an entry of a set or a `let`, or an item of a list. If the other one has a line of
+/// its own, the new one gets the next line, with the same indentation, after the comments on that line; otherwise it follows after a space.
+/// The new text must be read as one node of this kind. `root` is the root of the tree of `text`.
+pub fn insert_after(
+    alloc: Global,
+    text: &str,
+    root: &SyntaxNode<'_>,
+    node: &SyntaxNode<'_>,
+    kind: SyntaxKind,
+    new: &str,
+) -> Result<Edited, AllocError>
+    ensures done { IfOk result (IfDone (IsInsertedAfter text.now root.now node.now kind new.now)) }
+    ensures refused { IfOk result (IfRefused (λ refusal. IsNotInsertedAfter refusal text.now root.now node.now kind new.now)) }
+{
+    let gap = gap_after(alloc, text, node)?;
+    let (made, read) = match read_filled(alloc, text, &gap, new)? {
+        Tried::Read(made, read) => (made, read),
+        Tried::Refused(refusal) => return Ok(Edited::Refused(refusal)),
+    };
+    let place = place_in(&gap, kind, new)?;
+    let old = place_of(node);
+    if is_after(alloc, root, old, gap.comments, &read.syntax(), place)? {
+        Ok(Edited::Done(made))
+    } else {
+        Ok(Edited::Refused(Refusal::ReadOtherwise))
+    }
+}
+
+/// Returns the text with a new node before the closing bracket of another one: of a set or a list, which may be empty. It gets a line of
+/// its own if the bracket has one. The new text must be read as one node of this kind. `root` is the root of the tree of `text`.
+pub fn insert_inside(
+    alloc: Global,
+    text: &str,
+    root: &SyntaxNode<'_>,
+    node: &SyntaxNode<'_>,
+    kind: SyntaxKind,
+    new: &str,
+) -> Result<Edited, AllocError>
+    ensures done { IfOk result (IfDone (IsInsertedInside text.now root.now node.now kind new.now)) }
+    ensures refused { IfOk result (IfRefused (λ refusal. IsNotInsertedInside refusal text.now root.now node.now kind new.now)) }
+{
+    let gap = gap_inside(alloc, text, node)?;
+    let (made, read) = match read_filled(alloc, text, &gap, new)? {
+        Tried::Read(made, read) => (made, read),
+        Tried::Refused(refusal) => return Ok(Edited::Refused(refusal)),
+    };
+    let place = place_in(&gap, kind, new)?;
+    let old = place_of(node);
+    if is_inside(alloc, root, old, &read.syntax(), place)? {
+        Ok(Edited::Done(made))
+    } else {
+        Ok(Edited::Refused(Refusal::ReadOtherwise))
+    }
+}

@@ -1,0 +1,18 @@
+//! Edits of a text by its nodes: each is refused unless the new text, read again, has the old tree around the edited place.
+#![tactic(auto)]
+
+mod check;
+mod edited;
+mod gap;
+mod insert;
+mod layout;
+mod place;
+mod removing;
+mod replacing;
+mod steps;
+mod tried;
+
+pub use edited::{Edited, Refusal};
+pub use insert::{insert_after, insert_inside};
+pub use removing::remove;
+pub use replacing::replace;

@@ -1,0 +1,46 @@
+//! Places of nodes.
+
+ghost use Rattle.std.specs.Prelude.{◌≡◌};
+ghost use Rattle.rnix_edit.specs.Steps.{place_of, is_at, has_node};
+
+use rnix::{SyntaxKind, SyntaxNode};
+
+/// The kind of a node, the offset at which it begins, and its length in bytes.
+#[derive(Clone, Copy)]
+pub struct Place {
+    pub kind: SyntaxKind,
+    pub start: usize,
+    pub len: usize,
+}
+
+/// Returns the place of a node.
+pub fn place_of(node: &SyntaxNode<'_>) -> Place
+    ensures { result ≡ place_of node.now }
+{
+    let range = node.text_range();
+    Place {
+        kind: node.kind(),
+        start: range.start(),
+        len: range.len(),
+    }
+}
+
+/// Returns whether a node is at a place.
+pub fn is_at(node: &SyntaxNode<'_>, place: Place) -> bool
+    ensures { result ≡ is_at place node.now }
+{
+    let own = place_of(node);
+    own.kind == place.kind && own.start == place.start && own.len == place.len
+}
+
+/// Returns whether a node inside this one, or itself, is at a place.
+pub fn has_node(root: &SyntaxNode<'_>, place: Place) -> bool
+    ensures { result ≡ has_node place root.now }
+{
+    for node in root.descendants() {
+        if is_at(&node, place) {
+            return true;
+        }
+    }
+    false
+}

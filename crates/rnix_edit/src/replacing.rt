@@ -1,0 +1,78 @@
+//! Replacing nodes.
+
+ghost use Rattle.std.specs.Prelude.{◌≡◌, IfOk};
+ghost use Rattle.std.specs.Bool.{Decides};
+ghost use Rattle.rnix_green.specs.Tree.{item_of};
+ghost use Rattle.rnix_edit.specs.Edited.{IfDone, IfRefused, spliced, place_at, IsTreeReplaced, IsReplaced, IsNotReplaced};
+ghost use Rattle.rnix_edit.specs.Tried.{IsUnread, IfRead, IfNotRead};
+
+use crate::check::is_around;
+use crate::edited::{Edited, Refusal};
+use crate::place::{Place, place_of};
+use crate::tried::{Tried, read_spliced};
+use rnix::{SyntaxKind, SyntaxNode};
+use std::alloc::{AllocError, Global};
+
+// Returns the text with a new text in place of a node, read without errors.
+fn read_replaced(
+    alloc: Global,
+    text: &str,
+    node: &SyntaxNode<'_>,
+    new: &str,
+) -> Result<Tried, AllocError>
+    ensures read { IfOk result (IfRead (spliced text.now (item_of node.now).start (item_of node.now).end new.now)) }
+    ensures refused { IfOk result (IfNotRead (λ refusal. IsUnread refusal text.now (item_of node.now).start (item_of node.now).end new.now)) }
+{
+    let range = node.text_range();
+    read_spliced(alloc, text, range.start(), range.end(), new)
+}
+
+// Returns the place of a new text that must be read as one node of a kind.
+fn place_at(kind: SyntaxKind, start: usize, new: &str) -> Place
+    ensures { result ≡ place_at kind start new.now }
+{
+    Place {
+        kind,
+        start,
+        len: new.len(),
+    }
+}
+
+// Returns whether a tree has a node of a kind in place of another one, and else is as it was.
+fn is_replaced(
+    alloc: Global,
+    root: &SyntaxNode<'_>,
+    node: &SyntaxNode<'_>,
+    kind: SyntaxKind,
+    new: &str,
+    other: &SyntaxNode<'_>,
+) -> Result<bool, AllocError>
+    ensures { IfOk result (λ passes. Decides passes (IsTreeReplaced root.now node.now kind new.now other.now)) }
+{
+    let old = place_of(node);
+    is_around(alloc, root, old, other, place_at(kind, old.start, new))
+}
+
+/// Returns the text with a new text in place of a node. The new text must be read as one node of this kind.
+/// `root` is the root of the tree of `text`.
+pub fn replace(
+    alloc: Global,
+    text: &str,
+    root: &SyntaxNode<'_>,
+    node: &SyntaxNode<'_>,
+    kind: SyntaxKind,
+    new: &str,
+) -> Result<Edited, AllocError>
+    ensures done { IfOk result (IfDone (IsReplaced text.now root.now node.now kind new.now)) }
+    ensures refused { IfOk result (IfRefused (λ refusal. IsNotReplaced refusal text.now root.now node.now kind new.now)) }
+{
+    let (made, read) = match read_replaced(alloc, text, node, new)? {
+        Tried::Read(made, read) => (made, read),
+        Tried::Refused(refusal) => return Ok(Edited::Refused(refusal)),
+    };
+    if is_replaced(alloc, root, node, kind, new, &read.syntax())? {
+        Ok(Edited::Done(made))
+    } else {
+        Ok(Edited::Refused(Refusal::ReadOtherwise))
+    }
+}

@@ -1,0 +1,71 @@
+//! A text with one range replaced, read again.
+
+ghost use Rattle.std.specs.Prelude.{◌≡◌, false, string_bytes, IfOk, IfSome, IfNone};
+ghost use Rattle.rnix_text.specs.Changes.{IsInside, IsBetween};
+ghost use Rattle.rnix_edit.specs.Edited.{spliced};
+ghost use Rattle.rnix_edit.specs.Tried.{is_memory, IsUnread, IfRead, IfNotRead};
+
+use crate::edited::Refusal;
+use rnix::{Parse, Root};
+use rnix_text::{EditError, Edits};
+use std::alloc::{AllocError, Global};
+
+/// The text with a change and its tree, or why there is none.
+#[derive(Drop)]
+pub enum Tried {
+    Read(String, Parse),
+    Refused(Refusal),
+}
+
+// Returns the refusal of memory, if an edit was refused for that.
+fn refuse_memory(error: EditError) -> Result<(), AllocError>
+    ensures { IfOk result (λ _. is_memory error ≡ false) }
+{
+    match error {
+        EditError::Memory => Err(AllocError),
+        EditError::OutOfText | EditError::InsideCharacter | EditError::Overlap => Ok(()),
+    }
+}
+
+// Returns the text with new bytes in place of those from `start` up to `end`, or `None` if the range is not one of characters of the text.
+fn spliced(
+    alloc: Global,
+    text: &str,
+    start: usize,
+    end: usize,
+    new: &str,
+) -> Result<Option<String>, AllocError>
+    ensures made { IfOk result (λ made. IfSome made (λ made. string_bytes made ≡ spliced text.now start end new.now)) }
+    ensures none { IfOk result (λ made. IfNone made (¬ (IsInside text.now start end × IsBetween text.now start end))) }
+{
+    let mut edits = Edits::new(alloc, text);
+    match edits.replace(start..end, new) {
+        Ok(()) => Ok(Some(edits.apply(alloc)?)),
+        Err(error) => {
+            refuse_memory(error)?;
+            Ok(None)
+        }
+    }
+}
+
+/// Returns the text with new bytes in place of those from `start` up to `end`, read without errors.
+pub fn read_spliced(
+    alloc: Global,
+    text: &str,
+    start: usize,
+    end: usize,
+    new: &str,
+) -> Result<Tried, AllocError>
+    ensures read { IfOk result (IfRead (spliced text.now start end new.now)) }
+    ensures refused { IfOk result (IfNotRead (λ refusal. IsUnread refusal text.now start end new.now)) }
+{
+    let Some(made) = spliced(alloc, text, start, end, new)? else {
+        return Ok(Tried::Refused(Refusal::NotInText));
+    };
+    let read = Root::parse(alloc, made.as_str())?;
+    if read.errors().is_empty() {
+        Ok(Tried::Read(made, read))
+    } else {
+        Ok(Tried::Refused(Refusal::HasErrors))
+    }
+}
