@@ -1,7 +1,8 @@
-//! The errors of a text, as people read them.
+//! Printing the diagnostics of a text.
 
-use crate::excerpt::write_excerpt;
 use crate::json::write_json;
+use crate::sarif::write_result;
+use nix_cli::write_excerpt;
 use nix_diagnostics::{Diagnostic, Note, diagnostics};
 use rnix::{Root, TextRange};
 use rnix_text::{ColumnUnit, LineIndex, Position};
@@ -9,14 +10,25 @@ use std::alloc::Global;
 use std::io;
 use std::io::Write;
 
-/// How errors are printed.
+/// The form in which a diagnostic is printed.
+#[derive(Clone, Copy, PartialEq, Eq)]
+pub enum Format {
+    /// Its message, the line with carets, and the notes.
+    Text,
+    /// A line of JSON.
+    Json,
+    /// A result of SARIF.
+    Sarif,
+}
+
+/// How diagnostics are printed.
 #[derive(Clone, Copy)]
 pub struct Style {
     /// The most diagnostics of a file that are printed.
     pub limit: usize,
-    /// As JSON, a line for each diagnostic.
-    pub is_json: bool,
-    /// With colors.
+    /// Their form.
+    pub format: Format,
+    /// Whether the text is colored.
     pub is_colored: bool,
 }
 
@@ -28,7 +40,7 @@ struct Source<'a> {
     index: &'a LineIndex<'a>,
 }
 
-// Prints a word in bold letters of a color.
+// Writes a word, in bold and a color if the style has colors.
 fn write_word<W: Write>(word: &str, color: &str, style: Style, out: &mut W) -> io::Result<()> {
     if style.is_colored {
         write!(out, "\x1b[1;{color}m{word}\x1b[0m")
@@ -37,14 +49,14 @@ fn write_word<W: Write>(word: &str, color: &str, style: Style, out: &mut W) -> i
     }
 }
 
-// The name of the text and a place in it, both numbers from 1.
+// Writes the name of the text and the line and column of a range, both from 1.
 fn write_place<W: Write>(source: Source<'_>, range: TextRange, out: &mut W) -> io::Result<()> {
     let Position { line, column } = source.index.position(range.start()).unwrap_or_default();
     let (line, column) = (line.saturating_add(1), column.saturating_add(1));
     write!(out, "{}:{line}:{column}: ", source.name)
 }
 
-// A note with its place, the line and the carets, or help without a place.
+// Writes a note: its place, the line and carets, or without a place `help` and its message.
 fn write_note<W: Write>(
     source: Source<'_>,
     note: Note,
@@ -59,35 +71,40 @@ fn write_note<W: Write>(
     write_place(source, range, out)?;
     write_word("note:", "36", style, out)?;
     writeln!(out, " {}", note.message)?;
-    write_excerpt(source.text, range, out)
+    write_excerpt(source.text, range.start()..range.end(), out)
 }
 
-// The message with its place, the line and the carets, and the notes.
+// Writes a diagnostic in the form that the style asks for: of text its place, message, line with carets, and notes.
 fn write_diagnostic<W: Write>(
     source: Source<'_>,
     diagnostic: &Diagnostic,
     style: Style,
     out: &mut W,
 ) -> io::Result<()> {
-    if style.is_json {
-        return write_json(source.name, source.index, diagnostic, out);
+    match style.format {
+        Format::Text => {}
+        Format::Json => return write_json(source.name, source.index, diagnostic, out),
+        Format::Sarif => return write_result(source.name, source.index, diagnostic, out),
     }
     write_place(source, diagnostic.range, out)?;
     write_word("error:", "31", style, out)?;
     writeln!(out, " {}", diagnostic.message)?;
-    write_excerpt(source.text, diagnostic.range, out)?;
+    let (start, end) = (diagnostic.range.start(), diagnostic.range.end());
+    write_excerpt(source.text, start..end, out)?;
     for note in &diagnostic.notes {
         write_note(source, *note, style, out)?;
     }
     Ok(())
 }
 
-/// Writes the errors of a text, each with its place and its line, and returns how many there are. Columns count characters, from 1.
+/// Writes the diagnostics of a text, up to the limit, after `earlier` diagnostics of other texts, and returns their number. Columns count
+/// characters, from 1.
 pub fn check_text<W: Write>(
     alloc: Global,
     name: &str,
     text: &str,
     style: Style,
+    earlier: usize,
     out: &mut W,
 ) -> io::Result<usize> {
     let found = diagnostics(alloc, &Root::parse(alloc, text)?)?;
@@ -100,7 +117,14 @@ pub fn check_text<W: Write>(
         text,
         index: &index,
     };
-    for diagnostic in found.iter().take(style.limit) {
+    for (number, diagnostic) in found.iter().take(style.limit).enumerate() {
+        if style.format == Format::Sarif {
+            out.write_all(if earlier > 0 || number > 0 {
+                b",\n"
+            } else {
+                b"\n"
+            })?;
+        }
         write_diagnostic(source, diagnostic, style, out)?;
     }
     match found.len().saturating_sub(style.limit) {

@@ -1,16 +1,20 @@
-//! What all programs of this repository do alike: options, names of files and folders, refusals, and how they end.
+//! What all programs of this repository share: options, files and folders, refusals, and exit statuses.
 #![tactic(auto)]
 
 mod arguments;
 mod colors;
 mod ending;
+mod excerpt;
 mod files;
 mod json;
+mod progress;
 mod replacing;
 
 pub use arguments::{Arguments, Program, Start, VERSION, parse_arguments, read_arguments};
 pub use colors::is_colored;
 pub use ending::{FAILED, FOUND, end, refuse};
+pub use excerpt::write_excerpt;
 pub use files::{Files, find_files, place_of, read_text, shown_name, write_text};
 pub use json::write_json_string;
+pub use progress::Progress;
 pub use replacing::replace_text;

@@ -1,4 +1,5 @@
 pub mod ElementNumbers
+pub mod FewElements
 pub mod FilledLemmas
 pub mod KindNames
 pub mod NumberedSpots

@@ -21,6 +21,14 @@ none_such = negsuc 2
 abbrev pub too_long : ℤ
 too_long = negsuc 3
 
+-- -5: the text has errors
+abbrev pub has_errors : ℤ
+has_errors = negsuc 4
+
+-- -6: the new text would differ in more than white space
+abbrev pub different : ℤ
+different = negsuc 5
+
 -- the first of some items, as many as there is room for, and then what the rest of the room held before
 abbrev pub filled : {A : Type 0} → List A → List A → List A
 filled items room = take (length room) items ++ drop (length items) room

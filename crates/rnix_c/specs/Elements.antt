@@ -1,5 +1,5 @@
 -- The elements of a tree as they are written for C.
-use Rattle.std.specs.Prelude.{ℕ, ◌-◌, ◌^◌, cond, List, map, Option, Some, None}
+use Rattle.std.specs.Prelude.{◌≤◌, ℕ, ◌+◌, ◌*◌, ◌-◌, ◌^◌, cond, List, length, map, Option, Some, None}
 use Rattle.rnix_kinds.specs.SyntaxKind.{place_of}
 use Rattle.rnix_green.specs.Tree.{Tree, Item, items_of}
 use Rattle.rnix_c.specs.declared.elements.RnixElement.{RnixElement}
@@ -23,3 +23,7 @@ element_of i = record {
 -- what is written of a tree: of each element, in preorder
 abbrev pub elements_of : Tree → List RnixElement
 elements_of tree = map element_of (items_of tree)
+
+-- a tree has at most three elements for each byte of its text, and three more
+abbrev pub AreFew : List ℕ → Tree → Type 0
+AreFew text tree = length (elements_of tree) ≤ 3 * length text + 3

@@ -3,6 +3,7 @@ pub mod Answers
 pub mod Diagnostics
 pub mod Elements
 pub mod Errors
+pub mod Formatting
 pub mod Kinds
 pub mod Messages
 pub mod Names

@@ -5,7 +5,9 @@ ghost use Rattle.rnix_kinds.specs.Lexical.Tokens.{tokens_of};
 ghost use Rattle.rnix_grammar.specs.Fault.{fault_of};
 ghost use Rattle.rnix_grammar.specs.Parsed.{IsParsed};
 ghost use Rattle.rnix_c.specs.Answers.{filled, IsRefused, IsWritten};
+ghost use Rattle.rnix_c.specs.Elements.{AreFew};
 
+use rnix::laws::size;
 use rnix::{GreenNode, Parse, ParseError, Root, tokenize};
 use rnix_parser::parse;
 use std::alloc::Global;
@@ -21,6 +23,12 @@ pub const NONE_SUCH: i64 = -3;
 
 /// The text is too long: 2^32 bytes or more.
 pub const TOO_LONG: i64 = -4;
+
+/// The text has errors.
+pub const HAS_ERRORS: i64 = -5;
+
+/// The new text would differ in more than white space.
+pub const DIFFERENT: i64 = -6;
 
 /// An absent offset or number.
 pub const NO_NUMBER: u64 = u64::MAX;
@@ -44,12 +52,15 @@ pub fn checked<'t>(text: &'t [u8]) -> Result<&'t str, i64>
 }
 
 /// Parses a text. Returns its tree and its errors, or why it is refused.
+#[tactic(auto, using(crate::proofs::FewElements::few_elements))]
 pub fn parsed(alloc: Global, text: &[u8]) -> Result<(GreenNode, Vec<ParseError>), i64>
     ensures utf8 { IfOk result (λ _. IsUtf8 text.now) }
     ensures read { IfOk result (λ read. IsParsed (tokens_of text.now) read.0 (map fault_of read.1.items)) }
+    ensures few { IfOk result (λ read. AreFew text.now read.0) }
     ensures refused { IfErr result (λ answer. IsRefused text.now answer) }
 {
     let text = checked(text)?;
+    size(text);
     match parse(alloc, tokenize(alloc, text)) {
         Ok(read) => Ok(read),
         Err(_) => Err(NO_MEMORY),

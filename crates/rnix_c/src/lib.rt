@@ -8,6 +8,7 @@ mod answers;
 mod diagnostics;
 mod elements;
 mod errors;
+mod formatting;
 mod kinds;
 mod messages;
 mod names;
@@ -19,7 +20,7 @@ mod tree;
 /// The number of this interface. It changes where a function, a struct or the number of a kind does.
 #[unsafe(no_mangle)]
 pub extern "C" fn rnix_version() -> u32
-    ensures { result ≡ 2 }
+    ensures { result ≡ 3 }
 {
-    2
+    3
 }

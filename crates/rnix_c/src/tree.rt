@@ -3,7 +3,7 @@
 ghost use Rattle.std.specs.Prelude.{◌≡◌, length, map};
 ghost use Rattle.rnix_grammar.specs.Fault.{fault_of};
 ghost use Rattle.rnix_c.specs.Answers.{filled, IsWritten, Answers};
-ghost use Rattle.rnix_c.specs.Elements.{elements_of};
+ghost use Rattle.rnix_c.specs.Elements.{elements_of, AreFew};
 ghost use Rattle.rnix_c.specs.Errors.{errors_of};
 
 use crate::answers::parsed;
@@ -29,7 +29,8 @@ fn write_parse(
     elements::written(green, elements)
 }
 
-/// The elements and the errors of a text: how many elements there are. The number of errors is written too.
+/// The elements and the errors of a text: how many elements there are, at most three for each byte and three more. The number of errors is
+/// written too.
 #[unsafe(no_mangle)]
 pub extern "C" fn rnix_parse(
     alloc: Global,
@@ -39,7 +40,7 @@ pub extern "C" fn rnix_parse(
     error_count: &mut u64,
 ) -> i64
     ensures { Answers text.now result ((elements.new ≡ elements.old) × (errors.new ≡ errors.old) × (error_count.new ≡ error_count.old))
-        (λ tree faults. IsWritten (elements_of tree) result elements.old elements.new
+        (λ tree faults. IsWritten (elements_of tree) result elements.old elements.new × AreFew text.now tree
         × (errors.new ≡ filled (errors_of faults) errors.old) × (error_count.new ≡ length faults)) }
 {
     match parsed(alloc, text) {
@@ -48,10 +49,10 @@ pub extern "C" fn rnix_parse(
     }
 }
 
-/// The elements of a text's tree, in preorder: how many there are.
+/// The elements of a text's tree, in preorder: how many there are, at most three for each byte and three more.
 #[unsafe(no_mangle)]
 pub extern "C" fn rnix_elements(alloc: Global, text: &[u8], room: &mut [RnixElement]) -> i64
-    ensures { Answers text.now result (room.new ≡ room.old) (λ tree _. IsWritten (elements_of tree) result room.old room.new) }
+    ensures { Answers text.now result (room.new ≡ room.old) (λ tree _. IsWritten (elements_of tree) result room.old room.new × AreFew text.now tree) }
 {
     match parsed(alloc, text) {
         Ok((green, _errors)) => elements::written(&green, room),

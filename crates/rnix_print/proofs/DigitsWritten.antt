@@ -26,5 +26,5 @@ pub number_written : (n start : ℕ) (digits all : List ℕ) → n < 10 → star
     → decimal n ++ drop (start + 1) digits ≡ all → take (20 - start) (drop start (set digits start (48 + n))) ≡ all
 number_written n start digits all one within long so_far =
     take_all (20 - start) (drop start (set digits start (48 + n)))
-        (omega (arith, length-drop start (set digits start (48 + n)), length-set digits start (48 + n)))
+    (omega (arith, length-drop start (set digits start (48 + n)), length-set digits start (48 + n)))
     ∙ drop-set digits start (48 + n) (omega arith) ∙ ap (λ x. x ++ drop (start + 1) digits) (sym (decimal_digit n one)) ∙ so_far

@@ -1,0 +1,18 @@
+-- What calls write of a text with other white space.
+use Rattle.std.specs.Prelude.{◌≡◌, ◌⊎◌, ℕ, ℤ, List, IsUtf8}
+use Rattle.nix_formatting.specs.Relayout.{IsRelayout}
+use Rattle.nix_formatting.specs.Formatted.{IsFaulty}
+use Rattle.rnix_c.specs.Answers.{no_memory, has_errors, different, IsRefused, IsWritten}
+
+-- why no new text is written: memory is refused, the text has errors, or the new text would differ in more than white space
+abbrev pub IsUnformatted : List ℕ → ℤ → Type 0
+IsUnformatted text answer = (answer ≡ no_memory) ⊎ (((answer ≡ has_errors) × IsFaulty text) ⊎ (answer ≡ different))
+
+-- a text that differs from this one in white space alone is written, or nothing
+abbrev pub WritesFormat : List ℕ → ℤ → List ℕ → List ℕ → Type 0
+WritesFormat text answer old new =
+    (IsUnformatted text answer × (new ≡ old)) ⊎ ((made : List ℕ) × IsRelayout text made × IsWritten made answer old new)
+
+-- how a call for the formatted text ends
+abbrev pub AnswersFormat : List ℕ → ℤ → List ℕ → List ℕ → Type 0
+AnswersFormat text answer old new = (IsRefused text answer × (new ≡ old)) ⊎ (IsUtf8 text × WritesFormat text answer old new)

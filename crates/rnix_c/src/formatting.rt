@@ -1,0 +1,30 @@
+//! Texts with other white space.
+
+ghost use Rattle.rnix_c.specs.Formatting.{AnswersFormat, WritesFormat};
+
+use crate::answers::{self, DIFFERENT, HAS_ERRORS, NO_MEMORY, checked};
+use nix_formatting::{Formatting, formatted};
+use std::alloc::Global;
+
+// Writes the new text, and returns how many bytes it has, or why there is none.
+fn write_format(alloc: Global, text: &str, room: &mut [u8]) -> i64
+    ensures { WritesFormat text.now result room.old room.new }
+{
+    match formatted(alloc, text) {
+        Ok(Formatting::Formatted(made)) => answers::written(&made, room),
+        Ok(Formatting::Faulty) => HAS_ERRORS,
+        Ok(Formatting::Refused) => DIFFERENT,
+        Err(_) => NO_MEMORY,
+    }
+}
+
+/// The text in the style of Nixpkgs: how many bytes it has.
+#[unsafe(no_mangle)]
+pub extern "C" fn rnix_format(alloc: Global, text: &[u8], room: &mut [u8]) -> i64
+    ensures { AnswersFormat text.now result room.old room.new }
+{
+    match checked(text) {
+        Ok(text) => write_format(alloc, text, room),
+        Err(answer) => answer,
+    }
+}
