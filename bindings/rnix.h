@@ -29,26 +29,30 @@ extern "C" {
 #endif
 
 /* The version of the interface that this header describes. */
-#define RNIX_VERSION 2u
+#define RNIX_VERSION 3u
 
 /* Returns the version of the library's interface, which must be RNIX_VERSION. It changes with a function, a struct or a number of this header. */
 uint32_t rnix_version(void);
 
 /* Why a call was refused. */
 enum rnix_refusal {
-    RNIX_NOT_UTF8 = -1,  /* the text is not UTF-8 */
-    RNIX_NO_MEMORY = -2, /* malloc or realloc returned NULL, or the tree has 2^32 elements or more */
-    RNIX_NONE_SUCH = -3, /* there is no such kind, name, error, string or unit of columns; no other refusal applies then */
-    RNIX_TOO_LONG = -4   /* the text has 2^32 bytes or more; rnix_tokens has no such limit */
+    RNIX_NOT_UTF8 = -1,   /* the text is not UTF-8 */
+    RNIX_NO_MEMORY = -2,  /* malloc or realloc returned NULL, or the tree has 2^32 elements or more */
+    RNIX_NONE_SUCH = -3,  /* there is no such kind, name, error, string or unit of columns; no other refusal applies then */
+    RNIX_TOO_LONG = -4,   /* the text has 2^32 bytes or more; rnix_tokens has no such limit */
+    RNIX_HAS_ERRORS = -5, /* the text has errors (rnix_format) */
+    RNIX_DIFFERENT = -6   /* the new text would differ in more than white space (rnix_format); this is a bug of the formatter */
 };
 
 /* A text for a refusal: a string literal. */
-#define RNIX_REFUSAL_TEXT(answer)                                    \
-    ((answer) == RNIX_NOT_UTF8    ? "the text is not UTF-8"          \
-     : (answer) == RNIX_NO_MEMORY ? "out of memory"                  \
-     : (answer) == RNIX_NONE_SUCH ? "there is no such item"          \
-     : (answer) == RNIX_TOO_LONG  ? "the text has 2^32 bytes or more" \
-                                  : "not refused")
+#define RNIX_REFUSAL_TEXT(answer)                                                            \
+    ((answer) == RNIX_NOT_UTF8     ? "the text is not UTF-8"                                 \
+     : (answer) == RNIX_NO_MEMORY  ? "out of memory"                                         \
+     : (answer) == RNIX_NONE_SUCH  ? "there is no such item"                                 \
+     : (answer) == RNIX_TOO_LONG   ? "the text has 2^32 bytes or more"                       \
+     : (answer) == RNIX_HAS_ERRORS ? "the text has errors"                                   \
+     : (answer) == RNIX_DIFFERENT  ? "the new text would differ in more than white space"    \
+                                   : "not refused")
 
 /* An absent offset or number. */
 #define RNIX_NO_NUMBER UINT64_MAX
@@ -289,6 +293,9 @@ struct rnix_reference {
  */
 int64_t rnix_tokens(const uint8_t *text, size_t len, struct rnix_token *tokens, size_t room);
 
+/* The most elements that the tree of a text of so many bytes has. With room for so many, one call of rnix_elements or rnix_parse writes them all. */
+#define RNIX_ELEMENTS_MOST(len) (3 * (size_t)(len) + 3)
+
 /*
  * Writes the elements of a text's tree, in preorder. Every text has a tree, even one with errors; its tokens are those of the text.
  * Returns the number of elements, at least 1. Refusals: RNIX_NOT_UTF8, RNIX_TOO_LONG, RNIX_NO_MEMORY.
@@ -373,6 +380,13 @@ int64_t rnix_positions(const uint8_t *text, size_t len, uint32_t unit, const uin
  */
 int64_t rnix_names(const uint8_t *text, size_t len, struct rnix_binding *bindings, size_t binding_room, struct rnix_reference *references,
                    size_t reference_room, uint64_t *reference_count);
+
+/*
+ * Writes a text without errors in the style of Nixpkgs, in UTF-8, without a terminating zero: the same tokens, comments included, with other white
+ * space between them. The new text is read as the same tree but for white space.
+ * Returns the number of bytes. Refusals: RNIX_NOT_UTF8, RNIX_TOO_LONG, RNIX_NO_MEMORY; RNIX_HAS_ERRORS, RNIX_DIFFERENT.
+ */
+int64_t rnix_format(const uint8_t *text, size_t len, uint8_t *buffer, size_t room);
 
 #ifdef __cplusplus
 }

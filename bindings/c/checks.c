@@ -196,6 +196,14 @@ static void check_names(void) {
     CHECK(references[3].binding == 1 && references[3].kind == RNIX_NODE_IDENT);
 }
 
+static void check_format(void) {
+    const uint8_t old[] = "{a=1;}", new[] = "{ a = 1; }\n";
+    uint8_t made[16] = {0};
+    CHECK(rnix_format(old, 6, made, sizeof made) == 11 && memcmp(made, new, 12) == 0);
+    CHECK(rnix_format(old, 6, NULL, 0) == 11);
+    CHECK(rnix_format(old, 5, made, sizeof made) == RNIX_HAS_ERRORS && memcmp(made, new, 12) == 0);
+}
+
 static void check_refusals(void) {
     const uint8_t bytes[] = {'a', ' ', 0xff};
     uint64_t errors = 7;
@@ -213,7 +221,8 @@ static void check_refusals(void) {
     CHECK(rnix_positions(bytes, sizeof bytes, 0, NULL, 0, NULL, 0) == RNIX_NOT_UTF8);
     CHECK(rnix_positions(bytes, sizeof bytes, 9, NULL, 0, NULL, 0) == RNIX_NOT_UTF8);
     CHECK(rnix_kind_of_name(bytes, sizeof bytes) == RNIX_NONE_SUCH);
-    for (int64_t answer = RNIX_TOO_LONG; answer < 1; answer++) {
+    CHECK(rnix_format(bytes, sizeof bytes, NULL, 0) == RNIX_NOT_UTF8);
+    for (int64_t answer = RNIX_DIFFERENT; answer < 1; answer++) {
         CHECK(strlen(RNIX_REFUSAL_TEXT(answer)) > 5);
     }
 }
@@ -333,6 +342,7 @@ static void check_empty(void) {
     CHECK(rnix_diagnostics(NULL, 0, NULL, 0, NULL, 0, &count) == 1 && count > 0);
     CHECK(rnix_names(NULL, 0, NULL, 0, NULL, 0, &count) == 0 && count == 0);
     CHECK(rnix_positions(NULL, 0, RNIX_BYTES, NULL, 0, NULL, 0) == 0);
+    CHECK(rnix_format(NULL, 0, NULL, 0) == RNIX_HAS_ERRORS);
 }
 
 static void check_deep(void) {
@@ -381,6 +391,7 @@ int main(int argc, char **argv) {
     check_positions();
     check_diagnostics();
     check_names();
+    check_format();
     check_refusals();
     if (argc < 2) {
         check_too_long();

@@ -56,7 +56,7 @@ static void print_errors(const uint8_t *text, size_t len, const struct rnix_erro
 }
 
 static void print_tree(const uint8_t *text, size_t len) {
-    size_t room = 3 * len + 16;
+    size_t room = RNIX_ELEMENTS_MOST(len);
     struct rnix_element *elements = room_of(room, sizeof *elements);
     struct rnix_error *errors = room_of(room, sizeof *errors);
     uint64_t error_count = 0;

@@ -47,7 +47,7 @@ static double most_memory(void) {
 
 /* Parses a text into an array that the caller frees. */
 static struct rnix_element *parse(const uint8_t *text, size_t len, size_t *count) {
-    size_t room = 3 * len + 16;
+    size_t room = RNIX_ELEMENTS_MOST(len);
     struct rnix_element *elements = grabbed(room * sizeof *elements);
     int64_t answer = rnix_elements(text, len, elements, room);
     if (answer < 0 || (size_t)answer > room) {

@@ -15,6 +15,7 @@ Ranges are half-open, in bytes of the UTF-8 text. Trees are immutable, so thread
 from rnix import ast
 from rnix.edits import EditError, Edits
 from rnix.errors import ParseError
+from rnix.formatting import FormatError, formatted
 from rnix.library import KINDS, Refused
 from rnix.messages import Diagnostic, diagnostics
 from rnix.scopes import Binding, Reference, Resolution, resolve
@@ -29,6 +30,7 @@ __all__ = [
     "EditError",
     "Edits",
     "Element",
+    "FormatError",
     "Lexeme",
     "Node",
     "ParseError",
@@ -39,6 +41,7 @@ __all__ = [
     "Tree",
     "ast",
     "diagnostics",
+    "formatted",
     "parse",
     "parts",
     "path_parts",

@@ -8,8 +8,8 @@ import os
 import pathlib
 from typing import Any, Callable
 
-VERSION = 2
-NOT_UTF8, NO_MEMORY, NONE_SUCH, TOO_LONG = -1, -2, -3, -4
+VERSION = 3
+NOT_UTF8, NO_MEMORY, NONE_SUCH, TOO_LONG, HAS_ERRORS, DIFFERENT = -1, -2, -3, -4, -5, -6
 NO_NUMBER = 2**64 - 1
 NO_KIND = 2**32 - 1
 NOT_WANTED = 255
@@ -143,6 +143,7 @@ _ARGUMENTS = {
     "rnix_kind_name": [ctypes.c_uint32, *_array(ctypes.c_char)],
     "rnix_kind_of_name": _text(),
     "rnix_diagnostics": _text(*_array(Diagnostic), *_array(ctypes.c_char), ctypes.POINTER(ctypes.c_uint64)),
+    "rnix_format": _text(*_array(ctypes.c_char)),
     "rnix_names": _text(*_array(Binding), *_array(Reference), ctypes.POINTER(ctypes.c_uint64)),
     "rnix_positions": _text(ctypes.c_uint32, ctypes.POINTER(ctypes.c_uint64), ctypes.c_size_t, *_array(Position)),
     "rnix_strings": _text(*_array(StringPart), *_array(ctypes.c_char), ctypes.POINTER(ctypes.c_uint64)),

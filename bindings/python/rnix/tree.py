@@ -4,7 +4,10 @@ from __future__ import annotations
 
 import bisect
 import ctypes
-from typing import TYPE_CHECKING, Any, Generic, Iterator, TypeVar, overload
+import functools
+import sys
+from itertools import compress, islice
+from typing import TYPE_CHECKING, Any, Generic, Iterable, Iterator, TypeVar, overload
 
 from rnix import library
 from rnix.errors import ParseError, errors_of
@@ -17,10 +20,15 @@ if TYPE_CHECKING:
 T = TypeVar("T")
 E = TypeVar("E", bound="Element")
 
-# The layout of struct rnix_element, counted in 64-bit and in 32-bit numbers: start, end, parent and inside have 64 bits, kind and is_token 32.
+# The layout of struct rnix_element, in bytes and counted in 64-bit numbers: start, end, parent and inside have 64 bits, kind and is_token 32.
 _LONGS = 5
-_WORDS = 2 * _LONGS
-_KIND = _WORDS - 2
+_SIZE = 8 * _LONGS
+
+# The byte of an element that has its kind, since kinds are below 256: the lowest byte of the number.
+_KIND = library.Element.kind.offset + (0 if sys.byteorder == "little" else 3)
+
+# How many values a byte has.
+_ALL_BYTES = 256
 
 # Initial capacity for the errors.
 _ERRORS = 16
@@ -45,7 +53,7 @@ class Tree:
         whole = memoryview(room).cast("B")[: ctypes.sizeof(library.Element) * length]
         longs = whole.cast("Q")
         self._starts, self._ends, self._parents, self._insides = (longs[column::_LONGS] for column in range(_LONGS - 1))
-        self._kinds = whole.cast("I")[_KIND::_WORDS]
+        self._kinds = whole[_KIND::_SIZE].tobytes()
         self.source = source
         self.errors: list[ParseError] = errors_of(source, faults, count.value) if count.value else []
         self._line_starts: list[int] | None = None
@@ -64,6 +72,17 @@ class Tree:
 
     def _at(self, number: int) -> Element:
         return _CLASSES[self._kinds[number]](self, number)
+
+    def _elements(self, numbers: Iterable[int]) -> Iterator[Element]:
+        """Yields the elements that have these numbers. It does what Element.__init__ does, without a call for each."""
+        kinds, starts, ends, new = self._kinds, self._starts, self._ends, object.__new__
+        for number in numbers:
+            element = new(_CLASSES[kinds[number]])
+            element.tree = self
+            element.start = starts[number]
+            element.end = ends[number]
+            element._number = number
+            yield element
 
     def position(self, offset: int) -> tuple[int, int]:
         """Returns the line and column of a byte offset, both counted from 1. Columns count characters."""
@@ -117,26 +136,23 @@ class Tree:
 class Element:
     """A node or token of a tree. Two are equal if they are the same element of the same tree; `str` returns the text."""
 
-    __slots__ = ("_number", "tree")
+    __slots__ = {
+        "tree": "The tree.",
+        "start": "The start offset, in bytes of the UTF-8 text.",
+        "end": "The end offset, exclusive, in bytes of the UTF-8 text.",
+        "_number": "The index among the elements of the tree in preorder.",
+    }
 
     def __init__(self, tree: Tree, number: int) -> None:
         self.tree = tree
+        self.start = tree._starts[number]
+        self.end = tree._ends[number]
         self._number = number
 
     @property
     def kind(self) -> str:
         """The name of its kind, one of KINDS, such as NODE_LET_IN."""
         return KINDS[self.tree._kinds[self._number]]
-
-    @property
-    def start(self) -> int:
-        """The start offset, in bytes of the UTF-8 text."""
-        return self.tree._starts[self._number]
-
-    @property
-    def end(self) -> int:
-        """The end offset, exclusive, in bytes of the UTF-8 text."""
-        return self.tree._ends[self._number]
 
     @property
     def range(self) -> tuple[int, int]:
@@ -156,9 +172,10 @@ class Element:
     @property
     def parent(self) -> Node | None:
         """The parent, or None for the root."""
-        number = self.tree._parents[self._number]
-        parent = None if number == NO_NUMBER else self.tree._at(number)
-        return parent if isinstance(parent, Node) else None
+        tree = self.tree
+        number = tree._parents[self._number]
+        parent: Any = None if number == NO_NUMBER else _CLASSES[tree._kinds[number]](tree, number)
+        return parent  # type: ignore[no-any-return]
 
     @property
     def ancestors(self) -> Iterator[Node]:
@@ -222,6 +239,11 @@ class Group(Generic[T]):
     def __init__(self, *classes: type[T]) -> None:
         self.classes: tuple[type[Any], ...] = classes
 
+    @property
+    def kinds(self) -> bytes:
+        """The kinds of these classes."""
+        return _kinds_of(self.classes)
+
 
 class Node(Element):
     """A node. Iterating over it yields its child nodes and tokens, in order."""
@@ -231,27 +253,36 @@ class Node(Element):
     KIND = ""
 
     def __iter__(self) -> Iterator[Element]:
-        number, end = self._number + 1, self._subtree_end()
+        return self._children_in(_ALL)
+
+    def _children_in(self, wanted: bytes) -> Iterator[Any]:
+        """Yields the children whose kinds are in a set. It repeats Tree._elements, since a generator of their numbers takes longer."""
         tree = self.tree
+        kinds, starts, ends, insides, new = tree._kinds, tree._starts, tree._ends, tree._insides, object.__new__
+        number, end = self._number + 1, self._subtree_end()
         while number < end:
-            yield _CLASSES[tree._kinds[number]](tree, number)
-            number += 1 + tree._insides[number]
+            if wanted[kind := kinds[number]]:
+                element = new(_CLASSES[kind])
+                element.tree = tree
+                element.start = starts[number]
+                element.end = ends[number]
+                element._number = number
+                yield element
+            number += 1 + insides[number]
 
     @property
     def children(self) -> list[Node]:
         """The child nodes, in order."""
-        return [child for child in self if isinstance(child, Node)]
+        return list(self._children_in(_NODES))
 
     @property
     def tokens(self) -> list[Token]:
         """The child tokens, in order."""
-        return [child for child in self if isinstance(child, Token)]
+        return list(self._children_in(_TOKENS))
 
     def walk(self) -> Iterator[Element]:
         """Yields the nodes and tokens of the subtree in preorder, from the node itself."""
-        tree, first = self.tree, self._number
-        for number, kind in enumerate(tree._kinds[first : self._subtree_end()], first):
-            yield _CLASSES[kind](tree, number)
+        return self.tree._elements(range(self._number, self._subtree_end()))
 
     @overload
     def find(self, wanted: str) -> Iterator[Element]: ...
@@ -259,26 +290,24 @@ class Node(Element):
     def find(self, wanted: type[E] | tuple[type[E], ...]) -> Iterator[E]: ...
     def find(self, wanted: str | type[E] | tuple[type[E], ...]) -> Iterator[Element]:
         """Yields the nodes and tokens of the subtree, itself included, that have a kind, a class or one of several classes, in preorder."""
-        is_wanted = [name == wanted if isinstance(wanted, str) else issubclass(one, wanted) for name, one in zip(KINDS, _CLASSES)]
-        classes = [one if is_one else None for one, is_one in zip(_CLASSES, is_wanted)]
-        tree, first = self.tree, self._number
-        for number, kind in enumerate(tree._kinds[first : self._subtree_end()], first):
-            if (one := classes[kind]) is not None:
-                yield one(tree, number)
+        chosen: Any = wanted
+        numbers = range(self._number, self._subtree_end())
+        kinds = self.tree._kinds[numbers.start : numbers.stop]
+        return self.tree._elements(compress(numbers, kinds.translate(_kinds_of(chosen))))
 
     def _nth(self, group: Group[T], number: int) -> T | None:
         """The child at an index among those of these classes."""
-        found = self._children(group)
-        return found[number] if number < len(found) else None
+        found: T | None = next(islice(self._children_in(group.kinds), number, None), None)
+        return found
 
     def _children(self, group: Group[T]) -> list[T]:
         """The children of these classes."""
-        below: Iterator[Any] = iter(self)
-        return [child for child in below if isinstance(child, group.classes)]
+        return list(self._children_in(group.kinds))
 
     def _first_token(self, kind: str) -> Token | None:
         """The first child token of a kind."""
-        return next((token for token in self.tokens if token.kind == kind), None)
+        token: Token | None = next(self._children_in(_kinds_of(kind)), None)
+        return token
 
     def _operator(self, signs: dict[str, str]) -> str | None:
         """The operator that the first operator token stands for."""
@@ -301,10 +330,21 @@ class Node(Element):
 _CLASSES: list[type[Element]] = [Node if name.startswith("NODE_") else Token for name in KINDS]
 
 
+@functools.lru_cache(maxsize=_ALL_BYTES)
+def _kinds_of(wanted: str | type[Element] | tuple[type[Element], ...]) -> bytes:
+    """The set of one kind, or of the kinds of one or several classes: for each number of a kind a byte that is 1 if the kind is in it."""
+    is_wanted = (name == wanted if isinstance(wanted, str) else issubclass(one, wanted) for name, one in zip(KINDS, _CLASSES))
+    return bytes(is_wanted).ljust(_ALL_BYTES, b"\0")
+
+
+_NODES, _TOKENS, _ALL = _kinds_of(Node), _kinds_of(Token), _kinds_of(Element)
+
+
 def register(*classes: type[Node]) -> None:
     """Uses each class for the nodes of its kind."""
     for one in classes:
         _CLASSES[KINDS.index(one.KIND)] = one
+    _kinds_of.cache_clear()
 
 
 def parse(text: str | bytes) -> Tree:

@@ -42,7 +42,10 @@ class StoredCases(unittest.TestCase):
     def test_walks_agree_with_each_other(self):
         for text, _ in list(stored("trees"))[::17]:
             tree = rnix.parse(text)
+            elements = list(tree.root.walk())
             tokens = list(tree.root.find(rnix.Token))
+            self.assertEqual(tokens, [element for element in elements if isinstance(element, rnix.Token)])
+            self.assertEqual(list(tree.root.find("NODE_IDENT")), [element for element in elements if element.kind == "NODE_IDENT"])
             self.assertEqual("".join(token.text for token in tokens), tree.text)
             for token in tokens:
                 self.assertTrue(all(tree.token_at(offset) == token for offset in range(*token.range)))
@@ -52,6 +55,7 @@ class StoredCases(unittest.TestCase):
                 for left, right in zip(children, children[1:]):
                     self.assertEqual((left.next_sibling, right.previous_sibling), (right, left))
                 self.assertEqual(node.children, [child for child in children if not isinstance(child, rnix.Token)])
+                self.assertEqual(node.tokens, [child for child in children if isinstance(child, rnix.Token)])
 
 
 class Trees(unittest.TestCase):
@@ -190,6 +194,17 @@ class Batches(unittest.TestCase):
         for text, _ in list(stored("trees"))[::41]:
             tree = rnix.parse(text)
             self.assertEqual(bool(rnix.diagnostics(tree)), bool(tree.errors))
+
+    def test_a_text_is_formatted(self):
+        self.assertEqual(rnix.formatted("{a=1;# b\n}"), "{\n  a = 1; # b\n}\n")
+        self.assertRaises(rnix.FormatError, rnix.formatted, "{a=1")
+        self.assertRaises(rnix.Refused, rnix.formatted, b"\xff")
+        for text, _ in list(stored("trees"))[::41]:
+            tree = rnix.parse(text)
+            if not tree.errors:
+                made = rnix.formatted(text)
+                self.assertEqual("".join(made.split()), "".join(tree.text.split()))
+                self.assertEqual(rnix.formatted(made), made)
 
     def test_names_have_their_bindings(self):
         tree = rnix.parse('let a = 1; "b" = a; in with c; { d }: [ a d e ({ inherit b; }) ]')

@@ -34,6 +34,8 @@ fn write_errors(errors: &[ParseError], out: &mut String) -> fmt::Result {
     Ok(())
 }
 
+// Neither equality nor hashes of nodes look at what changes in a tree.
+#[allow(clippy::mutable_key_type)]
 fn write_elements(elements: &[SyntaxElement], out: &mut String) -> fmt::Result {
     let mut numbers = HashMap::new();
     for (number, element) in elements.iter().enumerate() {

@@ -4,12 +4,14 @@ use crate::error::Refused;
 use std::cell::Cell;
 
 /// The version of the interface that this file declares.
-pub const VERSION: u32 = 2;
+pub const VERSION: u32 = 3;
 
 /// Negative results: why a call was refused.
 pub const NOT_UTF8: i64 = -1;
 pub const NO_MEMORY: i64 = -2;
 pub const TOO_LONG: i64 = -4;
+pub const HAS_ERRORS: i64 = -5;
+pub const DIFFERENT: i64 = -6;
 
 /// The value of an offset or number that is absent.
 pub const NO_NUMBER: u64 = u64::MAX;
@@ -127,6 +129,7 @@ extern "C" {
         buffer_room: usize,
         buffer_len: *mut u64,
     ) -> i64;
+    pub fn rnix_format(text: *const u8, len: usize, buffer: *mut u8, room: usize) -> i64;
     pub fn rnix_names(
         text: *const u8,
         len: usize,

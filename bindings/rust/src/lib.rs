@@ -24,6 +24,7 @@ pub mod diagnostics;
 mod edits;
 mod error;
 mod ffi;
+pub mod formatting;
 mod kind;
 mod language;
 mod line_index;

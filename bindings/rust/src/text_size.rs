@@ -13,6 +13,7 @@ pub struct TextSize {
 
 impl TextSize {
     /// Creates a size of `raw` bytes.
+    #[inline]
     pub const fn new(raw: u32) -> TextSize {
         TextSize { raw }
     }
@@ -175,6 +176,7 @@ impl TextRange {
     ///
     /// # Panics
     /// If `end` is less than `start`.
+    #[inline]
     pub fn new(start: TextSize, end: TextSize) -> TextRange {
         assert!(start <= end, "the end of a range is not before its start");
         TextRange { start, end }
@@ -202,16 +204,19 @@ impl TextRange {
     }
 
     /// Returns the start offset.
+    #[inline]
     pub const fn start(self) -> TextSize {
         self.start
     }
 
     /// Returns the end offset, which is exclusive.
+    #[inline]
     pub const fn end(self) -> TextSize {
         self.end
     }
 
     /// Returns the length in bytes.
+    #[inline]
     pub const fn len(self) -> TextSize {
         TextSize::new(self.end.raw - self.start.raw)
     }

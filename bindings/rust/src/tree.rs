@@ -40,6 +40,7 @@ fn initial_capacity(text: &str) -> usize {
 const ERRORS: usize = 16;
 
 // The record of an element. Its numbers fit in 32 bits: the library refuses texts of 2^32 bytes and trees of as many elements.
+#[inline]
 fn record(element: &ffi::Element) -> Record {
     Record {
         start: element.start as u32,
@@ -88,71 +89,84 @@ impl Tree {
         Ok((tree, errors))
     }
 
+    #[inline]
     fn record(&self, number: u32) -> &Record {
         &self.records[number as usize]
     }
 
     /// Returns the number of elements.
+    #[inline]
     pub(crate) fn count(&self) -> u32 {
         self.records.len() as u32
     }
 
     /// Returns whether an element is a token.
+    #[inline]
     pub(crate) fn is_token(&self, number: u32) -> bool {
         self.record(number).is_token
     }
 
     /// Returns the kind of an element.
+    #[inline]
     pub(crate) fn kind(&self, number: u32) -> SyntaxKind {
         self.record(number).kind
     }
 
     /// Returns the range of an element.
+    #[inline]
     pub(crate) fn range(&self, number: u32) -> TextRange {
         let record = self.record(number);
         TextRange::new(TextSize::new(record.start), TextSize::new(record.end))
     }
 
     /// Returns the text of an element.
+    #[inline]
     pub(crate) fn text(&self, number: u32) -> &str {
         &self.text[self.range(number)]
     }
 
     /// Returns the parent of an element, or `None` for the root.
+    #[inline]
     pub(crate) fn parent(&self, number: u32) -> Option<u32> {
         let parent = self.record(number).parent;
         (parent != NO_PARENT).then_some(parent)
     }
 
     /// Returns the number of the first element after the subtree of `number`.
+    #[inline]
     pub(crate) fn end(&self, number: u32) -> u32 {
         number + 1 + self.record(number).inside
     }
 
     /// Returns the first child of a node.
+    #[inline]
     pub(crate) fn first_child(&self, number: u32) -> Option<u32> {
         (number + 1 < self.end(number)).then_some(number + 1)
     }
 
     /// Returns the last child of a node.
+    #[inline]
     pub(crate) fn last_child(&self, number: u32) -> Option<u32> {
         self.first_child(number)?;
         Some(self.child_with(number, self.end(number) - 1))
     }
 
     /// Returns the next sibling of an element.
+    #[inline]
     pub(crate) fn next_sibling(&self, number: u32) -> Option<u32> {
         let next = self.end(number);
         (next < self.end(self.parent(number)?)).then_some(next)
     }
 
     /// Returns the previous sibling of an element.
+    #[inline]
     pub(crate) fn prev_sibling(&self, number: u32) -> Option<u32> {
         let parent = self.parent(number)?;
         (parent + 1 < number).then(|| self.child_with(parent, number - 1))
     }
 
     // The child of a node whose subtree contains a descendant of the node.
+    #[inline]
     fn child_with(&self, node: u32, descendant: u32) -> u32 {
         let mut number = descendant;
         while let Some(parent) = self.parent(number).filter(|parent| *parent != node) {

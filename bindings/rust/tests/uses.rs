@@ -4,7 +4,8 @@ use rnix::ast::{self, Attr, BinOpKind, Entry, Expr, HasEntry, InterpolPart, Lite
 use rnix::syntax::ast::{support, AstNode};
 use rnix::SyntaxKind::{self, *};
 use rnix::{
-    match_ast, AstPtr, ParseError, Root, SyntaxNode, SyntaxNodePtr, SyntaxToken, TextRange, TextSize, WalkEvent, T,
+    match_ast, AstPtr, NodeOrToken, ParseError, Root, SyntaxElement, SyntaxNode, SyntaxNodePtr, SyntaxToken, TextRange,
+    TextSize, WalkEvent, T,
 };
 use std::collections::HashSet;
 use std::thread;
@@ -95,6 +96,52 @@ fn methods_do_what_those_of_rowan_do() {
         format!("{:#?}", Root::parse("a").syntax()),
         "NODE_ROOT@0..1\n  NODE_IDENT@0..1\n    TOKEN_IDENT@0..1 \"a\"\n"
     );
+}
+
+// The steps of a walk, by recursion over children.
+fn walked(element: SyntaxElement, steps: &mut Vec<WalkEvent<SyntaxElement>>) {
+    steps.push(WalkEvent::Enter(element.clone()));
+    if let NodeOrToken::Node(node) = &element {
+        node.children_with_tokens().for_each(|child| walked(child, steps));
+    }
+    steps.push(WalkEvent::Leave(element));
+}
+
+#[test]
+fn all_walks_visit_the_elements_of_a_subtree() {
+    for text in ["", "a", "[", "let a = [ ]; in { b = ''c${a}''; # d\n }", "(a: -b) (c"] {
+        for root in Root::parse(text).syntax().descendants() {
+            let mut steps = Vec::new();
+            walked(root.clone().into(), &mut steps);
+            assert_eq!(root.preorder_with_tokens().collect::<Vec<_>>(), steps);
+            let in_nodes = |step: WalkEvent<SyntaxElement>| match step {
+                WalkEvent::Enter(element) => element.into_node().map(WalkEvent::Enter),
+                WalkEvent::Leave(element) => element.into_node().map(WalkEvent::Leave),
+            };
+            let of_nodes: Vec<_> = steps.iter().cloned().filter_map(in_nodes).collect();
+            assert_eq!(root.preorder().collect::<Vec<_>>(), of_nodes);
+            let entered = |step| match step {
+                WalkEvent::Enter(element) => Some(element),
+                WalkEvent::Leave(_) => None,
+            };
+            let elements: Vec<_> = steps.into_iter().filter_map(entered).collect();
+            assert_eq!(root.descendants_with_tokens().collect::<Vec<_>>(), elements);
+            let mut lent = Vec::new();
+            root.for_each_element(|element| lent.push(element.clone()));
+            assert_eq!(lent, elements);
+        }
+    }
+}
+
+#[test]
+fn a_skipped_subtree_is_left_at_once() {
+    let root = Root::parse("[ a (b) ]").syntax();
+    let list = root.first_child().unwrap();
+    let mut walk = root.preorder_with_tokens();
+    assert_eq!(walk.by_ref().nth(1), Some(WalkEvent::Enter(list.clone().into())));
+    walk.skip_subtree();
+    let rest: Vec<_> = walk.collect();
+    assert_eq!(rest, [WalkEvent::Leave(list.into()), WalkEvent::Leave(root.into())]);
 }
 
 #[test]
@@ -220,6 +267,8 @@ fn pointers_find_their_nodes_again() {
 }
 
 #[test]
+// Neither equality nor hashes of nodes look at what changes in a tree.
+#[allow(clippy::mutable_key_type)]
 fn nodes_are_equal_in_one_tree() {
     let parse = Root::parse("a a");
     assert_eq!(parse.syntax(), parse.clone().syntax());

@@ -9,10 +9,7 @@ use rnix::{Root, SyntaxKind, TextRange};
 #[test]
 fn diagnostics_say_what_is_wrong() {
     let found = diagnostics(&Root::parse("# ä\n{ a = 1 }"));
-    assert_eq!(
-        found[0].message,
-        "expected \";\" after the value of \"a\", found \"}\""
-    );
+    assert_eq!(found[0].message, "expected \";\" after the value of \"a\", found \"}\"");
     assert_eq!(found[0].range, TextRange::new(13.into(), 14.into()));
     assert!(diagnostics(&Root::parse("a")).is_empty());
 }

@@ -69,6 +69,8 @@ impl Client {
             ("documentSymbolProvider", true.into()),
             ("codeActionProvider", object([("codeActionKinds", kinds)])),
             ("renameProvider", object([("prepareProvider", true.into())])),
+            ("documentFormattingProvider", true.into()),
+            ("documentRangeFormattingProvider", true.into()),
             ("foldingRangeProvider", true.into()),
             ("selectionRangeProvider", true.into()),
             ("semanticTokensProvider", tokens::provider()),

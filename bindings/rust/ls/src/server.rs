@@ -3,7 +3,7 @@
 use crate::client::Client;
 use crate::documents::Documents;
 use crate::features::{
-    actions, completion, diagnostics, folding, hover, navigation, rename, selection, symbols, tokens,
+    actions, completion, diagnostics, folding, formatting, hover, navigation, rename, selection, symbols, tokens,
 };
 use crate::json::{object, Value};
 use crate::protocol::{notification, response, Code, Failure, Outcome};
@@ -44,8 +44,10 @@ fn feature(method: &str) -> Option<fn(&Request) -> Outcome> {
         "documentHighlight" => navigation::highlights,
         "documentSymbol" => symbols::symbols,
         "foldingRange" => folding::folds,
+        "formatting" => formatting::whole,
         "hover" => hover::hover,
         "prepareRename" => rename::prepare,
+        "rangeFormatting" => formatting::in_range,
         "references" => navigation::references,
         "rename" => rename::rename,
         "selectionRange" => selection::selections,

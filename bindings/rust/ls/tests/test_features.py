@@ -112,6 +112,26 @@ class Features(unittest.TestCase):
             found = self.client.at("documentHighlight", position)
             self.assertEqual([(span(it), it["kind"]) for it in found], [(it, 3 if it == wanted[0] else 2) for it in wanted])
 
+    def test_formatting_edits_white_space(self):
+        text = '{\n    a="😀" ;  b  =  2;\n  # the last\n    c=3;\n}'
+        wanted = '{\n  a = "😀";\n  b = 2;\n  # the last\n  c = 3;\n}\n'
+        self.client.open(text)
+        edits = self.client.at("formatting", options={"tabSize": 8, "insertSpaces": False})
+        self.assertEqual(applied(text, edits), wanted)
+        self.assertEqual({it["newText"].strip() for it in edits}, {""})
+        self.client.open(wanted)
+        self.assertEqual(self.client.at("formatting"), [])
+        self.client.open("{ a = 1 }")
+        self.assertEqual(self.client.at("formatting"), [])
+
+    def test_a_range_is_formatted_alone(self):
+        text = "{\n    a=1;\n    b=2;\n    c=3;\n}\n"
+        self.client.open(text)
+        line = {"start": {"line": 2, "character": 5}, "end": {"line": 2, "character": 6}}
+        edits = self.client.at("rangeFormatting", range=line)
+        self.assertEqual(applied(text, edits), text.replace("b=2", "b = 2"))
+        self.assertEqual(self.client.at("rangeFormatting")["code"], -32602)
+
     def test_renaming_changes_a_binding_and_its_uses(self):
         prepared = self.client.at("prepareRename", find("help 1"))
         self.assertEqual((span(prepared), prepared["placeholder"]), (places("help")[1], "help"))

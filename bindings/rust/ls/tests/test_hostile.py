@@ -9,8 +9,8 @@ import unittest
 from client import URI, Client, frame, place
 
 METHODS = [
-    "codeAction", "completion", "definition", "documentHighlight", "documentSymbol", "foldingRange", "hover", "prepareRename",
-    "references", "rename", "selectionRange", "semanticTokens/full", "semanticTokens/range",
+    "codeAction", "completion", "definition", "documentHighlight", "documentSymbol", "foldingRange", "formatting", "hover", "prepareRename",
+    "rangeFormatting", "references", "rename", "selectionRange", "semanticTokens/full", "semanticTokens/range",
 ]
 
 
@@ -94,7 +94,7 @@ class Hostile(unittest.TestCase):
         self.client.send({"jsonrpc": "2.0", "id": 1, "result": None})
 
     def test_unknown_methods_are_refused_and_unknown_notifications_ignored(self):
-        for method in ("", "x", "textDocument/", "textDocument/formatting", "$/x", "workspace/symbol", "exit "):
+        for method in ("", "x", "textDocument/", "textDocument/onTypeFormatting", "$/x", "workspace/symbol", "exit "):
             self.client.tell(method, None)
             self.assertEqual(self.client.ask(method, None)["code"], -32601)
 

@@ -18,6 +18,7 @@ pub struct SyntaxElementChildren {
 }
 
 impl SyntaxElementChildren {
+    #[inline]
     pub(crate) fn of(node: &SyntaxNode) -> SyntaxElementChildren {
         SyntaxElementChildren {
             tree: Arc::clone(&node.tree),
@@ -32,6 +33,7 @@ impl SyntaxElementChildren {
     }
 
     // The number of the next child.
+    #[inline]
     fn next_number(&mut self) -> Option<u32> {
         let number = (self.next < self.end).then_some(self.next)?;
         self.next = self.tree.end(number);
@@ -42,6 +44,7 @@ impl SyntaxElementChildren {
 impl Iterator for SyntaxElementChildren {
     type Item = SyntaxElement;
 
+    #[inline]
     fn next(&mut self) -> Option<SyntaxElement> {
         let number = self.next_number()?;
         Some(SyntaxElement::at(&self.tree, number))
@@ -63,6 +66,7 @@ pub struct SyntaxNodeChildren {
 }
 
 impl SyntaxNodeChildren {
+    #[inline]
     pub(crate) fn of(node: &SyntaxNode) -> SyntaxNodeChildren {
         SyntaxNodeChildren {
             elements: SyntaxElementChildren::of(node),
@@ -78,6 +82,7 @@ impl SyntaxNodeChildren {
 impl Iterator for SyntaxNodeChildren {
     type Item = SyntaxNode;
 
+    #[inline]
     fn next(&mut self) -> Option<SyntaxNode> {
         loop {
             let number = self.elements.next_number()?;
@@ -104,6 +109,7 @@ pub struct Siblings {
 }
 
 impl Siblings {
+    #[inline]
     pub(crate) fn from(first: SyntaxElement, direction: Direction) -> Siblings {
         Siblings {
             next: Some(first),
@@ -115,6 +121,7 @@ impl Siblings {
 impl Iterator for Siblings {
     type Item = SyntaxElement;
 
+    #[inline]
     fn next(&mut self) -> Option<SyntaxElement> {
         let element = self.next.take()?;
         self.next = match self.direction {

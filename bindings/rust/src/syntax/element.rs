@@ -21,6 +21,7 @@ pub type SyntaxElement = NodeOrToken<SyntaxNode, SyntaxToken>;
 
 impl<N, T> NodeOrToken<N, T> {
     /// Returns the node, if it is one.
+    #[inline]
     pub fn into_node(self) -> Option<N> {
         match self {
             NodeOrToken::Node(node) => Some(node),
@@ -29,6 +30,7 @@ impl<N, T> NodeOrToken<N, T> {
     }
 
     /// Returns the token, if it is one.
+    #[inline]
     pub fn into_token(self) -> Option<T> {
         match self {
             NodeOrToken::Node(_) => None,
@@ -37,15 +39,18 @@ impl<N, T> NodeOrToken<N, T> {
     }
 
     /// Returns a reference to the node, if it is one.
+    #[inline]
     pub fn as_node(&self) -> Option<&N> {
         self.as_ref().into_node()
     }
 
     /// Returns a reference to the token, if it is one.
+    #[inline]
     pub fn as_token(&self) -> Option<&T> {
         self.as_ref().into_token()
     }
 
+    #[inline]
     fn as_ref(&self) -> NodeOrToken<&N, &T> {
         match self {
             NodeOrToken::Node(node) => NodeOrToken::Node(node),
@@ -64,8 +69,13 @@ impl<N: fmt::Display, T: fmt::Display> fmt::Display for NodeOrToken<N, T> {
 }
 
 impl SyntaxElement {
+    #[inline]
     pub(crate) fn at(tree: &Arc<Tree>, number: u32) -> SyntaxElement {
-        let tree = Arc::clone(tree);
+        SyntaxElement::of(Arc::clone(tree), number)
+    }
+
+    #[inline]
+    pub(crate) fn of(tree: Arc<Tree>, number: u32) -> SyntaxElement {
         if tree.is_token(number) {
             NodeOrToken::Token(SyntaxToken { tree, number })
         } else {
@@ -73,6 +83,7 @@ impl SyntaxElement {
         }
     }
 
+    #[inline]
     pub(crate) fn location(&self) -> (&Arc<Tree>, u32) {
         match self {
             NodeOrToken::Node(node) => (&node.tree, node.number),
@@ -80,13 +91,23 @@ impl SyntaxElement {
         }
     }
 
+    #[inline]
+    pub(crate) fn into_location(self) -> (Arc<Tree>, u32) {
+        match self {
+            NodeOrToken::Node(node) => (node.tree, node.number),
+            NodeOrToken::Token(token) => (token.tree, token.number),
+        }
+    }
+
     /// Returns the kind.
+    #[inline]
     pub fn kind(&self) -> SyntaxKind {
         let (tree, number) = self.location();
         tree.kind(number)
     }
 
     /// Returns the range in the text.
+    #[inline]
     pub fn text_range(&self) -> TextRange {
         let (tree, number) = self.location();
         tree.range(number)
@@ -101,6 +122,7 @@ impl SyntaxElement {
     }
 
     /// Returns the parent, or `None` for the root.
+    #[inline]
     pub fn parent(&self) -> Option<SyntaxNode> {
         match self {
             NodeOrToken::Node(node) => node.parent(),
@@ -133,12 +155,14 @@ impl SyntaxElement {
     }
 
     /// Returns the next sibling node or token.
+    #[inline]
     pub fn next_sibling_or_token(&self) -> Option<SyntaxElement> {
         let (tree, number) = self.location();
         Some(SyntaxElement::at(tree, tree.next_sibling(number)?))
     }
 
     /// Returns the previous sibling node or token.
+    #[inline]
     pub fn prev_sibling_or_token(&self) -> Option<SyntaxElement> {
         let (tree, number) = self.location();
         Some(SyntaxElement::at(tree, tree.prev_sibling(number)?))

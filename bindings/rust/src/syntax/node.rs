@@ -21,6 +21,7 @@ pub struct SyntaxNode {
 }
 
 impl SyntaxNode {
+    #[inline]
     pub(crate) fn at(tree: &Arc<Tree>, number: u32) -> SyntaxNode {
         SyntaxNode {
             tree: Arc::clone(tree),
@@ -28,16 +29,19 @@ impl SyntaxNode {
         }
     }
 
+    #[inline]
     fn element_at(&self, number: u32) -> SyntaxElement {
         SyntaxElement::at(&self.tree, number)
     }
 
     /// Returns the node's kind.
+    #[inline]
     pub fn kind(&self) -> SyntaxKind {
         self.tree.kind(self.number)
     }
 
     /// Returns the node's range in the text.
+    #[inline]
     pub fn text_range(&self) -> TextRange {
         self.tree.range(self.number)
     }
@@ -53,6 +57,7 @@ impl SyntaxNode {
     }
 
     /// Returns the parent, or `None` for the root.
+    #[inline]
     pub fn parent(&self) -> Option<SyntaxNode> {
         Some(SyntaxNode::at(&self.tree, self.tree.parent(self.number)?))
     }
@@ -65,16 +70,19 @@ impl SyntaxNode {
     }
 
     /// Returns an iterator over the child nodes.
+    #[inline]
     pub fn children(&self) -> SyntaxNodeChildren {
         SyntaxNodeChildren::of(self)
     }
 
     /// Returns an iterator over the child nodes and tokens.
+    #[inline]
     pub fn children_with_tokens(&self) -> SyntaxElementChildren {
         SyntaxElementChildren::of(self)
     }
 
     /// Returns the first child node.
+    #[inline]
     pub fn first_child(&self) -> Option<SyntaxNode> {
         self.children().next()
     }
@@ -96,6 +104,7 @@ impl SyntaxNode {
     }
 
     /// Returns the first child node or token.
+    #[inline]
     pub fn first_child_or_token(&self) -> Option<SyntaxElement> {
         Some(self.element_at(self.tree.first_child(self.number)?))
     }
@@ -126,6 +135,7 @@ impl SyntaxNode {
     }
 
     /// Returns the next sibling node or token.
+    #[inline]
     pub fn next_sibling_or_token(&self) -> Option<SyntaxElement> {
         Some(self.element_at(self.tree.next_sibling(self.number)?))
     }
@@ -137,6 +147,7 @@ impl SyntaxNode {
     }
 
     /// Returns the previous sibling node or token.
+    #[inline]
     pub fn prev_sibling_or_token(&self) -> Option<SyntaxElement> {
         Some(self.element_at(self.tree.prev_sibling(self.number)?))
     }
@@ -172,6 +183,7 @@ impl SyntaxNode {
     }
 
     /// Returns an iterator over the nodes of the subtree in preorder, from the node itself.
+    #[inline]
     pub fn descendants(&self) -> impl Iterator<Item = SyntaxNode> {
         let tree = Arc::clone(&self.tree);
         let mut inside = self.number..tree.end(self.number);
@@ -182,17 +194,36 @@ impl SyntaxNode {
     }
 
     /// Returns an iterator over the nodes and tokens of the subtree in preorder, from the node itself.
+    #[inline]
     pub fn descendants_with_tokens(&self) -> impl Iterator<Item = SyntaxElement> {
         let tree = Arc::clone(&self.tree);
         (self.number..self.tree.end(self.number)).map(move |number| SyntaxElement::at(&tree, number))
     }
 
+    /// Calls a function with each node and token of the subtree in preorder, from the node itself. The elements are lent, so no references are
+    /// counted: this takes a small part of the time of `descendants_with_tokens`.
+    #[inline]
+    pub fn for_each_element(&self, mut visit: impl FnMut(&SyntaxElement)) {
+        let end = self.tree.end(self.number);
+        let mut element = SyntaxElement::Node(self.clone());
+        loop {
+            visit(&element);
+            let (tree, number) = element.into_location();
+            if number + 1 == end {
+                return;
+            }
+            element = SyntaxElement::of(tree, number + 1);
+        }
+    }
+
     /// Returns a walk that enters and leaves each node of the subtree.
+    #[inline]
     pub fn preorder(&self) -> Preorder {
         Preorder::of(self)
     }
 
     /// Returns a walk that enters and leaves each node and token of the subtree.
+    #[inline]
     pub fn preorder_with_tokens(&self) -> PreorderWithTokens {
         PreorderWithTokens::of(self)
     }
@@ -293,6 +324,7 @@ pub struct Ancestors {
 impl Iterator for Ancestors {
     type Item = SyntaxNode;
 
+    #[inline]
     fn next(&mut self) -> Option<SyntaxNode> {
         let node = self.next.take()?;
         self.next = node.parent();

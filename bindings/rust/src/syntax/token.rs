@@ -24,16 +24,19 @@ pub struct SyntaxToken {
 }
 
 impl SyntaxToken {
+    #[inline]
     fn element_at(&self, number: u32) -> SyntaxElement {
         SyntaxElement::at(&self.tree, number)
     }
 
     /// Returns the token's kind.
+    #[inline]
     pub fn kind(&self) -> SyntaxKind {
         self.tree.kind(self.number)
     }
 
     /// Returns the token's range in the text.
+    #[inline]
     pub fn text_range(&self) -> TextRange {
         self.tree.range(self.number)
     }
@@ -44,11 +47,13 @@ impl SyntaxToken {
     }
 
     /// Returns the token's text.
+    #[inline]
     pub fn text(&self) -> &str {
         self.tree.text(self.number)
     }
 
     /// Returns the parent, which every token has.
+    #[inline]
     pub fn parent(&self) -> Option<SyntaxNode> {
         Some(SyntaxNode::at(&self.tree, self.tree.parent(self.number)?))
     }
@@ -59,11 +64,13 @@ impl SyntaxToken {
     }
 
     /// Returns the next sibling node or token.
+    #[inline]
     pub fn next_sibling_or_token(&self) -> Option<SyntaxElement> {
         Some(self.element_at(self.tree.next_sibling(self.number)?))
     }
 
     /// Returns the previous sibling node or token.
+    #[inline]
     pub fn prev_sibling_or_token(&self) -> Option<SyntaxElement> {
         Some(self.element_at(self.tree.prev_sibling(self.number)?))
     }
@@ -74,6 +81,7 @@ impl SyntaxToken {
     }
 
     /// Returns the next token in the text.
+    #[inline]
     pub fn next_token(&self) -> Option<SyntaxToken> {
         let mut following = self.number + 1..self.tree.count();
         let number = following.find(|number| self.tree.is_token(*number))?;
@@ -84,6 +92,7 @@ impl SyntaxToken {
     }
 
     /// Returns the previous token in the text.
+    #[inline]
     pub fn prev_token(&self) -> Option<SyntaxToken> {
         let mut preceding = (0..self.number).rev();
         let number = preceding.find(|number| self.tree.is_token(*number))?;

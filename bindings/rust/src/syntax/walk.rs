@@ -24,6 +24,7 @@ pub enum WalkEvent<T> {
 
 impl<T> WalkEvent<T> {
     /// Applies a function to the node or token.
+    #[inline]
     pub fn map<U>(self, function: impl FnOnce(T) -> U) -> WalkEvent<U> {
         match self {
             WalkEvent::Enter(element) => WalkEvent::Enter(function(element)),
@@ -40,13 +41,19 @@ type Next = Option<WalkEvent<u32>>;
 pub struct PreorderWithTokens {
     root: SyntaxNode,
     next: Next,
+    // The innermost node that is open after the last step, and the end of its subtree.
+    parent: u32,
+    end: u32,
 }
 
 impl PreorderWithTokens {
     pub(crate) fn of(root: &SyntaxNode) -> PreorderWithTokens {
+        let parent = root.tree.parent(root.number).unwrap_or(root.number);
         PreorderWithTokens {
             root: root.clone(),
             next: Some(WalkEvent::Enter(root.number)),
+            parent,
+            end: root.tree.end(parent),
         }
     }
 
@@ -58,27 +65,45 @@ impl PreorderWithTokens {
         };
     }
 
-    // The step after an event.
-    fn after(&self, event: WalkEvent<u32>) -> Next {
-        let tree = &self.root.tree;
-        let number = match event {
-            WalkEvent::Enter(number) => {
-                let first = tree.first_child(number).map(WalkEvent::Enter);
-                return first.or(Some(WalkEvent::Leave(number)));
-            }
-            WalkEvent::Leave(number) => number,
-        };
+    // The step after an element is entered.
+    #[inline]
+    fn after_enter(&mut self, number: u32) -> WalkEvent<u32> {
+        let end = self.root.tree.end(number);
+        let first = number + 1;
+        if first == end {
+            return WalkEvent::Leave(number);
+        }
+        (self.parent, self.end) = (number, end);
+        WalkEvent::Enter(first)
+    }
+
+    // The step after an element is left: its next sibling is entered, or its parent is left.
+    #[inline]
+    fn after_leave(&mut self, number: u32) -> Next {
         if number == self.root.number {
             return None;
         }
-        let sibling = tree.next_sibling(number).map(WalkEvent::Enter);
-        sibling.or_else(|| tree.parent(number).map(WalkEvent::Leave))
+        let mut following = number + 1;
+        if number == self.parent {
+            following = self.end;
+            self.parent = self.root.tree.parent(number)?;
+            self.end = self.root.tree.end(self.parent);
+        }
+        Some(if following < self.end {
+            WalkEvent::Enter(following)
+        } else {
+            WalkEvent::Leave(self.parent)
+        })
     }
 
     // Takes the next step.
+    #[inline]
     fn step(&mut self) -> Next {
         let event = self.next?;
-        self.next = self.after(event);
+        self.next = match event {
+            WalkEvent::Enter(number) => Some(self.after_enter(number)),
+            WalkEvent::Leave(number) => self.after_leave(number),
+        };
         Some(event)
     }
 }
@@ -86,6 +111,7 @@ impl PreorderWithTokens {
 impl Iterator for PreorderWithTokens {
     type Item = WalkEvent<SyntaxElement>;
 
+    #[inline]
     fn next(&mut self) -> Option<WalkEvent<SyntaxElement>> {
         let event = self.step()?;
         Some(event.map(|number| SyntaxElement::at(&self.root.tree, number)))
@@ -101,6 +127,7 @@ pub struct Preorder {
 }
 
 impl Preorder {
+    #[inline]
     pub(crate) fn of(root: &SyntaxNode) -> Preorder {
         Preorder {
             elements: PreorderWithTokens::of(root),
@@ -108,6 +135,7 @@ impl Preorder {
     }
 
     /// Skips the children of the node that was entered last.
+    #[inline]
     pub fn skip_subtree(&mut self) {
         self.elements.skip_subtree();
     }
@@ -116,6 +144,7 @@ impl Preorder {
 impl Iterator for Preorder {
     type Item = WalkEvent<SyntaxNode>;
 
+    #[inline]
     fn next(&mut self) -> Option<WalkEvent<SyntaxNode>> {
         loop {
             let event = self.elements.step()?;

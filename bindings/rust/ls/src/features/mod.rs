@@ -5,6 +5,7 @@ pub mod comments;
 pub mod completion;
 pub mod diagnostics;
 pub mod folding;
+pub mod formatting;
 pub mod globals;
 pub mod hover;
 pub mod navigation;

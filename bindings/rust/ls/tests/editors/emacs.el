@@ -72,6 +72,13 @@
            (jsonrpc-error (alist-get 'jsonrpc-error-message (cddr refusal))))
          "the refusal")
 
+  (go-to "pname = ")
+  (delete-char 7)
+  (insert "pname=")
+  (let ((text (progn (changed) (buffer-string))))
+    (eglot-format-buffer)
+    (check (replace-regexp-in-string "pname=" "pname =" text t t) (buffer-string) "the formatted text"))
+
   (set-buffer-modified-p nil)
   (eglot-shutdown (eglot--current-server-or-lose)))
 

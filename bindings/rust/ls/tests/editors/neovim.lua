@@ -115,6 +115,16 @@ local function run()
   check({}, places('unused'), 'the removed name')
   wait_for('next unused name', function() return diagnostics(1)[1][4] == '`args` is not used' end)
 
+  -- Formatting gives the line its spaces back.
+  text = lines()
+  go_to(places('pname = ')[1])
+  vim.cmd('substitute/pname = /pname=/')
+  wait_for('change', function() return #places('pname=') == 1 end)
+  local format = vim.lsp.buf.format or vim.lsp.buf.formatting_sync
+  format()
+  wait_for('formatting', function() return #places('pname=') == 0 end)
+  check(text, lines(), 'the formatted text')
+
   vim.lsp.stop_client(vim.lsp.get_active_clients())
   wait_for('end of the server', function() return #vim.lsp.get_active_clients() == 0 end)
 end

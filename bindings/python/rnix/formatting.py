@@ -1,0 +1,32 @@
+"""Texts with other white space, in the style of Nixpkgs, as `nix-format` writes them."""
+
+from __future__ import annotations
+
+import ctypes
+
+from rnix import library
+from rnix.library import LIBRARY
+
+
+class FormatError(Exception):
+    """A text that is not formatted: it has errors, or the new text would differ in more than white space, which is a bug of the formatter."""
+
+
+def formatted(text: str | bytes) -> str:
+    """Returns a text without errors in the style of Nixpkgs: the same tokens, comments included, with other white space between them.
+
+    The new text is read as the same tree but for white space. Raises FormatError if the text has errors.
+    """
+    source = library.source_of(text)
+    guess = len(source) + len(source) // 4
+
+    def call(room: object, count: int) -> int:
+        answer = int(LIBRARY.rnix_format(source, len(source), room, count))
+        if answer == library.HAS_ERRORS:
+            raise FormatError("the text has errors")
+        if answer == library.DIFFERENT:
+            raise FormatError("the new text would differ in more than white space")
+        return answer
+
+    made, count = library.listed(ctypes.c_char, call, guess)
+    return memoryview(made).cast("B")[:count].tobytes().decode()

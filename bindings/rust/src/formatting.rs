@@ -1,0 +1,58 @@
+//! Texts with other white space, in the style of Nixpkgs, as `nix-format` writes them.
+//!
+//! ```
+//! assert_eq!(rnix::formatting::formatted("{a=1;}").unwrap(), "{ a = 1; }\n");
+//! ```
+
+use crate::error::Refused;
+use crate::ffi;
+use std::cell::Cell;
+use std::fmt;
+
+/// Why a text is not formatted.
+#[derive(Clone, Copy, Debug, PartialEq, Eq)]
+#[non_exhaustive]
+pub enum FormatError {
+    /// The text has errors.
+    HasErrors,
+    /// The new text would differ in more than white space. This is a bug of the formatter.
+    Different,
+    /// The text was not parsed.
+    Refused(Refused),
+}
+
+impl fmt::Display for FormatError {
+    fn fmt(&self, f: &mut fmt::Formatter<'_>) -> fmt::Result {
+        match self {
+            FormatError::HasErrors => f.write_str("the text has errors"),
+            FormatError::Different => f.write_str("the new text would differ in more than white space"),
+            FormatError::Refused(refused) => refused.fmt(f),
+        }
+    }
+}
+
+impl std::error::Error for FormatError {}
+
+/// Returns a text without errors in the style of Nixpkgs: the same tokens, comments included, with other white space between them. It is read as the
+/// same tree but for white space.
+///
+/// # Errors
+/// The text has errors, or memory runs out.
+pub fn formatted(text: &str) -> Result<String, FormatError> {
+    let answer = Cell::new(0);
+    let call = |buffer: *mut u8, room: usize| {
+        // SAFETY: the text and the buffer have these lengths.
+        answer.set(unsafe { ffi::rnix_format(text.as_ptr(), text.len(), buffer, room) });
+        match answer.get() {
+            ffi::HAS_ERRORS | ffi::DIFFERENT => 0,
+            count => count,
+        }
+    };
+    // SAFETY: the call fills its array as `listed` requires.
+    let bytes = unsafe { ffi::listed(text.len() + text.len() / 4, call) }.map_err(FormatError::Refused)?;
+    match answer.get() {
+        ffi::HAS_ERRORS => Err(FormatError::HasErrors),
+        ffi::DIFFERENT => Err(FormatError::Different),
+        _ => Ok(String::from_utf8(bytes).expect("the library writes UTF-8")),
+    }
+}
