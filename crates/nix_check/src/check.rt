@@ -1,7 +1,7 @@
 //! The errors of a text, as people read them.
 
-use crate::excerpt::write_excerpt;
 use crate::json::write_json;
+use nix_cli::write_excerpt;
 use nix_diagnostics::{Diagnostic, Note, diagnostics};
 use rnix::{Root, TextRange};
 use rnix_text::{ColumnUnit, LineIndex, Position};
@@ -59,7 +59,7 @@ fn write_note<W: Write>(
     write_place(source, range, out)?;
     write_word("note:", "36", style, out)?;
     writeln!(out, " {}", note.message)?;
-    write_excerpt(source.text, range, out)
+    write_excerpt(source.text, range.start()..range.end(), out)
 }
 
 // The message with its place, the line and the carets, and the notes.
@@ -75,7 +75,8 @@ fn write_diagnostic<W: Write>(
     write_place(source, diagnostic.range, out)?;
     write_word("error:", "31", style, out)?;
     writeln!(out, " {}", diagnostic.message)?;
-    write_excerpt(source.text, diagnostic.range, out)?;
+    let (start, end) = (diagnostic.range.start(), diagnostic.range.end());
+    write_excerpt(source.text, start..end, out)?;
     for note in &diagnostic.notes {
         write_note(source, *note, style, out)?;
     }

@@ -2,7 +2,6 @@
 #![tactic(auto)]
 
 mod check;
-mod excerpt;
 mod json;
 mod progress;
 

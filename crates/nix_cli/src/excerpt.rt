@@ -1,7 +1,7 @@
 //! One line of a text, with carets under a range in it.
 
-use rnix::TextRange;
 use std::io::{self, Write};
+use std::ops::Range;
 
 // The most columns of a line that are printed before the first caret, and from it on.
 const COLUMNS_BEFORE: usize = 60;
@@ -102,15 +102,15 @@ fn write_carets<W: Write>(part: &str, out: &mut W) -> io::Result<()> {
 }
 
 /// Prints the line in which a range of bytes begins, at most 120 columns of it, and below it carets under the part of the range that is printed.
-pub fn write_excerpt<W: Write>(text: &str, range: TextRange, out: &mut W) -> io::Result<()> {
+pub fn write_excerpt<W: Write>(text: &str, range: Range<usize>, out: &mut W) -> io::Result<()> {
     let (start, end) = (
-        start_of_part(text, range.start()),
-        end_of_part(text, range.start()),
+        start_of_part(text, range.start),
+        end_of_part(text, range.start),
     );
-    let before = text.get(start..range.start()).unwrap_or("");
-    let marked_end = end.min(range.end());
+    let before = text.get(start..range.start).unwrap_or("");
+    let marked_end = end.min(range.end);
     let marked = text
-        .get(range.start()..marked_end)
+        .get(range.start..marked_end)
         .unwrap_or("")
         .trim_end_matches('\r');
     let behind = text.get(end..).unwrap_or("");

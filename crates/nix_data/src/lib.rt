@@ -1,0 +1,14 @@
+//! The data of a Nix text, and data as a Nix text.
+#![tactic(auto)]
+
+mod meaning;
+mod names;
+mod nix_reader;
+mod nix_writer;
+mod no_data;
+mod quoted;
+mod scalars;
+
+pub use nix_reader::{data_in, data_of};
+pub use nix_writer::nix_of;
+pub use no_data::{NoData, Reason};

@@ -1,0 +1,43 @@
+//! Names as Nix writes them.
+
+use crate::quoted::quoted;
+use std::alloc::{AllocError, Global};
+
+// The words that are no names.
+const KEYWORDS: [&str; 10] = [
+    "assert", "else", "if", "in", "inherit", "let", "or", "rec", "then", "with",
+];
+
+// Whether a character may stand in a name.
+fn is_in_name(byte: u8) -> bool {
+    byte.is_ascii_alphanumeric() || matches!(byte, b'_' | b'-' | b'\'')
+}
+
+// Whether a text is a word of Nix.
+fn is_keyword(text: &str) -> bool {
+    for keyword in &KEYWORDS {
+        if *keyword == text {
+            return true;
+        }
+    }
+    text == "__curPos"
+}
+
+/// Returns whether a name needs no quotes.
+pub fn is_plain(name: &str) -> bool {
+    match name.bytes().next() {
+        Some(first) if first.is_ascii_alphabetic() || first == b'_' => {
+            name.bytes().all(|byte| is_in_name(byte)) && !is_keyword(name)
+        }
+        _ => false,
+    }
+}
+
+/// Writes a name.
+pub fn push_name(alloc: Global, name: &str, text: &mut String) -> Result<(), AllocError> {
+    if is_plain(name) {
+        text.push_str(name)
+    } else {
+        text.push_str(quoted(alloc, name)?.as_str())
+    }
+}

@@ -1,0 +1,320 @@
+//! The data of a Nix text.
+
+use crate::no_data::{NoData, Reason};
+use crate::scalars::{Stop, no_data, scalar, text_of};
+use nix_values::{Builder, Data, Value};
+use rnix::ast::{AstNode, Attr, AttrSet, AttrpathValue, Dynamic, Expr, Inherit};
+use rnix::{Root, SyntaxKind, SyntaxNode, TextRange};
+use std::alloc::{AllocError, Global};
+
+// A list or a set whose values are being read.
+#[derive(Clone, Copy)]
+struct Frame {
+    // Its number.
+    node: usize,
+    // Where its text ends.
+    end: usize,
+    // How many values there were when its text began: those of them that are inside it are from another text.
+    first: usize,
+}
+
+// The attribute whose value comes next.
+#[derive(Drop)]
+struct Entry {
+    set: usize,
+    name: String,
+    place: TextRange,
+}
+
+// What is read so far.
+#[derive(Drop)]
+struct Reading {
+    alloc: Global,
+    is_lossy: bool,
+    builder: Builder,
+    // Where the name of each value stands, or the value where it has no name.
+    places: Vec<TextRange>,
+    frames: Vec<Frame>,
+    entry: Option<Entry>,
+    // What begins before is passed over.
+    skipped_to: usize,
+}
+
+// A name with its place.
+#[derive(Drop)]
+struct Name {
+    text: String,
+    place: TextRange,
+}
+
+impl Reading {
+    // The source of a node in a string, where what is no data is kept so.
+    fn or_source(
+        &self,
+        node: &SyntaxNode<'_>,
+        outcome: Result<String, Stop>,
+    ) -> Result<String, Stop> {
+        match outcome {
+            Err(Stop::NoData(_)) if self.is_lossy => {
+                Ok(String::from_str(self.alloc, node.text())?)
+            }
+            other => other,
+        }
+    }
+
+    // The text of a computed name, if it is a string.
+    fn dynamic(&self, name: &Dynamic<'_>) -> Result<String, Stop> {
+        match name.expr() {
+            Some(Expr::Str(string)) => text_of(self.alloc, &string),
+            _ => Err(no_data(
+                Reason::Evaluated(name.syntax().kind()),
+                name.syntax().text_range(),
+            )),
+        }
+    }
+
+    // The text of a name.
+    fn name_text(&self, attr: &Attr<'_>) -> Result<String, Stop> {
+        match attr {
+            Attr::Ident(ident) => Ok(String::from_str(self.alloc, ident.syntax().text())?),
+            Attr::Dynamic(name) => self.dynamic(name),
+            Attr::Str(string) if string.syntax().text().starts_with('"') => {
+                text_of(self.alloc, string)
+            }
+            Attr::Str(string) => Err(no_data(Reason::IndentedName, string.syntax().text_range())),
+        }
+    }
+
+    // A name with its place.
+    fn name(&self, attr: &Attr<'_>) -> Result<Name, Stop> {
+        Ok(Name {
+            text: self.or_source(attr.syntax(), self.name_text(attr))?,
+            place: attr.syntax().text_range(),
+        })
+    }
+
+    // Says that an attribute is defined twice.
+    fn repeated(&self, place: TextRange, first: usize) -> Stop {
+        Stop::NoData(NoData {
+            reason: Reason::Repeated,
+            range: place,
+            first: self.places.get(first).copied(),
+        })
+    }
+
+    // Adds a value to a list or a set, or as the whole.
+    fn push(
+        &mut self,
+        parent: Option<usize>,
+        name: String,
+        value: Value,
+        place: TextRange,
+    ) -> Result<usize, Stop> {
+        self.places.push(place)?;
+        Ok(self.builder.add(self.alloc, parent, name, value)?)
+    }
+
+    // The set that an attribute of a set is, which it becomes if there is none. One that is older than `first` is of another text.
+    fn set_of(&mut self, set: usize, name: Name, first: usize) -> Result<usize, Stop> {
+        match self.builder.attribute(set, name.text.as_str()) {
+            Some(found) if found >= first && self.builder.is_set(found) => Ok(found),
+            Some(found) => Err(self.repeated(name.place, found)),
+            None => self.push(Some(set), name.text, Value::Set, name.place),
+        }
+    }
+
+    // The innermost list or set, if there is one.
+    fn frame(&self) -> Option<Frame> {
+        self.frames.last().copied()
+    }
+
+    // Leaves the lists and sets whose text ends before an offset.
+    fn leave(&mut self, offset: usize) {
+        for _frame in 0..self.frames.len() {
+            match self.frames.last() {
+                Some(frame) if frame.end <= offset => {
+                    let _left = self.frames.pop();
+                }
+                _ => break,
+            }
+        }
+    }
+
+    // Takes the path of an entry: its value comes next.
+    fn enter_entry(&mut self, entry: &AttrpathValue<'_>) -> Result<(), Stop> {
+        let (Some(path), Some(frame)) = (entry.attrpath(), self.frame()) else {
+            return Ok(());
+        };
+        self.skipped_to = path.syntax().text_range().end();
+        let (mut set, mut first) = (frame.node, frame.first);
+        let mut last: Option<Name> = None;
+        for attr in path.attrs() {
+            let name = self.name(&attr)?;
+            if let Some(before) = last {
+                set = self.set_of(set, before, first)?;
+                first = 0;
+            }
+            last = Some(name);
+        }
+        let Some(name) = last else {
+            return Ok(());
+        };
+        if let Some(found) = self.builder.attribute(set, name.text.as_str()) {
+            if found < first || !self.builder.is_set(found) {
+                return Err(self.repeated(name.place, found));
+            }
+        }
+        self.entry = Some(Entry {
+            set,
+            name: name.text,
+            place: name.place,
+        });
+        Ok(())
+    }
+
+    // Adds a value: of the entry whose path was read, of the innermost list, or as the whole.
+    fn add(&mut self, value: Value, range: TextRange) -> Result<usize, Stop> {
+        match self.entry.take() {
+            Some(entry) => match self.builder.attribute(entry.set, entry.name.as_str()) {
+                Some(found) if matches!(&value, Value::Set) && self.builder.is_set(found) => {
+                    Ok(found)
+                }
+                Some(found) => Err(self.repeated(entry.place, found)),
+                None => self.push(Some(entry.set), entry.name, value, entry.place),
+            },
+            None => {
+                let parent = self.frame().map(|frame| frame.node);
+                let name = String::new(self.alloc);
+                self.push(parent, name, value, range)
+            }
+        }
+    }
+
+    // Begins a list or a set.
+    fn open(&mut self, value: Value, range: TextRange) -> Result<(), Stop> {
+        let node = self.add(value, range)?;
+        self.frames.push(Frame {
+            node,
+            end: range.end(),
+            first: self.builder.len(),
+        })?;
+        Ok(())
+    }
+
+    // Takes an `inherit`, whose source is the value of each of its names where what is no data is kept.
+    fn enter_inherit(&mut self, inherit: &Inherit<'_>) -> Result<(), Stop> {
+        let range = inherit.syntax().text_range();
+        self.skipped_to = range.end();
+        let Some(frame) = self.frame() else {
+            return Ok(());
+        };
+        if !self.is_lossy {
+            return Err(no_data(Reason::Evaluated(inherit.syntax().kind()), range));
+        }
+        for attr in inherit.attrs() {
+            let name = self.name(&attr)?;
+            if let Some(found) = self.builder.attribute(frame.node, name.text.as_str()) {
+                return Err(self.repeated(name.place, found));
+            }
+            let source = Value::Text(String::from_str(self.alloc, inherit.syntax().text())?);
+            let _number = self.push(Some(frame.node), name.text, source, name.place)?;
+        }
+        Ok(())
+    }
+
+    // Takes a value that holds no values.
+    fn enter_scalar(
+        &mut self,
+        node: &SyntaxNode<'_>,
+        outcome: Result<Value, Stop>,
+    ) -> Result<(), Stop> {
+        let range = node.text_range();
+        self.skipped_to = range.end();
+        let value = match outcome {
+            Err(Stop::NoData(_)) if self.is_lossy => {
+                Value::Text(String::from_str(self.alloc, node.text())?)
+            }
+            other => other?,
+        };
+        let _number = self.add(value, range)?;
+        Ok(())
+    }
+
+    // Takes a set.
+    fn enter_set(&mut self, set: &AttrSet<'_>) -> Result<(), Stop> {
+        let range = set.syntax().text_range();
+        match set.rec_token() {
+            None => self.open(Value::Set, range),
+            Some(_) => self.enter_scalar(set.syntax(), Err(no_data(Reason::Recursive, range))),
+        }
+    }
+
+    // Takes a node, whose parents were taken before.
+    fn enter(&mut self, node: &SyntaxNode<'_>) -> Result<(), Stop> {
+        let range = node.text_range();
+        if range.start() < self.skipped_to {
+            return Ok(());
+        }
+        self.leave(range.start());
+        match node.kind() {
+            SyntaxKind::NODE_ROOT | SyntaxKind::NODE_PAREN => Ok(()),
+            SyntaxKind::NODE_LIST => self.open(Value::List, range),
+            SyntaxKind::NODE_ATTR_SET => match AttrSet::cast(node.clone()) {
+                Some(set) => self.enter_set(&set),
+                None => Ok(()),
+            },
+            SyntaxKind::NODE_ATTRPATH_VALUE => match AttrpathValue::cast(node.clone()) {
+                Some(entry) => self.enter_entry(&entry),
+                None => Ok(()),
+            },
+            SyntaxKind::NODE_INHERIT => match Inherit::cast(node.clone()) {
+                Some(inherit) => self.enter_inherit(&inherit),
+                None => Ok(()),
+            },
+            _ => self.enter_scalar(node, scalar(self.alloc, node)),
+        }
+    }
+}
+
+// The data of a tree without errors.
+fn read(alloc: Global, root: &SyntaxNode<'_>, is_lossy: bool) -> Result<Data, Stop> {
+    let mut reading = Reading {
+        alloc,
+        is_lossy,
+        builder: Builder::new(alloc),
+        places: Vec::new(alloc),
+        frames: Vec::new(alloc),
+        entry: None,
+        skipped_to: 0,
+    };
+    for node in root.descendants() {
+        reading.enter(&node)?;
+    }
+    Ok(reading.builder.finish(alloc)?)
+}
+
+/// Returns the data of a tree without errors, or the first part that is none. If `is_lossy`, such a part becomes a string that is its source.
+pub fn data_in(
+    alloc: Global,
+    root: &SyntaxNode<'_>,
+    is_lossy: bool,
+) -> Result<Result<Data, NoData>, AllocError> {
+    match read(alloc, root, is_lossy) {
+        Ok(found) => Ok(Ok(found)),
+        Err(Stop::NoData(reason)) => Ok(Err(reason)),
+        Err(Stop::Memory) => Err(AllocError),
+    }
+}
+
+/// Returns the data of a Nix text, or the first part that is none.
+pub fn data_of(alloc: Global, text: &str) -> Result<Result<Data, NoData>, AllocError> {
+    let parse = Root::parse(alloc, text)?;
+    if let Some(error) = parse.errors().first() {
+        return Ok(Err(NoData {
+            reason: Reason::Errors,
+            range: error.range().unwrap_or(TextRange::empty(text.len())),
+            first: None,
+        }));
+    }
+    data_in(alloc, &parse.syntax(), false)
+}

@@ -1,0 +1,77 @@
+//! Why a part of a text is no data.
+
+use rnix::{SyntaxKind, TextRange};
+
+/// Why a part of a text is no data.
+#[derive(Clone, Copy, PartialEq, Eq, Debug)]
+pub enum Reason {
+    /// The text has errors.
+    Errors,
+    /// An expression that Nix must evaluate.
+    Evaluated(SyntaxKind),
+    /// A set with `rec`.
+    Recursive,
+    /// An integer that does not fit in 64 bits.
+    TooLarge,
+    /// A float that Nix cannot hold.
+    NoFloat,
+    /// A string with the character 0.
+    HasNul,
+    /// A string in `"` with a carriage return.
+    HasReturn,
+    /// A string in `''` as a name.
+    IndentedName,
+    /// An attribute that is already defined.
+    Repeated,
+}
+
+/// A part of a text that is no data.
+#[derive(Clone, Copy, PartialEq, Eq, Debug)]
+pub struct NoData {
+    /// Why it is none.
+    pub reason: Reason,
+    /// The part, in bytes.
+    pub range: TextRange,
+    /// Where a repeated attribute is defined first.
+    pub first: Option<TextRange>,
+}
+
+// What an expression of a kind is called.
+fn expression(kind: SyntaxKind) -> &'static str {
+    match kind {
+        SyntaxKind::NODE_APPLY => "a call is not data",
+        SyntaxKind::NODE_ASSERT => "`assert` is not data",
+        SyntaxKind::NODE_BIN_OP | SyntaxKind::NODE_UNARY_OP | SyntaxKind::NODE_HAS_ATTR => {
+            "an operator is not data"
+        }
+        SyntaxKind::NODE_CUR_POS => "`__curPos` is not data",
+        SyntaxKind::NODE_DYNAMIC => "a computed name is not data",
+        SyntaxKind::NODE_IDENT => "a name is not data",
+        SyntaxKind::NODE_IF_ELSE => "`if` is not data",
+        SyntaxKind::NODE_INHERIT => "`inherit` is not data",
+        SyntaxKind::NODE_INTERPOL => "an interpolation is not data",
+        SyntaxKind::NODE_LAMBDA => "a function is not data",
+        SyntaxKind::NODE_LEGACY_LET | SyntaxKind::NODE_LET_IN => "`let` is not data",
+        SyntaxKind::NODE_PATH_SEARCH => "a search path is not data",
+        SyntaxKind::NODE_SELECT => "a selection is not data",
+        SyntaxKind::NODE_WITH => "`with` is not data",
+        _ => "this is not data",
+    }
+}
+
+impl Reason {
+    /// Returns the reason in words.
+    pub fn text(self) -> &'static str {
+        match self {
+            Reason::Errors => "the text has errors",
+            Reason::Evaluated(kind) => expression(kind),
+            Reason::Recursive => "`rec` is not data",
+            Reason::TooLarge => "the integer does not fit in 64 bits",
+            Reason::NoFloat => "the float is too large or too small",
+            Reason::HasNul => "a string cannot hold the character 0",
+            Reason::HasReturn => "Nix reads this carriage return as a line feed: write \\r or \\n",
+            Reason::IndentedName => "a name cannot be a string in ''",
+            Reason::Repeated => "the attribute is already defined",
+        }
+    }
+}

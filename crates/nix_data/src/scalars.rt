@@ -1,0 +1,158 @@
+//! Values that hold no values.
+
+ghost use Rattle.std.specs.Prelude.{◌≡◌, map, option_map, string_bytes, IfOk};
+ghost use Rattle.rnix_base.specs.Normal.{with_text};
+ghost use Rattle.nix_data.specs.Meaning.{joined, string_text};
+
+use crate::no_data::{NoData, Reason};
+use nix_values::{Value, float_of};
+use rnix::ast::{
+    AstNode, AstToken, Expr, InterpolPart, Literal, LiteralKind, Str, UnaryOp, UnaryOpKind,
+};
+use rnix::{SyntaxKind, SyntaxNode, TextRange};
+use std::alloc::{AllocError, Global};
+
+/// Why no more is read.
+#[derive(Drop)]
+pub enum Stop {
+    /// There is no memory.
+    Memory,
+    /// A part of the text is no data.
+    NoData(NoData),
+}
+
+impl From<AllocError> for Stop {
+    fn from(_error: AllocError) -> Stop {
+        Stop::Memory
+    }
+}
+
+impl<T: Drop> From<std::alloc::AllocFailed<T>> for Stop {
+    fn from(_error: std::alloc::AllocFailed<T>) -> Stop {
+        Stop::Memory
+    }
+}
+
+/// Returns that a part of a text is no data.
+pub fn no_data(reason: Reason, range: TextRange) -> Stop {
+    Stop::NoData(NoData {
+        reason,
+        range,
+        first: None,
+    })
+}
+
+// The range of the first interpolation of a string, or else of the string.
+fn interpolation(string: &Str<'_>) -> TextRange {
+    for part in string.parts() {
+        if let InterpolPart::Interpolation(found) = part {
+            return found.syntax().text_range();
+        }
+    }
+    string.syntax().text_range()
+}
+
+// The texts of some parts, joined, or nothing if one is an interpolation.
+fn joined(alloc: Global, parts: &[InterpolPart<'_, String>]) -> Result<Option<String>, AllocError>
+    ensures { IfOk result (λ found. option_map string_bytes found ≡ joined (map (with_text string_bytes) parts.now)) }
+{
+    let mut text = String::new(alloc);
+    for part in parts {
+        match part {
+            InterpolPart::Literal(literal) => text.push_str(literal.as_str())?,
+            InterpolPart::Interpolation(_) => return Ok(None),
+        }
+    }
+    Ok(Some(text))
+}
+
+/// Returns the text that a string stands for, or nothing if it has an interpolation.
+pub fn plain_text(alloc: Global, string: &Str<'_>) -> Result<Option<String>, AllocError>
+    ensures { IfOk result (λ found. option_map string_bytes found ≡ string_text string.now) }
+{
+    let parts = string.normalized_parts(alloc)?;
+    joined(alloc, parts.as_slice())
+}
+
+/// Returns the text that a string stands for.
+pub fn text_of(alloc: Global, string: &Str<'_>) -> Result<String, Stop> {
+    let (source, range) = (string.syntax().text(), string.syntax().text_range());
+    let Some(text) = plain_text(alloc, string)? else {
+        return Err(no_data(
+            Reason::Evaluated(SyntaxKind::NODE_INTERPOL),
+            interpolation(string),
+        ));
+    };
+    if text.contains('\0') {
+        return Err(no_data(Reason::HasNul, range));
+    }
+    if source.starts_with('"') && source.contains('\r') {
+        return Err(no_data(Reason::HasReturn, range));
+    }
+    Ok(text)
+}
+
+// The value of a number or a URI, negated or not.
+fn literal(alloc: Global, literal: &Literal<'_>, is_negative: bool) -> Result<Value, Stop> {
+    let range = literal.syntax().text_range();
+    match literal.kind() {
+        Some(LiteralKind::Integer(integer)) => match integer.value() {
+            Ok(number) if is_negative => Ok(Value::Integer(number.saturating_neg())),
+            Ok(number) => Ok(Value::Integer(number)),
+            Err(_) => Err(no_data(Reason::TooLarge, range)),
+        },
+        Some(LiteralKind::Float(float)) => {
+            let sign = if is_negative { "-" } else { "" };
+            let digits = float.syntax().text();
+            match float_of(alloc, format!(in alloc; "{sign}{digits}")?.as_str())? {
+                Some(float) => Ok(Value::Float(float)),
+                None => Err(no_data(Reason::NoFloat, range)),
+            }
+        }
+        Some(LiteralKind::Uri(uri)) if !is_negative => {
+            Ok(Value::Text(String::from_str(alloc, uri.syntax().text())?))
+        }
+        _ => Err(no_data(Reason::Evaluated(SyntaxKind::NODE_UNARY_OP), range)),
+    }
+}
+
+// The value of a prefix operation: a negative number.
+fn negative(alloc: Global, operation: &UnaryOp<'_>) -> Result<Value, Stop> {
+    match (operation.operator(), operation.expr()) {
+        (Some(UnaryOpKind::Negate), Some(Expr::Literal(number))) => literal(alloc, &number, true),
+        _ => Err(no_data(
+            Reason::Evaluated(SyntaxKind::NODE_UNARY_OP),
+            operation.syntax().text_range(),
+        )),
+    }
+}
+
+// The value of a name: one of three that mean the same everywhere.
+fn named(node: &SyntaxNode<'_>) -> Result<Value, Stop> {
+    match node.text() {
+        "null" => Ok(Value::Null),
+        "true" => Ok(Value::Bool(true)),
+        "false" => Ok(Value::Bool(false)),
+        _ => Err(no_data(Reason::Evaluated(node.kind()), node.text_range())),
+    }
+}
+
+// The value of a path: its text, if it has no interpolation.
+fn path(alloc: Global, node: &SyntaxNode<'_>) -> Result<Value, Stop> {
+    match node.first_child() {
+        Some(inside) => Err(no_data(Reason::Evaluated(inside.kind()), inside.text_range())),
+        None => Ok(Value::Text(String::from_str(alloc, node.text())?)),
+    }
+}
+
+/// Returns the value of an expression that is neither a list nor a set.
+pub fn scalar<'t>(alloc: Global, node: &SyntaxNode<'t>) -> Result<Value, Stop> {
+    match Expr::cast(node.clone()) {
+        Some(Expr::Str(string)) => Ok(Value::Text(text_of(alloc, &string)?)),
+        Some(Expr::Literal(number)) => literal(alloc, &number, false),
+        Some(Expr::UnaryOp(operation)) => negative(alloc, &operation),
+        Some(Expr::Ident(_)) => named(node),
+        Some(Expr::PathAbs(_) | Expr::PathRel(_) | Expr::PathHome(_)) => path(alloc, node),
+        _ => Err(no_data(Reason::Evaluated(node.kind()), node.text_range())),
+    }
+}

@@ -1,0 +1,141 @@
+//! Prints the data of a Nix text as JSON: `nix-json [--lossy] [FILE [PATH]]`, and JSON as Nix: `nix-json --to-nix [FILE]`.
+#![tactic(auto)]
+
+mod report;
+
+use nix_cli::{
+    Arguments, FAILED, FOUND, Program, Start, end, place_of, read_arguments, read_text, refuse,
+    shown_name,
+};
+use nix_data::{data_in, nix_of};
+use nix_values::{Data, data_of_json, json_of};
+use report::{report_errors, report_no_data};
+use rnix::Root;
+use std::io::{self, Write};
+use std::process::ExitCode;
+
+const PROGRAM: Program = Program {
+    name: "nix-json",
+    help: "\
+nix-json [--lossy] [FILE [PATH]]
+nix-json --to-nix [FILE]
+
+Prints the data of a Nix text as JSON, or its part at a dotted PATH. Data are sets, lists, strings, paths, numbers, true, false and null.
+What Nix must evaluate, such as a call, is refused. - and no FILE stand for standard input. In PATH, a number stands for an item of a list,
+and a name may be in quotes.
+
+    --lossy    write what is not data as its source, in a string
+    --to-nix   print JSON as Nix
+",
+    statuses: "
+Ends with 0, with 1 if the text is refused or has no such PATH, or with 2 if something could not be read or written.
+",
+    flags: &["--lossy", "--to-nix"],
+    has_colors: false,
+    least: 0,
+    most: 2,
+};
+
+// Prints a text that was made, if there is one.
+fn write_made(rt: &HostRuntime, made: Option<String>) -> io::Result<u8> {
+    match made {
+        Some(text) => {
+            rt.stdout().write_all(text.as_bytes())?;
+            Ok(0)
+        }
+        None => {
+            refuse(
+                rt,
+                &PROGRAM,
+                "what would be printed does not read as the same data",
+            )?;
+            Ok(FAILED)
+        }
+    }
+}
+
+// Prints data, or their part at a path, as JSON.
+fn write_part(rt: &HostRuntime, name: &str, data: Data, path: Option<&str>) -> io::Result<u8> {
+    let Some(path) = path else {
+        return write_made(rt, json_of(rt.alloc(), &data)?);
+    };
+    match data.part(rt.alloc(), path)? {
+        Some(part) => write_made(rt, json_of(rt.alloc(), &part)?),
+        None => {
+            eprintln!(rt;
+                "nix-json: {}: nothing has the path {path}",
+                shown_name(name)
+            )?;
+            Ok(FOUND)
+        }
+    }
+}
+
+// Prints the data of a Nix text as JSON.
+fn to_json(
+    rt: &HostRuntime,
+    name: &str,
+    text: &str,
+    path: Option<&str>,
+    is_lossy: bool,
+) -> io::Result<u8> {
+    let parse = Root::parse(rt.alloc(), text)?;
+    if !parse.errors().is_empty() {
+        report_errors(rt, name, text, &parse)?;
+        return Ok(FOUND);
+    }
+    match data_in(rt.alloc(), &parse.syntax(), is_lossy)? {
+        Ok(data) => write_part(rt, name, data, path),
+        Err(reason) => {
+            report_no_data(rt, name, text, reason)?;
+            Ok(FOUND)
+        }
+    }
+}
+
+// Prints a JSON text as Nix.
+fn to_nix(rt: &HostRuntime, name: &str, text: &str) -> io::Result<u8> {
+    let error = match data_of_json(rt.alloc(), text)? {
+        Ok(data) => return write_made(rt, nix_of(rt.alloc(), &data)?),
+        Err(error) => error,
+    };
+    let name = shown_name(name);
+    let (line, column) = place_of(text, error.offset);
+    let reason = error.reason.text();
+    eprintln!(rt; "nix-json: {name}:{line}:{column}: {reason}")?;
+    if let Some(first) = error.first {
+        let (line, column) = place_of(text, first);
+        eprintln!(rt; "nix-json: {name}:{line}:{column}: the first one")?;
+    }
+    Ok(FOUND)
+}
+
+// Converts the file that the command line names.
+fn convert(rt: &HostRuntime, arguments: &Arguments) -> io::Result<u8> {
+    let mut words = arguments.words.iter();
+    let name = words.next().map_or("-", |name| name.as_str());
+    let path = words.next().map(|path| path.as_str());
+    let (is_lossy, is_to_nix) = (arguments.has("--lossy"), arguments.has("--to-nix"));
+    if is_to_nix && (is_lossy || path.is_some()) {
+        refuse(rt, &PROGRAM, "--to-nix takes no --lossy and no PATH")?;
+        return Ok(FAILED);
+    }
+    match read_text(rt, &PROGRAM, name)? {
+        Some(text) if is_to_nix => to_nix(rt, name, text.as_str()),
+        Some(text) => to_json(rt, name, text.as_str(), path, is_lossy),
+        None => Ok(FAILED),
+    }
+}
+
+// Does what the command line asks for.
+fn run(rt: &HostRuntime) -> io::Result<u8> {
+    match read_arguments(rt, &PROGRAM)? {
+        Start::Run(arguments) => convert(rt, &arguments),
+        Start::End(status) => Ok(status),
+    }
+}
+
+fn main(rt: HostRuntime) -> ExitCode {
+    let outcome = run(&rt);
+    end(&rt, &PROGRAM, outcome)
+}

@@ -1,0 +1,92 @@
+//! What is wrong with a text, with its place and its line.
+
+use nix_cli::{shown_name, write_excerpt};
+use nix_data::NoData;
+use nix_diagnostics::{Diagnostic, diagnostics};
+use rnix::{Parse, TextRange};
+use rnix_text::{ColumnUnit, LineIndex};
+use std::io::{self, BufWriter, Write};
+
+// The errors that are printed of a text.
+const LIMIT: usize = 20;
+
+// A text with its name and lines.
+#[derive(Clone, Copy)]
+struct Source<'a> {
+    name: &'a str,
+    text: &'a str,
+    index: &'a LineIndex<'a>,
+}
+
+// Prints a message with its place, and the line with carets.
+fn write_message<W: Write>(
+    source: Source<'_>,
+    range: TextRange,
+    kind: &str,
+    message: &str,
+    out: &mut W,
+) -> io::Result<()> {
+    let place = source.index.position(range.start()).unwrap_or_default();
+    let (line, column) = (place.line.saturating_add(1), place.column.saturating_add(1));
+    writeln!(out, "{}:{line}:{column}: {kind}: {message}", source.name)?;
+    write_excerpt(source.text, range.start()..range.end(), out)
+}
+
+// Prints an error of a text, with its notes.
+fn write_diagnostic<W: Write>(
+    source: Source<'_>,
+    diagnostic: &Diagnostic,
+    out: &mut W,
+) -> io::Result<()> {
+    write_message(
+        source,
+        diagnostic.range,
+        "error",
+        diagnostic.message.as_str(),
+        out,
+    )?;
+    for note in &diagnostic.notes {
+        match note.range {
+            Some(range) => write_message(source, range, "note", note.message, out)?,
+            None => writeln!(out, "  help: {}", note.message)?,
+        }
+    }
+    Ok(())
+}
+
+/// Prints the errors of a text.
+pub fn report_errors(rt: &HostRuntime, name: &str, text: &str, parse: &Parse) -> io::Result<()> {
+    let index = LineIndex::new(rt.alloc(), text, ColumnUnit::Chars)?;
+    let source = Source {
+        name: shown_name(name),
+        text,
+        index: &index,
+    };
+    let mut out = BufWriter::new(rt.alloc(), rt.stderr())?;
+    for diagnostic in diagnostics(rt.alloc(), parse)?.iter().take(LIMIT) {
+        write_diagnostic(source, diagnostic, &mut out)?;
+    }
+    out.flush()
+}
+
+/// Prints why a part of a text is no data.
+pub fn report_no_data(rt: &HostRuntime, name: &str, text: &str, reason: NoData) -> io::Result<()> {
+    let index = LineIndex::new(rt.alloc(), text, ColumnUnit::Chars)?;
+    let source = Source {
+        name: shown_name(name),
+        text,
+        index: &index,
+    };
+    let mut out = BufWriter::new(rt.alloc(), rt.stderr())?;
+    write_message(
+        source,
+        reason.range,
+        "error",
+        reason.reason.text(),
+        &mut out,
+    )?;
+    if let Some(first) = reason.first {
+        write_message(source, first, "note", "it is first defined here", &mut out)?;
+    }
+    out.flush()
+}
