@@ -55,10 +55,15 @@ impl Reading {
         outcome: Result<String, Stop>,
     ) -> Result<String, Stop> {
         match outcome {
-            Err(Stop::NoData(_)) if self.is_lossy => {
-                Ok(String::from_str(self.alloc, node.text())?)
+            Ok(text) => Ok(text),
+            Err(Stop::Memory) => Err(Stop::Memory),
+            Err(Stop::NoData(reason)) => {
+                if self.is_lossy {
+                    Ok(String::from_str(self.alloc, node.text())?)
+                } else {
+                    Err(Stop::NoData(reason))
+                }
             }
-            other => other,
         }
     }
 
@@ -222,7 +227,7 @@ impl Reading {
         Ok(())
     }
 
-    // Takes a value that holds no values.
+    // Takes a value that holds no values, or the source of what is no data, where it is kept so.
     fn enter_scalar(
         &mut self,
         node: &SyntaxNode<'_>,
@@ -231,10 +236,14 @@ impl Reading {
         let range = node.text_range();
         self.skipped_to = range.end();
         let value = match outcome {
-            Err(Stop::NoData(_)) if self.is_lossy => {
+            Ok(value) => value,
+            Err(Stop::Memory) => return Err(Stop::Memory),
+            Err(Stop::NoData(reason)) => {
+                if !self.is_lossy {
+                    return Err(Stop::NoData(reason));
+                }
                 Value::Text(String::from_str(self.alloc, node.text())?)
             }
-            other => other?,
         };
         let _number = self.add(value, range)?;
         Ok(())

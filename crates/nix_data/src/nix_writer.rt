@@ -1,7 +1,10 @@
 //! Data as a Nix text.
 
-ghost use Rattle.std.specs.Prelude.{◌≡◌, IfOk, IfSome, IsTrue, string_bytes};
+ghost use Rattle.std.specs.Prelude.{◌≡◌, [], IfOk, IfSome, IsSomeAnd, IsTrue, string_bytes};
+ghost use Rattle.rnix_base.specs.Select.{child_of};
+ghost use Rattle.rnix.specs.NodeKinds.{is_expr};
 ghost use Rattle.nix_values.specs.Contents.{contents};
+ghost use Rattle.nix_data.specs.Meaning.{Means};
 ghost use Rattle.nix_data.specs.Written.{IsWritten};
 
 use crate::meaning::behind;
@@ -12,9 +15,6 @@ use nix_values::{Data, Item, Notation, Value, kept, push_indentation};
 use rnix::Root;
 use rnix::ast::AstNode;
 use std::alloc::{AllocError, Global};
-
-// The most levels of values in one another that are written.
-const LEVELS: usize = 1024;
 
 // A text that is being written, with the lists and sets that are open, the innermost last: whether each is a set.
 #[derive(Drop)]
@@ -133,20 +133,28 @@ impl Notation for Nix {
     }
 }
 
+// Whether the expression of a tree stands for some data.
+#[tactic(auto, using(crate::proofs::WrittenLemmas::all_taken))]
+fn stands_for(alloc: Global, root: &Root<'_>, whole: &Data) -> Result<bool, AllocError>
+    ensures { IfOk result (λ is_meant. IsTrue is_meant → IsSomeAnd (child_of is_expr 0 root.now) (λ e. Means 1024 0 [] e (contents whole.now))) }
+{
+    let Some(expr) = root.expr() else {
+        return Ok(false);
+    };
+    match behind(alloc, 1024, 0, "", expr.syntax(), whole.items.as_slice())? {
+        Some(rest) => Ok(rest.is_empty()),
+        None => Ok(false),
+    }
+}
+
 // Whether a text has no errors, and its expression stands for some data.
 fn is_written(alloc: Global, text: &str, whole: &Data) -> Result<bool, AllocError>
     ensures { IfOk result (λ is_written. IsTrue is_written → IsWritten text.now (contents whole.now)) }
 {
     let parse = Root::parse(alloc, text)?;
-    if !parse.errors().is_empty() {
-        return Ok(false);
-    }
-    let Some(expr) = parse.tree().expr() else {
-        return Ok(false);
-    };
-    match behind(alloc, LEVELS, 0, "", expr.syntax(), whole.items.as_slice())? {
-        Some(rest) => Ok(rest.is_empty()),
-        None => Ok(false),
+    match parse.ok() {
+        Ok(root) => stands_for(alloc, &root, whole),
+        Err(_) => Ok(false),
     }
 }
 

@@ -3,7 +3,7 @@
 use rnix::{SyntaxKind, TextRange};
 
 /// Why a part of a text is no data.
-#[derive(Clone, Copy, PartialEq, Eq, Debug)]
+#[derive(Clone, Copy)]
 pub enum Reason {
     /// The text has errors.
     Errors,
@@ -26,7 +26,7 @@ pub enum Reason {
 }
 
 /// A part of a text that is no data.
-#[derive(Clone, Copy, PartialEq, Eq, Debug)]
+#[derive(Clone, Copy)]
 pub struct NoData {
     /// Why it is none.
     pub reason: Reason,

@@ -7,7 +7,8 @@ ghost use Rattle.nix_data.specs.Meaning.{joined, string_text};
 use crate::no_data::{NoData, Reason};
 use nix_values::{Value, float_of};
 use rnix::ast::{
-    AstNode, AstToken, Expr, InterpolPart, Literal, LiteralKind, Str, UnaryOp, UnaryOpKind,
+    AstNode, AstToken, Expr, Float, Integer, InterpolPart, Literal, LiteralKind, Str, UnaryOp,
+    UnaryOpKind, Uri,
 };
 use rnix::{SyntaxKind, SyntaxNode, TextRange};
 use std::alloc::{AllocError, Global};
@@ -53,6 +54,7 @@ fn interpolation(string: &Str<'_>) -> TextRange {
 }
 
 // The texts of some parts, joined, or nothing if one is an interpolation.
+#[tactic(auto, using(crate::proofs::MeaningLemmas::joined_more, crate::proofs::MeaningLemmas::before_none, crate::proofs::MeaningLemmas::joined_none))]
 fn joined(alloc: Global, parts: &[InterpolPart<'_, String>]) -> Result<Option<String>, AllocError>
     ensures { IfOk result (λ found. option_map string_bytes found ≡ joined (map (with_text string_bytes) parts.now)) }
 {
@@ -92,27 +94,50 @@ pub fn text_of(alloc: Global, string: &Str<'_>) -> Result<String, Stop> {
     Ok(text)
 }
 
+// The value of an integer, negated or not.
+fn integer(number: &Integer<'_>, is_negative: bool) -> Result<Value, Stop> {
+    match number.value() {
+        Ok(number) => Ok(Value::Integer(if is_negative {
+            number.saturating_neg()
+        } else {
+            number
+        })),
+        Err(_) => Err(no_data(Reason::TooLarge, number.syntax().text_range())),
+    }
+}
+
+// The value of a float, negated or not.
+fn float(alloc: Global, number: &Float<'_>, is_negative: bool) -> Result<Value, Stop> {
+    let sign = if is_negative { "-" } else { "" };
+    let digits = number.syntax().text();
+    let signed = format!(in alloc; "{sign}{digits}")?;
+    match float_of(alloc, signed.as_str())? {
+        Some(float) => Ok(Value::Float(float)),
+        None => Err(no_data(Reason::NoFloat, number.syntax().text_range())),
+    }
+}
+
+// The value of a URI: its text. It has no negation.
+fn uri(alloc: Global, address: &Uri<'_>, is_negative: bool) -> Result<Value, Stop> {
+    if is_negative {
+        return Err(no_data(
+            Reason::Evaluated(SyntaxKind::NODE_UNARY_OP),
+            address.syntax().text_range(),
+        ));
+    }
+    Ok(Value::Text(String::from_str(alloc, address.syntax().text())?))
+}
+
 // The value of a number or a URI, negated or not.
 fn literal(alloc: Global, literal: &Literal<'_>, is_negative: bool) -> Result<Value, Stop> {
-    let range = literal.syntax().text_range();
     match literal.kind() {
-        Some(LiteralKind::Integer(integer)) => match integer.value() {
-            Ok(number) if is_negative => Ok(Value::Integer(number.saturating_neg())),
-            Ok(number) => Ok(Value::Integer(number)),
-            Err(_) => Err(no_data(Reason::TooLarge, range)),
-        },
-        Some(LiteralKind::Float(float)) => {
-            let sign = if is_negative { "-" } else { "" };
-            let digits = float.syntax().text();
-            match float_of(alloc, format!(in alloc; "{sign}{digits}")?.as_str())? {
-                Some(float) => Ok(Value::Float(float)),
-                None => Err(no_data(Reason::NoFloat, range)),
-            }
-        }
-        Some(LiteralKind::Uri(uri)) if !is_negative => {
-            Ok(Value::Text(String::from_str(alloc, uri.syntax().text())?))
-        }
-        _ => Err(no_data(Reason::Evaluated(SyntaxKind::NODE_UNARY_OP), range)),
+        Some(LiteralKind::Integer(number)) => integer(&number, is_negative),
+        Some(LiteralKind::Float(number)) => float(alloc, &number, is_negative),
+        Some(LiteralKind::Uri(address)) => uri(alloc, &address, is_negative),
+        None => Err(no_data(
+            Reason::Evaluated(SyntaxKind::NODE_LITERAL),
+            literal.syntax().text_range(),
+        )),
     }
 }
 

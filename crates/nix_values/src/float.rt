@@ -42,7 +42,9 @@ pub fn float_of(alloc: Global, number: &str) -> Result<Option<String>, AllocErro
         }
         None => number,
     };
-    let (whole, rest) = unsigned.split_at_checked(digits(unsigned)).unwrap_or(("", unsigned));
+    let (whole, rest) = unsigned
+        .split_at_checked(digits(unsigned))
+        .unwrap_or(("", unsigned));
     text.push_str(if whole.is_empty() { "0" } else { whole })?;
     text.push('.')?;
     let rest = rest.strip_prefix('.').unwrap_or(rest);

@@ -57,7 +57,7 @@ impl JsonReason {
             JsonReason::NoNumber => "this is not a number",
             JsonReason::TooLarge => "Nix cannot write this integer: it has 64 bits",
             JsonReason::NoFloat => "Nix cannot hold this number: it is too large or too small",
-            JsonReason::TooDeep => "lists and objects nest more than 500 deep here",
+            JsonReason::TooDeep => "lists and objects nest more than 512 deep here",
             JsonReason::Repeated => "the object has this name twice",
         }
     }

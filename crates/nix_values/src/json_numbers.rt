@@ -13,7 +13,11 @@ fn after_digits(text: &str) -> &str {
 // A text without the digits that it begins with; nothing if there are none.
 fn after_some_digits(text: &str) -> Option<&str> {
     let rest = after_digits(text);
-    if rest.len() < text.len() { Some(rest) } else { None }
+    if rest.len() < text.len() {
+        Some(rest)
+    } else {
+        None
+    }
 }
 
 // A text without the whole number that it begins with.

@@ -7,7 +7,7 @@ use crate::json_tokens::{Token, after_space, json_token};
 use std::alloc::{AllocError, Global};
 
 // The most lists and objects in one another.
-const MOST_DEPTH: usize = 500;
+const MOST_DEPTH: usize = 512;
 
 // What may come next.
 #[derive(Clone, Copy, PartialEq, Eq)]
@@ -134,7 +134,12 @@ impl Reading {
             self.state,
             State::ValueOrClose | State::NameOrClose | State::CommaOrClose
         );
-        if !is_next || !self.frames.last().is_some_and(|frame| frame.is_set == is_set) {
+        if !is_next
+            || !self
+                .frames
+                .last()
+                .is_some_and(|frame| frame.is_set == is_set)
+        {
             return Err(self.unexpected(at));
         }
         let _closed = self.frames.pop();
@@ -202,10 +207,7 @@ fn read(alloc: Global, text: &str) -> Result<Data, JsonStop> {
 }
 
 /// Returns the data of a JSON text, or why the text is refused.
-pub fn data_of_json(
-    alloc: Global,
-    text: &str,
-) -> Result<Result<Data, JsonError>, AllocError> {
+pub fn data_of_json(alloc: Global, text: &str) -> Result<Result<Data, JsonError>, AllocError> {
     match read(alloc, text) {
         Ok(found) => Ok(Ok(found)),
         Err(JsonStop::Refused(error)) => Ok(Err(error)),

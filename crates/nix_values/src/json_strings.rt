@@ -59,7 +59,9 @@ fn numbered(text: &str, at: usize) -> Result<(char, usize), JsonStop> {
     }
     let low = low_half(text, at.saturating_add(ESCAPE)).unwrap_or(0);
     let pair = match unit {
-        0xd800..=0xdbff if low > 0 => (unit - 0xd800) * 0x400 + (low.saturating_sub(0xdc00)).min(0x3ff) + 0x10000,
+        0xd800..=0xdbff if low > 0 => (unit - 0xd800) * 0x400
+            + (low.saturating_sub(0xdc00)).min(0x3ff)
+            + 0x10000,
         _ => return Err(refused(JsonReason::LoneSurrogate, at)),
     };
     match char::from_u32(pair) {
@@ -112,10 +114,7 @@ pub fn json_string(alloc: Global, text: &str, start: usize) -> Result<Read, Json
             _ => return Err(refused(JsonReason::ControlCharacter, at)),
         }
     }
-    Err(refused(
-        JsonReason::OpenString,
-        start.saturating_sub(1),
-    ))
+    Err(refused(JsonReason::OpenString, start.saturating_sub(1)))
 }
 
 /// Writes a string.
