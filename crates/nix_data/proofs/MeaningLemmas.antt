@@ -1,13 +1,16 @@
 -- Parts that are joined one after another, and values that nodes stand for one after another.
-use Rattle.std.proofs.Common.{◌≡◌, ◌∙◌, ℕ, suc, ◌+◌, ◌<◌, List, [], ◌∷◌, ◌++◌, length, get_or, drop, map, ap, sym, refl, subst, append_assoc, add-one, Option, Some, None}
+use Rattle.std.proofs.Common.{◌≡◌, ◌∙◌, ℕ, suc, ◌+◌, ◌-◌, ◌<◌, ◌≤◌, true, false, arith, List, [], ◌∷◌, ◌++◌, length, get_or, drop, map, ap, sym, refl, subst, append_assoc, add-one, Option, Some, None}
 use Rattle.std.specs.Prelude.{option_map, String, string_bytes}
 use Rattle.std.proofs.Math.Seq.{drop-cons}
+use Rattle.std.proofs.lemmas.List.{append-nil}
+use Rattle.std.proofs.lemmas.Bool.{cond-true, cond-false}
 use Rattle.rnix_green.specs.Tree.{Located}
+use Rattle.rnix_green.specs.Walk.{nodes_in, children_of}
 use Rattle.rnix_base.specs.declared.parts.InterpolPart.{InterpolPart}
 use Rattle.rnix_base.specs.declared.parts.InterpolPart.TheVariants.{Literal, Interpolation}
 use Rattle.rnix_base.specs.Normal.{Parts, with_text}
-use Rattle.nix_values.specs.Contents.{Entry}
-use Rattle.nix_data.specs.Meaning.{joined, InOrder}
+use Rattle.nix_values.specs.Contents.{Plain, has_parts, Entry}
+use Rattle.nix_data.specs.Meaning.{joined, IsOwn, bare, parts_of, MeansPart, Means, InOrder, StandsFor}
 
 -- a text before two others
 pub before_both : (text more : List ℕ) (rest : Option (List ℕ)) →
@@ -56,3 +59,43 @@ pub taken_more : (means : Located → List Entry → Type 0) (all left after : L
 taken_more means all left after node taken own first is so_far others rest =
     subst (InOrder means all) (sym (append_assoc taken own others))
     (so_far (own ++ others) (subst (λ nodes. InOrder means nodes (own ++ others)) (sym first) (own, others, is, rest, refl)))
+
+-- all nodes are taken where none is left
+pub taken_all : (means : Located → List Entry → Type 0) (all left : List Located) (taken : List Entry) → left ≡ [] → Taken means all left taken → InOrder means all taken
+taken_all means all left taken none so_far =
+    subst (InOrder means all) (append-nil taken) (so_far [] (subst (λ nodes. InOrder means nodes []) (sym none) refl))
+
+module _ where
+  unfolding Means
+
+  -- an expression stands for its own value and those of its parts
+  means_all : (levels depth : ℕ) (name : List ℕ) (e : Located) (own : Plain) (inside : List Entry) → IsOwn (bare e) own →
+      InOrder (MeansPart (Means levels (suc depth)) own) (parts_of own (bare e)) inside →
+      Means (suc levels) depth name e (record { depth = depth; name = name; plain = own } ∷ inside)
+  means_all levels depth name e own inside is parts = (own, inside, is, parts, refl)
+
+-- an expression stands for the first of some values and those inside it, behind which these are left
+pub stands : (total levels depth deeper : ℕ) (name : List ℕ) (e node : Located) (own : Plain) (inside entries left : List Entry) →
+    (1 ≤ total) × (levels ≡ total - 1) → deeper ≡ depth + 1 → node ≡ bare e → IsOwn node own →
+    InOrder (MeansPart (Means levels deeper) own) (parts_of own node) inside →
+    entries ≡ record { depth = depth; name = name; plain = own } ∷ (inside ++ left) → StandsFor total depth name e entries left
+stands total levels depth deeper name e node own inside entries left known deeper_is node_is is parts all =
+    let total_is : total ≡ suc levels = omega (arith, known.0, known.1) in
+    let is' : IsOwn (bare e) own = subst (λ n. IsOwn n own) node_is is in
+    let parts' : InOrder (MeansPart (Means levels (suc depth)) own) (parts_of own (bare e)) inside =
+    subst (λ n. InOrder (MeansPart (Means levels (suc depth)) own) (parts_of own n) inside) node_is
+    (subst (λ d. InOrder (MeansPart (Means levels d) own) (parts_of own node) inside) (deeper_is ∙ add-one depth) parts) in
+    subst (λ t. StandsFor t depth name e entries left) (sym total_is)
+    (record { depth = depth; name = name; plain = own } ∷ inside, means_all levels depth name e own inside is' parts', all)
+
+-- an expression whose value holds no values stands for it alone
+pub stands_alone : (total levels depth deeper : ℕ) (name : List ℕ) (e node : Located) (own : Plain) (entries left : List Entry) →
+    (1 ≤ total) × (levels ≡ total - 1) → deeper ≡ depth + 1 → node ≡ bare e → IsOwn node own → has_parts own ≡ false →
+    entries ≡ record { depth = depth; name = name; plain = own } ∷ left → StandsFor total depth name e entries left
+stands_alone total levels depth deeper name e node own entries left known deeper_is node_is is alone all =
+    stands total levels depth deeper name e node own [] entries left known deeper_is node_is is
+    (subst (λ nodes. InOrder (MeansPart (Means levels deeper) own) nodes []) (sym (cond-false (has_parts own) (nodes_in (children_of node)) [] alone)) refl) all
+
+-- the nodes below a value that holds values
+pub parts_there : (own : Plain) (node : Located) → has_parts own ≡ true → parts_of own node ≡ nodes_in (children_of node)
+parts_there own node there = cond-true (has_parts own) (nodes_in (children_of node)) [] there

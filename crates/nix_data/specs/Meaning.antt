@@ -105,3 +105,7 @@ Means zero depth name e entries = ⊥
 Means (suc levels) depth name e entries =
     (own : Plain) × (inside : List Entry) × IsOwn (bare e) own × InOrder (MeansPart (Means levels (suc depth)) own) (parts_of own (bare e)) inside
     × (entries ≡ record { depth = depth; name = name; plain = own } ∷ inside)
+
+-- an expression stands for the first of some values, behind which these are left
+abbrev pub StandsFor : ℕ → ℕ → List ℕ → Located → List Entry → List Entry → Type 0
+StandsFor levels depth name e entries left = (own : List Entry) × Means levels depth name e own × (entries ≡ own ++ left)

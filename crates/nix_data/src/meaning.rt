@@ -1,12 +1,12 @@
 //! Whether an expression stands for some data.
 
-ghost use Rattle.std.specs.Prelude.{◌≡◌, ◌++◌, ◌×◌, List, map, option_map, string_bytes, IfOk, IfSome, IsTrue, None};
+ghost use Rattle.std.specs.Prelude.{◌≡◌, map, option_map, string_bytes, IfOk, IfSome, IsTrue, None};
 ghost use Rattle.rnix_kinds.specs.declared.kinds.SyntaxKind.TheVariants as k;
 ghost use Rattle.rnix_green.specs.Equality.{same_kind};
 ghost use Rattle.rnix_green.specs.Tree.{item_of, text_at};
 ghost use Rattle.rnix_base.specs.Select.{HasKind, token_of};
-ghost use Rattle.nix_values.specs.Contents.{set, Entry, plain_of, entry_of};
-ghost use Rattle.nix_data.specs.Meaning.{text_of, is_number, IsOwn, name_of, path_name, IsPart, bare, Means};
+ghost use Rattle.nix_values.specs.Contents.{set, plain_of, entry_of};
+ghost use Rattle.nix_data.specs.Meaning.{text_of, is_number, IsOwn, name_of, path_name, IsPart, bare, StandsFor};
 
 use crate::scalars::plain_text;
 use nix_values::{Item, Value};
@@ -154,7 +154,25 @@ fn bare<'t>(expr: &SyntaxNode<'t>) -> SyntaxNode<'t>
     }
 }
 
+// Whether an item has a depth and a name, and an expression stands for its value, apart from the values inside it.
+fn is_first(
+    alloc: Global,
+    depth: usize,
+    name: &str,
+    node: &SyntaxNode<'_>,
+    first: &Item,
+) -> Result<bool, AllocError>
+    ensures { IfOk result (λ is_first. IsTrue is_first → (first.now.depth ≡ depth) × (string_bytes first.now.name ≡ name.now)
+        × IsOwn node.now (plain_of first.now.value)) }
+{
+    if first.depth != depth || first.name.as_str() != name {
+        return Ok(false);
+    }
+    is_own(alloc, node, &first.value)
+}
+
 /// Returns what is left of some items behind those that an expression stands for: its own and those inside it. Nothing if it stands for others.
+#[tactic(auto, using(crate::proofs::MeaningLemmas::taken_more, crate::proofs::MeaningLemmas::taken_all, crate::proofs::MeaningLemmas::stands, crate::proofs::MeaningLemmas::stands_alone))]
 pub fn behind<'a>(
     alloc: Global,
     levels: usize,
@@ -163,17 +181,17 @@ pub fn behind<'a>(
     expr: &SyntaxNode<'_>,
     items: &'a [Item],
 ) -> Result<Option<&'a [Item]>, AllocError>
-    ensures { IfOk result (λ found. IfSome found (λ rest. (own : List Entry) × Means levels depth name.now expr.now own
-        × (map entry_of items.now ≡ own ++ map entry_of rest.now))) }
+    ensures { IfOk result (λ found. IfSome found (λ rest. StandsFor levels depth name.now expr.now (map entry_of items.now) (map entry_of rest.now))) }
 {
-    let node = bare(expr);
     let Some((first, behind_first)) = items.split_first() else {
         return Ok(None);
     };
-    let (Some(levels), Some(depth_inside)) = (levels.checked_sub(1), depth.checked_add(1)) else {
+    let (Some(levels_inside), Some(depth_inside)) = (levels.checked_sub(1), depth.checked_add(1))
+    else {
         return Ok(None);
     };
-    if first.depth != depth || first.name.as_str() != name || !is_own(alloc, &node, &first.value)? {
+    let node = bare(expr);
+    if !is_first(alloc, depth, name, &node, first)? {
         return Ok(None);
     }
     let mut rest = behind_first;
@@ -184,11 +202,12 @@ pub fn behind<'a>(
         let Some(part) = part_below(alloc, &first.value, child)? else {
             return Ok(None);
         };
+        let part_name = part.name.as_str();
         match behind(
             alloc,
-            levels,
+            levels_inside,
             depth_inside,
-            part.name.as_str(),
+            part_name,
             &part.node,
             rest,
         )? {

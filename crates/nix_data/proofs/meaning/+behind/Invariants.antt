@@ -12,6 +12,6 @@ abbrev pub invariant-loop-child : goal.invariant-loop-child
 invariant-loop-child l = record {
   next : (goal.iterator-loop-child).can_next l.child-iterator;
   ends : (goal.iterator-loop-child).is_finite l.child-iterator;
-  taken : (taken : List Entry) × Taken (MeansPart (Means l.levels l.depth_inside) (plain_of l.first.value)) (nodes_in (children_of l.node)) l.child-iterator taken
+  taken : (taken : List Entry) × Taken (MeansPart (Means l.levels_inside l.depth_inside) (plain_of l.first.value)) (nodes_in (children_of l.node)) l.child-iterator taken
       × (map entry_of l.behind_first ≡ taken ++ map entry_of l.rest);
 }
