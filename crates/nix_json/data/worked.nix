@@ -39,4 +39,26 @@
   merged.b.d = 3;
   wrapped = ({ a = 1; });
   wrapped.b = 2;
+
+  # What is not data is kept as its source, with --lossy.
+  function = x: x;
+  call = f { a = 1; };
+  inside = [ 1 (f x) { a = b; } ];
+  operator = 1 + 2;
+  selection = a.b or c;
+  interpolated = "a ${b} c";
+  interpolated_path = ./a/${b};
+  recursive = rec { a = 1; };
+  conditional = if a then b else c;
+  local = let a = 1; in a;
+  scoped = with a; b;
+  search = <nixpkgs>;
+  sign_of_name = -x;
+  too_large = 9223372036854775808;
+  too_large_float = 1.0e999;
+  too_small_float = 1.0e-999;
+  inherit (lib) one two;
+  inherit three;
+  ${computed_name} = 1;
+  "a ${b}".c = 2;
 }

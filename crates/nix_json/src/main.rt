@@ -47,7 +47,7 @@ fn write_made(rt: &HostRuntime, made: Option<String>) -> io::Result<u8> {
             refuse(
                 rt,
                 &PROGRAM,
-                "what would be printed does not read as the same data",
+                "what would be printed does not read as the same data: at most 512 values may nest",
             )?;
             Ok(FAILED)
         }
