@@ -23,18 +23,20 @@ pub before_none : (rest : Option (List ℕ)) → option_map (λ r. [] ++ r) rest
 before_none None = refl
 before_none (Some r) = refl
 
-module _ where
-  unfolding joined
+-- a literal comes first
+pub joined_literal : {I : Type 0} (text : List ℕ) (parts : Parts I) → joined (Literal text ∷ parts) ≡ option_map (λ r. text ++ r) (joined parts)
+unfolding joined
+joined_literal text parts = refl
 
-  -- a literal comes first
-  pub joined_literal : {I : Type 0} (text : List ℕ) (parts : Parts I) → joined (Literal text ∷ parts) ≡ option_map (λ r. text ++ r) (joined parts)
-  joined_literal text parts = refl
+-- no parts
+pub joined_none : {I : Type 0} → joined {I = I} [] ≡ Some []
+unfolding joined
+joined_none = refl
 
-  pub joined_none : {I : Type 0} → joined {I} [] ≡ Some []
-  joined_none = refl
-
-  pub joined_interpolation : {I : Type 0} (i : I) (parts : Parts I) → joined (Interpolation i ∷ parts) ≡ None
-  joined_interpolation i parts = refl
+-- an interpolation comes first
+pub joined_interpolation : {I : Type 0} (i : I) (parts : Parts I) → joined (Interpolation i ∷ parts) ≡ None
+unfolding joined
+joined_interpolation i parts = refl
 
 -- one literal more is joined
 pub joined_more : {I Z : Type 0} (parts : List (InterpolPart (String Z) I)) (n : ℕ) (part : InterpolPart (String Z) I) (text more new : List ℕ) (all : Option (List ℕ)) →
@@ -65,14 +67,12 @@ pub taken_all : (means : Located → List Entry → Type 0) (all left : List Loc
 taken_all means all left taken none so_far =
     subst (InOrder means all) (append-nil taken) (so_far [] (subst (λ nodes. InOrder means nodes []) (sym none) refl))
 
-module _ where
-  unfolding Means
-
-  -- an expression stands for its own value and those of its parts
-  means_all : (levels depth : ℕ) (name : List ℕ) (e : Located) (own : Plain) (inside : List Entry) → IsOwn (bare e) own →
-      InOrder (MeansPart (Means levels (suc depth)) own) (parts_of own (bare e)) inside →
-      Means (suc levels) depth name e (record { depth = depth; name = name; plain = own } ∷ inside)
-  means_all levels depth name e own inside is parts = (own, inside, is, parts, refl)
+-- an expression stands for its own value and those of its parts
+means_all : (levels depth : ℕ) (name : List ℕ) (e : Located) (own : Plain) (inside : List Entry) → IsOwn (bare e) own →
+    InOrder (MeansPart (Means levels (suc depth)) own) (parts_of own (bare e)) inside →
+    Means (suc levels) depth name e (record { depth = depth; name = name; plain = own } ∷ inside)
+unfolding Means
+means_all levels depth name e own inside is parts = (own, inside, is, parts, refl)
 
 -- an expression stands for the first of some values and those inside it, behind which these are left
 pub stands : (total levels depth deeper : ℕ) (name : List ℕ) (e node : Located) (own : Plain) (inside entries left : List Entry) →
@@ -81,12 +81,12 @@ pub stands : (total levels depth deeper : ℕ) (name : List ℕ) (e node : Locat
     entries ≡ record { depth = depth; name = name; plain = own } ∷ (inside ++ left) → StandsFor total depth name e entries left
 stands total levels depth deeper name e node own inside entries left known deeper_is node_is is parts all =
     let total_is : total ≡ suc levels = omega (arith, known.0, known.1) in
-    let is' : IsOwn (bare e) own = subst (λ n. IsOwn n own) node_is is in
-    let parts' : InOrder (MeansPart (Means levels (suc depth)) own) (parts_of own (bare e)) inside =
+    let is_bare : IsOwn (bare e) own = subst (λ n. IsOwn n own) node_is is in
+    let parts_bare : InOrder (MeansPart (Means levels (suc depth)) own) (parts_of own (bare e)) inside =
     subst (λ n. InOrder (MeansPart (Means levels (suc depth)) own) (parts_of own n) inside) node_is
     (subst (λ d. InOrder (MeansPart (Means levels d) own) (parts_of own node) inside) (deeper_is ∙ add-one depth) parts) in
     subst (λ t. StandsFor t depth name e entries left) (sym total_is)
-    (record { depth = depth; name = name; plain = own } ∷ inside, means_all levels depth name e own inside is' parts', all)
+    (record { depth = depth; name = name; plain = own } ∷ inside, means_all levels depth name e own inside is_bare parts_bare, all)
 
 -- an expression whose value holds no values stands for it alone
 pub stands_alone : (total levels depth deeper : ℕ) (name : List ℕ) (e node : Located) (own : Plain) (entries left : List Entry) →
