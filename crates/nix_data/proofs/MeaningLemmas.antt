@@ -29,9 +29,9 @@ unfolding joined
 joined_literal text parts = refl
 
 -- no parts
-pub joined_none : {I : Type 0} → joined {I = I} [] ≡ Some []
+pub joined_none : (I : Type 0) → joined {I = I} [] ≡ Some []
 unfolding joined
-joined_none = refl
+joined_none I = refl
 
 -- an interpolation comes first
 pub joined_interpolation : {I : Type 0} (i : I) (parts : Parts I) → joined (Interpolation i ∷ parts) ≡ None
@@ -50,6 +50,15 @@ joined_more parts n part text more new all there at is_literal added so_far =
     ∙ before_both text more (joined (map (with_text string_bytes) (drop (suc n) parts)))
     ∙ ap (λ t. option_map (λ r. t ++ r) (joined (map (with_text string_bytes) (drop (suc n) parts)))) (sym added)
     ∙ ap (λ m. option_map (λ r. new ++ r) (joined (map (with_text string_bytes) (drop m parts)))) (sym (add-one n))
+
+-- an interpolation ends the text
+pub joined_stops : {I Z : Type 0} (parts : List (InterpolPart (String Z) I)) (n : ℕ) (part : InterpolPart (String Z) I) (i : I) (text : List ℕ) (all : Option (List ℕ)) →
+    n < length parts → part ≡ get_or parts n part → with_text string_bytes part ≡ Interpolation i →
+    all ≡ option_map (λ r. text ++ r) (joined (map (with_text string_bytes) (drop n parts))) → all ≡ None
+joined_stops parts n part i text all there at is_other so_far =
+    so_far ∙ ap (λ ps. option_map (λ r. text ++ r) (joined (map (with_text string_bytes) ps))) (drop-cons parts n part there)
+    ∙ ap (λ p. option_map (λ r. text ++ r) (joined (p ∷ map (with_text string_bytes) (drop (suc n) parts)))) (ap (with_text string_bytes) (sym at) ∙ is_other)
+    ∙ ap (option_map (λ r. text ++ r)) (joined_interpolation i (map (with_text string_bytes) (drop (suc n) parts)))
 
 -- what some of the nodes stand for that were taken, where these are left: the others' values come behind
 abbrev pub Taken : (Located → List Entry → Type 0) → List Located → List Located → List Entry → Type 0

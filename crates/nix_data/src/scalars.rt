@@ -54,7 +54,7 @@ fn interpolation(string: &Str<'_>) -> TextRange {
 }
 
 // The texts of some parts, joined, or nothing if one is an interpolation.
-#[tactic(auto, using(crate::proofs::MeaningLemmas::joined_more, crate::proofs::MeaningLemmas::before_none, crate::proofs::MeaningLemmas::joined_none))]
+#[tactic(auto, using(crate::proofs::MeaningLemmas::joined_more, crate::proofs::MeaningLemmas::before_none))]
 fn joined(alloc: Global, parts: &[InterpolPart<'_, String>]) -> Result<Option<String>, AllocError>
     ensures { IfOk result (λ found. option_map string_bytes found ≡ joined (map (with_text string_bytes) parts.now)) }
 {
