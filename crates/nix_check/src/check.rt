@@ -2,6 +2,7 @@
 
 use crate::excerpt::write_excerpt;
 use crate::json::write_json;
+use crate::sarif::write_result;
 use nix_diagnostics::{Diagnostic, Note, diagnostics};
 use rnix::{Root, TextRange};
 use rnix_text::{ColumnUnit, LineIndex, Position};
@@ -9,13 +10,24 @@ use std::alloc::Global;
 use std::io;
 use std::io::Write;
 
+/// What is printed of a diagnostic.
+#[derive(Clone, Copy, PartialEq, Eq)]
+pub enum Format {
+    /// Its message, the line with carets, and the notes.
+    Text,
+    /// A line of JSON.
+    Json,
+    /// A result of SARIF.
+    Sarif,
+}
+
 /// How errors are printed.
 #[derive(Clone, Copy)]
 pub struct Style {
     /// The most diagnostics of a file that are printed.
     pub limit: usize,
-    /// As JSON, a line for each diagnostic.
-    pub is_json: bool,
+    /// What is printed of each.
+    pub format: Format,
     /// With colors.
     pub is_colored: bool,
 }
@@ -69,8 +81,10 @@ fn write_diagnostic<W: Write>(
     style: Style,
     out: &mut W,
 ) -> io::Result<()> {
-    if style.is_json {
-        return write_json(source.name, source.index, diagnostic, out);
+    match style.format {
+        Format::Text => {}
+        Format::Json => return write_json(source.name, source.index, diagnostic, out),
+        Format::Sarif => return write_result(source.name, source.index, diagnostic, out),
     }
     write_place(source, diagnostic.range, out)?;
     write_word("error:", "31", style, out)?;
@@ -82,12 +96,14 @@ fn write_diagnostic<W: Write>(
     Ok(())
 }
 
-/// Writes the errors of a text, each with its place and its line, and returns how many there are. Columns count characters, from 1.
+/// Writes the errors of a text behind those of other texts, each with its place and its line, and returns how many there are. Columns
+/// count characters, from 1.
 pub fn check_text<W: Write>(
     alloc: Global,
     name: &str,
     text: &str,
     style: Style,
+    earlier: usize,
     out: &mut W,
 ) -> io::Result<usize> {
     let found = diagnostics(alloc, &Root::parse(alloc, text)?)?;
@@ -100,7 +116,14 @@ pub fn check_text<W: Write>(
         text,
         index: &index,
     };
-    for diagnostic in found.iter().take(style.limit) {
+    for (number, diagnostic) in found.iter().take(style.limit).enumerate() {
+        if style.format == Format::Sarif {
+            out.write_all(if earlier > 0 || number > 0 {
+                b",\n"
+            } else {
+                b"\n"
+            })?;
+        }
         write_diagnostic(source, diagnostic, style, out)?;
     }
     match found.len().saturating_sub(style.limit) {

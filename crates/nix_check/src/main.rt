@@ -5,13 +5,15 @@ mod check;
 mod excerpt;
 mod json;
 mod progress;
+mod sarif;
 
-use check::{Style, check_text};
+use check::{Format, Style, check_text};
 use nix_cli::{
     Arguments, FAILED, FOUND, Program, Start, end, find_files, is_colored, read_arguments,
-    read_text, shown_name,
+    read_text, refuse, shown_name,
 };
 use progress::Progress;
+use sarif::{write_head, write_tail};
 use std::io;
 use std::io::{BufWriter, Write};
 use std::process::ExitCode;
@@ -30,12 +32,13 @@ Files are judged by the grammar of rnix 0.14, which is not quite that of Nix: do
 
     --all      print all errors of a file, not only the first 20
     --json     print each error as a line of JSON
+    --sarif    print all errors as a file of SARIF 2.1.0
     --color WHEN    use colors: auto (at a terminal, unless NO_COLOR is set), always or never
 ",
     statuses: "
 Ends with 0 if there are no errors, 1 if there are some, 2 if something could not be read or written.
 ",
-    flags: &["--all", "--json"],
+    flags: &["--all", "--json", "--sarif"],
     has_colors: true,
     least: 0,
     most: usize::MAX,
@@ -58,7 +61,8 @@ fn check_file<W: Write>(
 ) -> io::Result<()> {
     match read_text(rt, &PROGRAM, name)? {
         Some(text) => {
-            let found = check_text(rt.alloc(), shown_name(name), text.as_str(), style, out)?;
+            let (shown, earlier) = (shown_name(name), tally.errors);
+            let found = check_text(rt.alloc(), shown, text.as_str(), style, earlier, out)?;
             tally.errors = tally.errors.saturating_add(found);
         }
         None => tally.unread = tally.unread.saturating_add(1),
@@ -102,24 +106,49 @@ fn write_count<W: Write>(tally: Tally, out: &mut W) -> io::Result<()> {
     }
 }
 
-// Checks what the command line names, and returns the status of the program.
-fn check_all(rt: &HostRuntime, arguments: &Arguments) -> io::Result<u8> {
-    let is_json = arguments.has("--json");
+// What the command line wants to be printed, None if it wants two things.
+fn format_of(arguments: &Arguments) -> Option<Format> {
+    match (arguments.has("--json"), arguments.has("--sarif")) {
+        (true, true) => None,
+        (true, false) => Some(Format::Json),
+        (false, true) => Some(Format::Sarif),
+        (false, false) => Some(Format::Text),
+    }
+}
+
+// Prints what is found in the files that the command line names.
+fn check_all(rt: &HostRuntime, arguments: &Arguments, format: Format) -> io::Result<Tally> {
+    let is_text = format == Format::Text;
     let style = Style {
-        limit: if is_json || arguments.has("--all") {
-            usize::MAX
-        } else {
+        limit: if is_text && !arguments.has("--all") {
             LIMIT
+        } else {
+            usize::MAX
         },
-        is_json,
+        format,
         is_colored: is_colored(rt, arguments),
     };
     let mut out = BufWriter::new(rt.alloc(), rt.stdout())?;
+    if format == Format::Sarif {
+        write_head(PROGRAM.name, &mut out)?;
+    }
     let tally = check_files(rt, &arguments.words, style, &mut out)?;
-    if !is_json {
-        write_count(tally, &mut out)?;
+    match format {
+        Format::Text => write_count(tally, &mut out)?,
+        Format::Json => {}
+        Format::Sarif => write_tail(&mut out)?,
     }
     out.flush()?;
+    Ok(tally)
+}
+
+// Checks what the command line names, and returns the status of the program.
+fn answer(rt: &HostRuntime, arguments: &Arguments) -> io::Result<u8> {
+    let Some(format) = format_of(arguments) else {
+        refuse(rt, &PROGRAM, "--json and --sarif do not go together")?;
+        return Ok(FAILED);
+    };
+    let tally = check_all(rt, arguments, format)?;
     Ok(match (tally.errors, tally.unread) {
         (0, 0) => 0,
         (_, 0) => FOUND,
@@ -130,7 +159,7 @@ fn check_all(rt: &HostRuntime, arguments: &Arguments) -> io::Result<u8> {
 // Does what the command line asks for.
 fn run(rt: &HostRuntime) -> io::Result<u8> {
     match read_arguments(rt, &PROGRAM)? {
-        Start::Run(arguments) => check_all(rt, &arguments),
+        Start::Run(arguments) => answer(rt, &arguments),
         Start::End(status) => Ok(status),
     }
 }

@@ -1,25 +1,25 @@
--- Command lines of the program as what they ask for.
+-- The types of the program as the values of the definitions.
 use Rattle.std.specs.Prelude.{List, map, option_map, string_bytes}
-use Rattle.nix_cli.specs.CommandLine.{Takes, Task, runs, helps, versions, refuses, Read}
+use Rattle.nix_cli.specs.CommandLine.{Options, Task, runs, helps, versions, refuses, Parsed}
 use Rattle.nix_cli.specs.declared.arguments.Program.{Program}
 use Rattle.nix_cli.specs.declared.arguments.Arguments.{Arguments}
 use Rattle.nix_cli.specs.declared.arguments.Task.{Task as Doing}
 use Rattle.nix_cli.specs.declared.arguments.Task.TheVariants as doing
 
--- what a program takes
-abbrev pub takes_of : Program → Takes
-takes_of p = record { flags = map (λ flag. flag.now) p.flags.now; has_colors = p.has_colors; most = p.most }
+-- what a program accepts
+abbrev pub options_of : Program → Options
+options_of p = record { flags = map (λ flag. flag.now) p.flags.now; has_colors = p.has_colors; most = p.most }
 
--- what is done
+-- the task
 abbrev pub task_of : Doing → Task
 task_of doing.Run = runs
 task_of doing.Help = helps
 task_of doing.Version = versions
 task_of (doing.Refuse reason argument) = refuses (string_bytes argument)
 
--- what the arguments ask for
-abbrev pub read_of : Arguments → Read
-read_of a = record {
+-- the parsed command line
+abbrev pub parsed_of : Arguments → Parsed
+parsed_of a = record {
   task = task_of a.task;
   flags = map string_bytes a.flags.items;
   words = map string_bytes a.words.items;

@@ -1,76 +1,76 @@
-//! The command line.
+//! Parsing of the command line.
 
 ghost use Rattle.std.specs.Prelude.{◌≡◌, map, option_map, bytes_eq, IfOk, OnOk, string_bytes};
 ghost use Rattle.std.specs.List.{list_any};
-ghost use Rattle.nix_cli.specs.CommandLine.{runs, nothing, is_option, color_in, with_color, with_flag_in, with_option, with_argument, and_argument, read_from};
-ghost use Rattle.nix_cli.specs.Given.{takes_of, task_of, read_of};
+ghost use Rattle.nix_cli.specs.CommandLine.{runs, nothing, is_option, color_in, with_color, with_flag_in, with_option, with_argument, and_argument, parse_from};
+ghost use Rattle.nix_cli.specs.Given.{options_of, task_of, parsed_of};
 
 use crate::ending::{FAILED, refuse};
 use std::alloc::{AllocError, Global};
 use std::env;
 use std::io::{self, Write};
 
-/// The version of all programs.
+/// The version that `--version` prints for every program.
 pub const VERSION: &str = "0.14.0";
-// The help that each program has.
+// The options that every program has, as `--help` prints them.
 const COMMON: &str = "    --help     print this
     --version  print the version
-    --         what follows are no options
+    --         end of the options: all that follows is taken as names
 ";
 
-/// What a program is called, and what it takes.
+/// A program's name, its help and its options.
 #[derive(Clone, Copy)]
 pub struct Program {
-    /// Its name in messages.
+    /// The name in messages.
     pub name: &'static str,
-    /// What `--help` prints before the options that all programs have.
+    /// What `--help` prints before the options that every program has.
     pub help: &'static str,
-    /// What `--help` prints behind them.
+    /// What `--help` prints after them.
     pub statuses: &'static str,
-    /// The options that are there or not.
+    /// The options without a value.
     pub flags: &'static [&'static str],
-    /// Whether it takes `--color WHEN`.
+    /// Whether the program has the option `--color WHEN`.
     pub has_colors: bool,
-    /// The fewest arguments that are no options.
+    /// The smallest number of arguments besides options.
     pub least: usize,
-    /// The most of these.
+    /// The largest number of arguments besides options.
     pub most: usize,
 }
 
-// What the command line asks for.
+// What a command line asks for.
 #[derive(Drop)]
 enum Task {
     Run,
     Help,
     Version,
-    // What is refused, and the argument that is to blame.
+    // A reason, and the argument that is refused for it.
     Refuse(&'static str, String),
 }
 
-/// The command line of a program.
+/// A parsed command line.
 #[derive(Drop)]
 pub struct Arguments {
     task: Task,
     flags: Vec<String>,
-    /// The arguments that are no options.
+    /// The arguments that are not options.
     pub words: Vec<String>,
-    /// What `--color` says, if it is there.
+    /// The value of `--color`, if it is given.
     pub color: Option<String>,
-    // Whether options have ended, and whether the next argument says when colors are used.
+    // Whether `--` ended the options, and whether the next argument is the value of `--color`.
     only_words: bool,
     is_color_next: bool,
 }
 
-/// Whether a program goes on behind its command line.
+/// What a program does once its command line is parsed.
 #[derive(Drop)]
 pub enum Start {
-    /// It does what these ask for.
+    /// Run with these arguments.
     Run(Arguments),
-    /// It has done what was asked for, and ends with this status.
+    /// End with this status: the help or the version is printed, or the command line is refused.
     End(u8),
 }
 
-// Whether a text is one of some.
+// Whether a list contains a text.
 fn is_among(texts: &[&'static str], text: &str) -> bool
     ensures { result ≡ list_any (λ own. bytes_eq own text.now) (map (λ own. own.now) texts.now) }
 {
@@ -82,16 +82,16 @@ fn is_among(texts: &[&'static str], text: &str) -> bool
     false
 }
 
-// Whether an argument is an option. `-` alone is none.
+// Whether an argument is an option. `-` alone is a name.
 fn is_option(text: &str) -> bool
     ensures { result ≡ is_option text.now }
 {
     text.len() > 1 && text.starts_with('-')
 }
 
-// What stands behind `--color=`, where the program takes it.
+// The value in `--color=VALUE`, if the program has this option.
 fn color_in<'a>(program: &Program, option: &'a str) -> Option<&'a str>
-    ensures { option_map (λ when. when.now) result ≡ color_in (takes_of program.now) option.now }
+    ensures { option_map (λ when. when.now) result ≡ color_in (options_of program.now) option.now }
 {
     if !program.has_colors {
         return None;
@@ -100,9 +100,9 @@ fn color_in<'a>(program: &Program, option: &'a str) -> Option<&'a str>
 }
 
 impl Arguments {
-    // No arguments yet.
+    // The command line without arguments.
     fn new(alloc: Global) -> Arguments
-        ensures { read_of result ≡ nothing }
+        ensures { parsed_of result ≡ nothing }
     {
         Arguments {
             task: Task::Run,
@@ -114,7 +114,7 @@ impl Arguments {
         }
     }
 
-    /// Whether an option is there.
+    /// Whether an option is given.
     pub fn has(&self, flag: &str) -> bool
         ensures { result ≡ list_any (λ own. bytes_eq own flag.now) (map string_bytes self.now.flags.items) }
     {
@@ -126,22 +126,22 @@ impl Arguments {
         false
     }
 
-    // Takes one of the times at which colors are used.
+    // Sets the value of `--color`, or refuses one that is unknown.
     fn set_color(&mut self, when: String)
-        ensures { read_of self.new ≡ with_color (string_bytes when) (read_of self.old) }
+        ensures { parsed_of self.new ≡ with_color (string_bytes when) (parsed_of self.old) }
     {
         self.is_color_next = false;
         let text = when.as_str();
         if text == "auto" || text == "always" || text == "never" {
             self.color = Some(when);
         } else {
-            self.task = Task::Refuse("--color is auto, always or never, and not", when);
+            self.task = Task::Refuse("--color is auto, always or never, not", when);
         }
     }
 
     // Reads an option.
     fn add_option(&mut self, program: &Program, option: String) -> Result<(), AllocError>
-        ensures { OnOk result (read_of self.new ≡ with_option (takes_of program.now) (string_bytes option) (read_of self.old)) }
+        ensures { OnOk result (parsed_of self.new ≡ with_option (options_of program.now) (string_bytes option) (parsed_of self.old)) }
     {
         let text = option.as_str();
         if text == "--help" || text == "-h" {
@@ -164,21 +164,21 @@ impl Arguments {
         self.add_flag(program, option)
     }
 
-    // Reads one of the program's options.
+    // Adds one of the program's options, or refuses one that is unknown.
     fn add_flag(&mut self, program: &Program, option: String) -> Result<(), AllocError>
-        ensures { OnOk result (read_of self.new ≡ with_flag_in (takes_of program.now) (string_bytes option) (read_of self.old)) }
+        ensures { OnOk result (parsed_of self.new ≡ with_flag_in (options_of program.now) (string_bytes option) (parsed_of self.old)) }
     {
         if is_among(program.flags, option.as_str()) {
             self.flags.push(option)?;
             return Ok(());
         }
-        self.task = Task::Refuse("there is no option", option);
+        self.task = Task::Refuse("unknown option", option);
         Ok(())
     }
 
-    // Reads one more argument, where the program is to run.
+    // Reads the next argument, if the task is still to run.
     fn add_argument(&mut self, program: &Program, argument: String) -> Result<(), AllocError>
-        ensures { OnOk result (read_of self.new ≡ with_argument (takes_of program.now) (string_bytes argument) (read_of self.old)) }
+        ensures { OnOk result (parsed_of self.new ≡ with_argument (options_of program.now) (string_bytes argument) (parsed_of self.old)) }
     {
         if self.is_color_next {
             self.set_color(argument);
@@ -195,13 +195,13 @@ impl Arguments {
             self.words.push(argument)?;
             return Ok(());
         }
-        self.task = Task::Refuse("this argument is too many:", argument);
+        self.task = Task::Refuse("unexpected argument", argument);
         Ok(())
     }
 
-    // Reads one more argument. Nothing is read behind what ends the program.
+    // Reads the next argument. Once the task is not to run, the others are ignored.
     fn add(&mut self, program: &Program, argument: String) -> Result<(), AllocError>
-        ensures { OnOk result (read_of self.new ≡ and_argument (takes_of program.now) (string_bytes argument) (read_of self.old)) }
+        ensures { OnOk result (parsed_of self.new ≡ and_argument (options_of program.now) (string_bytes argument) (parsed_of self.old)) }
     {
         match self.task {
             Task::Run => self.add_argument(program, argument),
@@ -210,13 +210,13 @@ impl Arguments {
     }
 }
 
-/// What some arguments ask a program for.
+/// Parses the arguments of a program.
 pub fn parse_arguments(
     alloc: Global,
     program: &Program,
     arguments: &[String],
 ) -> Result<Arguments, AllocError>
-    ensures { IfOk result (λ given. read_of given ≡ read_from (takes_of program.now) nothing (map string_bytes arguments.now)) }
+    ensures { IfOk result (λ given. parsed_of given ≡ parse_from (options_of program.now) nothing (map string_bytes arguments.now)) }
 {
     let mut given = Arguments::new(alloc);
     for argument in arguments {
@@ -233,7 +233,7 @@ fn help(rt: &HostRuntime, program: &Program) -> io::Result<()> {
     out.write_all(program.statuses.as_bytes())
 }
 
-/// Reads the command line. The help and the version are printed here, and what is wrong is refused.
+/// Parses the command line of the process. Prints the help or the version, or refuses what is wrong on standard error.
 pub fn read_arguments(rt: &HostRuntime, program: &Program) -> io::Result<Start> {
     let mut arguments = Vec::new(rt.alloc());
     for argument in env::args(rt)?.skip(1) {
@@ -243,7 +243,7 @@ pub fn read_arguments(rt: &HostRuntime, program: &Program) -> io::Result<Start> 
     match &given.task {
         Task::Run if given.is_color_next => refuse(rt, program, "--color needs a value")?,
         Task::Run if given.words.len() < program.least => {
-            refuse(rt, program, "an argument is missing")?
+            refuse(rt, program, "missing argument")?
         }
         Task::Run => return Ok(Start::Run(given)),
         Task::Help => {
@@ -258,7 +258,7 @@ pub fn read_arguments(rt: &HostRuntime, program: &Program) -> io::Result<Start> 
             eprintln!(rt; "{}: {reason} {argument}", program.name)?
         }
     }
-    eprintln!(rt; "{} --help says how it is called", program.name)?;
+    eprintln!(rt; "see {} --help", program.name)?;
     Ok(Start::End(FAILED))
 }
 
@@ -278,7 +278,7 @@ mod tests {
         most: 2,
     };
 
-    // What arguments ask for that are joined by spaces.
+    // Describes what the arguments in a line ask for, which are separated by spaces.
     fn outcome(alloc: Global, line: &str) -> Result<String, AllocError> {
         let mut arguments = Vec::new(alloc);
         for argument in line.split(' ') {

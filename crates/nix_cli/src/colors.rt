@@ -1,10 +1,10 @@
-//! Whether colors are used.
+//! Whether output is colored.
 
 use crate::arguments::Arguments;
 use std::env;
 use std::io::IsTerminal;
 
-/// Whether the output has colors: as `--color` says, and else at a terminal, unless the variable NO_COLOR is set.
+/// Whether standard output is colored: as `--color` says; by default if it is a terminal and the variable NO_COLOR is unset or empty.
 pub fn is_colored(rt: &HostRuntime, arguments: &Arguments) -> bool {
     match arguments.color.as_ref().map(|when| when.as_str()) {
         Some("always") => true,

@@ -1,20 +1,20 @@
-//! The texts that names stand for.
+//! Finding and reading files.
 
 use crate::arguments::Program;
 use crate::replacing::replace_text;
 use std::io::{Read, Write};
 use std::{fs, io};
 
-/// The files that some names stand for.
+/// The files that the arguments name.
 #[derive(Drop)]
 pub struct Files {
-    /// Their names, `-` for standard input.
+    /// Their names; `-` is standard input.
     pub names: Vec<String>,
-    /// How many names stand for nothing that can be read.
+    /// The number of folders that could not be read.
     pub failed: usize,
 }
 
-// Whether a name is that of a folder. What cannot be asked for is none, and is refused when it is read.
+// Whether a name is that of a folder. False if that cannot be found out: reading it then fails.
 fn is_folder(rt: &HostRuntime, name: &str) -> bool {
     match fs::metadata(rt, name) {
         Ok(data) => data.is_dir(),
@@ -22,7 +22,7 @@ fn is_folder(rt: &HostRuntime, name: &str) -> bool {
     }
 }
 
-// The names of a folder: of its own files that end with `.nix`, and of the folders in it. No link to a folder is followed.
+// Adds the files of a folder whose names end with `.nix`, and the folders in it. Links to folders are not followed.
 fn list(
     rt: &HostRuntime,
     folder: &str,
@@ -41,7 +41,7 @@ fn list(
     Ok(())
 }
 
-// The names of all files that end with `.nix` in a folder and below it, sorted.
+// The names of all files in a folder and below that end with `.nix`, sorted.
 fn files_below(rt: &HostRuntime, folder: &str) -> io::Result<Vec<String>> {
     let mut found = Vec::new(rt.alloc());
     let mut folders = Vec::new(rt.alloc());
@@ -56,8 +56,8 @@ fn files_below(rt: &HostRuntime, folder: &str) -> io::Result<Vec<String>> {
     Ok(found)
 }
 
-/// The files that names stand for: `-` for standard input, a folder for all that end with `.nix` in it and below, and else the file of that
-/// name. Without a name it is standard input. A folder that cannot be read is reported and counted.
+/// Returns the files that the arguments name: `-` is standard input, a folder stands for all files in it and below that end with `.nix`, and
+/// any other name is a file. No names mean standard input. A folder that cannot be read is reported and counted.
 pub fn find_files(rt: &HostRuntime, program: &Program, names: &[String]) -> io::Result<Files> {
     let mut found = Files {
         names: Vec::new(rt.alloc()),
@@ -82,12 +82,12 @@ pub fn find_files(rt: &HostRuntime, program: &Program, names: &[String]) -> io::
     Ok(found)
 }
 
-/// What a message calls a file.
+/// The name of a file in messages.
 pub fn shown_name(name: &str) -> &str {
     if name == "-" { "<stdin>" } else { name }
 }
 
-// The number of the line and of the character in it, both from 1, behind a text.
+// The line and the column, in characters and both from 1, at the end of a text.
 fn place_behind(text: &str) -> (usize, usize) {
     let line = text.bytes().filter(|byte| *byte == b'\n').count();
     let own = match text.rsplit_once('\n') {
@@ -100,12 +100,12 @@ fn place_behind(text: &str) -> (usize, usize) {
     )
 }
 
-/// The number of the line and of the character in it, both from 1, that begins at an offset.
+/// The line and the column, in characters and both from 1, at a byte offset.
 pub fn place_of(text: &str, offset: usize) -> (usize, usize) {
     place_behind(text.get(..offset).unwrap_or(text))
 }
 
-/// Reads the text of a file, or of standard input for `-`. What cannot be read is reported: None.
+/// Reads the text of a file, or of standard input for `-`. Returns None if it cannot be read or is not UTF-8, which is reported.
 pub fn read_text(rt: &HostRuntime, program: &Program, name: &str) -> io::Result<Option<String>> {
     let mut bytes = Vec::new(rt.alloc());
     let outcome = if name == "-" {
@@ -128,20 +128,78 @@ pub fn read_text(rt: &HostRuntime, program: &Program, name: &str) -> io::Result<
                 Ok(text) => place_behind(text),
                 Err(_) => (1, 1),
             };
-            eprintln!(rt;
-                "{}: {shown}:{line}:{column}: this is not UTF-8",
-                program.name
-            )?;
+            eprintln!(rt; "{}: {shown}:{line}:{column}: not UTF-8", program.name)?;
             Ok(None)
         }
     }
 }
 
-/// Where a text goes that is made of the text of a file: over that file, or to standard output.
+/// Writes a text to a file in place of the old one, or to standard output.
 pub fn write_text(rt: &HostRuntime, name: &str, text: &str, in_place: bool) -> io::Result<()> {
     if in_place {
         replace_text(rt, name, text)
     } else {
         rt.stdout().write_all(text.as_bytes())
+    }
+}
+
+#[cfg(test)]
+mod tests {
+    use super::find_files;
+    use crate::arguments::Program;
+    use std::fs;
+    use std::test::Fail;
+
+    const PROGRAM: Program = Program {
+        name: "nix-try",
+        help: "",
+        statuses: "",
+        flags: &[],
+        has_colors: false,
+        least: 0,
+        most: usize::MAX,
+    };
+
+    // The names that the arguments in a line stand for, which are separated by spaces, joined by spaces.
+    fn found(rt: &HostRuntime, line: &str) -> Result<String, Fail> {
+        let mut names = Vec::new(rt.alloc());
+        for name in line.split_whitespace() {
+            names.push(String::from_str(rt.alloc(), name)?)?;
+        }
+        let files = find_files(rt, &PROGRAM, &names)?;
+        let mut text = format!(in rt.alloc(); "{}:", files.failed)?;
+        for name in &files.names {
+            text.push(' ')?;
+            text.push_str(name.as_str())?;
+        }
+        Ok(text)
+    }
+
+    #[test]
+    fn a_folder_stands_for_its_nix_files(rt: HostRuntime) -> Result<(), Fail> {
+        fs::create_dir(&rt, "found")?;
+        fs::create_dir(&rt, "found/below")?;
+        for name in [
+            "found/b.nix",
+            "found/a.txt",
+            "found/below/a.nix",
+            "found.nix",
+        ] {
+            fs::write(&rt, name, "1")?;
+        }
+        let rows = [
+            ("", "0: -"),
+            ("found", "0: found/b.nix found/below/a.nix"),
+            (
+                "- found.nix found/below found/a.txt missing",
+                "0: - found.nix found/below/a.nix found/a.txt missing",
+            ),
+        ];
+        for (line, wanted) in rows {
+            assert_eq!(rt; found(&rt, line)?.as_str(), wanted);
+        }
+        fs::remove_file(&rt, "found.nix")?;
+        fs::remove_dir_all(&rt, "found")?;
+        Ok(())
     }
 }

@@ -1,4 +1,4 @@
-//! What all programs of this repository do alike: options, names of files and folders, refusals, and how they end.
+//! What all programs of this repository share: options, files and folders, refusals, and exit statuses.
 #![tactic(auto)]
 
 mod arguments;

@@ -1,18 +1,18 @@
-//! A file with a new text.
+//! Replacing the text of a file.
 
 use std::fs;
 use std::fs::{File, Permissions};
 use std::io::{self, Write};
 
-// Writes a text into a file that is new, with the rights of another.
+// Writes a text to a new file and sets its permissions.
 fn write_new(file: &mut File, text: &str, rights: Permissions) -> io::Result<()> {
     file.write_all(text.as_bytes())?;
     file.set_permissions(rights)?;
     file.sync_all()
 }
 
-/// Gives a file a new text: it is written to a new file beside it, of the same rights, which then takes its name. If that fails, the file
-/// stays as it was. A file that has the name of the new one is not touched.
+/// Replaces the text of a file: writes it to a new file `NAME.new` with the same permissions, which is then renamed. If that fails, the file is
+/// unchanged. An existing `NAME.new` is an error and is left alone.
 pub fn replace_text(rt: &HostRuntime, name: &str, text: &str) -> io::Result<()> {
     let rights = fs::metadata(rt, name)?.permissions();
     let beside = format!(in rt.alloc(); "{name}.new")?;

@@ -6,7 +6,7 @@ mod source;
 mod style;
 mod tree;
 
-use nix_cli::{Arguments, FAILED, Program, Start, end, read_arguments, read_text};
+use nix_cli::{Arguments, FAILED, Program, Start, end, read_arguments, read_text, refuse};
 use rnix::Root;
 use source::write_source;
 use std::io::{self, BufWriter, Write};
@@ -19,7 +19,7 @@ const PROGRAM: Program = Program {
     help: "\
 nix-page [FILE] > PAGE
 
-Prints a Nix text as a page of HTML: its source with colors, its errors and its tree. - and no FILE stand for standard input.
+Prints a Nix text of at most 1 MiB as a page of HTML: its source with colors, its errors and its tree. - and no FILE stand for standard input.
 
 ",
     statuses: "
@@ -42,10 +42,17 @@ fn write_page(rt: &HostRuntime, text: &str) -> io::Result<()> {
     out.flush()
 }
 
+// The longest text of which a page is made: a page has some hundred bytes for each byte of the text.
+const LONGEST: usize = 1 << 20;
+
 // Writes the page of the file that the command line names.
 fn show(rt: &HostRuntime, arguments: &Arguments) -> io::Result<u8> {
     let name = arguments.words.first().map_or("-", |name| name.as_str());
     match read_text(rt, &PROGRAM, name)? {
+        Some(text) if text.len() > LONGEST => {
+            refuse(rt, &PROGRAM, "a page is made of a text of at most 1 MiB")?;
+            Ok(FAILED)
+        }
         Some(text) => {
             write_page(rt, text.as_str())?;
             Ok(0)
