@@ -1,10 +1,36 @@
-//! Prints the errors and the tree of the text on standard input.
+//! Prints the errors and the syntax tree of Nix texts: `nix-tree [OPTION..] [FILE..]`, or with no file of the text on standard input.
 #![tactic(auto)]
 
+mod json;
+
+use json::write_json;
+use nix_cli::{
+    Arguments, FAILED, FOUND, Program, Start, end, find_files, read_arguments, read_text,
+    shown_name,
+};
 use rnix_print::{RunError, complaint, run, status};
 use std::alloc::Global;
-use std::io::{BufWriter, Read, Write};
+use std::io::{self, BufWriter, Read, Write};
 use std::process::ExitCode;
+
+const PROGRAM: Program = Program {
+    name: "nix-tree",
+    help: "\
+nix-tree [OPTION..] [FILE..]
+
+Prints the errors and the syntax tree of Nix files. Each of several files has a heading. A folder stands for all files in it and below that
+end with .nix; - and no FILE stand for standard input.
+
+    --json     print each file as a line of JSON
+",
+    statuses: "
+Ends with 0 if there are no errors, 1 if there are some, 2 if something could not be read or written.
+",
+    flags: &["--json"],
+    has_colors: false,
+    least: 0,
+    most: usize::MAX,
+};
 
 // A run whose output is gathered, and written in large parts.
 fn run_buffered<R: Read + Drop, W: Write + Drop>(
@@ -23,11 +49,79 @@ fn run_buffered<R: Read + Drop, W: Write + Drop>(
     Ok(good)
 }
 
-fn main(rt: HostRuntime) -> ExitCode {
+// Prints the errors and the tree of standard input, and returns the status.
+fn print_input(rt: &HostRuntime) -> u8 {
     let outcome = run_buffered(rt.alloc(), rt.stdin(), rt.stdout());
     if let Err(error) = &outcome {
-        // Nothing is left to do where this cannot be written either.
+        // If this cannot be written either, nothing is left to do.
         let _said = eprintln!(rt; "{}", complaint(error));
     }
-    ExitCode::from(status(&outcome))
+    status(&outcome)
+}
+
+// Prints the errors and the tree of a text, and returns the status.
+fn print_text<W: Write>(alloc: Global, text: &str, out: &mut W) -> io::Result<u8> {
+    let outcome = run(alloc, &mut text.as_bytes(), out);
+    match &outcome {
+        Ok(_) | Err(RunError::NotUtf8) => Ok(status(&outcome)),
+        Err(RunError::Read) => Err(io::Error::other("cannot read input")),
+        Err(RunError::Write) => Err(io::Error::other("cannot write output")),
+        Err(RunError::Memory) => Err(io::Error::other("out of memory")),
+    }
+}
+
+// Prints one of some files, and returns the status.
+fn print_file<W: Write>(
+    rt: &HostRuntime,
+    name: &str,
+    is_json: bool,
+    heading: Option<&str>,
+    out: &mut W,
+) -> io::Result<u8> {
+    let Some(text) = read_text(rt, &PROGRAM, name)? else {
+        return Ok(FAILED);
+    };
+    if is_json {
+        let is_good = write_json(rt.alloc(), shown_name(name), text.as_str(), out)?;
+        return Ok(if is_good { 0 } else { FOUND });
+    }
+    if let Some(before) = heading {
+        writeln!(out, "{before}==> {} <==", shown_name(name))?;
+    }
+    print_text(rt.alloc(), text.as_str(), out)
+}
+
+// Prints the files that the command line names, and returns the worst status of all.
+fn print_files(rt: &HostRuntime, arguments: &Arguments) -> io::Result<u8> {
+    let files = find_files(rt, &PROGRAM, &arguments.words)?;
+    let (is_json, is_alone) = (arguments.has("--json"), files.names.len() == 1);
+    let mut out = BufWriter::new(rt.alloc(), rt.stdout())?;
+    let mut worst = if files.failed == 0 { 0 } else { FAILED };
+    for (number, name) in files.names.iter().enumerate() {
+        let heading = match (is_alone, number) {
+            (true, _) => None,
+            (false, 0) => Some(""),
+            (false, _) => Some("\n"),
+        };
+        let own = print_file(rt, name.as_str(), is_json, heading, &mut out)?;
+        worst = worst.max(own);
+    }
+    out.flush()?;
+    Ok(worst)
+}
+
+// Does what the command line asks for.
+fn answer(rt: &HostRuntime) -> io::Result<u8> {
+    match read_arguments(rt, &PROGRAM)? {
+        Start::Run(arguments) if arguments.words.is_empty() && !arguments.has("--json") => {
+            Ok(print_input(rt))
+        }
+        Start::Run(arguments) => print_files(rt, &arguments),
+        Start::End(status) => Ok(status),
+    }
+}
+
+fn main(rt: HostRuntime) -> ExitCode {
+    let outcome = answer(&rt);
+    end(&rt, &PROGRAM, outcome)
 }

@@ -1,0 +1,95 @@
+//! A text as a line of JSON: its errors, and the elements of its tree.
+
+use nix_cli::write_json_string;
+use rnix_grammar::ParseError;
+use rnix_green::TextRange;
+use rnix_kinds::tokenize;
+use rnix_parser::parse;
+use rnix_tree::{SyntaxNode, WalkEvent};
+use std::alloc::Global;
+use std::io::{self, Write};
+
+// Writes the bounds of a range, which end an object.
+fn write_range<W: Write>(range: TextRange, out: &mut W) -> io::Result<()> {
+    let (start, end) = (range.start(), range.end());
+    write!(out, ",\"start\":{start},\"end\":{end}}}")
+}
+
+// Writes the errors, each with its message and, unless it is at the end of the text, its range.
+fn write_errors<W: Write>(alloc: Global, errors: &[ParseError], out: &mut W) -> io::Result<()> {
+    for (number, error) in errors.iter().enumerate() {
+        out.write_all(if number > 0 { b",{" } else { b"{" })?;
+        out.write_all(b"\"message\":")?;
+        let message = format!(in alloc; "{error}")?;
+        write_json_string(message.as_str(), out)?;
+        match error.range() {
+            Some(range) => write_range(range, out)?,
+            None => out.write_all(b",\"start\":null,\"end\":null}")?,
+        }
+    }
+    Ok(())
+}
+
+// Writes the elements of a tree in preorder, each with its depth, its kind and its range.
+fn write_elements<W: Write>(root: &SyntaxNode<'_>, out: &mut W) -> io::Result<()> {
+    let mut depth: usize = 0;
+    for event in root.preorder_with_tokens() {
+        match event {
+            WalkEvent::Enter(element) => {
+                out.write_all(if depth > 0 { b",{" } else { b"{" })?;
+                write!(
+                    out,
+                    "\"depth\":{depth},\"kind\":\"{}\"",
+                    element.kind().name()
+                )?;
+                write_range(element.text_range(), out)?;
+                depth = depth.saturating_add(1);
+            }
+            WalkEvent::Leave(_) => depth = depth.saturating_sub(1),
+        }
+    }
+    Ok(())
+}
+
+/// Writes a text as a line of JSON, and returns whether it has no errors.
+pub fn write_json<W: Write>(
+    alloc: Global,
+    file: &str,
+    text: &str,
+    out: &mut W,
+) -> io::Result<bool> {
+    let (tree, errors) = parse(alloc, tokenize(alloc, text))?;
+    out.write_all(b"{\"file\":")?;
+    write_json_string(file, out)?;
+    out.write_all(b",\"errors\":[")?;
+    write_errors(alloc, &errors, out)?;
+    out.write_all(b"],\"elements\":[")?;
+    write_elements(&SyntaxNode::new_root(&tree), out)?;
+    out.write_all(b"]}\n")?;
+    Ok(errors.is_empty())
+}
+
+#[cfg(test)]
+mod tests {
+    use super::write_json;
+    use std::alloc::Global;
+    use std::test::Fail;
+
+    // The line of a text in a file `a "b".nix`.
+    fn line(alloc: Global, text: &str) -> Result<String, Fail> {
+        let mut out = Vec::new(alloc);
+        write_json(alloc, "a \"b\".nix", text, &mut out)?;
+        Ok(String::from_utf8(out)?)
+    }
+
+    #[test]
+    fn errors_and_elements(rt: HostRuntime) -> Result<(), Fail> {
+        let good = "{\"file\":\"a \\\"b\\\".nix\",\"errors\":[],\"elements\":[\
+            {\"depth\":0,\"kind\":\"NODE_ROOT\",\"start\":0,\"end\":2},\
+            {\"depth\":1,\"kind\":\"NODE_LITERAL\",\"start\":0,\"end\":1},\
+            {\"depth\":2,\"kind\":\"TOKEN_INTEGER\",\"start\":0,\"end\":1},\
+            {\"depth\":1,\"kind\":\"TOKEN_WHITESPACE\",\"start\":1,\"end\":2}]}\n";
+        assert_eq!(rt; line(rt.alloc(), "1 ")?.as_str(), good);
+        Ok(())
+    }
+}
