@@ -1,17 +1,22 @@
-//! Shows a Nix text as a page: `nix-page [FILE] > PAGE` writes one HTML file with the coloured source, its errors, and its tree.
+//! Shows a Nix text as a page: `nix-page [FILE] > PAGE` writes one HTML file with the colored source, its errors, and its tree.
 #![tactic(auto)]
 
 mod html;
+mod script;
 mod source;
 mod style;
 mod tree;
 
-use nix_cli::{Arguments, FAILED, Program, Start, end, read_arguments, read_text, refuse};
+use html::write_text;
+use nix_cli::{
+    Arguments, FAILED, Program, Start, end, read_arguments, read_text, refuse, shown_name,
+};
 use rnix::Root;
+use script::SCRIPT;
 use source::write_source;
 use std::io::{self, BufWriter, Write};
 use std::process::ExitCode;
-use style::{HEAD, TAIL};
+use style::{AFTER_HEADING, AFTER_TITLE, AFTER_TREE, BEFORE_TITLE};
 use tree::write_tree;
 
 const PROGRAM: Program = Program {
@@ -19,11 +24,11 @@ const PROGRAM: Program = Program {
     help: "\
 nix-page [FILE] > PAGE
 
-Prints a Nix text of at most 1 MiB as a page of HTML: its source with colors, its errors and its tree. - and no FILE stand for standard input.
+Prints a Nix text of at most 1 MiB as an HTML page: the source in colors, its errors, and its tree. - and no FILE mean standard input.
 
 ",
     statuses: "
-Ends with 0, or with 2 if something could not be read or written.
+Ends with 0, or with 2 if something could not be read or written, or is too long.
 ",
     flags: &[],
     has_colors: false,
@@ -31,18 +36,23 @@ Ends with 0, or with 2 if something could not be read or written.
     most: 1,
 };
 
-// Writes the page of a text.
-fn write_page(rt: &HostRuntime, text: &str) -> io::Result<()> {
+// Writes the page of a text with a name.
+fn write_page(rt: &HostRuntime, name: &str, text: &str) -> io::Result<()> {
     let read = Root::parse(rt.alloc(), text)?;
     let mut out = BufWriter::new(rt.alloc(), rt.stdout())?;
-    out.write_all(HEAD.as_bytes())?;
+    out.write_all(BEFORE_TITLE.as_bytes())?;
+    write_text(name, &mut out)?;
+    out.write_all(AFTER_TITLE.as_bytes())?;
+    write_text(name, &mut out)?;
+    out.write_all(AFTER_HEADING.as_bytes())?;
     write_source(rt.alloc(), &read, &mut out)?;
     write_tree(&read.syntax(), &mut out)?;
-    out.write_all(TAIL.as_bytes())?;
+    out.write_all(AFTER_TREE.as_bytes())?;
+    out.write_all(SCRIPT.as_bytes())?;
     out.flush()
 }
 
-// The longest text of which a page is made: a page has some hundred bytes for each byte of the text.
+// The size in bytes of the longest text that is shown. Its page has about a hundred times that size.
 const LONGEST: usize = 1 << 20;
 
 // Writes the page of the file that the command line names.
@@ -50,11 +60,11 @@ fn show(rt: &HostRuntime, arguments: &Arguments) -> io::Result<u8> {
     let name = arguments.words.first().map_or("-", |name| name.as_str());
     match read_text(rt, &PROGRAM, name)? {
         Some(text) if text.len() > LONGEST => {
-            refuse(rt, &PROGRAM, "a page is made of a text of at most 1 MiB")?;
+            refuse(rt, &PROGRAM, "the text is longer than 1 MiB")?;
             Ok(FAILED)
         }
         Some(text) => {
-            write_page(rt, text.as_str())?;
+            write_page(rt, shown_name(name), text.as_str())?;
             Ok(0)
         }
         None => Ok(FAILED),
@@ -72,4 +82,25 @@ fn run(rt: &HostRuntime) -> io::Result<u8> {
 fn main(rt: HostRuntime) -> ExitCode {
     let outcome = run(&rt);
     end(&rt, &PROGRAM, outcome)
+}
+
+#[cfg(test)]
+mod tests {
+    use super::{LONGEST, PROGRAM, show};
+    use nix_cli::{FAILED, parse_arguments};
+    use std::fs;
+    use std::test::Fail;
+
+    #[test]
+    fn a_longer_text_is_refused(rt: HostRuntime) -> Result<(), Fail> {
+        let text = " ".repeat(rt.alloc(), LONGEST + 1)?;
+        fs::write(&rt, "long.nix", text.as_str())?;
+        let mut names = Vec::new(rt.alloc());
+        names.push(String::from_str(rt.alloc(), "long.nix")?)?;
+        let arguments = parse_arguments(rt.alloc(), &PROGRAM, &names)?;
+        let status = show(&rt, &arguments)?;
+        fs::remove_file(&rt, "long.nix")?;
+        assert_eq!(rt; status, FAILED);
+        Ok(())
+    }
 }

@@ -1,29 +1,29 @@
-//! The source: each token in the colour of its kind, and the errors under it.
+//! The source: each token in the color of its kind, and the errors below it.
 
-use crate::html::{write_range, write_text};
+use crate::html::{write_line_start, write_lines, write_range, write_text};
 use nix_diagnostics::{Diagnostic, diagnostics};
 use rnix::{NodeOrToken, Parse, TextRange};
 use std::alloc::Global;
 use std::io::{self, Write};
 
-// Begins a span with the message of an error, and leaves its tag open.
+// Opens a span with the message of an error, without closing its start tag.
 fn open_span<W: Write>(class: &str, error: &Diagnostic, out: &mut W) -> io::Result<()> {
     write!(out, "<span class=\"{class}\" title=\"")?;
     write_text(error.message.as_str(), out)?;
     out.write_all(b"\"")
 }
 
-// The errors of a text, in the order of their places, while its tokens are written.
+// The errors of a text, in the order of their ranges, while its tokens are written.
 #[derive(Drop)]
 struct Errors<'a> {
-    // Those that begin at the next token or later.
+    // Those that start at the next token or later.
     ahead: &'a [Diagnostic],
-    // Where those end that have begun and not ended, the innermost last.
+    // The ends of those whose spans are open, the innermost last.
     open: Vec<usize>,
 }
 
 impl<'a> Errors<'a> {
-    // Ends the spans of the errors that lie before an offset.
+    // Closes the spans of the errors that end at an offset or before it.
     fn close<W: Write>(&mut self, offset: usize, out: &mut W) -> io::Result<()> {
         let ends = self.open.iter().rev();
         let closed = ends.take_while(|end| **end <= offset).count();
@@ -34,8 +34,7 @@ impl<'a> Errors<'a> {
         Ok(())
     }
 
-    // Begins the spans of the errors that begin at an offset, each with its message. Of those for which something is missing there, the
-    // first is shown.
+    // Opens the spans of the errors that start at an offset. Of the errors with an empty range there, the first is shown.
     fn open<W: Write>(&mut self, offset: usize, out: &mut W) -> io::Result<()> {
         let begun = self
             .ahead
@@ -58,7 +57,7 @@ impl<'a> Errors<'a> {
     }
 }
 
-// Writes the tokens, with a span around those of each error.
+// Writes the tokens, with a span around the tokens of each error.
 fn write_tokens<W: Write>(read: &Parse, errors: &mut Errors<'_>, out: &mut W) -> io::Result<()> {
     let root = read.syntax();
     for element in root.descendants_with_tokens() {
@@ -69,7 +68,7 @@ fn write_tokens<W: Write>(read: &Parse, errors: &mut Errors<'_>, out: &mut W) ->
             let class = token.kind().name();
             write!(out, "<span class=\"{class}\"")?;
             write_range(range, out)?;
-            write_text(token.text(), out)?;
+            write_lines(token.text(), out)?;
             out.write_all(b"</span>")?;
         }
     }
@@ -77,15 +76,17 @@ fn write_tokens<W: Write>(read: &Parse, errors: &mut Errors<'_>, out: &mut W) ->
     errors.open(root.text_range().end(), out)
 }
 
-/// Writes the tokens of a text, and then its errors in the order of their places. Each message is written twice, however many tokens it is of.
+/// Writes the tokens of a text, and then its errors in the order of their ranges. Each message is written twice, whatever the number of tokens in
+/// the range.
 pub fn write_source<W: Write>(alloc: Global, read: &Parse, out: &mut W) -> io::Result<()> {
     let mut found = diagnostics(alloc, read)?;
-    // Of two that begin at one place, the longer one is around the other.
+    // Of two that start at the same offset, the longer one contains the other.
     found.sort_by_key(|error| (
         error.range.start(),
         usize::MAX.saturating_sub(error.range.end()),
     ))?;
     out.write_all(b"<main>\n<pre id=\"source\">")?;
+    write_line_start(out)?;
     let mut errors = Errors {
         ahead: &found,
         open: Vec::new(alloc),

@@ -1,20 +1,20 @@
-//! The tree, in which each node folds.
+//! The tree, whose nodes can be folded.
 
 use crate::html::{write_range, write_text};
 use rnix::{NodeOrToken, SyntaxNode, SyntaxToken, WalkEvent};
 use std::io::{self, Write};
 
-// How many bytes of a token's text are shown at most.
+// The most bytes of a token's text that are shown.
 const SHOWN: usize = 40;
 
-// Writes the beginning of a node: its line, with what folds behind it.
+// Opens a node: its line, and the element that folds its children.
 fn open_node<W: Write>(node: &SyntaxNode<'_>, out: &mut W) -> io::Result<()> {
     out.write_all(b"<details open><summary")?;
     write_range(node.text_range(), out)?;
     writeln!(out, "{}</summary>", node.kind().name())
 }
 
-// Writes a token with the beginning of its text.
+// Writes the line of a token, with the beginning of its text.
 fn write_token<W: Write>(token: &SyntaxToken<'_>, out: &mut W) -> io::Result<()> {
     let (kind, text) = (token.kind(), token.text());
     let class = if kind.is_trivia() { "trivia" } else { "token" };
@@ -27,7 +27,7 @@ fn write_token<W: Write>(token: &SyntaxToken<'_>, out: &mut W) -> io::Result<()>
     writeln!(out, "{more}</code></div>")
 }
 
-/// Writes a node and all that is inside it.
+/// Writes a node and its descendants.
 pub fn write_tree<W: Write>(root: &SyntaxNode<'_>, out: &mut W) -> io::Result<()> {
     out.write_all(b"<nav>\n")?;
     for event in root.preorder_with_tokens() {
