@@ -1,4 +1,4 @@
-//! The errors of a text, as people read them.
+//! Printing the diagnostics of a text.
 
 use crate::excerpt::write_excerpt;
 use crate::json::write_json;
@@ -10,7 +10,7 @@ use std::alloc::Global;
 use std::io;
 use std::io::Write;
 
-/// What is printed of a diagnostic.
+/// The form in which a diagnostic is printed.
 #[derive(Clone, Copy, PartialEq, Eq)]
 pub enum Format {
     /// Its message, the line with carets, and the notes.
@@ -21,14 +21,14 @@ pub enum Format {
     Sarif,
 }
 
-/// How errors are printed.
+/// How diagnostics are printed.
 #[derive(Clone, Copy)]
 pub struct Style {
     /// The most diagnostics of a file that are printed.
     pub limit: usize,
-    /// What is printed of each.
+    /// Their form.
     pub format: Format,
-    /// With colors.
+    /// Whether the text is colored.
     pub is_colored: bool,
 }
 
@@ -40,7 +40,7 @@ struct Source<'a> {
     index: &'a LineIndex<'a>,
 }
 
-// Prints a word in bold letters of a color.
+// Writes a word, in bold and a color if the style has colors.
 fn write_word<W: Write>(word: &str, color: &str, style: Style, out: &mut W) -> io::Result<()> {
     if style.is_colored {
         write!(out, "\x1b[1;{color}m{word}\x1b[0m")
@@ -49,14 +49,14 @@ fn write_word<W: Write>(word: &str, color: &str, style: Style, out: &mut W) -> i
     }
 }
 
-// The name of the text and a place in it, both numbers from 1.
+// Writes the name of the text and the line and column of a range, both from 1.
 fn write_place<W: Write>(source: Source<'_>, range: TextRange, out: &mut W) -> io::Result<()> {
     let Position { line, column } = source.index.position(range.start()).unwrap_or_default();
     let (line, column) = (line.saturating_add(1), column.saturating_add(1));
     write!(out, "{}:{line}:{column}: ", source.name)
 }
 
-// A note with its place, the line and the carets, or help without a place.
+// Writes a note: its place, the line and carets, or without a place `help` and its message.
 fn write_note<W: Write>(
     source: Source<'_>,
     note: Note,
@@ -74,7 +74,7 @@ fn write_note<W: Write>(
     write_excerpt(source.text, range, out)
 }
 
-// The message with its place, the line and the carets, and the notes.
+// Writes a diagnostic in the form that the style asks for: of text its place, message, line with carets, and notes.
 fn write_diagnostic<W: Write>(
     source: Source<'_>,
     diagnostic: &Diagnostic,
@@ -96,8 +96,8 @@ fn write_diagnostic<W: Write>(
     Ok(())
 }
 
-/// Writes the errors of a text behind those of other texts, each with its place and its line, and returns how many there are. Columns
-/// count characters, from 1.
+/// Writes the diagnostics of a text, up to the limit, after `earlier` diagnostics of other texts, and returns their number. Columns count
+/// characters, from 1.
 pub fn check_text<W: Write>(
     alloc: Global,
     name: &str,

@@ -1,4 +1,4 @@
-//! A diagnostic as one line of JSON.
+//! Diagnostics as lines of JSON.
 
 use nix_cli::write_json_string;
 use nix_diagnostics::Diagnostic;
@@ -6,7 +6,7 @@ use rnix::TextRange;
 use rnix_text::LineIndex;
 use std::io::{self, Write};
 
-// Prints a range: its line and column from 1, the latter in characters, and its bytes from 0.
+// Writes a range: its line and column, both from 1, the latter in characters, and its bounds in bytes from 0.
 fn write_range<W: Write>(index: &LineIndex<'_>, range: TextRange, out: &mut W) -> io::Result<()> {
     let place = index.position(range.start()).unwrap_or_default();
     let (line, column) = (place.line.saturating_add(1), place.column.saturating_add(1));
@@ -17,7 +17,7 @@ fn write_range<W: Write>(index: &LineIndex<'_>, range: TextRange, out: &mut W) -
     )
 }
 
-/// Prints a diagnostic of a file.
+/// Writes a diagnostic of a file as a line of JSON.
 pub fn write_json<W: Write>(
     name: &str,
     index: &LineIndex<'_>,

@@ -1,8 +1,10 @@
-//! Says where files have errors by rnix's grammar: `nix-check [OPTION..] [FILE..]`, or with no file the text on standard input.
+//! Reports the syntax errors of Nix files by rnix's grammar: `nix-check [OPTION..] [FILE..]`, by default of standard input.
 #![tactic(auto)]
 
 mod check;
 mod excerpt;
+#[cfg(test)]
+mod format_tests;
 mod json;
 mod progress;
 mod sarif;
@@ -18,7 +20,7 @@ use std::io;
 use std::io::{BufWriter, Write};
 use std::process::ExitCode;
 
-// Errors of a file that are printed, unless all are asked for.
+// The most diagnostics of a file that are printed without `--all`.
 const LIMIT: usize = 20;
 
 const PROGRAM: Program = Program {
@@ -26,13 +28,13 @@ const PROGRAM: Program = Program {
     help: "\
 nix-check [OPTION..] [FILE..]
 
-Prints the errors of Nix files: the place, the line, what was expected there, and what may help. A mistake that leads to several errors is
-printed once. A folder stands for all files in it and below that end with .nix; - and no FILE stand for standard input.
-Files are judged by the grammar of rnix 0.14, which is not quite that of Nix: docs/nix.md says where they differ.
+Prints the syntax errors of Nix files: the place, the line, what was expected there, and what may help. A mistake that leads to several errors
+is reported once. A folder stands for all files in it and below that end with .nix; - and no FILE mean standard input.
+The grammar is that of rnix 0.14, which differs from Nix's in a few places: see docs/nix.md.
 
-    --all      print all errors of a file, not only the first 20
+    --all      print all errors of a file instead of the first 20
     --json     print each error as a line of JSON
-    --sarif    print all errors as a file of SARIF 2.1.0
+    --sarif    print all errors as one SARIF 2.1.0 file
     --color WHEN    use colors: auto (at a terminal, unless NO_COLOR is set), always or never
 ",
     statuses: "
@@ -44,14 +46,16 @@ Ends with 0 if there are no errors, 1 if there are some, 2 if something could no
     most: usize::MAX,
 };
 
-// What was found in all files.
+// The counts over all files.
 #[derive(Clone, Copy, Default)]
 struct Tally {
+    // Errors that were found.
     errors: usize,
+    // Files and folders that could not be read.
     unread: usize,
 }
 
-// Checks one more file. A file that cannot be read is counted.
+// Checks a file, and counts its errors, or the file if it cannot be read.
 fn check_file<W: Write>(
     rt: &HostRuntime,
     name: &str,
@@ -96,7 +100,7 @@ fn check_files<W: Write>(
     Ok(tally)
 }
 
-// The last line of the output. That there are no errors is said only of files that were all read.
+// Writes the last line, the number of errors. Without errors there is none if some files could not be read.
 fn write_count<W: Write>(tally: Tally, out: &mut W) -> io::Result<()> {
     match (tally.errors, tally.unread) {
         (0, 0) => writeln!(out, "no errors"),
@@ -106,7 +110,7 @@ fn write_count<W: Write>(tally: Tally, out: &mut W) -> io::Result<()> {
     }
 }
 
-// What the command line wants to be printed, None if it wants two things.
+// The format that the options ask for, None if they ask for two.
 fn format_of(arguments: &Arguments) -> Option<Format> {
     match (arguments.has("--json"), arguments.has("--sarif")) {
         (true, true) => None,
@@ -116,7 +120,7 @@ fn format_of(arguments: &Arguments) -> Option<Format> {
     }
 }
 
-// Prints what is found in the files that the command line names.
+// Prints the errors of the files that the command line names.
 fn check_all(rt: &HostRuntime, arguments: &Arguments, format: Format) -> io::Result<Tally> {
     let is_text = format == Format::Text;
     let style = Style {
@@ -136,16 +140,16 @@ fn check_all(rt: &HostRuntime, arguments: &Arguments, format: Format) -> io::Res
     match format {
         Format::Text => write_count(tally, &mut out)?,
         Format::Json => {}
-        Format::Sarif => write_tail(&mut out)?,
+        Format::Sarif => write_tail(tally.unread == 0, &mut out)?,
     }
     out.flush()?;
     Ok(tally)
 }
 
-// Checks what the command line names, and returns the status of the program.
+// Checks the files that the command line names, and returns the exit status.
 fn answer(rt: &HostRuntime, arguments: &Arguments) -> io::Result<u8> {
     let Some(format) = format_of(arguments) else {
-        refuse(rt, &PROGRAM, "--json and --sarif do not go together")?;
+        refuse(rt, &PROGRAM, "--json and --sarif exclude each other")?;
         return Ok(FAILED);
     };
     let tally = check_all(rt, arguments, format)?;

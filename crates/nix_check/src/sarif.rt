@@ -1,4 +1,4 @@
-//! Diagnostics in SARIF 2.1.0, the format in which code hosts take the results of checkers.
+//! Diagnostics in SARIF 2.1.0, the format in which code hosts read the results of checkers: one run for all files.
 
 use nix_cli::{VERSION, write_json_string};
 use nix_diagnostics::Diagnostic;
@@ -6,14 +6,14 @@ use rnix::TextRange;
 use rnix_text::LineIndex;
 use std::io::{self, Write};
 
-// What comes before the name of the program.
+// The beginning of the file, up to the program's name.
 const HEAD: &str =
     "{\"$schema\":\"https://json.schemastore.org/sarif-2.1.0.json\",\"version\":\"2.1.0\",\"runs\":[{\"tool\":{\"driver\":{\"name\":";
-// What comes between its version and the results.
+// What follows the program's version, up to the first result. All results are of one rule.
 const RESULTS: &str =
-    ",\"rules\":[{\"id\":\"syntax\"}]}},\"columnKind\":\"unicodeCodePoints\",\"results\":[";
+    ",\"rules\":[{\"id\":\"syntax\",\"shortDescription\":{\"text\":\"A syntax error\"}}]}},\"columnKind\":\"unicodeCodePoints\",\"results\":[";
 
-/// Prints what comes before the first result.
+/// Writes what precedes the first result.
 pub fn write_head<W: Write>(program: &str, out: &mut W) -> io::Result<()> {
     out.write_all(HEAD.as_bytes())?;
     write_json_string(program, out)?;
@@ -22,12 +22,15 @@ pub fn write_head<W: Write>(program: &str, out: &mut W) -> io::Result<()> {
     out.write_all(RESULTS.as_bytes())
 }
 
-/// Prints what comes behind the last result.
-pub fn write_tail<W: Write>(out: &mut W) -> io::Result<()> {
-    out.write_all(b"\n]}]}\n")
+/// Writes what follows the last result, and whether all files were read.
+pub fn write_tail<W: Write>(is_complete: bool, out: &mut W) -> io::Result<()> {
+    writeln!(
+        out,
+        "\n],\"invocations\":[{{\"executionSuccessful\":{is_complete}}}]}}]}}"
+    )
 }
 
-// Prints the name of a file as a URI: what is no letter, digit, `/`, `.`, `-`, `_` or `~` in the form %XX.
+// Writes the name of a file as a URI: bytes other than ASCII letters, digits and `/.-_~` are percent-encoded.
 fn write_uri<W: Write>(name: &str, out: &mut W) -> io::Result<()> {
     out.write_all(b"\"")?;
     for byte in name.bytes() {
@@ -40,7 +43,7 @@ fn write_uri<W: Write>(name: &str, out: &mut W) -> io::Result<()> {
     out.write_all(b"\"")
 }
 
-// Prints where something is in a file.
+// Writes the file and the region of a range, the bounds as lines and columns from 1.
 fn write_location<W: Write>(
     name: &str,
     index: &LineIndex<'_>,
@@ -62,14 +65,14 @@ fn write_location<W: Write>(
     write!(out, ",\"endLine\":{line},\"endColumn\":{column}}}}}")
 }
 
-// Prints a message.
+// Writes a message.
 fn write_message<W: Write>(message: &str, out: &mut W) -> io::Result<()> {
     out.write_all(b"\"message\":{\"text\":")?;
     write_json_string(message, out)?;
     out.write_all(b"}")
 }
 
-/// Prints a diagnostic of a file, with its notes as related locations.
+/// Writes a diagnostic of a file as a result, with its notes as related locations.
 pub fn write_result<W: Write>(
     name: &str,
     index: &LineIndex<'_>,

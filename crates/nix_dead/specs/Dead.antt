@@ -1,4 +1,4 @@
--- Which bindings of a text are dead: those that are judged and to which no name refers.
+-- Dead bindings of a text: those that are to be reported and that no reference refers to.
 use Rattle.std.specs.Prelude.{◌≡◌, ℕ, ◌+◌, ◌<◌, ◌&&◌, Bool, true, not, nat_eq, List, [], ◌∷◌, ◌++◌, length, map, get_or, set, codes, if◌then◌else◌}
 use Rattle.std.specs.List.{list_any, starts_with}
 use Rattle.std.specs.Str.{bytes_eq}
@@ -12,23 +12,23 @@ use Rattle.nix_scopes.specs.Occurrences.{is_number}
 use Rattle.nix_scopes.specs.Scopes.{Bound, Resolved, number_in, bindings_in, resolved_in}
 use Rattle.nix_dead.specs.declared.dead.Name.{Name}
 
--- whether a name is meant to be unused
+-- whether a name is marked as unused on purpose: it starts with `_`
 abbrev pub is_unmeant : List ℕ → Bool
 is_unmeant text = starts_with nat_eq text (codes "_")
 
--- whether a binding is the value of an old `let`
+-- whether a binding is the value of a legacy `let`
 abbrev pub is_body : Bound → Bool
 is_body bound = same_kind (item_of bound.scope).kind k.NODE_LEGACY_LET && bytes_eq bound.text (codes "body")
 
--- whether a binding is listed if nothing refers to it: not an attribute of a set, and not meant to be unused
+-- whether a binding is reported if nothing refers to it: it is not an attribute of a set, and not marked as unused on purpose
 abbrev pub is_judged : Bound → Bool
 is_judged bound = not (same_kind (item_of bound.scope).kind k.NODE_ATTR_SET) && (not (is_body bound) && not (is_unmeant bound.text))
 
--- whether a name refers to the binding of a number
+-- whether a reference refers to the binding of a number
 abbrev pub refers : ℕ → Resolved → Bool
 refers number name = is_number number name.binding
 
--- a name, and where it stands
+-- a name and the offset where it is written
 abbrev pub Listed : Type 0
 Listed = List ℕ × ℕ
 
@@ -36,18 +36,18 @@ Listed = List ℕ × ℕ
 abbrev pub listed : Bound → Listed
 listed bound = (bound.text, (extent_of bound.node).start)
 
--- whether the binding of a number is dead: the first of its name in its scope, judged, and not referred to
+-- whether the binding of a number is dead: the first of its name in its scope, to be reported, and not referred to
 abbrev pub is_dead : List Bound → List Resolved → ℕ → Bound → Bool
 is_dead bindings names number bound =
     is_number number (number_in bindings bound.text bound.scope) && (is_judged bound && not (list_any (refers number) names))
 
--- the dead ones among the last bindings, which have the numbers from this one on
+-- the dead ones among bindings with the numbers from this one on
 abbrev pub dead_from : List Bound → List Resolved → ℕ → List Bound → List Listed
 dead_from bindings names number [] = []
 dead_from bindings names number (bound ∷ more) =
     (if is_dead bindings names number bound then listed bound ∷ [] else []) ++ dead_from bindings names (number + 1) more
 
--- the names of a text that are dead
+-- the dead names of a text
 abbrev pub dead_in : Located → List Listed
 dead_in root = dead_from (bindings_in root) (resolved_in root) 0 (bindings_in root)
 
@@ -55,21 +55,21 @@ dead_in root = dead_from (bindings_in root) (resolved_in root) 0 (bindings_in ro
 abbrev pub listed_name : Name → Listed
 listed_name name = (name.text.now, name.start)
 
--- the list of marks, one more set, where there is one of the number
+-- the marks with that of a number set, if there is one
 abbrev pub marked : List Bool → ℕ → List Bool
 marked marks number = set marks number true
 
--- of each number below the count it is marked whether a name refers to it
+-- there are as many marks as the count, and each says whether a reference refers to the binding of its number
 pub record AreMarked (count : ℕ) (references : List Reference) (marks : List Bool) : Type 0 where
   pub count_is : length marks ≡ count
   pub marks_are : (number : ℕ) (d : Bool) → number < count → get_or marks number d ≡ list_any (refers number) (map resolved_of references)
 
--- the binding of a number, if it is the first of its name, judged and not marked
+-- the binding of a number, if it is the first of its name, to be reported, and not marked
 abbrev pub unmarked : List Bool → ℕ → Binding → List Listed
 unmarked marks number binding =
     if nat_eq binding.first number && (is_judged (bound_of binding) && not (get_or marks number true)) then listed (bound_of binding) ∷ [] else []
 
--- those among the last bindings, which have the numbers from this one on
+-- those among bindings with the numbers from this one on
 abbrev pub unmarked_from : List Bool → ℕ → List Binding → List Listed
 unmarked_from marks number [] = []
 unmarked_from marks number (binding ∷ more) = unmarked marks number binding ++ unmarked_from marks (number + 1) more

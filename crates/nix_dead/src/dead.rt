@@ -1,4 +1,4 @@
-//! The names that a text binds and never uses.
+//! Names that a text binds and never uses.
 
 ghost use Rattle.std.specs.Prelude.{◌≡◌, ◌++◌, map, IfOk, OnOk};
 ghost use Rattle.std.specs.List.Sorted.{IsNonDecreasingBy, IsPermutation};
@@ -10,21 +10,23 @@ use nix_scopes::{Binding, Reference, resolve};
 use rnix::{SyntaxKind, SyntaxNode};
 use std::alloc::{AllocError, Global};
 
-/// A name, and the offset in bytes where it stands.
+/// A name that is bound.
 #[derive(Clone, Copy)]
 pub struct Name<'t> {
+    /// The name.
     pub text: &'t str,
+    /// The offset in bytes where the binding writes it.
     pub start: usize,
 }
 
-// Whether a name is meant to be unused.
+// Whether a name is marked as unused on purpose: it starts with `_`.
 fn is_unmeant(name: &str) -> bool
     ensures { result ≡ is_unmeant name.now }
 {
     name.as_bytes().starts_with(b"_")
 }
 
-// Whether a binding is told if nothing uses it. The names of a `rec` set are its attributes, and the old `let` stands for its `body`.
+// Whether a binding is reported if it is unused. The names of a `rec` set are its attributes, and the value of a legacy `let` is its `body`.
 fn is_judged(binding: &Binding<'_>) -> bool
     ensures { result ≡ is_judged (bound_of binding.now) }
 {
@@ -33,7 +35,7 @@ fn is_judged(binding: &Binding<'_>) -> bool
     scope != SyntaxKind::NODE_ATTR_SET && !is_body && !is_unmeant(binding.text)
 }
 
-// Marks a number that is one of those that there are.
+// Marks a number, if the list is longer.
 fn mark(is_used: &mut Vec<bool>, number: usize)
     ensures { is_used.new.items ≡ marked is_used.old.items number }
 {
@@ -42,7 +44,7 @@ fn mark(is_used: &mut Vec<bool>, number: usize)
     }
 }
 
-// Of each binding, by its number, whether a name refers to it.
+// Returns for each binding, by its number, whether a reference refers to it.
 fn used_bindings(
     alloc: Global,
     count: usize,
@@ -60,7 +62,7 @@ fn used_bindings(
     Ok(is_used)
 }
 
-// Lists a binding, if it is the first of its name, judged and not used.
+// Adds a binding if it is the first of its name, to be reported, and unused.
 fn add_unused<'t>(
     number: usize,
     binding: &Binding<'t>,
@@ -79,7 +81,7 @@ fn add_unused<'t>(
     Ok(())
 }
 
-// The bindings that are not used, in the order of their numbers.
+// Returns the unused bindings in the order of their numbers.
 fn unused<'t>(
     alloc: Global,
     bindings: &[Binding<'t>],
@@ -94,7 +96,7 @@ fn unused<'t>(
     Ok(dead)
 }
 
-/// The names of `let` and of parameters that nothing in their scope uses, but those that begin with `_`, in the order of the text.
+/// Returns the names bound by `let` and the parameters that nothing refers to, except those that start with `_`, in the order of the text.
 pub fn dead_names<'t>(alloc: Global, root: &SyntaxNode<'t>) -> Result<Vec<Name<'t>>, AllocError>
     ensures exactly { IfOk result (λ names. IsPermutation (dead_in root.now) (map listed_name names.items)) }
     ensures order { IfOk result (λ names. IsNonDecreasingBy (λ (name : Dead). name.start) names.items) }

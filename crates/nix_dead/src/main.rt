@@ -19,13 +19,13 @@ const PROGRAM: Program = Program {
     help: "\
 nix-dead [OPTION..] [FILE..]
 
-Prints the names of let and of parameters that nothing uses, but those that begin with _. A folder stands for all files in it and below
-that end with .nix; - and no FILE stand for standard input.
+Prints the names bound by let and the parameters that are never used, except those that start with _. A folder stands for all files in it
+and below that end with .nix; - and no FILE mean standard input.
 
     --json     print each name as a line of JSON
 ",
     statuses: "
-Ends with 0 if all names are used, 1 if some are not, 2 if something is not Nix, or could not be read or written.
+Ends with 0 if all names are used, 1 if some are not, 2 if a file has a syntax error, or something could not be read or written.
 ",
     flags: &["--json"],
     has_colors: false,
@@ -33,7 +33,7 @@ Ends with 0 if all names are used, 1 if some are not, 2 if something is not Nix,
     most: usize::MAX,
 };
 
-// Writes a line for each name.
+// Writes a line for each name, as text or JSON. Columns count characters, from 1.
 fn write_names<W: Write>(
     file: &str,
     names: &[Name<'_>],
@@ -62,14 +62,14 @@ fn write_names<W: Write>(
     Ok(())
 }
 
-// Says where the first error of a text is.
+// Reports the first syntax error of a text.
 fn refuse_text(rt: &HostRuntime, file: &str, text: &str, read: &Parse) -> io::Result<()> {
     let range = read.errors().first().and_then(|error| error.range());
     let (line, column) = place_of(text, range.map_or(text.len(), |range| range.start()));
     eprintln!(rt; "nix-dead: {file}:{line}:{column}: this is not Nix")
 }
 
-// Names what is never used in a text, and returns the status. A text with errors is not judged.
+// Writes the unused names of a text, and returns the exit status. A text with syntax errors is refused.
 fn report<W: Write>(
     rt: &HostRuntime,
     file: &str,
@@ -91,7 +91,7 @@ fn report<W: Write>(
     Ok(FOUND)
 }
 
-// Names what is never used in the files that the command line names, and returns the worst status of all.
+// Writes the unused names of the files that the command line names, and returns the highest exit status.
 fn report_files(rt: &HostRuntime, arguments: &Arguments) -> io::Result<u8> {
     let mut out = BufWriter::new(rt.alloc(), rt.stdout())?;
     let files = find_files(rt, &PROGRAM, &arguments.words)?;
@@ -121,4 +121,36 @@ fn run(rt: &HostRuntime) -> io::Result<u8> {
 fn main(rt: HostRuntime) -> ExitCode {
     let outcome = run(&rt);
     end(&rt, &PROGRAM, outcome)
+}
+
+#[cfg(test)]
+mod tests {
+    use super::{Name, write_names};
+    use rnix_text::{ColumnUnit, LineIndex};
+    use std::alloc::Global;
+    use std::test::Fail;
+
+    // The line of a name in the second line of a file, after a letter of two bytes.
+    fn line(alloc: Global, is_json: bool) -> Result<String, Fail> {
+        let text = "a:\né\\b";
+        let names = [Name {
+            text: "b",
+            start: 6,
+        }];
+        let index = LineIndex::new(alloc, text, ColumnUnit::Chars)?;
+        let mut out = Vec::new(alloc);
+        write_names("x\"y", &names, &index, is_json, &mut out)?;
+        Ok(String::from_utf8(out)?)
+    }
+
+    #[test]
+    fn lines_of_text_and_json(rt: HostRuntime) -> Result<(), Fail> {
+        assert_eq!(rt;
+            line(rt.alloc(), false)?.as_str(),
+            "x\"y:2:3: b is never used\n"
+        );
+        let json = "{\"file\":\"x\\\"y\",\"line\":2,\"column\":3,\"start\":6,\"name\":\"b\"}\n";
+        assert_eq!(rt; line(rt.alloc(), true)?.as_str(), json);
+        Ok(())
+    }
 }

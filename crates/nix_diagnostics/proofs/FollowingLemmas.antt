@@ -3,13 +3,15 @@ use Rattle.std.proofs.Common.{◌≡◌, ◌∙◌, ℕ, Bool, true, false, List
 use Rattle.std.proofs.Common.{◌≤◌, length, if◌then◌else◌}
 use Rattle.std.proofs.lemmas.List.{append_assoc}
 use Rattle.std.specs.Prelude.{IfSome, option_map, is_some, ◌==◌, ◌&&◌}
-use Rattle.rnix_green.specs.Tree.{Tree, Located}
+use Rattle.rnix_green.specs.Tree.{Tree, Located, item_of, extent_of}
+use Rattle.rnix_green.specs.Relatives.{parent_of}
 use Rattle.rnix_green.specs.Walk.{Spot, spot_at}
 use Rattle.rnix_grammar.specs.Fault.{Fault, untold, extra, unwanted, bound_twice, ended, ended_before, named_twice, too_deep}
 use Rattle.rnix_green.specs.declared.range.TextRange.{TextRange}
 use Rattle.rnix_green.specs.Range.{bounds_of}
 use Rattle.nix_diagnostics.specs.Places.{place_of}
-use Rattle.nix_diagnostics.specs.Following.{is_slip, is_extra, last_from, last_slip, must_follow, is_near, IsErrorNode, IsInGroup, Skips, Loses}
+use Rattle.nix_diagnostics.specs.Following.{is_slip, is_extra, last_from, last_slip, must_follow, is_near, IsErrorNode, IfErrorNode, IsInGroup, IfInGroup, Skips, Loses}
+use Rattle.nix_diagnostics.specs.Following.{is_group, range_if_group, group_around}
 use Rattle.nix_diagnostics.specs.Following.{skips, behind, AreLost, MayFollow, follows, same_group, lost}
 use Rattle.nix_diagnostics.specs.Known.{are_shared, IsLostFrom, IsLastIn, Knows, Judges}
 use Rattle.nix_diagnostics.specs.declared.folding.Folding.{Folding}
@@ -69,11 +71,35 @@ pub judged_lost : (root : Located) (all before : List Fault) (fault : Fault) (f 
     Judges root all before fault true
 judged_lost root all before fault f known is = (λ yes. lost (known.lost is), λ no. absurd (grind (arith, no)))
 
+-- what is right below a list, pattern, .. with the range that was found
+in_group_below : (root : Located) (fault : Fault) (node : Located) (around : Option Located) (group : Option TextRange) → IsErrorNode root fault node →
+    parent_of node ≡ around → option_map bounds_of group ≡ range_if_group around → IfInGroup root fault group
+in_group_below root fault node around None is parent same = tt
+in_group_below root fault node None (Some range) is parent same = absurd (grind (arith, same))
+in_group_below root fault node (Some around) (Some range) is parent same = kind (is_group (item_of around).kind) refl where
+  kind : (b : Bool) → is_group (item_of around).kind ≡ b → IsInGroup root fault (bounds_of range)
+  kind true yes = record {
+    node = node;
+    is_node = is;
+    around = around;
+    parent = parent;
+    is_group = yes;
+    range_is = grind (arith, same, yes);
+  }
+  kind false no = absurd (grind (arith, same, no))
+
+-- an error whose error node is right below a list, pattern, .. with the range that was found
+pub in_group_found : (root : Located) (fault : Fault) (node : Option Located) (group : Option TextRange) → IfErrorNode root fault node →
+    option_map bounds_of group ≡ group_around node → IfInGroup root fault group
+in_group_found root fault node None is same = tt
+in_group_found root fault None (Some range) is same = absurd (grind (arith, same))
+in_group_found root fault (Some node) (Some range) is same = in_group_below root fault node (parent_of node) (Some range) is refl same
+
 -- in the list, pattern, .. of the last error an error may follow
 pub judged_shared : (root : Located) (all before : List Fault) (fault : Fault) (f : Folding) (group : Option TextRange) → Knows root all before f →
-    IfSome group (λ range. IsInGroup root fault (bounds_of range)) → are_shared group f.group ≡ true → Judges root all before fault true
+    IfInGroup root fault group → are_shared group f.group ≡ true → Judges root all before fault true
 judged_shared root all before fault f group known is shared = (λ yes. found group f.group is known.group shared, λ no. absurd (grind (arith, no))) where
-  found : (own last : Option TextRange) → IfSome own (λ range. IsInGroup root fault (bounds_of range)) →
+  found : (own last : Option TextRange) → IfInGroup root fault own →
       IfSome last (λ range. IsLastIn root before (bounds_of range)) → are_shared own last ≡ true → MayFollow root all before fault
   found (Some own) (Some last) mine other same =
       let start : own.start ≡ last.start = grind (arith, same) in
@@ -86,7 +112,7 @@ judged_shared root all before fault f group known is shared = (λ yes. found gro
 -- what is known behind an error about an unexpected or a missing token
 pub knows_slip : (root : Located) (all before : List Fault) (fault : Fault) (f new : Folding) → Knows root all before f → is_slip fault ≡ true →
     new.last ≡ Some (place_of root fault).end → new.end ≡ f.end → new.lost_from ≡ f.lost_from →
-    IfSome new.group (λ range. IsInGroup root fault (bounds_of range)) → (new.is_lost ≡ true → AreLost root all (before ++ fault ∷ [])) →
+    IfInGroup root fault new.group → (new.is_lost ≡ true → AreLost root all (before ++ fault ∷ [])) →
     Knows root all (before ++ fault ∷ []) new
 knows_slip root all before fault f new known slip last end from group are =
     let is : last_slip (before ++ fault ∷ []) ≡ Some fault = slip_last before fault slip in
@@ -97,7 +123,7 @@ knows_slip root all before fault f new known slip last end from group are =
       group = in_group new.group group;
       lost = are;
     } where
-      in_group : (o : Option TextRange) → IfSome o (λ range. IsInGroup root fault (bounds_of range)) →
+      in_group : (o : Option TextRange) → IfInGroup root fault o →
           IfSome o (λ range. IsLastIn root (before ++ fault ∷ []) (bounds_of range))
       in_group None h = h
       in_group (Some range) h = record { last = fault; is = slip_last before fault slip; group = h }
@@ -170,7 +196,7 @@ lost_behind root all fault from start at known is low place =
 
 -- an error whose node skips brackets loses the reader's way
 pub lost_skipping : (root : Located) (all : List Fault) (fault : Fault) (found : Option Located) (node : Located) →
-    IfSome found (IsErrorNode root fault) → found ≡ Some node → Skips node → Loses root all fault
+    IfErrorNode root fault found → found ≡ Some node → Skips node → Loses root all fault
 lost_skipping root all fault found node known is skipped = skips node (subst (λ o. IfSome o (IsErrorNode root fault)) is known) skipped
 
 -- no list is empty that has an element

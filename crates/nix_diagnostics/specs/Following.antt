@@ -1,6 +1,6 @@
 -- Which errors follow from an earlier one, so that they may share its diagnostic.
 use Rattle.std.specs.Prelude.{◌≡◌, ℕ, ◌+◌, ◌-◌, ◌≤◌, ◌==◌, Bool, true, false, not, nat_lt, ◌||◌, List, [], ◌∷◌, ◌++◌, take, drop, Option, Some, None}
-use Rattle.std.specs.Prelude.{is_some, if◌then◌else◌}
+use Rattle.std.specs.Prelude.{is_some, IfSome, if◌then◌else◌}
 use Rattle.std.specs.List.{list_any}
 use Rattle.rnix_kinds.specs.declared.kinds.SyntaxKind.{SyntaxKind}
 use Rattle.rnix_kinds.specs.declared.kinds.SyntaxKind.TheVariants.{NODE_LIST, NODE_PATTERN, NODE_STRING, NODE_DYNAMIC, NODE_INHERIT}
@@ -8,14 +8,15 @@ use Rattle.rnix_kinds.specs.declared.kinds.SyntaxKind.TheVariants.{NODE_ATTRPATH
 use Rattle.rnix_kinds.specs.declared.kinds.SyntaxKind.TheVariants.{TOKEN_INTERPOL_START, TOKEN_STRING_START, TOKEN_LET, TOKEN_IF, TOKEN_THEN}
 use Rattle.rnix_kinds.specs.declared.kinds.SyntaxKind.TheVariants.{TOKEN_R_BRACE, TOKEN_R_BRACK, TOKEN_R_PAREN, TOKEN_INTERPOL_END, TOKEN_STRING_END}
 use Rattle.rnix_kinds.specs.declared.kinds.SyntaxKind.TheVariants.{TOKEN_IN, TOKEN_ELSE}
-use Rattle.rnix_green.specs.Range.{Extent}
+use Rattle.rnix_green.specs.declared.range.TextRange.{TextRange}
+use Rattle.rnix_green.specs.Range.{Extent, bounds_of}
 use Rattle.rnix_green.specs.Tree.{Located, item_of, extent_of, text_at, IsTokenAt}
 use Rattle.rnix_green.specs.Relatives.{parent_of}
 use Rattle.rnix_grammar.specs.Fault.{Fault, extra, named_twice, ended, ended_before}
 use Rattle.rnix_grammar.specs.Ranges.{range_in, is_error_node}
 use Rattle.nix_diagnostics.specs.Places.{end_of_items, place_of}
 
--- a token of the kind opens something that another closes
+-- a token of the kind opens something
 abbrev pub opens : SyntaxKind → Bool
 opens TOKEN_L_BRACE = true
 opens TOKEN_L_BRACK = true
@@ -49,23 +50,23 @@ is_group NODE_INHERIT = true
 is_group NODE_ATTRPATH_VALUE = true
 is_group kind = false
 
--- the error says that a token is unexpected or missing: not that a name stands twice, nor that tokens follow the expression
+-- the error is about an unexpected or a missing token: not about a duplicate argument, nor about tokens after the expression
 abbrev pub is_slip : Fault → Bool
 is_slip (extra range) = false
 is_slip (named_twice range name) = false
 is_slip fault = true
 
--- the error says that tokens follow the expression
+-- the error is about tokens after the expression
 abbrev pub is_extra : Fault → Bool
 is_extra (extra range) = true
 is_extra fault = false
 
--- the last error of some that is about an unexpected or a missing token, and else the one before them
+-- the last error about an unexpected or a missing token, or else the given one
 abbrev pub last_from : Option Fault → List Fault → Option Fault
 last_from before [] = before
 last_from before (fault ∷ faults) = last_from (if is_slip fault then Some fault else before) faults
 
--- the last such error
+-- the last error about an unexpected or a missing token
 abbrev pub last_slip : List Fault → Option Fault
 last_slip faults = last_from None faults
 
@@ -79,7 +80,7 @@ is_at_end fault = false
 abbrev pub is_blank : ℕ → Bool
 is_blank byte = byte == 32 || (byte == 10 || (byte == 9 || byte == 13))
 
--- how many words begin in a text, behind white space or inside a word
+-- how many words start in a text that begins after white space, or inside a word
 abbrev pub words : Bool → List ℕ → ℕ
 words inside [] = 0
 words inside (byte ∷ bytes) = (if is_blank byte || inside then 0 else 1) + words (not (is_blank byte)) bytes
@@ -88,16 +89,16 @@ words inside (byte ∷ bytes) = (if is_blank byte || inside then 0 else 1) + wor
 abbrev pub is_short : List ℕ → Bool
 is_short text = not (list_any (λ byte. byte == 10) text) || nat_lt (words false text) 3
 
--- between two offsets of a text, the first before the second, are no line feed, or at most two words
+-- between two offsets of a text there is no line feed, or at most two words
 abbrev pub are_close : List ℕ → ℕ → ℕ → Bool
 are_close text from to = is_short (take (to - from) (drop from text))
 
--- an error begins where another ends or close behind, if there is another
+-- an error starts at the end of another or close after it, if there is another
 abbrev pub is_near : Located → Option Fault → Fault → Bool
 is_near root None fault = false
 is_near root (Some last) fault = are_close (text_at root) (place_of root last).end (place_of root fault).start
 
--- an error follows from those before it: tokens follow the expression, and there is an error in it; or it is near the last error
+-- an error has to follow from earlier ones: it is about tokens after the expression, in which there is an error; or it is near the last error
 abbrev pub must_follow : Located → List Fault → Fault → Bool
 must_follow root before (extra range) = is_some (last_slip before)
 must_follow root before (named_twice range name) = false
@@ -109,6 +110,10 @@ pub record IsErrorNode (root : Located) (fault : Fault) (node : Located) : Type 
   pub is_error : is_error_node (item_of node).kind ≡ true
   pub range : range_in fault ≡ Some (extent_of node)
 
+-- an error has this error node, if there is one
+abbrev pub IfErrorNode : Located → Fault → Option Located → Type 0
+IfErrorNode root fault node = IfSome node (λ n. IsErrorNode root fault n)
+
 -- the error is right below a list, pattern, string, interpolated name, `inherit` or entry with this range
 pub record IsInGroup (root : Located) (fault : Fault) (range : Extent) : Type 0 where
   pub node : Located
@@ -118,12 +123,26 @@ pub record IsInGroup (root : Located) (fault : Fault) (range : Extent) : Type 0 
   pub is_group : is_group (item_of around).kind ≡ true
   pub range_is : range ≡ extent_of around
 
+-- an error is right below a list, pattern, .. with this range, if there is one
+abbrev pub IfInGroup : Located → Fault → Option TextRange → Type 0
+IfInGroup root fault group = IfSome group (λ range. IsInGroup root fault (bounds_of range))
+
+-- the range of a node, if it is a list, pattern, string, interpolated name, `inherit` or entry
+abbrev pub range_if_group : Option Located → Option Extent
+range_if_group None = None
+range_if_group (Some node) = if is_group (item_of node).kind then Some (extent_of node) else None
+
+-- the range of the list, pattern, .. that a node is right below, if it is
+abbrev pub group_around : Option Located → Option Extent
+group_around None = None
+group_around (Some node) = range_if_group (parent_of node)
+
 -- a token of the kind begins a string
 abbrev pub begins_string : SyntaxKind → Bool
 begins_string TOKEN_STRING_START = true
 begins_string kind = false
 
--- where what a token opens begins to count: a string that is not closed takes any text, so it counts from the beginning
+-- the offset from which errors count as following a token that opens something: its start, but 0 for a string, which takes any text
 abbrev pub counts_from : Located → ℕ
 counts_from token = if begins_string (item_of token).kind then 0 else (item_of token).start
 
@@ -140,18 +159,18 @@ pub record Skips (node : Located) : Type 0 where
   pub start : (item_of node).start ≤ (item_of token).start
   pub end : (item_of token).end ≤ (item_of node).end
 
--- the reader loses its way at an error
+-- the parser loses its way at an error
 pub data Loses (root : Located) (all : List Fault) (fault : Fault) : Type 0 where
-  -- of the limit of nesting, or at the end of the text
+  -- the error has no range: at the limit of nesting, or at the end of the text
   no_range : range_in fault ≡ None → Loses root all fault
   at_end : end_of_items root ≤ (place_of root fault).end → Loses root all fault
-  -- where tokens are skipped of which one opens or closes something
+  -- its error node skips a token that opens or closes something
   skips : (node : Located) → IsErrorNode root fault node → Skips node → Loses root all fault
-  -- behind what is opened, in a text that ends too early
+  -- it follows a token that opens something, in a text that ends too early
   behind : (token : Located) → IsTokenOf root token → opens (item_of token).kind ≡ true → counts_from token ≤ (place_of root fault).start →
       list_any is_at_end all ≡ true → Loses root all fault
 
--- some error of these loses the reader's way
+-- the parser loses its way at one of these errors
 pub record AreLost (root : Located) (all before : List Fault) : Type 0 where
   pub first : List Fault
   pub fault : Fault
@@ -159,7 +178,7 @@ pub record AreLost (root : Located) (all before : List Fault) : Type 0 where
   pub is : before ≡ first ++ fault ∷ rest
   pub loses : Loses root all fault
 
--- an error may share the diagnostic of those before it
+-- an error may share the diagnostic of earlier ones
 pub data MayFollow (root : Located) (all before : List Fault) (fault : Fault) : Type 0 where
   follows : must_follow root before fault ≡ true → MayFollow root all before fault
   same_group : (last : Fault) (range : Extent) → last_slip before ≡ Some last → IsInGroup root last range → IsInGroup root fault range →

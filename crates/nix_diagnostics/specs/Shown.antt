@@ -1,4 +1,4 @@
--- How a list of diagnostics shows the errors of a text.
+-- Diagnostics that show the errors of a text.
 use Rattle.std.specs.Prelude.{◌≡◌, ℕ, ◌+◌, ◌<◌, false, List, [], ◌∷◌, ◌++◌, length, string_bytes}
 use Rattle.rnix_green.specs.Range.{bounds_of}
 use Rattle.rnix_green.specs.Tree.{Located}
@@ -7,18 +7,18 @@ use Rattle.nix_diagnostics.specs.Places.{place_of}
 use Rattle.nix_diagnostics.specs.Following.{must_follow, MayFollow}
 use Rattle.nix_diagnostics.specs.declared.diagnostic.Diagnostic.{Diagnostic}
 
--- a diagnostic has something to say
+-- the message of a diagnostic is not empty
 abbrev pub IsWorded : Diagnostic → Type 0
 IsWorded d = 0 < length (string_bytes d.message)
 
--- each of some errors may share the diagnostic of those before it
+-- each of some errors may share the diagnostic of the earlier ones
 pub data MayAllFollow (root : Located) (all before : List Fault) : List Fault → Type 0 where
   none : MayAllFollow root all before []
   one_more : (faults : List Fault) (fault : Fault) → MayAllFollow root all before faults → MayFollow root all (before ++ faults) fault →
       MayAllFollow root all before (faults ++ fault ∷ [])
 
--- diagnostics show errors, in order: each error belongs to one diagnostic, which stands for an unbroken run of them, at the place of the first.
--- That one need not follow from those before it, and each of the others may
+-- diagnostics show errors, in order: each error belongs to one diagnostic, which covers an unbroken run of them and has the place of the first.
+-- The first need not follow from earlier errors, and each of the others may
 pub data Shows (root : Located) (all : List Fault) : List Fault → List Diagnostic → Type 0 where
   none : Shows root all [] []
   shown : (faults more : List Fault) (ds : List Diagnostic) (fault : Fault) (d : Diagnostic) → Shows root all faults ds →
@@ -30,7 +30,7 @@ pub data Shows (root : Located) (all : List Fault) : List Fault → List Diagnos
 abbrev pub AreShown : Located → List Fault → List Diagnostic → Type 0
 AreShown root all ds = Shows root all all ds
 
--- the last of some diagnostics stands for one error more, up to a number
+-- the last of some diagnostics covers one more error, up to a number
 pub record IsFolded (number : ℕ) (old new : List Diagnostic) : Type 0 where
   pub before : List Diagnostic
   pub d : Diagnostic

@@ -1,4 +1,4 @@
-//! What is opened in a text and never closed, by its tokens alone.
+//! Matching of brackets, strings and keywords by the tokens of a text alone.
 
 ghost use Rattle.std.specs.Prelude.{◌≡◌};
 ghost use Rattle.nix_diagnostics.specs.Following.{opens, closes};
@@ -7,19 +7,19 @@ use SyntaxKind::*;
 use rnix::{NodeOrToken, SyntaxKind, SyntaxNode, SyntaxToken, TextRange};
 use std::alloc::{AllocError, Global};
 
-// What a token closes is looked for among so many innermost open things.
+// How many of the innermost openings are searched for the one that a token closes.
 const MOST_OPEN: usize = 64;
 
-/// A token that opens something, and the range of it.
+/// A token that opens something.
 #[derive(Clone, Copy)]
 pub struct Opening {
-    /// The kind of the token.
+    /// Its kind.
     pub kind: SyntaxKind,
     /// Its range.
     pub range: TextRange,
-    /// Whether it begins a string between `"` of several lines.
+    /// Whether it starts a string in `"` that spans several lines.
     pub is_long: bool,
-    // The number of its line, and how far that line is indented.
+    // The number of its line, and the indentation of that line in bytes.
     line: usize,
     indent: usize,
 }
@@ -73,28 +73,31 @@ fn is_closed_by(opening: SyntaxKind, closing: SyntaxKind) -> bool {
     )
 }
 
-// What is open while the tokens of a text are read.
+// The state while the tokens of a text are read.
 #[derive(Drop)]
 struct Brackets {
+    // What is open, the innermost last.
     open: Vec<Opening>,
-    // What is closed by something else, the first of all.
+    // The first opening whose closing token is missing, since a token closes something around it.
     unclosed: Option<Opening>,
-    // What is closed by a token at the beginning of a line that is indented less, the first of all.
+    // The first opening that is closed by the first token of a line that is indented less.
     suspect: Option<Opening>,
-    // The first string between `"` of several lines.
+    // The first string in `"` that spans several lines.
     long: Option<Opening>,
     // The first token that closes nothing.
     extra: Option<TextRange>,
-    // The last token that is not trivia.
+    // The last `inherit` that no `;` follows.
+    inherit: Option<TextRange>,
+    // The kind of the last token other than trivia.
     last: Option<SyntaxKind>,
-    // The number of the line, how far it is indented, and whether no token but trivia stands in it yet.
+    // The number of the line, its indentation in bytes, and whether it has no token but trivia so far.
     line: usize,
     indent: usize,
     is_first: bool,
 }
 
 impl Brackets {
-    // Nothing is open.
+    // The state before the first token.
     fn new(alloc: Global) -> Brackets {
         Brackets {
             open: Vec::new(alloc),
@@ -102,6 +105,7 @@ impl Brackets {
             suspect: None,
             long: None,
             extra: None,
+            inherit: None,
             last: None,
             line: 0,
             indent: 0,
@@ -109,7 +113,7 @@ impl Brackets {
         }
     }
 
-    // Goes over trivia or a part of a string.
+    // Reads trivia or the content of a string: keeps count of lines, and notes a string that spans several.
     fn skip(&mut self, kind: SyntaxKind, text: &str) {
         let Some((_, line)) = text.rsplit_once('\n') else {
             return;
@@ -128,7 +132,7 @@ impl Brackets {
         }
     }
 
-    // Closes the innermost thing that the token closes. What is open inside that is never closed.
+    // Closes the innermost opening that the token closes. The openings inside it are never closed.
     fn close(&mut self, kind: SyntaxKind, range: TextRange) {
         let outer = self.open.len().saturating_sub(MOST_OPEN);
         let innermost = self.open.get(outer..).unwrap_or(&[]);
@@ -150,7 +154,7 @@ impl Brackets {
         self.open.truncate(number);
     }
 
-    // Reads one more token.
+    // Reads the next token.
     fn read(&mut self, token: &SyntaxToken<'_>) -> Result<(), AllocError> {
         let kind = token.kind();
         if kind.is_trivia() || kind == TOKEN_STRING_CONTENT {
@@ -160,7 +164,12 @@ impl Brackets {
         if closes(kind) {
             self.close(kind, token.text_range());
         }
-        // The old `let` has no `in`.
+        match kind {
+            TOKEN_INHERIT => self.inherit = Some(token.text_range()),
+            TOKEN_SEMICOLON => self.inherit = None,
+            _ => {}
+        }
+        // A legacy `let` has no `in`.
         if kind == TOKEN_L_BRACE && self.last == Some(TOKEN_LET) {
             let _let = self.open.pop();
         }
@@ -178,8 +187,8 @@ impl Brackets {
         Ok(())
     }
 
-    // What is never closed: what something else closes, or what is open at the end. Of strings, the first of several lines is the one
-    // whose end is missing; else the indentation shows what was to be closed.
+    // The opening that is never closed, by the best guess. If the innermost one at the end is a string, this is the first string that spans
+    // several lines. Otherwise it is one inside something that is closed, one that the indentation shows, or the innermost at the end.
     fn unclosed(&self) -> Option<Opening> {
         let innermost = self.open.last().copied();
         match (self.unclosed, innermost) {
@@ -197,16 +206,18 @@ impl Brackets {
     }
 }
 
-/// What does not fit together in a text.
+/// The brackets of a text that do not match.
 #[derive(Clone, Copy)]
 pub struct Mismatch {
-    /// What is opened and never closed: the first, or what the indentation shows.
+    /// The opening that is never closed, by the best guess.
     pub unclosed: Option<Opening>,
     /// The first token that closes nothing.
     pub extra: Option<TextRange>,
+    /// The last `inherit`, if no `;` follows it.
+    pub inherit: Option<TextRange>,
 }
 
-/// What does not fit together among the tokens of a node.
+/// Returns what does not match among the tokens of a node.
 pub fn mismatch_in(alloc: Global, node: &SyntaxNode<'_>) -> Result<Mismatch, AllocError> {
     let mut brackets = Brackets::new(alloc);
     for element in node.descendants_with_tokens() {
@@ -217,5 +228,6 @@ pub fn mismatch_in(alloc: Global, node: &SyntaxNode<'_>) -> Result<Mismatch, All
     Ok(Mismatch {
         unclosed: brackets.unclosed(),
         extra: brackets.extra,
+        inherit: brackets.inherit,
     })
 }

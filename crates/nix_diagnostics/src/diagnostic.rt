@@ -1,4 +1,4 @@
-//! Where errors are shown, and what is said of them.
+//! Diagnostics: where errors are shown, and what is reported of them.
 
 ghost use Rattle.std.specs.Prelude.{◌≡◌, ◌+◌, ◌^◌, ◌<◌, length, option_map, IfOk, OnOk, string_bytes};
 ghost use Rattle.rnix_green.specs.Range.{bounds_of};
@@ -15,26 +15,25 @@ use crate::place::error_node;
 use rnix::{NodeOrToken, Parse, ParseError, SyntaxKind, SyntaxNode, TextRange};
 use std::alloc::{AllocError, Global};
 
-/// What is wrong at a place of a text: the bytes to underline, none where something is missing at the end, and a message such as
+/// A mistake in a text: the bytes to underline, none if something is missing at the end, and a message such as
 /// `expected ";" after the value of "a", found the name "b"`.
 ///
-/// It stands for some of the text's errors, which follow one another in `Parse::errors`: the first of them stands at its place, and the
-/// others follow from it.
+/// It covers a run of errors in `Parse::errors`: it is shown at the first of them, and the others may follow from the same mistake.
 #[derive(Drop)]
 pub struct Diagnostic {
     /// The bytes to underline.
     pub range: TextRange,
-    /// What is wrong there, in one line.
+    /// The message, in one line.
     pub message: String,
-    /// The number of the first error that it stands for.
+    /// The number of the first error that it covers.
     pub first_error: usize,
-    /// The number behind that of the last error that it stands for.
+    /// The number after that of the last error that it covers.
     pub end_error: usize,
-    /// What may help: what is not closed, where something is missing, what was meant.
+    /// Notes that may help: what is not closed, where something is missing, what was meant.
     pub notes: Vec<Note>,
 }
 
-// The end of the last token that is neither white space nor a comment.
+// The end of the last token other than trivia, 0 if there is none.
 fn end_of_items(root: &SyntaxNode<'_>) -> usize
     ensures { result ≡ end_of_items root.now }
 {
@@ -49,7 +48,7 @@ fn end_of_items(root: &SyntaxNode<'_>) -> usize
     end
 }
 
-// The expressions that are nested too deep: the first error node that ends at an offset.
+// The range of the first error node that ends at an offset: it holds the expressions that are nested too deep.
 fn too_deep(root: &SyntaxNode<'_>, end: usize) -> Option<TextRange>
     ensures { option_map bounds_of result ≡ error_range end root.now }
 {
@@ -61,7 +60,7 @@ fn too_deep(root: &SyntaxNode<'_>, end: usize) -> Option<TextRange>
     None
 }
 
-// The part of the text that is at fault. Where something is missing at the end, there is none.
+// The range of an error, None if something is missing at the end.
 fn own_range(error: &ParseError, root: &SyntaxNode<'_>, end: usize) -> Option<TextRange>
     requires { end ≡ end_of_items root.now }
     ensures { option_map bounds_of result ≡ own_range root.now (fault_of error.now) }
@@ -72,7 +71,7 @@ fn own_range(error: &ParseError, root: &SyntaxNode<'_>, end: usize) -> Option<Te
     }
 }
 
-// Where an error is shown. Where something is missing at the end, it is behind the last token.
+// Where an error is shown: at its range, or else at the end of the last token other than trivia.
 fn place_of(error: &ParseError, root: &SyntaxNode<'_>, end: usize) -> TextRange
     requires { end ≡ end_of_items root.now }
     ensures { bounds_of result ≡ place_of root.now (fault_of error.now) }
@@ -80,7 +79,7 @@ fn place_of(error: &ParseError, root: &SyntaxNode<'_>, end: usize) -> TextRange
     own_range(error, root, end).unwrap_or(TextRange::empty(end))
 }
 
-// The last diagnostic stands for one more error.
+// Makes the last diagnostic cover one more error.
 fn fold(found: &mut Vec<Diagnostic>, number: usize) -> Result<(), AllocError>
     requires some { 0 < length found.old.items }
     requires room { number + 1 < 2 ^ 64 }
@@ -95,7 +94,7 @@ fn fold(found: &mut Vec<Diagnostic>, number: usize) -> Result<(), AllocError>
     Ok(())
 }
 
-/// What is wrong in a text, in the order in which its errors were found. What merely follows from an error stands in its diagnostic.
+/// Returns the diagnostics of a text, in the order of its errors. Errors that may follow from the same mistake share a diagnostic.
 pub fn diagnostics(alloc: Global, read: &Parse) -> Result<Vec<Diagnostic>, AllocError>
     ensures { IfOk result (λ found. AreShown (root_of read.now) read.now.faults found.items) }
 {

@@ -1,14 +1,15 @@
-//! Which errors follow from an earlier one.
+//! Deciding which errors follow from an earlier one.
 
-ghost use Rattle.std.specs.Prelude.{◌≡◌, ◌++◌, ◌∷◌, [], List, true, false, nat_lt, IfSome, map};
+ghost use Rattle.std.specs.Prelude.{◌≡◌, [], true, false, nat_lt, IfSome, option_map, map};
 ghost use Rattle.std.specs.List.{list_any};
 ghost use Rattle.rnix_green.specs.Range.{bounds_of};
-ghost use Rattle.rnix_green.specs.Tree.{Located, item_of};
-ghost use Rattle.rnix_grammar.specs.Fault.{Fault, fault_of};
+ghost use Rattle.rnix_green.specs.Relatives.{parent_of};
+ghost use Rattle.rnix_green.specs.Tree.{item_of};
+ghost use Rattle.rnix_grammar.specs.Fault.{fault_of};
 ghost use Rattle.nix_diagnostics.specs.Places.{end_of_items, place_of};
-ghost use Rattle.nix_diagnostics.specs.Following.{opens, is_group, is_at_end, is_slip, is_extra, is_blank, words, are_close, counts_from};
-ghost use Rattle.nix_diagnostics.specs.Following.{IsErrorNode, IsInGroup, Skips, Loses, AreLost};
-ghost use Rattle.nix_diagnostics.specs.Known.{are_shared, IsLostFrom, Knows, Judges};
+ghost use Rattle.nix_diagnostics.specs.Following.{opens, is_group, is_at_end, is_slip, is_extra, is_blank, words, are_close, counts_from, range_if_group};
+ghost use Rattle.nix_diagnostics.specs.Following.{group_around, IfErrorNode, Skips};
+ghost use Rattle.nix_diagnostics.specs.Known.{are_shared, IsLostFrom, Knows, LosesIf, AreLostIf, JudgesSlips, JudgesNext};
 
 use crate::brackets::{Mismatch, Opening, closes, opens};
 use SyntaxKind::*;
@@ -17,21 +18,21 @@ use rnix::{NodeOrToken, ParseError, SyntaxKind, SyntaxNode, SyntaxToken, TextRan
 /// What is known of the errors so far.
 #[derive(Clone, Copy)]
 pub struct Folding {
-    // From where on an error is behind what is never closed, in a text that ends too early.
+    // The offset of what is never closed, in a text that ends too early: later errors follow from it.
     lost_from: Option<usize>,
     // The first token that closes nothing.
     extra: Option<TextRange>,
-    // Where the last token ends that is not trivia.
+    // The end of the last token other than trivia.
     end: usize,
-    // Where the last error ends, if there was one.
+    // The end of the last error about an unexpected or a missing token.
     last: Option<usize>,
-    // The list or the pattern that it is in.
+    // The range of the list, pattern, .. around it.
     group: Option<TextRange>,
-    // Whether the reader lost its way, so that nothing behind is reported on its own.
+    // Whether the parser lost its way, so that later errors may follow from it.
     is_lost: bool,
 }
 
-// Whether a node is one in which more than one error comes of one mistake.
+// Whether one mistake often leads to several errors in a node of the kind.
 fn is_group(kind: SyntaxKind) -> bool
     ensures { result ≡ is_group kind }
 {
@@ -41,10 +42,9 @@ fn is_group(kind: SyntaxKind) -> bool
     )
 }
 
-// The list, pattern, string or entry around the error node of an error.
+// The range of the list, pattern, string or entry that a node is right below.
 fn group(node: &SyntaxNode<'_>) -> Option<TextRange>
-    ensures { (root : Located) (fault : Fault) → IsErrorNode root fault node.now →
-        IfSome result (λ range. IsInGroup root fault (bounds_of range)) }
+    ensures { option_map bounds_of result ≡ range_if_group (parent_of node.now) }
 {
     let parent = node.parent()?;
     if is_group(parent.kind()) {
@@ -54,10 +54,9 @@ fn group(node: &SyntaxNode<'_>) -> Option<TextRange>
     }
 }
 
-// And so of an error that has an error node.
+// The same for the error node of an error, if it has one.
 fn group_of(node: &Option<SyntaxNode<'_>>) -> Option<TextRange>
-    ensures { (root : Located) (fault : Fault) → IfSome node.now (λ n. IsErrorNode root fault n) →
-        IfSome result (λ range. IsInGroup root fault (bounds_of range)) }
+    ensures { option_map bounds_of result ≡ group_around node.now }
 {
     match node {
         Some(node) => group(node),
@@ -65,7 +64,7 @@ fn group_of(node: &Option<SyntaxNode<'_>>) -> Option<TextRange>
     }
 }
 
-// Whether two ranges are there and are one.
+// Whether there are two ranges, and they are equal.
 fn is_shared(own: Option<TextRange>, last: Option<TextRange>) -> bool
     ensures { result ≡ are_shared own last }
 {
@@ -82,7 +81,7 @@ fn is_blank(byte: u8) -> bool
     byte == b' ' || byte == b'\n' || byte == b'\t' || byte == b'\r'
 }
 
-// Whether at most two words are in a text.
+// Whether a text has at most two words.
 fn has_few_words(text: &[u8]) -> bool
     ensures { result ≡ nat_lt (words false text.now) 3 }
 {
@@ -101,7 +100,7 @@ fn has_few_words(text: &[u8]) -> bool
     true
 }
 
-// Whether no line feed, or at most two words, are between two offsets.
+// Whether there is no line feed, or at most two words, between two offsets.
 fn are_close(text: &[u8], from: usize, to: usize) -> bool
     ensures { result ≡ are_close text.now from to }
 {
@@ -110,17 +109,29 @@ fn are_close(text: &[u8], from: usize, to: usize) -> bool
     !between.contains(&b'\n') || has_few_words(between)
 }
 
-// Whether a text ends too early: then its last error is at the end.
-fn ends_early(errors: &[ParseError]) -> bool
-    ensures { result ≡ true → list_any is_at_end (map fault_of errors.now) ≡ true }
+// Whether an error is at the end of the text.
+fn is_at_end(error: &ParseError) -> bool
+    ensures { result ≡ is_at_end (fault_of error.now) }
 {
     matches!(
-        errors.last(),
-        Some(ParseError::UnexpectedEOF | ParseError::UnexpectedEOFWanted(_))
+        error,
+        ParseError::UnexpectedEOF | ParseError::UnexpectedEOFWanted(_)
     )
 }
 
-// From where on errors are behind what a token opens, if it opens something. What a string takes is no sign of where the mistake is.
+// Whether a text ends too early.
+fn ends_early(errors: &[ParseError]) -> bool
+    ensures { result ≡ list_any is_at_end (map fault_of errors.now) }
+{
+    for error in errors {
+        if is_at_end(error) {
+            return true;
+        }
+    }
+    false
+}
+
+// The offset from which errors count as following a token that opens something: its start, but 0 for a string, which takes any text.
 fn counts_from(token: &SyntaxToken<'_>) -> Option<usize>
     ensures { IfSome result (λ start. (opens (item_of token.now).kind ≡ true) × (start ≡ counts_from token.now)) }
 {
@@ -135,7 +146,7 @@ fn counts_from(token: &SyntaxToken<'_>) -> Option<usize>
     }
 }
 
-// From where on errors are behind what is never closed, in a text that ends too early.
+// The offset from which errors count as following what is never closed, in a text that ends too early.
 fn lost_from(
     root: &SyntaxNode<'_>,
     errors: &[ParseError],
@@ -170,7 +181,7 @@ fn is_extra(error: &ParseError) -> bool
 }
 
 impl Folding {
-    /// No error yet, in a text of which it is known what does not fit together, and where the last token ends that is not trivia.
+    /// The state before the first error of a text whose mismatch is given, and the end of its last token other than trivia.
     pub fn new(
         root: &SyntaxNode<'_>,
         errors: &[ParseError],
@@ -190,7 +201,7 @@ impl Folding {
         }
     }
 
-    // Whether an error node skips tokens that open or close something, and not only what closes nothing.
+    // Whether an error node skips tokens that open or close something around it.
     fn skips_brackets(&self, node: &SyntaxNode<'_>) -> bool
         ensures { result ≡ true → Skips node.now }
     {
@@ -213,10 +224,9 @@ impl Folding {
         depth > 0
     }
 
-    // Whether the reader loses its way at an error.
+    // Whether the parser loses its way at an error.
     fn loses(&self, error: &ParseError, node: &Option<SyntaxNode<'_>>, place: TextRange) -> bool
-        ensures { (root : Located) (all before : List Fault) → Knows root all before self.now → bounds_of place ≡ place_of root (fault_of error.now) →
-            IfSome node.now (λ n. IsErrorNode root (fault_of error.now) n) → result ≡ true → Loses root all (fault_of error.now) }
+        ensures { LosesIf self.now (fault_of error.now) node.now place result }
     {
         if error.range().is_none() || place.end() >= self.end {
             return true;
@@ -232,15 +242,14 @@ impl Folding {
         }
     }
 
-    // Whether the reader has lost its way at an error or before it.
+    // Whether the parser has lost its way at an error or before it.
     fn is_lost_at(
         &self,
         error: &ParseError,
         node: &Option<SyntaxNode<'_>>,
         place: TextRange,
     ) -> bool
-        ensures { (root : Located) (all before : List Fault) → Knows root all before self.now → bounds_of place ≡ place_of root (fault_of error.now) →
-            IfSome node.now (λ n. IsErrorNode root (fault_of error.now) n) → result ≡ true → AreLost root all (before ++ fault_of error.now ∷ []) }
+        ensures { AreLostIf self.now (fault_of error.now) node.now place result }
     {
         if self.is_lost {
             return true;
@@ -248,10 +257,10 @@ impl Folding {
         self.loses(error, node, place)
     }
 
-    // Whether an error follows from those before it: behind where the reader lost its way, in one list, .. with the last, or close behind it.
+    // Whether an error follows from earlier ones: the parser has lost its way, or the error shares a list, pattern, .. with the last one or is
+    // near it.
     fn follows(&self, root: &SyntaxNode<'_>, group: Option<TextRange>, place: TextRange) -> bool
-        ensures { (all before : List Fault) (fault : Fault) → Knows root.now all before self.now → bounds_of place ≡ place_of root.now fault →
-            is_slip fault ≡ true → IfSome group (λ range. IsInGroup root.now fault (bounds_of range)) → Judges root.now all before fault result }
+        ensures { JudgesSlips root.now self.now group place result }
     {
         let Some(last) = self.last else {
             return false;
@@ -265,7 +274,7 @@ impl Folding {
         are_close(root.text().as_bytes(), last, place.start())
     }
 
-    // Whether an error about an unexpected or a missing token follows from those before it.
+    // Whether an error about an unexpected or a missing token follows from earlier ones. It is the last one then.
     fn add_slip(
         &mut self,
         root: &SyntaxNode<'_>,
@@ -275,9 +284,8 @@ impl Folding {
     ) -> bool
         requires slip { is_slip (fault_of error.now) ≡ true }
         requires place { bounds_of place ≡ place_of root.now (fault_of error.now) }
-        requires node { IfSome node.now (λ n. IsErrorNode root.now (fault_of error.now) n) }
-        ensures { (all before : List Fault) → Knows root.now all before self.old →
-            Judges root.now all before (fault_of error.now) result × Knows root.now all (before ++ fault_of error.now ∷ []) self.new }
+        requires node { IfErrorNode root.now (fault_of error.now) node.now }
+        ensures { JudgesNext root.now (fault_of error.now) self.old self.new result }
     {
         let group = group_of(node);
         let follows = self.follows(root, group, place);
@@ -291,7 +299,7 @@ impl Folding {
         follows
     }
 
-    /// Whether one more error, with its error node and the place where it is shown, follows from the errors before it.
+    /// Adds an error, with its error node and the place where it is shown. Returns whether it follows from earlier errors.
     pub fn folds(
         &mut self,
         root: &SyntaxNode<'_>,
@@ -300,9 +308,8 @@ impl Folding {
         place: TextRange,
     ) -> bool
         requires place { bounds_of place ≡ place_of root.now (fault_of error.now) }
-        requires node { IfSome node.now (λ n. IsErrorNode root.now (fault_of error.now) n) }
-        ensures { (all before : List Fault) → Knows root.now all before self.old →
-            Judges root.now all before (fault_of error.now) result × Knows root.now all (before ++ fault_of error.now ∷ []) self.new }
+        requires node { IfErrorNode root.now (fault_of error.now) node.now }
+        ensures { JudgesNext root.now (fault_of error.now) self.old self.new result }
     {
         if is_slip(error) {
             self.add_slip(root, error, node, place)

@@ -1,4 +1,4 @@
-//! What may help with an error.
+//! Guesses at what was meant.
 
 use crate::unwanted::Unwanted;
 use SyntaxKind::*;
@@ -27,7 +27,7 @@ const ELSE: &str = "each \"if\" needs its own \"else\"";
 const ARROW: &str =
     "there is no \"=>\": a name is bound with \"=\", and a function is written \"name: value\"";
 
-const COMMENT: &str = "a comment begins with \"#\", or stands between \"/*\" and \"*/\"";
+const COMMENT: &str = "a comment starts with \"#\", or is enclosed in \"/*\" and \"*/\"";
 
 const KEYWORD: &str = "this is a keyword; as the name of an attribute, write it in quotes";
 
@@ -59,7 +59,7 @@ fn is_keyword(kind: SyntaxKind) -> bool {
     )
 }
 
-// Of a text that is no token.
+// The hint for a text that is not a token.
 fn unknown(text: &str) -> Option<&'static str> {
     match text.chars().next() {
         Some('\'' | '`' | '\u{2018}'..='\u{201f}' | '\u{ab}' | '\u{bb}') => Some(STRING),
@@ -73,7 +73,7 @@ fn unknown(text: &str) -> Option<&'static str> {
     }
 }
 
-// Of a token in a pattern, or in what its reader took for a set.
+// The hint for a token in a pattern, or in braces that were read as a set.
 fn in_pattern(unwanted: &Unwanted<'_>) -> Option<&'static str> {
     match unwanted.token.kind() {
         TOKEN_ASSIGN => Some(DEFAULT),
@@ -85,7 +85,7 @@ fn in_pattern(unwanted: &Unwanted<'_>) -> Option<&'static str> {
     }
 }
 
-// Of a token that stands where another is wanted.
+// The hint for a token where another is expected.
 fn in_place_of(wanted: SyntaxKind, unwanted: &Unwanted<'_>) -> Option<&'static str> {
     match (unwanted.token.kind(), wanted) {
         (TOKEN_EQUAL | TOKEN_COLON, TOKEN_ASSIGN) => Some(BIND),
@@ -101,7 +101,7 @@ fn in_place_of(wanted: SyntaxKind, unwanted: &Unwanted<'_>) -> Option<&'static s
     }
 }
 
-/// What was meant by a token that is not wanted, as far as it can be guessed.
+/// Returns what an unexpected token was meant to be, if there is a guess.
 pub fn hint(unwanted: &Unwanted<'_>) -> Option<&'static str> {
     let kind = unwanted.token.kind();
     match kind {
@@ -116,7 +116,8 @@ pub fn hint(unwanted: &Unwanted<'_>) -> Option<&'static str> {
     if unwanted.is_in_pattern() {
         return in_pattern(unwanted);
     }
-    if unwanted.wants_name() && is_keyword(kind) {
+    let is_inherited = unwanted.parent.kind() == NODE_INHERIT;
+    if unwanted.wants_name() && is_keyword(kind) && !is_inherited {
         return Some(KEYWORD);
     }
     in_place_of(unwanted.wanted?, unwanted)

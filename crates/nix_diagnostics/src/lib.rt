@@ -1,4 +1,4 @@
-//! The errors of a text in words for people.
+//! Syntax errors as diagnostics for people: one for each mistake, with a message, a range and notes.
 #![tactic(auto)]
 
 mod brackets;

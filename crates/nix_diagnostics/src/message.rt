@@ -1,4 +1,4 @@
-//! What is said of an error.
+//! Messages of errors.
 
 ghost use Rattle.std.specs.Prelude.{◌<◌, length, IfOk, string_bytes};
 
@@ -8,7 +8,7 @@ use rnix::{ParseError, SyntaxKind, SyntaxNode};
 use std::alloc::{AllocError, Global};
 use std::fmt::Write;
 
-// Behind what in its node a token is missing.
+// The words for where in its node a token is missing.
 fn behind(wanted: SyntaxKind, parent: SyntaxKind) -> &'static str {
     match (wanted, parent) {
         (SyntaxKind::TOKEN_SEMICOLON, SyntaxKind::NODE_WITH) => " after the set of \"with\"",
@@ -23,7 +23,7 @@ fn behind(wanted: SyntaxKind, parent: SyntaxKind) -> &'static str {
     }
 }
 
-// Adds behind what of its entry a token is missing. A name that is long or of several lines is not quoted.
+// Adds where in an entry a token is missing. A name that is long or spans several lines is not quoted.
 fn add_entry(wanted: SyntaxKind, path: &Attrpath<'_>, text: &mut String) -> Result<(), AllocError> {
     let name = path.syntax().text();
     let is_long = name.len() > LONGEST || name.contains('\n');
@@ -38,7 +38,7 @@ fn add_entry(wanted: SyntaxKind, path: &Attrpath<'_>, text: &mut String) -> Resu
     text.push('"')
 }
 
-// Adds behind what the missing token should stand; of an entry, its name is told.
+// Adds where the missing token belongs; in an entry with the entry's name.
 fn add_behind(
     wanted: SyntaxKind,
     parent: SyntaxNode<'_>,
@@ -51,7 +51,7 @@ fn add_behind(
     }
 }
 
-// Adds where an unwanted token stands, and what it is.
+// Adds where a token is missing, and what was found in its place.
 fn add_unwanted(
     wanted: &[SyntaxKind],
     node: &SyntaxNode<'_>,
@@ -73,22 +73,22 @@ fn add_unwanted(
     Ok(())
 }
 
-// The words with which the message of an error begins.
+// The first words of the message of an error.
 fn headline(error: &ParseError) -> &'static str
     ensures { 0 < length result.now }
 {
     match error {
         ParseError::UnexpectedWanted(..) | ParseError::UnexpectedEOFWanted(_) => "expected ",
         ParseError::UnexpectedExtra(_) => "expected the end of the file",
-        ParseError::DuplicatedArgs(..) => "argument ",
-        ParseError::UnexpectedDoubleBind(_) => "this set of arguments has a name already",
+        ParseError::DuplicatedArgs(..) => "duplicate argument ",
+        ParseError::UnexpectedDoubleBind(_) => "this pattern already has a name",
         ParseError::UnexpectedEOF => "expected more, found the end of the file",
         ParseError::RecursionLimitExceeded => "expressions are nested more than 512 deep",
         ParseError::Unexpected(_) => "this is not Nix",
     }
 }
 
-// What follows the headline: what was wanted, where, and what was found.
+// The rest of the message: what was expected, where, and what was found.
 fn details(
     alloc: Global,
     error: &ParseError,
@@ -111,13 +111,13 @@ fn details(
             add_wanted(wanted, &mut text)?;
             text.push_str(", found the end of the file")?;
         }
-        ParseError::DuplicatedArgs(_, name) => write!(text, "\"{name}\" stands twice")?,
+        ParseError::DuplicatedArgs(_, name) => write!(text, "\"{name}\"")?,
         _ => {}
     }
     Ok(text)
 }
 
-/// The message of an error with its error node.
+/// Returns the message of an error, given its error node.
 pub fn message(
     alloc: Global,
     error: &ParseError,

@@ -1,4 +1,4 @@
-//! What is noted at an error: what is opened and not closed, where something is missing, what was meant.
+//! Notes on errors: what is not closed, where something is missing, what was meant.
 
 use crate::brackets::{Mismatch, Opening};
 use crate::hints::hint;
@@ -9,20 +9,20 @@ use rnix::ast::{AstNode, Pattern};
 use rnix::{ParseError, SyntaxKind, SyntaxNode, TextRange};
 use std::alloc::{AllocError, Global};
 
-/// What may help with an error.
+/// A note that may help with an error.
 #[derive(Clone, Copy)]
 pub struct Note {
-    /// The bytes that the note is about, if they are others than those of the error.
+    /// The bytes that it is about, if they are not those of the error.
     pub range: Option<TextRange>,
-    /// What is said of them.
+    /// The message, in one line.
     pub message: &'static str,
 }
 
-// What is said of a token that opens something.
+// The message for a token that opens something and is not closed.
 fn opened(opening: Opening) -> &'static str {
     match opening.kind {
         TOKEN_STRING_START if opening.is_long => {
-            "this string goes on in the next line: is a quote missing?"
+            "this string continues on the next line: is a quote missing?"
         }
         TOKEN_STRING_START => "this string is not closed",
         TOKEN_L_BRACE => "this \"{\" is not closed",
@@ -35,7 +35,7 @@ fn opened(opening: Opening) -> &'static str {
     }
 }
 
-// The first argument of a name, in the pattern in which it stands again at a range.
+// The first argument with a name, in the pattern that has it again at a range.
 fn first_argument(root: &SyntaxNode<'_>, range: TextRange, name: &str) -> Option<Note> {
     if !root.text_range().contains_inclusive(range.start()) {
         return None;
@@ -48,14 +48,14 @@ fn first_argument(root: &SyntaxNode<'_>, range: TextRange, name: &str) -> Option
             })?;
             return Some(Note {
                 range: Some(first.syntax().text_range()),
-                message: "it stands here first",
+                message: "first declared here",
             });
         }
     }
     None
 }
 
-// Where a ";" is missing before an unwanted token.
+// The place before an unexpected token where a ";" is missing.
 fn missing_semicolon(unwanted: &Unwanted<'_>) -> Option<Note> {
     let offset = match unwanted.parent.kind() {
         NODE_INHERIT if unwanted.token.kind() == TOKEN_ASSIGN => {
@@ -71,7 +71,23 @@ fn missing_semicolon(unwanted: &Unwanted<'_>) -> Option<Note> {
     })
 }
 
-// The hint or the missing token at an unwanted one. Where something is not closed, that is why a token is unwanted.
+// The note on an `inherit` whose `;` is missing at the end of the text.
+fn open_inherit(error: &ParseError, inherit: Option<TextRange>) -> Option<Note> {
+    let is_missing = match error {
+        ParseError::UnexpectedEOF => true,
+        ParseError::UnexpectedEOFWanted(wanted) => wanted.contains(&TOKEN_SEMICOLON),
+        _ => false,
+    };
+    if !is_missing {
+        return None;
+    }
+    Some(Note {
+        range: Some(inherit?),
+        message: "this \"inherit\" has no \";\"",
+    })
+}
+
+// The hint for an unexpected token, or the place where a ";" is missing. There is none if something is not closed, which explains the error.
 fn remark(unwanted: &Unwanted<'_>, mismatch: &Mismatch) -> Option<Note> {
     let kind = unwanted.token.kind();
     let is_explained = mismatch.unclosed.is_some();
@@ -79,7 +95,7 @@ fn remark(unwanted: &Unwanted<'_>, mismatch: &Mismatch) -> Option<Note> {
     if is_closing && !is_explained && mismatch.extra == Some(unwanted.token.text_range()) {
         return Some(Note {
             range: None,
-            message: "nothing is open that this closes",
+            message: "no opening bracket matches this",
         });
     }
     match hint(unwanted) {
@@ -93,7 +109,7 @@ fn remark(unwanted: &Unwanted<'_>, mismatch: &Mismatch) -> Option<Note> {
     }
 }
 
-/// What is noted at an error with its error node, shown at a place, in a text of which it is known what does not fit together.
+/// Returns the notes on an error, given its error node, the place where it is shown, and the mismatch of the text.
 pub fn notes(
     alloc: Global,
     error: &ParseError,
@@ -116,6 +132,7 @@ pub fn notes(
             message: opened(opening),
         })?;
     }
+    notes.extend(open_inherit(error, mismatch.inherit))?;
     if let Some(unwanted) = Unwanted::of(error, node) {
         notes.extend(remark(
             &unwanted,

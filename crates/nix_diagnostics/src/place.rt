@@ -1,17 +1,16 @@
-//! Where errors are in a tree.
+//! Finding errors in a tree.
 
-ghost use Rattle.std.specs.Prelude.{IfSome};
 ghost use Rattle.rnix_grammar.specs.Fault.{fault_of};
-ghost use Rattle.nix_diagnostics.specs.Following.{IsErrorNode};
+ghost use Rattle.nix_diagnostics.specs.Following.{IfErrorNode};
 
 use rnix::{ParseError, SyntaxKind, SyntaxNode, SyntaxToken, TextRange};
 
-// The most trivia that are skipped on the way to the token before another.
+// How many trivia are skipped to find the previous token.
 const MOST_TRIVIA: usize = 64;
 
-/// The error node of an error.
+/// Returns the error node of an error, if it has one.
 pub fn error_node<'t>(root: &SyntaxNode<'t>, error: &ParseError) -> Option<SyntaxNode<'t>>
-    ensures { IfSome result (λ node. IsErrorNode root.now (fault_of error.now) node) }
+    ensures { IfErrorNode root.now (fault_of error.now) result }
 {
     let range = error.range()?;
     let node = root
@@ -25,7 +24,7 @@ pub fn error_node<'t>(root: &SyntaxNode<'t>, error: &ParseError) -> Option<Synta
     }
 }
 
-/// The token before another that is not trivia.
+/// Returns the previous token other than trivia.
 pub fn token_before<'t>(token: &SyntaxToken<'t>) -> Option<SyntaxToken<'t>> {
     let mut before = token.prev_token();
     for _step in 0..MOST_TRIVIA {

@@ -1,28 +1,28 @@
-//! A token that stands where another is wanted, and what is around it.
+//! Unexpected tokens and what is around them.
 
 use crate::place::token_before;
 use SyntaxKind::*;
 use rnix::ast::{AstNode, AttrpathValue};
 use rnix::{ParseError, SyntaxKind, SyntaxNode, SyntaxToken};
 
-// The most tokens between the braces of a set that are looked at.
+// How many tokens are read to find the end of braces.
 const MOST_TOKENS: usize = 400;
 
-/// An unwanted token.
+/// An unexpected token.
 #[derive(Drop)]
 pub struct Unwanted<'t> {
     /// The token.
     pub token: SyntaxToken<'t>,
-    /// The token before it that is not trivia.
+    /// The previous token other than trivia.
     pub before: Option<SyntaxToken<'t>>,
-    /// The node in which it stands.
+    /// The node around its error node.
     pub parent: SyntaxNode<'t>,
-    /// The first kind that is wanted in its place, if one is.
+    /// The first kind that is expected in its place, if one is.
     pub wanted: Option<SyntaxKind>,
 }
 
 impl<'t> Unwanted<'t> {
-    /// The unwanted token of an error, the first in its error node.
+    /// The unexpected token of an error: the first of its error node.
     pub fn of(error: &ParseError, node: Option<SyntaxNode<'t>>) -> Option<Unwanted<'t>> {
         let wanted = match error {
             ParseError::UnexpectedWanted(_, _, wanted) => wanted.first().copied(),
@@ -38,27 +38,27 @@ impl<'t> Unwanted<'t> {
         })
     }
 
-    /// The kind of the token before it.
+    /// The kind of the previous token other than trivia.
     pub fn kind_before(&self) -> Option<SyntaxKind> {
         self.before.as_ref().map(|token| token.kind())
     }
 
-    /// The kind of the token behind it, if nothing stands between both.
+    /// The kind of the next token, trivia included.
     pub fn kind_behind(&self) -> Option<SyntaxKind> {
         self.token.next_token().map(|token| token.kind())
     }
 
-    /// Whether an expression is wanted.
+    /// Whether an expression is expected.
     pub fn wants_expression(&self) -> bool {
         self.wanted == Some(TOKEN_L_PAREN)
     }
 
-    /// Whether a name is wanted.
+    /// Whether a name is expected.
     pub fn wants_name(&self) -> bool {
         self.wanted == Some(TOKEN_IDENT)
     }
 
-    /// Whether it stands between braces behind which `:` or `@` shows that they are those of a pattern.
+    /// Whether it is in braces that are followed by `:` or `@`, which shows that they are those of a pattern.
     pub fn is_in_pattern(&self) -> bool {
         for node in self.parent.ancestors() {
             match node.kind() {
@@ -71,8 +71,8 @@ impl<'t> Unwanted<'t> {
         false
     }
 
-    /// Where the value ends that stands before it. Of a value of several lines whose last argument is a name, that name begins the next
-    /// entry.
+    /// The end of the value before it. If the value spans several lines and its last argument, on a line of its own, is followed by `=`, that
+    /// argument is the name of the next entry.
     pub fn end_of_value(&self) -> Option<usize> {
         let end = self.before.as_ref()?.text_range().end();
         if self.token.kind() != TOKEN_ASSIGN {
@@ -95,7 +95,7 @@ impl<'t> Unwanted<'t> {
     }
 }
 
-// Whether the braces that begin with a token are those of a pattern.
+// Whether the braces that a token opens are those of a pattern.
 fn is_pattern(brace: SyntaxToken<'_>) -> bool {
     let mut depth: usize = 0;
     let mut next = Some(brace);

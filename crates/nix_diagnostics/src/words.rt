@@ -1,14 +1,14 @@
-//! The words for kinds of tokens.
+//! Words for tokens.
 
 use rnix::{SyntaxKind, SyntaxToken};
 use std::alloc::AllocError;
 
-/// Longer texts are not quoted in a message.
+/// The length in bytes of the longest text that a message quotes.
 pub const LONGEST: usize = 40;
-// Shown for characters that a terminal would act on.
+// Shown in place of characters that a terminal would act on.
 const REPLACEMENT: char = '\u{fffd}';
 
-// What a message calls a token that is missing.
+// The word for a missing token.
 fn word(kind: SyntaxKind) -> &'static str {
     match kind {
         SyntaxKind::TOKEN_R_PAREN => "\")\"",
@@ -25,14 +25,14 @@ fn word(kind: SyntaxKind) -> &'static str {
     }
 }
 
-/// Adds what a list of kinds asks for.
+/// Adds the words for a list of expected kinds.
 pub fn add_wanted(wanted: &[SyntaxKind], text: &mut String) -> Result<(), AllocError> {
     match wanted.first() {
-        // The kinds that begin an expression.
+        // The kinds that start an expression.
         Some(SyntaxKind::TOKEN_L_PAREN) => return text.push_str("an expression"),
         // The kinds that are names of attributes.
         Some(SyntaxKind::TOKEN_IDENT) => return text.push_str("a name"),
-        // The kinds that stand in a string.
+        // The kinds that follow in a string.
         Some(SyntaxKind::TOKEN_STRING_END) => return text.push_str("the end of the string"),
         _ => {}
     }
@@ -46,7 +46,7 @@ pub fn add_wanted(wanted: &[SyntaxKind], text: &mut String) -> Result<(), AllocE
     Ok(())
 }
 
-// What sort of token one is whose text is not always the same.
+// The word for a kind whose tokens have different texts.
 fn sort(kind: SyntaxKind) -> Option<&'static str> {
     match kind {
         SyntaxKind::TOKEN_IDENT => Some("the name"),
@@ -61,7 +61,7 @@ fn sort(kind: SyntaxKind) -> Option<&'static str> {
     }
 }
 
-// What is shown of a character: a picture for a control character, a replacement for one that changes the direction of the text.
+// The picture of a control character, a replacement for one that changes the direction of text, and any other character itself.
 fn shown(letter: char) -> char {
     match letter {
         '\0'..='\u{1f}' => char::from_u32(0x2400 | u32::from(letter)).unwrap_or(REPLACEMENT),
@@ -71,7 +71,7 @@ fn shown(letter: char) -> char {
     }
 }
 
-/// Adds a text, so that each of its characters is seen and none ends the line.
+/// Adds a text with every character visible and on one line.
 pub fn add_shown(own: &str, text: &mut String) -> Result<(), AllocError> {
     for letter in own.chars() {
         text.push(shown(letter))?;
@@ -79,7 +79,7 @@ pub fn add_shown(own: &str, text: &mut String) -> Result<(), AllocError> {
     Ok(())
 }
 
-/// Adds what a token is that stands there.
+/// Adds the words for the token that was found.
 pub fn add_found(token: &SyntaxToken<'_>, text: &mut String) -> Result<(), AllocError> {
     let (sort, own) = (sort(token.kind()), token.text());
     let is_long = own.len() > LONGEST || own.contains('\n');

@@ -1,13 +1,13 @@
 use Rattle.std.proofs.Common.{◌∙◌, ap, refl, Some}
 use Rattle.rnix_grammar.specs.Fault.{fault_of}
-use Rattle.nix_diagnostics.proofs.FollowingLemmas.{knows_slip}
+use Rattle.nix_diagnostics.proofs.FollowingLemmas.{knows_slip, in_group_found}
 use Rattle.nix_diagnostics.proofs.folding.Folding.add_slip.Goals as goal
 
 pub returns : goal.returns
 returns c = λ all before known.
     let root = c.args.root.now in
     let fault = fault_of c.args.error.now in
-    let group = c.group_of-group.ensures root fault c.requires.node in (
+    let group = in_group_found root fault c.args.node.now _ c.requires.node c.group_of-group.ensures in (
       c.follows-follows.ensures all before fault known c.requires.place c.requires.slip group,
       knows_slip root all before fault c.args.self.now _ known c.requires.slip
           (ap Some (c.end.ensures.value ∙ ap (λ extent. extent.end) c.requires.place)) refl refl

@@ -1,0 +1,4 @@
+{
+  a = 1;
+  inherit (b) c
+    d

@@ -1,0 +1,2 @@
+let inherit a b
+in a
