@@ -78,20 +78,20 @@ in_group_below root fault node around None is parent same = tt
 in_group_below root fault node None (Some range) is parent same = absurd (grind (arith, same))
 in_group_below root fault node (Some around) (Some range) is parent same = kind (is_group (item_of around).kind) refl where
   kind : (b : Bool) → is_group (item_of around).kind ≡ b → IsInGroup root fault (bounds_of range)
-  kind true yes = record {
+  kind true it_is = record {
     node = node;
     is_node = is;
     around = around;
     parent = parent;
-    is_group = yes;
-    range_is = grind (arith, same, yes);
+    is_group = it_is;
+    range_is = grind (arith, same, it_is);
   }
-  kind false no = absurd (grind (arith, same, no))
+  kind false it_is_not = absurd (grind (arith, same, it_is_not))
 
 -- an error whose error node is right below a list, pattern, .. with the range that was found
 pub in_group_found : (root : Located) (fault : Fault) (node : Option Located) (group : Option TextRange) → IfErrorNode root fault node →
     option_map bounds_of group ≡ group_around node → IfInGroup root fault group
-in_group_found root fault node None is same = tt
+in_group_found root fault own None is same = tt
 in_group_found root fault None (Some range) is same = absurd (grind (arith, same))
 in_group_found root fault (Some node) (Some range) is same = in_group_below root fault node (parent_of node) (Some range) is refl same
 
