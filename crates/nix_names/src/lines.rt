@@ -1,0 +1,155 @@
+//! The lines of bindings and references, as text or JSON.
+
+use nix_cli::write_json_string;
+use nix_scopes::{Binding, Reference, Resolution};
+use rnix::{SyntaxNode, TextRange};
+use rnix_text::LineIndex;
+use std::io::{self, Write};
+
+// The line and the column of an offset, both from 1.
+fn position(index: &LineIndex<'_>, offset: usize) -> (usize, usize) {
+    let place = index.position(offset).unwrap_or_default();
+    (place.line.saturating_add(1), place.column.saturating_add(1))
+}
+
+// Writes the place and the bounds of a range as members of an object.
+fn write_range<W: Write>(index: &LineIndex<'_>, range: TextRange, out: &mut W) -> io::Result<()> {
+    let (line, column) = position(index, range.start());
+    let (start, end) = (range.start(), range.end());
+    write!(
+        out,
+        "\"line\":{line},\"column\":{column},\"start\":{start},\"end\":{end}"
+    )
+}
+
+// Writes what the object of a name begins with.
+fn write_head<W: Write>(
+    file: &str,
+    index: &LineIndex<'_>,
+    node: &SyntaxNode<'_>,
+    name: &str,
+    out: &mut W,
+) -> io::Result<()> {
+    out.write_all(b"{\"file\":")?;
+    write_json_string(file, out)?;
+    out.write_all(b",")?;
+    write_range(index, node.text_range(), out)?;
+    out.write_all(b",\"name\":")?;
+    write_json_string(name, out)
+}
+
+// Writes the line of a binding.
+fn write_binding<W: Write>(
+    file: &str,
+    index: &LineIndex<'_>,
+    binding: &Binding<'_>,
+    is_json: bool,
+    out: &mut W,
+) -> io::Result<()> {
+    let name = binding.text;
+    if is_json {
+        write_head(file, index, &binding.node, name, out)?;
+        out.write_all(b",\"scope\":{")?;
+        write_range(index, binding.scope.text_range(), out)?;
+        return out.write_all(b"}}\n");
+    }
+    let (line, column) = position(index, binding.node.text_range().start());
+    writeln!(out, "{file}:{line}:{column}: {name} is bound")
+}
+
+// Writes the object of a reference.
+fn write_object<W: Write>(
+    file: &str,
+    index: &LineIndex<'_>,
+    reference: &Reference<'_>,
+    binding: Option<&Binding<'_>>,
+    out: &mut W,
+) -> io::Result<()> {
+    write_head(file, index, &reference.node, reference.text, out)?;
+    match binding {
+        Some(binding) => {
+            out.write_all(b",\"binding\":{")?;
+            write_range(index, binding.node.text_range(), out)?;
+            out.write_all(b"}")?;
+        }
+        None => out.write_all(b",\"binding\":null")?,
+    }
+    let (is_open, is_inherited) = (reference.is_open, reference.is_inherited);
+    writeln!(out, ",\"with\":{is_open},\"inherited\":{is_inherited}}}")
+}
+
+// Writes the line of a reference.
+fn write_reference<W: Write>(
+    file: &str,
+    index: &LineIndex<'_>,
+    reference: &Reference<'_>,
+    binding: Option<&Binding<'_>>,
+    out: &mut W,
+) -> io::Result<()> {
+    let (line, column) = position(index, reference.node.text_range().start());
+    let name = reference.text;
+    write!(out, "{file}:{line}:{column}: {name} ")?;
+    match binding {
+        Some(binding) => {
+            let (line, column) = position(index, binding.node.text_range().start());
+            writeln!(out, "refers to {line}:{column}")
+        }
+        None if reference.is_open => writeln!(out, "is not bound, or comes from a with"),
+        None => writeln!(out, "is not bound"),
+    }
+}
+
+/// Writes a line for each binding of a text, in the order of their scopes, and then for each reference, in the order of the text. Columns count
+/// characters, from 1.
+pub fn write_names<W: Write>(
+    file: &str,
+    names: &Resolution<'_>,
+    index: &LineIndex<'_>,
+    is_json: bool,
+    out: &mut W,
+) -> io::Result<()> {
+    for binding in names.bindings() {
+        write_binding(file, index, binding, is_json, out)?;
+    }
+    for reference in names.references() {
+        let binding = match reference.binding {
+            Some(number) => names.bindings().get(number),
+            None => None,
+        };
+        if is_json {
+            write_object(file, index, reference, binding, out)?;
+        } else {
+            write_reference(file, index, reference, binding, out)?;
+        }
+    }
+    Ok(())
+}
+
+#[cfg(test)]
+mod tests {
+    use super::write_names;
+    use nix_scopes::resolve;
+    use rnix::Root;
+    use rnix_text::{ColumnUnit, LineIndex};
+    use std::test::Fail;
+
+    const LINES: &str = "\
+        {\"file\":\"f\",\"line\":1,\"column\":1,\"start\":0,\"end\":1,\"name\":\"x\",\"scope\":\
+        {\"line\":1,\"column\":1,\"start\":0,\"end\":6}}\n\
+        {\"file\":\"f\",\"line\":2,\"column\":1,\"start\":3,\"end\":4,\"name\":\"x\",\"binding\":\
+        {\"line\":1,\"column\":1,\"start\":0,\"end\":1},\"with\":false,\"inherited\":false}\n\
+        {\"file\":\"f\",\"line\":2,\"column\":3,\"start\":5,\"end\":6,\"name\":\"y\",\"binding\":null,\
+        \"with\":false,\"inherited\":false}\n";
+
+    #[test]
+    fn json(rt: HostRuntime) -> Result<(), Fail> {
+        let text = "x:\nx y";
+        let read = Root::parse(rt.alloc(), text)?;
+        let names = resolve(rt.alloc(), &read.syntax())?;
+        let index = LineIndex::new(rt.alloc(), text, ColumnUnit::Chars)?;
+        let mut out = Vec::new(rt.alloc());
+        write_names("f", &names, &index, true, &mut out)?;
+        assert_eq!(rt; out.as_slice(), LINES.as_bytes());
+        Ok(())
+    }
+}

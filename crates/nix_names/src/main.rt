@@ -1,0 +1,96 @@
+//! Prints which names Nix files bind, and what each name in them refers to: `nix-names [OPTION..] [FILE..]`, by default of standard input.
+#![tactic(auto)]
+
+mod lines;
+
+use lines::write_names;
+use nix_cli::{
+    Arguments, FAILED, Program, Start, end, find_files, place_of, read_arguments, read_text,
+    shown_name,
+};
+use nix_scopes::resolve;
+use rnix::{Parse, Root};
+use rnix_text::{ColumnUnit, LineIndex};
+use std::io::{self, BufWriter, Write};
+use std::process::ExitCode;
+
+const PROGRAM: Program = Program {
+    name: "nix-names",
+    help: "\
+nix-names [OPTION..] [FILE..]
+
+Prints a line for each name that a let, a rec set or a function binds, and for each name that is used, with the place of its binding. A folder
+stands for all files in it and below that end with .nix; - and no FILE mean standard input.
+
+    --json     print each line as JSON
+",
+    statuses: "
+Ends with 0, or with 2 if a file has a syntax error, or something could not be read or written.
+",
+    flags: &["--json"],
+    has_colors: false,
+    least: 0,
+    most: usize::MAX,
+};
+
+// Reports the first syntax error of a text.
+fn refuse_text(rt: &HostRuntime, file: &str, text: &str, read: &Parse) -> io::Result<()> {
+    let range = read.errors().first().and_then(|error| error.range());
+    let (line, column) = place_of(text, range.map_or(text.len(), |range| range.start()));
+    eprintln!(rt; "{}: {file}:{line}:{column}: syntax error", PROGRAM.name)
+}
+
+// Writes the names of a text, and returns the exit status. A text with syntax errors is refused.
+fn report<W: Write>(
+    rt: &HostRuntime,
+    file: &str,
+    text: &str,
+    is_json: bool,
+    out: &mut W,
+) -> io::Result<u8> {
+    let read = Root::parse(rt.alloc(), text)?;
+    if !read.errors().is_empty() {
+        refuse_text(rt, file, text, &read)?;
+        return Ok(FAILED);
+    }
+    let names = resolve(rt.alloc(), &read.syntax())?;
+    let index = LineIndex::new(rt.alloc(), text, ColumnUnit::Chars)?;
+    write_names(file, &names, &index, is_json, out)?;
+    Ok(0)
+}
+
+// Writes the names of the files that the command line names, and returns the highest exit status.
+fn report_files(rt: &HostRuntime, arguments: &Arguments) -> io::Result<u8> {
+    let mut out = BufWriter::new(rt.alloc(), rt.stdout())?;
+    let files = find_files(rt, &PROGRAM, &arguments.words)?;
+    let is_json = arguments.has("--json");
+    let mut status = if files.failed == 0 { 0 } else { FAILED };
+    for file in &files.names {
+        let own = match read_text(rt, &PROGRAM, file.as_str())? {
+            Some(text) => report(
+                rt,
+                shown_name(file.as_str()),
+                text.as_str(),
+                is_json,
+                &mut out,
+            )?,
+            None => FAILED,
+        };
+        status = status.max(own);
+    }
+    out.flush()?;
+    Ok(status)
+}
+
+// Does what the command line asks for.
+fn run(rt: &HostRuntime) -> io::Result<u8> {
+    match read_arguments(rt, &PROGRAM)? {
+        Start::Run(arguments) => report_files(rt, &arguments),
+        Start::End(status) => Ok(status),
+    }
+}
+
+fn main(rt: HostRuntime) -> ExitCode {
+    let outcome = run(&rt);
+    end(&rt, &PROGRAM, outcome)
+}
