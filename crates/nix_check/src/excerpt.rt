@@ -1,18 +1,18 @@
-//! One line of a text, with carets under a range in it.
+//! An excerpt: one line of a text, with carets under a range in it.
 
 use rnix::TextRange;
 use std::io::{self, Write};
 
-// The most columns of a line that are printed before the first caret, and from it on.
+// The most columns of a line that are printed before the first caret.
 const COLUMNS_BEFORE: usize = 60;
-
+// The most columns that are printed from the first caret on.
 const COLUMNS_AFTER: usize = 60;
-// Printed where the line goes on beyond what is printed.
+// Printed where a line is cut.
 const CUT: &str = "…";
-// Printed for characters that a terminal would act on.
+// Printed in place of characters that a terminal would act on.
 const REPLACEMENT: char = '\u{fffd}';
 
-// The columns of a terminal that a character takes. A tab counts as one, since it is printed above the carets and before them alike.
+// The width of a character in columns of a terminal. A tab counts as one, since it is printed in both lines alike.
 fn columns_of(letter: char) -> usize {
     match letter {
         '\u{300}'..='\u{36f}' | '\u{200b}'..='\u{200d}' | '\u{fe00}'..='\u{fe0f}' => 0,
@@ -31,7 +31,7 @@ fn columns_of(letter: char) -> usize {
     }
 }
 
-// The character that is printed for one: control characters as their pictures, and none that changes the direction of the text.
+// The character that is printed for another: the picture of a control character, a replacement for one that changes the direction of text.
 fn printed(letter: char) -> char {
     match letter {
         '\t' => letter,
@@ -41,7 +41,7 @@ fn printed(letter: char) -> char {
     }
 }
 
-// Where the part of a line begins that is printed before an offset.
+// The start of the part of a line that is printed before an offset.
 fn start_of_part(text: &str, offset: usize) -> usize {
     let mut start = offset;
     let mut columns: usize = 0;
@@ -55,7 +55,7 @@ fn start_of_part(text: &str, offset: usize) -> usize {
     start
 }
 
-// Where the part of a line ends that is printed from an offset on.
+// The end of the part of a line that is printed from an offset on.
 fn end_of_part(text: &str, offset: usize) -> usize {
     let mut end = offset;
     let mut columns: usize = 0;
@@ -69,7 +69,7 @@ fn end_of_part(text: &str, offset: usize) -> usize {
     end
 }
 
-// Prints some characters.
+// Writes a text with its control characters replaced.
 fn write_letters<W: Write>(part: &str, out: &mut W) -> io::Result<()> {
     for letter in part.chars() {
         write!(out, "{}", printed(letter))?;
@@ -77,7 +77,7 @@ fn write_letters<W: Write>(part: &str, out: &mut W) -> io::Result<()> {
     Ok(())
 }
 
-// Prints as many spaces as the characters take columns. A tab stays a tab.
+// Writes spaces of the width of a text. A tab stays a tab.
 fn write_spaces<W: Write>(part: &str, out: &mut W) -> io::Result<()> {
     for letter in part.chars() {
         out.write_all(match (letter, columns_of(letter)) {
@@ -90,7 +90,7 @@ fn write_spaces<W: Write>(part: &str, out: &mut W) -> io::Result<()> {
     Ok(())
 }
 
-// Prints a caret for each column of the characters, and at least one.
+// Writes carets of the width of a text, at least one.
 fn write_carets<W: Write>(part: &str, out: &mut W) -> io::Result<()> {
     if part.is_empty() {
         return out.write_all(b"^");
@@ -101,7 +101,7 @@ fn write_carets<W: Write>(part: &str, out: &mut W) -> io::Result<()> {
     Ok(())
 }
 
-/// Prints the line in which a range of bytes begins, at most 120 columns of it, and below it carets under the part of the range that is printed.
+/// Writes the line where a range of bytes starts, at most 120 columns of it, and carets below the part of the range in it.
 pub fn write_excerpt<W: Write>(text: &str, range: TextRange, out: &mut W) -> io::Result<()> {
     let (start, end) = (
         start_of_part(text, range.start()),

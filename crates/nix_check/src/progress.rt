@@ -1,14 +1,14 @@
-//! A bar that shows how many of the files are checked.
+//! A progress bar.
 
 use std::io;
 use std::io::IsTerminal;
 
-// Fewer files are checked at once.
+// The bar is shown for more files than this.
 const MANY: usize = 100;
 // The full bar.
 const BAR: &str = "########################################";
 
-/// How far a run is, on standard error: shown only of many files, and only at a terminal.
+/// The progress of a run, shown on standard error if there are many files and it is a terminal.
 #[derive(Clone, Copy)]
 pub struct Progress {
     files: usize,
@@ -16,13 +16,13 @@ pub struct Progress {
 }
 
 impl Progress {
-    /// The progress over some files.
+    /// Returns the progress of a run over a number of files.
     pub fn of(rt: &HostRuntime, files: usize) -> Progress {
         let is_shown = files > MANY && rt.stderr().is_terminal();
         Progress { files, is_shown }
     }
 
-    /// Shows that this many files are checked.
+    /// Shows that a number of files are checked.
     pub fn show(&self, rt: &HostRuntime, done: usize) -> io::Result<()> {
         if self.is_shown {
             let files = self.files;
@@ -33,7 +33,7 @@ impl Progress {
         Ok(())
     }
 
-    /// Takes the bar away.
+    /// Clears the bar.
     pub fn clear(&self, rt: &HostRuntime) -> io::Result<()> {
         if self.is_shown {
             eprint!(rt; "\r\x1b[K")?;
