@@ -86,6 +86,10 @@ struct Brackets {
     long: Option<Opening>,
     // The first token that closes nothing.
     extra: Option<TextRange>,
+    // The starts of the braces that are followed by `:` or `@`.
+    patterns: Vec<usize>,
+    // The start of the braces that the last token other than trivia closes.
+    closed: Option<usize>,
     // The last `inherit` that no `;` follows.
     inherit: Option<TextRange>,
     // The kind of the last token other than trivia.
@@ -105,6 +109,8 @@ impl Brackets {
             suspect: None,
             long: None,
             extra: None,
+            patterns: Vec::new(alloc),
+            closed: None,
             inherit: None,
             last: None,
             line: 0,
@@ -151,7 +157,19 @@ impl Brackets {
                 self.suspect = Some(self.suspect.unwrap_or(*own));
             }
         }
+        if kind == TOKEN_R_BRACE {
+            self.closed = self.open.get(number).map(|opening| opening.range.start());
+        }
         self.open.truncate(number);
+    }
+
+    // Notes the braces before a token, if it shows that they are those of a pattern.
+    fn end_braces(&mut self, next: SyntaxKind) -> Result<(), AllocError> {
+        if matches!(next, TOKEN_COLON | TOKEN_AT) {
+            self.patterns.extend(self.closed)?;
+        }
+        self.closed = None;
+        Ok(())
     }
 
     // Reads the next token.
@@ -161,6 +179,7 @@ impl Brackets {
             self.skip(kind, token.text());
             return Ok(());
         }
+        self.end_braces(kind)?;
         if closes(kind) {
             self.close(kind, token.text_range());
         }
@@ -217,17 +236,36 @@ pub struct Mismatch {
     pub inherit: Option<TextRange>,
 }
 
-/// Returns what does not match among the tokens of a node.
-pub fn mismatch_in(alloc: Global, node: &SyntaxNode<'_>) -> Result<Mismatch, AllocError> {
+/// What is known of the brackets of a text.
+#[derive(Drop)]
+pub struct Matching {
+    /// Those that do not match.
+    pub mismatch: Mismatch,
+    // The starts of the braces that are followed by `:` or `@`, sorted.
+    patterns: Vec<usize>,
+}
+
+impl Matching {
+    /// Whether the braces that start at an offset are those of a pattern: `:` or `@` follows them.
+    pub fn is_pattern(&self, start: usize) -> bool {
+        self.patterns.binary_search(&start).is_ok()
+    }
+}
+
+/// Returns what is known of the brackets in a node.
+pub fn match_brackets(alloc: Global, node: &SyntaxNode<'_>) -> Result<Matching, AllocError> {
     let mut brackets = Brackets::new(alloc);
     for element in node.descendants_with_tokens() {
         if let NodeOrToken::Token(token) = element {
             brackets.read(&token)?;
         }
     }
-    Ok(Mismatch {
+    let mismatch = Mismatch {
         unclosed: brackets.unclosed(),
         extra: brackets.extra,
         inherit: brackets.inherit,
-    })
+    };
+    let mut patterns = brackets.patterns;
+    patterns.sort()?;
+    Ok(Matching { mismatch, patterns })
 }

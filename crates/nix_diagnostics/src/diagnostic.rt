@@ -7,7 +7,7 @@ ghost use Rattle.rnix.specs.Reading.{root_of};
 ghost use Rattle.nix_diagnostics.specs.Places.{end_of_items, error_range, own_range, place_of};
 ghost use Rattle.nix_diagnostics.specs.Shown.{IsFolded, AreShown};
 
-use crate::brackets::mismatch_in;
+use crate::brackets::match_brackets;
 use crate::folding::Folding;
 use crate::message::message;
 use crate::notes::{Note, notes};
@@ -105,8 +105,8 @@ pub fn diagnostics(alloc: Global, read: &Parse) -> Result<Vec<Diagnostic>, Alloc
     }
     let root = read.syntax();
     let end = end_of_items(&root);
-    let mismatch = mismatch_in(alloc, &root)?;
-    let mut folding = Folding::new(&root, errors, mismatch, end);
+    let matching = match_brackets(alloc, &root)?;
+    let mut folding = Folding::new(&root, errors, matching.mismatch, end);
     for number in 0..errors.len() {
         let error = &errors[number];
         let range = place_of(error, &root, end);
@@ -116,7 +116,7 @@ pub fn diagnostics(alloc: Global, read: &Parse) -> Result<Vec<Diagnostic>, Alloc
             fold(&mut found, number)?;
         } else {
             let message = message(alloc, error, node.as_ref())?;
-            let notes = notes(alloc, error, &root, node, range, mismatch)?;
+            let notes = notes(alloc, error, &root, node, range, &matching)?;
             found.push(Diagnostic {
                 range,
                 message,

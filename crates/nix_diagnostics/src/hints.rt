@@ -113,7 +113,7 @@ pub fn hint(unwanted: &Unwanted<'_>) -> Option<&'static str> {
         }
         _ => {}
     }
-    if unwanted.is_in_pattern() {
+    if unwanted.is_in_pattern {
         return in_pattern(unwanted);
     }
     let is_inherited = unwanted.parent.kind() == NODE_INHERIT;

@@ -1,6 +1,6 @@
 //! Notes on errors: what is not closed, where something is missing, what was meant.
 
-use crate::brackets::{Mismatch, Opening};
+use crate::brackets::{Matching, Mismatch, Opening};
 use crate::hints::hint;
 use crate::place::token_before;
 use crate::unwanted::Unwanted;
@@ -8,6 +8,9 @@ use SyntaxKind::*;
 use rnix::ast::{AstNode, Pattern};
 use rnix::{ParseError, SyntaxKind, SyntaxNode, TextRange};
 use std::alloc::{AllocError, Global};
+
+// How many entries of a pattern are searched for the first argument with a name.
+const MOST_ENTRIES: usize = 200;
 
 /// A note that may help with an error.
 #[derive(Clone, Copy)]
@@ -43,7 +46,7 @@ fn first_argument(root: &SyntaxNode<'_>, range: TextRange, name: &str) -> Option
     let token = root.token_at_offset(range.start()).right_biased()?;
     for node in token.parent_ancestors() {
         if let Some(pattern) = Pattern::cast(node) {
-            let first = pattern.pat_entries().find_map(|entry| {
+            let first = pattern.pat_entries().take(MOST_ENTRIES).find_map(|entry| {
                 entry.ident().filter(|ident| ident.syntax().text() == name)
             })?;
             return Some(Note {
@@ -109,15 +112,16 @@ fn remark(unwanted: &Unwanted<'_>, mismatch: &Mismatch) -> Option<Note> {
     }
 }
 
-/// Returns the notes on an error, given its error node, the place where it is shown, and the mismatch of the text.
+/// Returns the notes on an error, given its error node, the place where it is shown, and the brackets of the text.
 pub fn notes(
     alloc: Global,
     error: &ParseError,
     root: &SyntaxNode<'_>,
     node: Option<SyntaxNode<'_>>,
     place: TextRange,
-    mismatch: Mismatch,
+    matching: &Matching,
 ) -> Result<Vec<Note>, AllocError> {
+    let mismatch = matching.mismatch;
     let mut notes = Vec::new(alloc);
     if let ParseError::DuplicatedArgs(range, name) = error {
         notes.extend(first_argument(root, *range, name.as_str()))?;
@@ -133,7 +137,7 @@ pub fn notes(
         })?;
     }
     notes.extend(open_inherit(error, mismatch.inherit))?;
-    if let Some(unwanted) = Unwanted::of(error, node) {
+    if let Some(unwanted) = Unwanted::of(error, node, matching) {
         notes.extend(remark(
             &unwanted,
             &Mismatch {

@@ -1,12 +1,10 @@
 //! Unexpected tokens and what is around them.
 
+use crate::brackets::Matching;
 use crate::place::token_before;
 use SyntaxKind::*;
 use rnix::ast::{AstNode, AttrpathValue};
 use rnix::{ParseError, SyntaxKind, SyntaxNode, SyntaxToken};
-
-// How many tokens are read to find the end of braces.
-const MOST_TOKENS: usize = 400;
 
 /// An unexpected token.
 #[derive(Drop)]
@@ -19,20 +17,28 @@ pub struct Unwanted<'t> {
     pub parent: SyntaxNode<'t>,
     /// The first kind that is expected in its place, if one is.
     pub wanted: Option<SyntaxKind>,
+    /// Whether it is in braces that are followed by `:` or `@`, which shows that they are those of a pattern.
+    pub is_in_pattern: bool,
 }
 
 impl<'t> Unwanted<'t> {
     /// The unexpected token of an error: the first of its error node.
-    pub fn of(error: &ParseError, node: Option<SyntaxNode<'t>>) -> Option<Unwanted<'t>> {
+    pub fn of(
+        error: &ParseError,
+        node: Option<SyntaxNode<'t>>,
+        matching: &Matching,
+    ) -> Option<Unwanted<'t>> {
         let wanted = match error {
             ParseError::UnexpectedWanted(_, _, wanted) => wanted.first().copied(),
             _ => None,
         };
         let node = node?;
         let token = node.first_token()?;
+        let parent = node.parent()?;
         Some(Unwanted {
             before: token_before(&token),
-            parent: node.parent()?,
+            is_in_pattern: is_in_pattern(&parent, matching),
+            parent,
             token,
             wanted,
         })
@@ -56,19 +62,6 @@ impl<'t> Unwanted<'t> {
     /// Whether a name is expected.
     pub fn wants_name(&self) -> bool {
         self.wanted == Some(TOKEN_IDENT)
-    }
-
-    /// Whether it is in braces that are followed by `:` or `@`, which shows that they are those of a pattern.
-    pub fn is_in_pattern(&self) -> bool {
-        for node in self.parent.ancestors() {
-            match node.kind() {
-                NODE_PATTERN => return true,
-                NODE_ATTR_SET => return node.first_token().is_some_and(|brace| is_pattern(brace)),
-                NODE_ATTRPATH_VALUE | NODE_ATTRPATH => {}
-                _ => return false,
-            }
-        }
-        false
     }
 
     /// The end of the value before it. If the value spans several lines and its last argument, on a line of its own, is followed by `=`, that
@@ -95,26 +88,19 @@ impl<'t> Unwanted<'t> {
     }
 }
 
-// Whether the braces that a token opens are those of a pattern.
-fn is_pattern(brace: SyntaxToken<'_>) -> bool {
-    let mut depth: usize = 0;
-    let mut next = Some(brace);
-    let mut is_closed = false;
-    for _step in 0..MOST_TOKENS {
-        let Some(token) = next else {
-            return false;
-        };
-        match token.kind() {
-            TOKEN_WHITESPACE | TOKEN_COMMENT => {}
-            kind if is_closed => return kind == TOKEN_COLON || kind == TOKEN_AT,
-            TOKEN_L_BRACE | TOKEN_INTERPOL_START => depth = depth.saturating_add(1),
-            TOKEN_R_BRACE | TOKEN_INTERPOL_END => {
-                depth = depth.saturating_sub(1);
-                is_closed = depth == 0;
+// Whether a node is a pattern, or an entry of one that was read as a set.
+fn is_in_pattern(node: &SyntaxNode<'_>, matching: &Matching) -> bool {
+    for node in node.ancestors() {
+        match node.kind() {
+            NODE_PATTERN => return true,
+            NODE_ATTR_SET => {
+                return node
+                    .first_token()
+                    .is_some_and(|brace| matching.is_pattern(brace.text_range().start()));
             }
-            _ => {}
+            NODE_ATTRPATH_VALUE | NODE_ATTRPATH => {}
+            _ => return false,
         }
-        next = token.next_token();
     }
     false
 }
