@@ -272,7 +272,8 @@ class Header(unittest.TestCase):
     def test_variants_and_refusals_have_their_numbers(self):
         named = [(name.replace("_", "").lower(), number) for name, number in self.numbers("rnix_error_variant")]
         self.assertEqual(named, [(name.lower(), number) for number, name in enumerate(errors.VARIANTS)])
-        refusals = [(name, getattr(library, name)) for name in ("NOT_UTF8", "NO_MEMORY", "NONE_SUCH", "TOO_LONG")]
+        names = ("NOT_UTF8", "NO_MEMORY", "NONE_SUCH", "TOO_LONG", "HAS_ERRORS", "DIFFERENT")
+        refusals = [(name, getattr(library, name)) for name in names]
         self.assertEqual(self.numbers("rnix_refusal"), refusals)
         self.assertIn(("CHARS", library.CHARS), self.numbers("rnix_unit"))
         self.assertIn(f"#define RNIX_NOT_WANTED {library.NOT_WANTED}", self.source)
