@@ -21,12 +21,12 @@ def formatted(text: str | bytes) -> str:
     guess = len(source) + len(source) // 4
 
     def call(room: object, count: int) -> int:
-        answer = int(LIBRARY.rnix_format(source, len(source), room, count))
-        if answer == library.HAS_ERRORS:
+        result = int(LIBRARY.rnix_format(source, len(source), room, count))
+        if result == library.HAS_ERRORS:
             raise FormatError("the text has errors")
-        if answer == library.DIFFERENT:
+        if result == library.DIFFERENT:
             raise FormatError("the new text would differ in more than white space")
-        return answer
+        return result
 
     made, count = library.listed(ctypes.c_char, call, guess)
     return memoryview(made).cast("B")[:count].tobytes().decode()

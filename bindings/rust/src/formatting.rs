@@ -39,18 +39,18 @@ impl std::error::Error for FormatError {}
 /// # Errors
 /// The text has errors, or memory runs out.
 pub fn formatted(text: &str) -> Result<String, FormatError> {
-    let answer = Cell::new(0);
+    let result = Cell::new(0);
     let call = |buffer: *mut u8, room: usize| {
         // SAFETY: the text and the buffer have these lengths.
-        answer.set(unsafe { ffi::rnix_format(text.as_ptr(), text.len(), buffer, room) });
-        match answer.get() {
+        result.set(unsafe { ffi::rnix_format(text.as_ptr(), text.len(), buffer, room) });
+        match result.get() {
             ffi::HAS_ERRORS | ffi::DIFFERENT => 0,
             count => count,
         }
     };
     // SAFETY: the call fills its array as `listed` requires.
     let bytes = unsafe { ffi::listed(text.len() + text.len() / 4, call) }.map_err(FormatError::Refused)?;
-    match answer.get() {
+    match result.get() {
         ffi::HAS_ERRORS => Err(FormatError::HasErrors),
         ffi::DIFFERENT => Err(FormatError::Different),
         _ => Ok(String::from_utf8(bytes).expect("the library writes UTF-8")),

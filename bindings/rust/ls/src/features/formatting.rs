@@ -1,6 +1,6 @@
 //! Formatting in the style of Nixpkgs.
 //!
-//! The new text has the same tokens, so each edit replaces the white space between two tokens that stand next to each other.
+//! The new text has the same tokens, so each edit replaces the white space between two neighbouring tokens.
 
 use crate::json::{array, object, Value};
 use crate::protocol::{range_of, size, Code, Failure, Outcome};
