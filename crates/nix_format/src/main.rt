@@ -15,8 +15,8 @@ const PROGRAM: Program = Program {
     help: "\
 nix-format [OPTION..] [FILE..]
 
-Writes Nix files in the style of Nixpkgs. Only white space changes: each new text is read again, and has the same tokens, the same comments and
-the same tree. A file with errors stays as it is. A folder stands for all files in it and below that end with .nix; - and no FILE stand for
+Writes Nix files in the style of Nixpkgs. Only white space changes: the tokens of each new text, comments included, are compared with the old ones,
+and the tree is the same. A file with errors stays as it is. A folder means all files in it and below that end with .nix; - and no FILE mean
 standard input, whose new text is printed. Files are replaced: the new text goes to FILE.new, which is then renamed.
 
     --check    change nothing, and name the files that would change

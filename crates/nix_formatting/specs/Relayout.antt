@@ -19,7 +19,7 @@ abbrev pub solid_if : Bool → Solid → List Solid → List Solid → List Soli
 solid_if true t spaced touching = spaced
 solid_if false t spaced touching = t ∷ touching
 
--- the tokens other than white space, comments included; before them stands a part of a path, or something else
+-- the tokens other than white space, comments included; the first argument says whether a part of a path precedes them
 abbrev pub solids_from : Bool → List Lexeme → List Solid
 solids_from in_path [] = []
 solids_from in_path (t ∷ ts) =

@@ -74,7 +74,7 @@ pub fn absorbs(kind: SyntaxKind) -> bool {
     )
 }
 
-/// What may be broken of a node by itself: what stands between its brackets, from the piece that opens it to the last one before `end`.
+/// What may be broken of a node by itself: what is between its brackets, from the piece that opens it to the last one before `end`.
 pub fn own_target(kind: SyntaxKind, open: usize, end: usize) -> Option<Target> {
     let close = end.saturating_sub(1);
     let is_filled = close > open.saturating_add(1);

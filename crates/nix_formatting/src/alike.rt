@@ -44,7 +44,7 @@ fn is_piece_start(kind: SyntaxKind) -> bool
     )
 }
 
-// Takes the next token other than white space; before the first token stands a part of a path, or something else.
+// Takes the next token other than white space; `in_path` says whether a part of a path precedes the first token.
 fn next_solid<'t>(
     tokens: &mut Tokenizer<'t>,
     in_path: bool,

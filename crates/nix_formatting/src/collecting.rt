@@ -132,7 +132,7 @@ impl Collector {
         }
     }
 
-    // What stands between a child of a node and the next one. A conditional that goes on with another one behind its `else` is broken.
+    // The gap between a child of a node and the next one. A conditional whose `else` is followed by another one is broken.
     fn wanted(&self, frame: &Frame, before: SyntaxKind, child: Child) -> Spacing {
         if before == SyntaxKind::TOKEN_COMMA && self.begins_line() {
             return behind_first_comma();
@@ -145,7 +145,7 @@ impl Collector {
         }
     }
 
-    // Notes what stands between the next child and the one before it.
+    // Notes the gap between the next child and the one before it.
     fn note_child(&mut self, child: Child) {
         let top = self.frames.len().saturating_sub(1);
         if top < self.frames.len() {

@@ -48,7 +48,8 @@ fn compared(alloc: Global, text: &str, made: String) -> Result<Formatting, Alloc
 }
 
 /// Formats a text in the style of Nixpkgs. A text without errors becomes one that has the same tokens, comments among them, and is read as the same
-/// tree but for white space; the new text is read again to make sure of it. A text with errors is told as such.
+/// tree but for white space; the tokens of the new text are compared with the old ones, and a text that differs is `Refused`. A text with errors is
+/// `Faulty`.
 pub fn formatted(alloc: Global, text: &str) -> Result<Formatting, AllocError>
     ensures formatted { IfOk result (IfFormatted (IsRelayout text.now)) }
     ensures faulty { IfOk result (IfFaulty (IsFaulty text.now)) }

@@ -15,7 +15,7 @@ pub fn is_atom(kind: SyntaxKind) -> bool {
     )
 }
 
-/// Whether nodes of a kind have groups of their own, wherever they stand.
+/// Whether nodes of a kind have groups of their own in every place.
 pub fn is_grouped(kind: SyntaxKind) -> bool {
     matches!(
         kind,

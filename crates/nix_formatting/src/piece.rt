@@ -1,6 +1,6 @@
 //! The pieces of a text that stay as they are, and the gaps before them.
 
-/// What stands between a piece and the one before it.
+/// The gap between a piece and the one before it.
 #[derive(Clone, Copy)]
 pub struct Gap {
     /// How many blanks, where the line goes on: none or one.
@@ -45,7 +45,7 @@ pub struct Piece {
     pub ends_line: bool,
     /// The line feeds before it in the old text, behind the piece before.
     pub line_feeds: usize,
-    /// What stands before it.
+    /// The gap before it.
     pub gap: Gap,
 }
 
