@@ -1,0 +1,197 @@
+-- A text that begins with a token: its bytes and its runs, whatever follows.
+use Rattle.std.proofs.Common.{◌≡◌, ℕ, suc, ◌+◌, ◌<◌, ◌≤◌, Bool, true, false, not, ◌&&◌, ◌||◌, ◌==◌, List, [], ◌∷◌, ◌++◌, length, get_or, drop}
+use Rattle.std.proofs.Common.{refl, sym, ap, ◌∙◌, inl, inr, ◌⊎◌, arith, add-zero, add-one, get_or-drop, length-drop, eqb-true, eq-eqb, cond}
+use Rattle.std.proofs.lemmas.{List.{get_or_append_left, get_or-append-add, drop-append-le, get_or_past}, List.Sums.{prefix_len_passes, prefix_len_stops}}
+use Rattle.std.proofs.lemmas.{Bool.{cases_lt, and_parts, both_ways, not-true, or_left, cond-true, cond-false, agree_below_at}, Bool.Decides.nat_tests}
+use Rattle.std.specs.{Prelude.codes, List.{prefix_len, list_all}}
+use Rattle.rnix_kinds.specs.declared.tokenizer.text.Class.TheVariants.{Digit, Name, Path, Step, Scheme, Angle, Uri}
+use Rattle.rnix_kinds.specs.Lexical.{Texts.{stands_at, begins, run_end, is_blank}, Classes.class_test}
+
+-- a choice of which the test is known
+pub if_true : {A : Type 0} (b : Bool) (x y z : A) → b ≡ true → x ≡ z → cond b x y ≡ z
+if_true b x y z e f = cond-true b x y e ∙ f
+
+pub if_false : {A : Type 0} (b : Bool) (x y z : A) → b ≡ false → y ≡ z → cond b x y ≡ z
+if_false b x y z e f = cond-false b x y e ∙ f
+
+-- a byte of the token is the same before all that follows
+pub same_byte : (t s r : List ℕ) (i : ℕ) → i < length t → get_or (t ++ s) i 0 ≡ get_or (t ++ r) i 0
+same_byte t s r i h = get_or_append_left t s 0 i h ∙ sym (get_or_append_left t r 0 i h)
+
+-- the next byte is the first that follows
+pub next_byte : (t r : List ℕ) → get_or (t ++ r) (length t) 0 ≡ get_or r 0 0
+next_byte t r = ap (λ k. get_or (t ++ r) k 0) (sym (add-zero (length t))) ∙ get_or-append-add t r 0 0
+
+pub next_byte_at : (t r : List ℕ) (i : ℕ) → i ≡ length t → get_or (t ++ r) i 0 ≡ get_or r 0 0
+next_byte_at t r i e = ap (λ k. get_or (t ++ r) k 0) e ∙ next_byte t r
+
+-- `${` after the token is `${` before the rest
+pub dollar_after : (t r : List ℕ) → stands_at (codes "${") (length t) (t ++ r) ≡ begins (codes "${") r
+dollar_after t r =
+    let next : get_or (t ++ r) (suc (length t)) 0 ≡ get_or r 1 0 =
+    ap (λ k. get_or (t ++ r) k 0) (sym (add-one (length t))) ∙ get_or-append-add t r 1 0 in
+    ap (λ k. (k == 36) && (get_or (t ++ r) (suc (length t)) 0 == 123)) (next_byte t r) ∙ ap (λ k. (get_or r 0 0 == 36) && (k == 123)) next
+
+-- a run is empty where its first byte is not of it
+pub no_run : (p : ℕ → Bool) (r : List ℕ) → p (get_or r 0 0) ≡ false → prefix_len p r ≡ 0
+no_run p [] out = refl
+no_run p (b ∷ r) out = cond-false (p b) _ _ out
+
+inside_step : (p : ℕ → Bool) (x : ℕ) (t s r : List ℕ) (b : Bool) → p x ≡ b → prefix_len p (x ∷ (t ++ s)) < suc (length t)
+    → (prefix_len p (t ++ s) < length t → prefix_len p (t ++ r) ≡ prefix_len p (t ++ s)) → prefix_len p (x ∷ (t ++ r)) ≡ prefix_len p (x ∷ (t ++ s))
+inside_step p x t s r true e h more =
+    let here : prefix_len p (x ∷ (t ++ s)) ≡ 1 + prefix_len p (t ++ s) = cond-true (p x) _ _ e in
+    let there : prefix_len p (x ∷ (t ++ r)) ≡ 1 + prefix_len p (t ++ r) = cond-true (p x) _ _ e in
+    let inner = more (omega arith) in
+    omega arith
+inside_step p x t s r false e h more = cond-false (p x) _ _ e ∙ sym (cond-false (p x) _ _ e)
+
+-- a run that ends inside the token ends there before all that follows
+pub run_inside : (p : ℕ → Bool) (t s r : List ℕ) → prefix_len p (t ++ s) < length t → prefix_len p (t ++ r) ≡ prefix_len p (t ++ s)
+run_inside p [] s r h = absurd (omega arith)
+run_inside p (x ∷ t) s r h = inside_step p x t s r (p x) refl h (run_inside p t s r)
+
+stopped_step : (p : ℕ → Bool) (x : ℕ) (t s r : List ℕ) (b : Bool) → p x ≡ b → prefix_len p (x ∷ (t ++ s)) ≤ suc (length t)
+    → (prefix_len p (t ++ s) ≤ length t → prefix_len p (t ++ r) ≡ prefix_len p (t ++ s)) → prefix_len p (x ∷ (t ++ r)) ≡ prefix_len p (x ∷ (t ++ s))
+stopped_step p x t s r true e h more =
+    let here : prefix_len p (x ∷ (t ++ s)) ≡ 1 + prefix_len p (t ++ s) = cond-true (p x) _ _ e in
+    let there : prefix_len p (x ∷ (t ++ r)) ≡ 1 + prefix_len p (t ++ r) = cond-true (p x) _ _ e in
+    let inner = more (omega arith) in
+    omega arith
+stopped_step p x t s r false e h more = cond-false (p x) _ _ e ∙ sym (cond-false (p x) _ _ e)
+
+-- and one that ends with it at the latest ends there before what is not of the run
+pub run_stopped : (p : ℕ → Bool) (t s r : List ℕ) → prefix_len p (t ++ s) ≤ length t → prefix_len p r ≡ 0 → prefix_len p (t ++ r) ≡ prefix_len p (t ++ s)
+run_stopped p [] s r h stop = omega arith
+run_stopped p (x ∷ t) s r h stop = stopped_step p x t s r (p x) refl h (λ inner. run_stopped p t s r inner stop)
+
+-- the same from a place inside the token on
+pub end_stopped : (p : ℕ → Bool) (i : ℕ) (t s r : List ℕ) → i ≤ length t → run_end p i (t ++ s) ≤ length t → prefix_len p r ≡ 0
+    → run_end p i (t ++ r) ≡ run_end p i (t ++ s)
+end_stopped p i t s r h k stop =
+    let before = ap (prefix_len p) (drop-append-le i t s h) in
+    let after = ap (prefix_len p) (drop-append-le i t r h) in
+    let size = length-drop i t in
+    let inner = run_stopped p (drop i t) s r (omega arith) stop in
+    omega arith
+
+-- the byte at which a run ends is not of the run
+pub run_stops : (p : ℕ → Bool) (xs : List ℕ) → p 0 ≡ false → p (get_or xs (prefix_len p xs) 0) ≡ false
+run_stops p xs out =
+    elim (cases_lt (prefix_len p xs) (length xs)) [
+      | inl within ↦ prefix_len_stops p xs 0 within
+      | inr past ↦ ap p (get_or_past xs (prefix_len p xs) 0 past) ∙ out
+    ]
+
+-- a run of more bytes is longer, if it takes the byte at the end of the other
+pub run_longer : (p q : ℕ → Bool) (xs : List ℕ) → ((b : ℕ) → q b ≡ true → p b ≡ true) → p 0 ≡ false
+    → p (get_or xs (prefix_len q xs) 0) ≡ true → prefix_len q xs < prefix_len p xs
+run_longer p q xs wider out pass =
+    elim (cases_lt (prefix_len q xs) (prefix_len p xs)) [
+      | inl h ↦ h
+      | inr h ↦ elim (cases_lt (prefix_len p xs) (prefix_len q xs)) [
+        | inl less ↦ absurd (both_ways _ (run_stops p xs out) (wider _ (prefix_len_passes q xs (prefix_len p xs) 0 less)))
+        | inr not_less ↦ (let same : prefix_len p xs ≡ prefix_len q xs = omega arith in
+            absurd (both_ways _ (ap (λ k. p (get_or xs k 0)) (sym same) ∙ run_stops p xs out) pass))
+      ]
+    ]
+
+-- a byte of the run after one of its bytes is inside it
+pub run_more : (p : ℕ → Bool) (xs : List ℕ) (n : ℕ) → p 0 ≡ false → n < prefix_len p xs → p (get_or xs (n + 1) 0) ≡ true → n + 1 < prefix_len p xs
+run_more p xs n out h pass =
+    elim (cases_lt (n + 1) (prefix_len p xs)) [
+      | inl more ↦ more
+      | inr past ↦ (let same : prefix_len p xs ≡ n + 1 = omega arith in
+          absurd (both_ways _ (ap (λ k. p (get_or xs k 0)) (sym same) ∙ run_stops p xs out) pass))
+    ]
+
+-- a run from a place on is not empty, if it takes the byte there
+pub end_some : (p : ℕ → Bool) (xs : List ℕ) (i : ℕ) → p 0 ≡ false → p (get_or xs i 0) ≡ true → i < run_end p i xs
+end_some p xs i out pass =
+    elim (cases_lt 0 (prefix_len p (drop i xs))) [
+      | inl more ↦ omega arith
+      | inr none ↦ (let is : prefix_len p (drop i xs) ≡ 0 = omega arith in
+          let here : get_or (drop i xs) (prefix_len p (drop i xs)) 0 ≡ get_or xs i 0 =
+          ap (λ k. get_or (drop i xs) k 0) is ∙ (get_or-drop i xs 0 0 ∙ ap (λ k. get_or xs k 0) (add-zero i)) in
+          absurd (both_ways _ (ap p (sym here) ∙ run_stops p (drop i xs) out) pass))
+    ]
+
+-- a word that is inside the token is at the same place before all that follows
+pub stands_inside : (w : List ℕ) (i : ℕ) (t s r : List ℕ) → i + length w ≤ length t → stands_at w i (t ++ s) ≡ stands_at w i (t ++ r)
+stands_inside [] i t s r h = refl
+stands_inside (b ∷ []) i t s r h = ap (λ k. k == b) (same_byte t s r i (omega arith))
+stands_inside (b ∷ c ∷ w) i t s r h =
+    ap (λ k. (k == b) && stands_at (c ∷ w) (suc i) (t ++ s)) (same_byte t s r i (omega arith))
+    ∙ ap (λ k. (get_or (t ++ r) i 0 == b) && k) (stands_inside (c ∷ w) (suc i) t s r (omega arith))
+
+byte_inside : (t r : List ℕ) (i b : ℕ) → i ≤ length t → (get_or (t ++ r) i 0 == b) ≡ true → not (b == get_or r 0 0) ≡ true → i < length t
+byte_inside t r i b h e other =
+    elim (cases_lt i (length t)) [
+      | inl inside ↦ inside
+      | inr past ↦ (let here : i ≡ length t = omega arith in
+          let same : b ≡ get_or r 0 0 = sym (eqb-true (get_or (t ++ r) i 0) b e) ∙ next_byte_at t r i here in
+          absurd (both_ways _ (not-true _ other) (eq-eqb b (get_or r 0 0) same)))
+    ]
+
+-- a word without the next byte is inside the token
+pub stands_within : (w : List ℕ) (i : ℕ) (t r : List ℕ) → list_all (λ b. not (b == get_or r 0 0)) w ≡ true → i ≤ length t → stands_at w i (t ++ r) ≡ true
+    → i + length w ≤ length t
+stands_within [] i t r other h e = omega arith
+stands_within (b ∷ []) i t r other h e = omega (arith, byte_inside t r i b h e (and_parts (not (b == get_or r 0 0)) true other).0)
+stands_within (b ∷ c ∷ w) i t r other h e =
+    let others = and_parts (not (b == get_or r 0 0)) (list_all (λ d. not (d == get_or r 0 0)) (c ∷ w)) other in
+    let parts = and_parts (get_or (t ++ r) i 0 == b) (stands_at (c ∷ w) (suc i) (t ++ r)) e in
+    let here = byte_inside t r i b h parts.0 others.0 in
+    omega (arith, stands_within (c ∷ w) (suc i) t r others.1 (omega arith) parts.1)
+
+-- white space, or no byte
+abbrev pub is_edge : ℕ → Bool
+is_edge b = is_blank b || b == 0
+
+-- white space follows, or nothing
+abbrev pub IsApart : List ℕ → Type 0
+IsApart r = (r ≡ []) ⊎ (is_blank (get_or r 0 0) ≡ true)
+
+pub apart_edge : (r : List ℕ) → IsApart r → is_edge (get_or r 0 0) ≡ true
+apart_edge r (inl e) = ap (λ x. is_edge (get_or x 0 0)) e
+apart_edge r (inr e) = or_left _ _ e
+
+-- no run of a token goes on with such a byte
+pub edge_digit : (b : ℕ) → is_edge b ≡ true → class_test Digit b ≡ false
+edge_digit b e = grind (arith, nat_tests)
+
+pub edge_name : (b : ℕ) → is_edge b ≡ true → class_test Name b ≡ false
+edge_name b e = grind (arith, nat_tests)
+
+pub edge_path : (b : ℕ) → is_edge b ≡ true → class_test Path b ≡ false
+edge_path b e = grind (arith, nat_tests)
+
+pub edge_step : (b : ℕ) → is_edge b ≡ true → class_test Step b ≡ false
+edge_step b e = grind (arith, nat_tests)
+
+pub edge_scheme : (b : ℕ) → is_edge b ≡ true → class_test Scheme b ≡ false
+edge_scheme b e = grind (arith, nat_tests)
+
+pub edge_angle : (b : ℕ) → is_edge b ≡ true → class_test Angle b ≡ false
+edge_angle b e = grind (arith, nat_tests)
+
+edge_low : (b : ℕ) → is_edge b ≡ true → b < 33
+edge_low b e = grind (arith, nat_tests)
+
+pub edge_uri : (b : ℕ) → is_edge b ≡ true → class_test Uri b ≡ false
+edge_uri b e =
+    ap (λ k. k && class_test Uri b) (sym e) ∙ agree_below_at (λ c. is_edge c && class_test Uri c) (λ c. false) 33 b refl (edge_low b e)
+
+-- it is no other byte
+pub edge_not : (b c : ℕ) → is_edge b ≡ true → is_edge c ≡ false → (b == c) ≡ false
+edge_not b c e f = grind (arith, nat_tests)
+
+ink_step : (b c : ℕ) → not (is_edge b) ≡ true → is_edge c ≡ true → not (b == c) ≡ true
+ink_step b c e f = grind (arith, nat_tests)
+
+-- and in no word without white space
+pub ink_other : (w : List ℕ) (c : ℕ) → list_all (λ b. not (is_edge b)) w ≡ true → is_edge c ≡ true → list_all (λ b. not (b == c)) w ≡ true
+ink_other [] c e f = refl
+ink_other (b ∷ w) c e f =
+    let parts = and_parts (not (is_edge b)) (list_all (λ d. not (is_edge d)) w) e in
+    ap (λ k. k && list_all (λ d. not (d == c)) w) (ink_step b c parts.0 f) ∙ ink_other w c parts.1 f

@@ -1,0 +1,13 @@
+pub mod Appended
+pub mod Kept
+pub mod KeptNumbers
+pub mod KeptOperators
+pub mod KeptPaths
+pub mod KeptSlashes
+pub mod KeptWords
+pub mod KeptStrings
+pub mod KeptComments
+pub mod KeptNormal
+pub mod Stacks
+pub mod SeparatedTokens
+pub mod SeparatedExamples

@@ -1,0 +1,82 @@
+-- Texts that are separated, and what is not so: errors may be cut otherwise, and a comment goes on to the end of its line.
+use Rattle.std.{proofs.{lemmas.Bool.eqb-false, Common.{◌≡◌, ℕ, true, List, [], ◌∷◌, refl, ap, inl, inr, lit<, length}}, specs.{Prelude.codes, Str.chars}}
+use Rattle.rnix_kinds.specs.declared.kinds.SyntaxKind.TheVariants.{TOKEN_ADD, TOKEN_COMMENT, TOKEN_ERROR, TOKEN_IDENT, TOKEN_INTERPOL_END, TOKEN_INTERPOL_START}
+use Rattle.rnix_kinds.specs.declared.kinds.SyntaxKind.TheVariants.{TOKEN_L_BRACK, TOKEN_PATH_REL, TOKEN_STRING_END, TOKEN_STRING_START}
+use Rattle.rnix_kinds.specs.declared.tokenizer.rule.{Cut.Cut, PathStart.TheVariants.Relative, Mode.TheVariants.{Quoted, Interpolation, Path}}
+use Rattle.rnix_kinds.specs.declared.tokenizer.rule.Change.TheVariants.{Open, Close}
+use Rattle.rnix_kinds.specs.Lexical.{Texts.{space_len, begins_space}, Plain.plain, Strings.content_from}
+use Rattle.rnix_kinds.specs.Lexical.Tokens.{normal_cut, cut_at, tokens_behind, tokens_of}
+use lib.Utf8.{encode}
+use Rattle.rnix_proof_separation.specs.Separated.{solids, AreSeparated, none, space, token, IsSeparated}
+
+-- a token that opens or closes a mode
+abbrev dollar : Cut
+dollar = record { kind = TOKEN_INTERPOL_START; len = 2; change = Open (Interpolation 0) }
+
+abbrev brace : Cut
+brace = record { kind = TOKEN_INTERPOL_END; len = 1; change = Close }
+
+abbrev opening : Cut
+opening = record { kind = TOKEN_STRING_START; len = 2; change = Open (Quoted true) }
+
+abbrev closing : Cut
+closing = record { kind = TOKEN_STRING_END; len = 2; change = Close }
+
+abbrev path : Cut
+path = record { kind = TOKEN_PATH_REL; len = 3; change = Open (Path Relative) }
+
+-- `a+b` and `a + b`
+pub sums : AreSeparated [] (codes "a+b") (codes "a + b")
+unfolding cut_at normal_cut space_len chars begins_space encode
+sums =
+    token [] (codes "a+b") (plain TOKEN_IDENT 1) (codes " ") (codes "+ b") (lit< tt) refl refl (refl, inr refl)
+    (token [] (codes "+b") (plain TOKEN_ADD 1) (codes " ") (codes "b") (lit< tt) refl refl (refl, inr refl)
+    (token [] (codes "b") (plain TOKEN_IDENT 1) [] [] (lit< tt) refl refl (refl, inl (refl, refl)) (none [])))
+
+-- `''${x}''` and `''${ x }''`
+pub strings : AreSeparated [] (codes "''${x}''") (codes "''${ x }''")
+unfolding cut_at normal_cut space_len chars begins_space content_from encode
+strings =
+    token [] (codes "''${x}''") opening [] (codes "${ x }''") (lit< tt) refl refl refl
+    (token (Quoted true ∷ []) (codes "${x}''") dollar (codes " ") (codes "x }''") (lit< tt) refl refl (refl, inr refl)
+    (token (Interpolation 0 ∷ Quoted true ∷ []) (codes "x}''") (plain TOKEN_IDENT 1) (codes " ") (codes "}''") (lit< tt) refl refl (refl, inr refl)
+    (token (Interpolation 0 ∷ Quoted true ∷ []) (codes "}''") brace [] (codes "''") (lit< tt) refl refl refl
+    (token (Quoted true ∷ []) (codes "''") closing [] [] (lit< tt) refl refl (refl, inl (refl, refl)) (none [])))))
+
+-- `./a${b}` and `./a${ b }`
+pub paths : AreSeparated [] (codes "./a${b}") (codes "./a${ b }")
+unfolding cut_at normal_cut space_len chars begins_space encode
+paths =
+    token [] (codes "./a${b}") path [] (codes "${ b }") (lit< tt) refl refl refl
+    (token (Path Relative ∷ []) (codes "${b}") dollar (codes " ") (codes "b }") (lit< tt) refl refl (refl, inr refl)
+    (token (Interpolation 0 ∷ Path Relative ∷ []) (codes "b}") (plain TOKEN_IDENT 1) (codes " ") (codes "}") (lit< tt) refl refl (refl, inr refl)
+    (token (Interpolation 0 ∷ Path Relative ∷ []) (codes "}") brace [] [] (lit< tt) refl refl (refl, inl (refl, refl)) (none (Path Relative ∷ [])))))
+
+-- `#c` and a line feed before `a`, and two line feeds
+pub comments : AreSeparated [] (codes "#c\na") (codes "#c\n\na")
+unfolding cut_at normal_cut space_len chars begins_space encode
+comments =
+    token [] (codes "#c\na") (plain TOKEN_COMMENT 2) (codes "\n\n") (codes "a") (lit< tt) refl refl (refl, inr refl)
+    (space [] (codes "\na") 1 (codes "a") (lit< tt) refl
+    (token [] (codes "a") (plain TOKEN_IDENT 1) [] [] (lit< tt) refl refl (refl, inl (refl, refl)) (none [])))
+
+-- behind a comment to the end of its line, a blank belongs to the comment
+pub joined : solids (tokens_of (codes "#c a")) ≡ solids (tokens_of (codes "#c\na")) → ⊥
+unfolding tokens_behind cut_at normal_cut space_len chars begins_space encode
+joined e = eqb-false (length (solids (tokens_of (codes "#c a")))) (length (solids (tokens_of (codes "#c\na")))) refl (ap length e)
+
+-- `a/[` and `a/ [`: a path that ends in `/` is an error
+pub errors : AreSeparated [] (codes "a/[") (codes "a/ [")
+unfolding cut_at normal_cut space_len chars begins_space encode
+errors =
+    token [] (codes "a/[") (plain TOKEN_ERROR 2) (codes " ") (codes "[") (lit< tt) refl refl (refl, inr refl)
+    (token [] (codes "[") (plain TOKEN_L_BRACK 1) [] [] (lit< tt) refl refl (refl, inl (refl, refl)) (none []))
+
+differ : solids (tokens_of (codes "a/ [")) ≡ solids (tokens_of (codes "a/[")) → ⊥
+unfolding tokens_behind cut_at normal_cut space_len chars begins_space encode
+differ e = eqb-false (length (solids (tokens_of (codes "a/ [")))) (length (solids (tokens_of (codes "a/[")))) refl (ap length e)
+
+-- so it is not: the tokens are cut again, whatever they are
+pub unlimited : ((text new : List ℕ) → IsSeparated text new → solids (tokens_of new) ≡ solids (tokens_of text)) → ⊥
+unlimited claim =
+    differ (claim (codes "a/[") (codes "a/ [") (record { gap = []; rest = codes "a/ ["; whole = refl; blank = refl; separated = errors }))

@@ -1,0 +1,295 @@
+-- The tokens of a text that are written with white space between them are cut again.
+use Rattle.std.proofs.Common.{◌≡◌, ℕ, ◌<◌, ◌≤◌, Bool, true, false, not, ◌||◌, ◌==◌, List, [], ◌∷◌, ◌++◌, length, get_or, take, drop, IsUtf8}
+use Rattle.std.proofs.Common.{Option, Some, None, refl, sym, ap, ◌∙◌, subst, inl, inr, arith, cond, eq-eqb, length-append, length-take-le, take-append-drop}
+use Rattle.std.proofs.lemmas.{List.{take_at, drop_at}, Str.IsUtf8-drop, Bool.{true≢false, both_ways, and_parts, and_left, or_left, or_right, not-true}}
+use Rattle.std.{proofs.lemmas.Bool.Decides.nat_tests, specs.{Prelude.codes, List.{prefix_len}}}
+use Rattle.rnix_kinds.specs.declared.kinds.SyntaxKind.TheVariants.{TOKEN_WHITESPACE}
+use Rattle.rnix_kinds.specs.declared.tokenizer.{text.Class.TheVariants.Line, rule.{Cut.Cut, PathStart.PathStart}}
+use Rattle.rnix_kinds.specs.declared.tokenizer.rule.{Mode.{Mode, TheVariants.{Quoted, Interpolation, Path}}, Change.{Change, TheVariants.{Stay, Open, Close, Count}}}
+use Rattle.rnix_kinds.specs.Lexical.{Texts.{begins, is_blank}, Classes.{class_test, is_path}, Plain.plain, Strings.{piece_len}, Paths.{segment, path_goes_on, path_cut}}
+use Rattle.rnix_kinds.specs.Lexical.Tokens.{cut_at, normal_cut, top, without_ended_paths, changed, tokens_under, tokens_of, IsCutOf, IsPathGoingOn}
+use Rattle.rnix_kinds.proofs.Lexical.{CutLemmas.cut_good, TokensLemmas.{tokens_under-nil, tokens_under-cut, tokens_under-settled, IsPathGoingOn-settled}}
+use Rattle.rnix_kinds.proofs.Lexical.TokensLemmas.{settled_stays}
+use Rattle.rnix_proof_separation.specs.Separated.{is_white_space, is_error, solids, have_no_error, is_inside, ends_token, IsGap, AreSeparated, none, space, token}
+use Rattle.rnix_proof_separation.specs.Separated.{IsSeparated}
+use Rattle.rnix_proof_separation.proofs.{Appended.{apart_edge, is_edge, same_byte, no_run, if_true, if_false, edge_path}, Kept.{Fits, IsBehind, Keeps}}
+use Rattle.rnix_proof_separation.proofs.{KeptNormal.{IsKept, normal_kept}, KeptStrings.{GoesOn, string_kept, string_stop, opened, closed, stop_opened, stop_closed}}
+use Rattle.rnix_proof_separation.proofs.KeptPaths.{segment_kept, change_going, change_ended, dollar_no_path, edge_no_dollar}
+use Rattle.rnix_proof_separation.proofs.{KeptOperators.word_kept, Stacks.{AreNested, nested_changed, nested_settled, normal_settled, inside_settled, outside_settled}}
+use Rattle.rnix_proof_separation.proofs.Stacks.{blanks, string_solid, path_solid}
+
+-- what follows where a string or a path is open begins as before
+abbrev Continues : Option Mode → List ℕ → List ℕ → Type 0
+Continues (Some (Quoted m)) s r = GoesOn m s r
+Continues (Some (Path start)) s r = begins (codes "${") s ≡ true → begins (codes "${") r ≡ true
+Continues mode s r = Unit {0}
+
+-- what follows a token, by the modes that are open after it
+record Follows (modes : List Mode) (t s r : List ℕ) : Type 0 where
+  inside : is_inside (top modes) ≡ true → Continues (top modes) s r
+  outside : is_inside (top modes) ≡ false → IsBehind t r
+
+goes_on_dollar : (s : List ℕ) → begins (codes "${") s ≡ true → path_goes_on s ≡ true
+goes_on_dollar s e = or_left _ _ e
+
+-- a token after which no string is open
+quiet_kept : (f : List ℕ → Cut) (o : List Mode) (t s r : List ℕ) (a : Cut) (change : Change) → is_inside (top o) ≡ false → Keeps f t s a change
+    → Follows (without_ended_paths (changed change o) s) t s r → f (t ++ r) ≡ a
+quiet_kept f o t s r a Stay normal keeps follows =
+    keeps.apart r (follows.outside (ap (λ m. is_inside (top m)) (normal_settled o s normal) ∙ normal)) (λ e. e)
+quiet_kept f [] t s r a (Count n) normal keeps follows = keeps.apart r (follows.outside refl) (λ e. e)
+quiet_kept f (mode ∷ o) t s r a (Count n) normal keeps follows = keeps.apart r (follows.outside refl) (λ e. e)
+quiet_kept f o t s r a (Open (Path start)) normal keeps follows =
+    let dollar = keeps.dollar tt in
+    let stays = settled_stays (Path start ∷ o) s (goes_on_dollar s dollar) in
+    let after = subst (λ (m : List Mode). Follows m t s r) stays follows in
+    keeps.begun r tt (after.inside refl dollar)
+quiet_kept f o t s r a (Open (Quoted m)) normal keeps follows = absurd keeps.quiet
+quiet_kept f o t s r a (Open (Interpolation n)) normal keeps follows = absurd keeps.quiet
+quiet_kept f o t s r a Close normal keeps follows = absurd keeps.quiet
+
+normal_same : (o : List Mode) (t s r : List ℕ) (cut : Cut) → is_inside (top o) ≡ false → IsKept (normal_cut (top o)) t s cut
+    → Follows (without_ended_paths (changed cut.change o) s) t s r → normal_cut (top o) (t ++ r) ≡ cut
+normal_same o t s r cut normal (inl same) follows = same r
+normal_same o t s r cut normal (inr keeps) follows = quiet_kept (normal_cut (top o)) o t s r cut cut.change normal keeps follows
+
+path_no_dollar : (b : ℕ) → is_path b ≡ true → (b == 36) ≡ false
+path_no_dollar b e = grind (arith, nat_tests)
+
+-- a token inside a path
+module _ (start : PathStart) (t s r : List ℕ) (some : 0 < length t) where
+  piece_kept : (cut : Cut) → (b : Bool) → begins (codes "${") s ≡ b → segment start Stay Close 0 (t ++ s) ≡ cut → Fits t cut
+      → (cut.change ≡ Stay → begins (codes "${") s ≡ true → begins (codes "${") r ≡ true) → (cut.change ≡ Close → is_edge (get_or r 0 0) ≡ true)
+      → segment start Stay Close 0 (t ++ r) ≡ cut
+  piece_kept cut b e is fits on apart =
+      let here = subst (Fits t) (sym is) fits in
+      elim b as (λ c. begins (codes "${") s ≡ c → segment start Stay Close 0 (t ++ r) ≡ cut) [
+        | true ↦ λ f. let dollar = on (ap (λ (c : Cut). c.change) (sym is) ∙ change_going t s start Stay Close 0 (omega arith) here f) f in
+            segment_kept t s start Stay Close 0 (omega arith) r (dollar_no_path r dollar) (dollar ∙ sym f) here ∙ is
+        | false ↦ λ f. let edge = apart (ap (λ (c : Cut). c.change) (sym is) ∙ change_ended t s start Stay Close 0 (omega arith) here f) in
+            segment_kept t s start Stay Close 0 (omega arith) r (edge_path (get_or r 0 0) edge) (edge_no_dollar r edge ∙ sym f) here ∙ is
+      ] e
+
+  path_kept : (cut : Cut) → (a : Bool) → begins (codes "${") (t ++ s) ≡ a → cond a opened (segment start Stay Close 0 (t ++ s)) ≡ cut → Fits t cut
+      → path_goes_on (t ++ s) ≡ true → (cut.change ≡ Stay → begins (codes "${") s ≡ true → begins (codes "${") r ≡ true)
+      → (cut.change ≡ Close → is_edge (get_or r 0 0) ≡ true) → (path_cut start (t ++ r) ≡ cut) × (path_goes_on (t ++ r) ≡ true)
+  path_kept cut true e is fits going on apart =
+      let len : 2 ≡ length t = ap (λ (c : Cut). c.len) is ∙ fits.0 in
+      let dollar = word_kept t s r (codes "${") (omega arith) e in
+      (if_true (begins (codes "${") (t ++ r)) _ _ _ dollar is, goes_on_dollar (t ++ r) dollar)
+  path_kept cut false e is fits going on apart =
+      let first : is_path (get_or (t ++ r) 0 0) ≡ true = ap is_path (same_byte t r s 0 some) ∙ right_part _ _ e going in (
+        if_false (begins (codes "${") (t ++ r)) _ _ _ (and_left _ _ (path_no_dollar (get_or (t ++ r) 0 0) first))
+            (piece_kept cut (begins (codes "${") s) refl is fits on apart),
+        or_right _ _ first,
+      )
+    where
+      right_part : (a b : Bool) → a ≡ false → (a || b) ≡ true → b ≡ true
+      right_part true b f h = absurd (true≢false f)
+      right_part false b f h = h
+
+-- a token is cut again, under the same modes
+step_kept : (o : List Mode) (t s r : List ℕ) (cut : Cut) → AreNested o → IsPathGoingOn (top o) (t ++ s) → 0 < length t → cut_at (top o) (t ++ s) ≡ cut
+    → Fits t cut → is_white_space cut.kind ≡ false → Follows (without_ended_paths (changed cut.change o) s) t s r
+    → (cut_at (top o) (t ++ r) ≡ cut) × (without_ended_paths o (t ++ r) ≡ o)
+unfolding cut_at
+step_kept [] t s r cut nested going some is fits solid follows =
+    (normal_same [] t s r cut refl (normal_kept None t s some cut is fits solid) follows, refl)
+step_kept (Interpolation n ∷ o) t s r cut nested going some is fits solid follows =
+    (normal_same (Interpolation n ∷ o) t s r cut refl (normal_kept (Some (Interpolation n)) t s some cut is fits solid) follows, refl)
+step_kept (Quoted m ∷ o) t s r cut nested going some is fits solid follows = (
+  string_kept m t s r some cut is fits
+      (λ e. (subst (λ (c : Change). Follows (without_ended_paths (changed c (Quoted m ∷ o)) s) t s r) e follows).inside refl)
+      (λ e. let after = subst (λ (c : Change). Follows (without_ended_paths (changed c (Quoted m ∷ o)) s) t s r) e follows in
+      apart_edge r (after.outside (ap (λ p. is_inside (top p)) (normal_settled o s (nested.0 refl)) ∙ nested.0 refl)).0),
+  refl,
+)
+step_kept (Path k ∷ o) t s r cut nested going some is fits solid follows =
+    let kept = path_kept k t s r some cut (begins (codes "${") (t ++ s)) refl is fits going
+    (λ e f. let after = subst (λ (c : Change). Follows (without_ended_paths (changed c (Path k ∷ o)) s) t s r) e follows in
+    let stays = settled_stays (Path k ∷ o) s (goes_on_dollar s f) in
+    (subst (λ (p : List Mode). Follows p t s r) stays after).inside refl f)
+    (λ e. let after = subst (λ (c : Change). Follows (without_ended_paths (changed c (Path k ∷ o)) s) t s r) e follows in
+    apart_edge r (after.outside (ap (λ p. is_inside (top p)) (normal_settled o s (nested.0 refl)) ∙ nested.0 refl)).0) in
+    (kept.0, settled_stays (Path k ∷ o) (t ++ r) kept.1)
+
+feed_blank : (b : ℕ) → (b == 10) ≡ true → (is_blank b ≡ true) × (class_test Line b ≡ false)
+feed_blank b e = (grind (arith, nat_tests), grind (arith, nat_tests))
+
+-- a gap begins with white space, or nothing follows the token
+blank_feed : (b : ℕ) (t : List ℕ) → ends_token t b ≡ true → (is_blank b ≡ true) × (get_or t 0 0 ≡ 35 → class_test Line b ≡ false)
+blank_feed b t e = by (get_or t 0 0 == 35) refl e
+  where
+    by : (c : Bool) → (get_or t 0 0 == 35) ≡ c → cond c (b == 10) (is_blank b) ≡ true → (is_blank b ≡ true) × (get_or t 0 0 ≡ 35 → class_test Line b ≡ false)
+    by true f g = ((feed_blank b g).0, λ h. (feed_blank b g).1)
+    by false f g = (g, λ h. absurd (both_ways _ f (eq-eqb (get_or t 0 0) 35 h)))
+
+gap_first : (gap rest : List ℕ) (t : List ℕ) → ends_token t (get_or gap 0 0) ≡ true → get_or (gap ++ rest) 0 0 ≡ get_or gap 0 0
+gap_first [] rest t e = absurd (true≢false (sym (blank_feed 0 t e).0))
+gap_first (b ∷ gap) rest t e = refl
+
+gap_behind : (t gap rest : List ℕ) → IsGap false t gap rest → IsBehind t (gap ++ rest)
+gap_behind t gap rest (blank, inl ends) =
+    let none : gap ++ rest ≡ [] = ap (λ g. g ++ rest) ends.0 ∙ ends.1 in
+    (inl none, λ h. ap (prefix_len (class_test Line)) none)
+gap_behind t gap rest (blank, inr first) =
+    let feed = blank_feed (get_or gap 0 0) t first in
+    let same = gap_first gap rest t first in
+    (inr (ap is_blank same ∙ feed.0), λ h. no_run (class_test Line) (gap ++ rest) (ap (class_test Line) same ∙ feed.1 h))
+
+-- a token inside a string with which no piece begins
+module _ (m : Bool) (s gap rest : List ℕ) where
+  stop_cases : (cut : Cut) (b : Bool) → begins (codes "${") s ≡ b → cond b opened (closed m) ≡ cut → IsUtf8 s → 0 < length s → piece_len m s ≡ 0
+      → cut.len ≤ length s → (cut.change ≡ Close → is_edge (get_or (gap ++ rest) 0 0) ≡ true)
+      → piece_len m (take cut.len s ++ (gap ++ rest)) ≡ 0
+  stop_cases cut true e is utf8 some stop size apart =
+      let split = take-append-drop cut.len s in
+      let len : 2 ≡ cut.len = ap (λ (c : Cut). c.len) is in
+      (stop_opened m (take cut.len s) (drop cut.len s) (gap ++ rest) (omega (arith, length-take-le cut.len s size))
+      (ap (begins (codes "${")) split ∙ e)).0
+  stop_cases cut false e is utf8 some stop size apart =
+      let split = take-append-drop cut.len s in
+      let len : length (take cut.len s) ≡ cond m 2 1 = length-take-le cut.len s size ∙ sym (ap (λ (c : Cut). c.len) is) in
+      (stop_closed m (take cut.len s) (drop cut.len s) (gap ++ rest) len (ap (piece_len m) split ∙ stop) (ap (begins (codes "${")) split ∙ e)
+      (apart (sym (ap (λ (c : Cut). c.change) is)))).0
+
+-- no path and no string is open where a change closes the last one
+closed_outside : (change : Change) (mode : Mode) (o : List Mode) (s : List ℕ) → is_inside (top o) ≡ false → change ≡ Close
+    → is_inside (top (without_ended_paths (changed change (mode ∷ o)) s)) ≡ false
+closed_outside change mode o s normal e =
+    ap (λ c. is_inside (top (without_ended_paths (changed c (mode ∷ o)) s))) e ∙ (ap (λ p. is_inside (top p)) (normal_settled o s normal) ∙ normal)
+
+-- the next token inside a string
+next_string : (m : Bool) (o : List Mode) (s new : List ℕ) → AreSeparated (Quoted m ∷ o) s new → IsUtf8 s → is_inside (top o) ≡ false → GoesOn m s new
+unfolding cut_at
+next_string m o _ _ (none _) utf8 normal = λ stop some. absurd (omega arith)
+next_string m o _ _ (space _ s n new some e more) utf8 normal =
+    absurd (true≢false (subst (λ (c : Cut). is_white_space c.kind ≡ false) e (string_solid m s)))
+next_string m o _ _ (token _ s cut gap rest some e solid isgap more) utf8 normal = λ stop more_text.
+    let good = subst (IsCutOf (Some (Quoted m)) s) e (cut_good (Some (Quoted m)) s utf8 some tt) in
+    let size : cut.len ≤ length s = good.boundary.0 in
+    let len = length-take-le cut.len s size in
+    let long : 0 < cut.len = good.some in
+    let front = same_byte (take cut.len s) (gap ++ rest) (drop cut.len s) 0 (omega arith) in
+    let whole = length-append (take cut.len s) (gap ++ rest) in (
+      front ∙ ap (λ x. get_or x 0 0) (take-append-drop cut.len s),
+      stop_cases m s gap rest cut (begins (codes "${") s) refl (sym (string_stop m s some stop) ∙ e) utf8 some stop size
+          (λ f. apart_edge (gap ++ rest) (gap_behind (take cut.len s) gap rest (subst (λ b. IsGap b (take cut.len s) gap rest)
+          (closed_outside cut.change (Quoted m) o (drop cut.len s) normal f) isgap)).0),
+      omega arith,
+    )
+
+-- the next token inside a path
+next_path : (k : PathStart) (o : List Mode) (s new : List ℕ) → AreSeparated (Path k ∷ o) s new → IsUtf8 s → begins (codes "${") s ≡ true
+    → begins (codes "${") new ≡ true
+unfolding cut_at
+next_path k o _ _ (none _) utf8 dollar = absurd (true≢false (sym dollar))
+next_path k o _ _ (space _ s n new some e more) utf8 dollar =
+    let stays = settled_stays (Path k ∷ o) s (goes_on_dollar s dollar) in
+    let here : path_cut k s ≡ plain TOKEN_WHITESPACE n = ap (λ p. cut_at (top p) s) (sym stays) ∙ e in
+    absurd (true≢false (subst (λ (c : Cut). is_white_space c.kind ≡ false) here (path_solid k s)))
+next_path k o _ _ (token _ s cut gap rest some e solid isgap more) utf8 dollar =
+    let stays = settled_stays (Path k ∷ o) s (goes_on_dollar s dollar) in
+    let here : path_cut k s ≡ cut = ap (λ p. cut_at (top p) s) (sym stays) ∙ e in
+    let good = subst (IsCutOf (Some (Path k)) s) here (cut_good (Some (Path k)) s utf8 some (goes_on_dollar s dollar)) in
+    let is : opened ≡ cut = sym (if_true (begins (codes "${") s) _ _ _ dollar refl) ∙ here in
+    let two : 2 ≡ cut.len = ap (λ (c : Cut). c.len) is in
+    let len = length-take-le cut.len s good.boundary.0 in
+    word_kept (take cut.len s) (drop cut.len s) (gap ++ rest) (codes "${") (omega arith) (ap (begins (codes "${")) (take-append-drop cut.len s) ∙ dollar)
+
+continues_normal : (o : List Mode) (s r : List ℕ) → is_inside (top o) ≡ false → Continues (top o) s r
+continues_normal [] s r normal = tt
+continues_normal (Interpolation n ∷ o) s r normal = tt
+continues_normal (Quoted m ∷ o) s r normal = absurd (true≢false normal)
+continues_normal (Path k ∷ o) s r normal = absurd (true≢false normal)
+
+-- what is written after a token inside a string or a path begins as what was there
+continues : (modes : List Mode) (s new : List ℕ) → AreSeparated modes s new → IsUtf8 s → AreNested modes → Continues (top (without_ended_paths modes s)) s new
+continues [] s new separated utf8 nested = tt
+continues (Interpolation n ∷ modes) s new separated utf8 nested = tt
+continues (Quoted m ∷ modes) s new separated utf8 nested = next_string m modes s new separated utf8 (nested.0 refl)
+continues (Path k ∷ modes) s new separated utf8 nested =
+    elim (path_goes_on s) as (λ b. Continues (top (cond b (Path k ∷ modes) (without_ended_paths modes s))) s new) [
+      | true ↦ next_path k modes s new separated utf8
+      | false ↦ subst (λ p. Continues (top p) s new) (sym (normal_settled modes s (nested.0 refl))) (continues_normal modes s new (nested.0 refl))
+    ]
+
+follows_gap : (modes : List Mode) (t s gap rest : List ℕ) → AreSeparated modes s rest → IsUtf8 s → AreNested modes
+    → IsGap (is_inside (top (without_ended_paths modes s))) t gap rest → Follows (without_ended_paths modes s) t s (gap ++ rest)
+follows_gap modes t s gap rest separated utf8 nested isgap = record {
+  inside = λ h. let nothing : gap ≡ [] = subst (λ b. IsGap b t gap rest) h isgap in
+      subst (λ g. Continues (top (without_ended_paths modes s)) s (g ++ rest)) (sym nothing) (continues modes s rest separated utf8 nested);
+  outside = λ h. gap_behind t gap rest (subst (λ b. IsGap b t gap rest) h isgap);
+}
+
+-- the gap is left out
+after_gap : (modes : List Mode) (t s gap rest : List ℕ) → AreNested modes → (b : Bool) → is_inside (top (without_ended_paths modes s)) ≡ b → IsGap b t gap rest
+    → solids (tokens_under modes (gap ++ rest)) ≡ solids (tokens_under (without_ended_paths modes s) rest)
+after_gap modes t s gap rest nested true h nothing =
+    ap (λ g. solids (tokens_under modes (g ++ rest))) nothing
+    ∙ ap (λ m. solids (tokens_under m rest)) (sym (inside_settled modes s nested h))
+after_gap modes t s gap rest nested false h (blank, inl ends) =
+    ap (λ x. solids (tokens_under modes x)) (ap (λ g. g ++ rest) ends.0 ∙ ends.1)
+    ∙ (ap solids (tokens_under-nil modes) ∙ (sym (ap solids (tokens_under-nil (without_ended_paths modes s)))
+    ∙ ap (λ x. solids (tokens_under (without_ended_paths modes s) x)) (sym ends.1)))
+after_gap modes t s [] rest nested false h (blank, inr first) = absurd (true≢false (sym (blank_feed 0 t first).0))
+after_gap modes t s (b ∷ gap) rest nested false h (blank, inr first) =
+    let settled = outside_settled modes s b (gap ++ rest) nested h (blank_feed b t first).0 in
+    ap solids (sym (tokens_under-settled modes (b ∷ (gap ++ rest))))
+    ∙ (ap (λ m. solids (tokens_under m (b ∷ (gap ++ rest)))) settled ∙ blanks (without_ended_paths modes s) h (b ∷ gap) rest blank)
+
+space_outside : (o : List Mode) (x : List ℕ) (n : ℕ) → cut_at (top o) x ≡ plain TOKEN_WHITESPACE n → is_inside (top o) ≡ false
+unfolding cut_at
+space_outside [] x n e = refl
+space_outside (Interpolation k ∷ o) x n e = refl
+space_outside (Quoted m ∷ o) x n e = absurd (true≢false (subst (λ (c : Cut). is_white_space c.kind ≡ false) e (string_solid m x)))
+space_outside (Path k ∷ o) x n e = absurd (true≢false (subst (λ (c : Cut). is_white_space c.kind ≡ false) e (path_solid k x)))
+
+-- the token and the tokens after it, before new text
+new_tokens : (o : List Mode) (t r : List ℕ) (cut : Cut) → cut_at (top o) (t ++ r) ≡ cut → without_ended_paths o (t ++ r) ≡ o → length t ≡ cut.len → 0 < cut.len
+    → tokens_under o (t ++ r) ≡ (cut.kind, t) ∷ tokens_under (changed cut.change o) r
+new_tokens o t r cut is settled len some =
+    tokens_under-cut o (t ++ r) cut (omega (arith, length-append t r)) (ap (λ m. cut_at (top m) (t ++ r)) settled ∙ is) some
+    ∙ (ap (λ w. (cut.kind, w) ∷ tokens_under (changed cut.change (without_ended_paths o (t ++ r))) (drop cut.len (t ++ r))) (take_at t r cut.len len)
+    ∙ (ap (λ m. (cut.kind, t) ∷ tokens_under (changed cut.change m) (drop cut.len (t ++ r))) settled
+    ∙ ap (λ x. (cut.kind, t) ∷ tokens_under (changed cut.change o) x) (drop_at t r cut.len len)))
+
+-- the tokens of the new text
+again : (modes : List Mode) (text new : List ℕ) → AreSeparated modes text new → IsUtf8 text → AreNested modes
+    → have_no_error (tokens_under modes text) ≡ true → solids (tokens_under (without_ended_paths modes text) new) ≡ solids (tokens_under modes text)
+again _ _ _ (none modes) utf8 nested ok = ap solids (tokens_under-nil (without_ended_paths modes [])) ∙ sym (ap solids (tokens_under-nil modes))
+again _ _ _ (space modes text n new some e more) utf8 nested ok =
+    let o = without_ended_paths modes text in
+    let good = subst (IsCutOf (top o) text) e (cut_good (top o) text utf8 some (IsPathGoingOn-settled modes text)) in
+    let list = tokens_under-cut modes text (plain TOKEN_WHITESPACE n) some e good.some in
+    let others = and_parts true (have_no_error (tokens_under o (drop n text))) (sym (ap have_no_error list) ∙ ok) in
+    let normal = space_outside o text n e in
+    ap (λ m. solids (tokens_under m new)) (sym (normal_settled o (drop n text) normal))
+    ∙ (again o (drop n text) new more (IsUtf8-drop text n utf8 good.boundary) (nested_settled modes text nested) others.1 ∙ sym (ap solids list))
+again _ _ _ (token modes text cut gap rest some e solid isgap more) utf8 nested ok =
+    let o = without_ended_paths modes text in
+    let t = take cut.len text in
+    let s = drop cut.len text in
+    let after = changed cut.change o in
+    let good = subst (IsCutOf (top o) text) e (cut_good (top o) text utf8 some (IsPathGoingOn-settled modes text)) in
+    let split : t ++ s ≡ text = take-append-drop cut.len text in
+    let len : length t ≡ cut.len = length-take-le cut.len text good.boundary.0 in
+    let long : 0 < cut.len = good.some in
+    let list = tokens_under-cut modes text cut some e long in
+    let parts = and_parts (not (is_error cut.kind)) (have_no_error (tokens_under after s)) (sym (ap have_no_error list) ∙ ok) in
+    let outer = nested_settled modes text nested in
+    let inner = nested_changed o text cut outer e in
+    let rest_utf8 = IsUtf8-drop text cut.len utf8 good.boundary in
+    let kept = step_kept o t s (gap ++ rest) cut outer (subst (IsPathGoingOn (top o)) (sym split) (IsPathGoingOn-settled modes text)) (omega arith)
+    (ap (cut_at (top o)) split ∙ e) (sym len, not-true _ parts.0) solid (follows_gap after t s gap rest more rest_utf8 inner isgap) in
+    let made = new_tokens o t (gap ++ rest) cut kept.0 kept.1 len long in
+    let behind = after_gap after t s gap rest inner (is_inside (top (without_ended_paths after s))) refl isgap
+    ∙ again after s rest more rest_utf8 inner parts.1 in
+    ap solids made ∙ (ap (λ ts. cond (is_white_space cut.kind) ts ((cut.kind, t) ∷ ts)) behind ∙ sym (ap solids list))
+
+-- the law
+pub separated_again : (text new : List ℕ) → IsUtf8 text → have_no_error (tokens_of text) ≡ true → IsSeparated text new
+    → solids (tokens_of new) ≡ solids (tokens_of text)
+separated_again text new utf8 ok separated =
+    ap (λ x. solids (tokens_under [] x)) separated.whole
+    ∙ (blanks [] refl separated.gap separated.rest separated.blank ∙ again [] text separated.rest separated.separated utf8 tt ok)

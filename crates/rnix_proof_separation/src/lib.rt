@@ -1,0 +1,12 @@
+//! The tokens of a text, written with white space between them, are cut again as they were.
+#![tactic(auto)]
+
+ghost use Rattle.rnix_proof_separation.specs.Separated.{AreCutAgain};
+
+/// Two texts have the same tokens but for white space, if the first has no TOKEN_ERROR, and the second is made of the tokens of the first one with white
+/// space between any two of them outside strings and paths. After a comment that begins with `#`, the white space begins with a line feed.
+pub fn separation(first: &str, second: &str)
+    ensures { AreCutAgain first.now second.now }
+{
+    let _len = first.len().min(second.len());
+}
