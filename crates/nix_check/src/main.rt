@@ -2,8 +2,6 @@
 #![tactic(auto)]
 
 mod check;
-#[cfg(test)]
-mod format_tests;
 mod json;
 mod sarif;
 

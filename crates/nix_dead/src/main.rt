@@ -122,35 +122,3 @@ fn main(rt: HostRuntime) -> ExitCode {
     let outcome = run(&rt);
     end(&rt, &PROGRAM, outcome)
 }
-
-#[cfg(test)]
-mod tests {
-    use super::{Name, write_names};
-    use rnix_text::{ColumnUnit, LineIndex};
-    use std::alloc::Global;
-    use std::test::Fail;
-
-    // The line of a name in the second line of a file, after a letter of two bytes.
-    fn line(alloc: Global, is_json: bool) -> Result<String, Fail> {
-        let text = "a:\né\\b";
-        let names = [Name {
-            text: "b",
-            start: 6,
-        }];
-        let index = LineIndex::new(alloc, text, ColumnUnit::Chars)?;
-        let mut out = Vec::new(alloc);
-        write_names("x\"y", &names, &index, is_json, &mut out)?;
-        Ok(String::from_utf8(out)?)
-    }
-
-    #[test]
-    fn lines_of_text_and_json(rt: HostRuntime) -> Result<(), Fail> {
-        assert_eq!(rt;
-            line(rt.alloc(), false)?.as_str(),
-            "x\"y:2:3: b is never used\n"
-        );
-        let json = "{\"file\":\"x\\\"y\",\"line\":2,\"column\":3,\"start\":6,\"name\":\"b\"}\n";
-        assert_eq!(rt; line(rt.alloc(), true)?.as_str(), json);
-        Ok(())
-    }
-}

@@ -124,32 +124,3 @@ pub fn write_names<W: Write>(
     }
     Ok(())
 }
-
-#[cfg(test)]
-mod tests {
-    use super::write_names;
-    use nix_scopes::resolve;
-    use rnix::Root;
-    use rnix_text::{ColumnUnit, LineIndex};
-    use std::test::Fail;
-
-    const LINES: &str = "\
-        {\"file\":\"f\",\"line\":1,\"column\":1,\"start\":0,\"end\":1,\"name\":\"x\",\"scope\":\
-        {\"line\":1,\"column\":1,\"start\":0,\"end\":6}}\n\
-        {\"file\":\"f\",\"line\":2,\"column\":1,\"start\":3,\"end\":4,\"name\":\"x\",\"binding\":\
-        {\"line\":1,\"column\":1,\"start\":0,\"end\":1},\"with\":false,\"inherited\":false}\n\
-        {\"file\":\"f\",\"line\":2,\"column\":3,\"start\":5,\"end\":6,\"name\":\"y\",\"binding\":null,\
-        \"with\":false,\"inherited\":false}\n";
-
-    #[test]
-    fn json(rt: HostRuntime) -> Result<(), Fail> {
-        let text = "x:\nx y";
-        let read = Root::parse(rt.alloc(), text)?;
-        let names = resolve(rt.alloc(), &read.syntax())?;
-        let index = LineIndex::new(rt.alloc(), text, ColumnUnit::Chars)?;
-        let mut out = Vec::new(rt.alloc());
-        write_names("f", &names, &index, true, &mut out)?;
-        assert_eq!(rt; out.as_slice(), LINES.as_bytes());
-        Ok(())
-    }
-}

@@ -83,24 +83,3 @@ fn main(rt: HostRuntime) -> ExitCode {
     let outcome = run(&rt);
     end(&rt, &PROGRAM, outcome)
 }
-
-#[cfg(test)]
-mod tests {
-    use super::{LONGEST, PROGRAM, show};
-    use nix_cli::{FAILED, parse_arguments};
-    use std::fs;
-    use std::test::Fail;
-
-    #[test]
-    fn a_longer_text_is_refused(rt: HostRuntime) -> Result<(), Fail> {
-        let text = " ".repeat(rt.alloc(), LONGEST + 1)?;
-        fs::write(&rt, "long.nix", text.as_str())?;
-        let mut names = Vec::new(rt.alloc());
-        names.push(String::from_str(rt.alloc(), "long.nix")?)?;
-        let arguments = parse_arguments(rt.alloc(), &PROGRAM, &names)?;
-        let status = show(&rt, &arguments)?;
-        fs::remove_file(&rt, "long.nix")?;
-        assert_eq!(rt; status, FAILED);
-        Ok(())
-    }
-}

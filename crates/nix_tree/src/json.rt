@@ -68,28 +68,3 @@ pub fn write_json<W: Write>(
     out.write_all(b"]}\n")?;
     Ok(errors.is_empty())
 }
-
-#[cfg(test)]
-mod tests {
-    use super::write_json;
-    use std::alloc::Global;
-    use std::test::Fail;
-
-    // The line of a text in a file `a "b".nix`.
-    fn line(alloc: Global, text: &str) -> Result<String, Fail> {
-        let mut out = Vec::new(alloc);
-        write_json(alloc, "a \"b\".nix", text, &mut out)?;
-        Ok(String::from_utf8(out)?)
-    }
-
-    #[test]
-    fn errors_and_elements(rt: HostRuntime) -> Result<(), Fail> {
-        let good = "{\"file\":\"a \\\"b\\\".nix\",\"errors\":[],\"elements\":[\
-            {\"depth\":0,\"kind\":\"NODE_ROOT\",\"start\":0,\"end\":2},\
-            {\"depth\":1,\"kind\":\"NODE_LITERAL\",\"start\":0,\"end\":1},\
-            {\"depth\":2,\"kind\":\"TOKEN_INTEGER\",\"start\":0,\"end\":1},\
-            {\"depth\":1,\"kind\":\"TOKEN_WHITESPACE\",\"start\":1,\"end\":2}]}\n";
-        assert_eq!(rt; line(rt.alloc(), "1 ")?.as_str(), good);
-        Ok(())
-    }
-}
