@@ -21,8 +21,8 @@ nix-json [--lossy] [FILE [PATH]]
 nix-json --to-nix [FILE]
 
 Prints the data of a Nix text as JSON, or its part at a dotted PATH. Data are sets, lists, strings, paths, numbers, true, false and null.
-What Nix must evaluate, such as a call, is refused. - and no FILE stand for standard input. In PATH, a number stands for an item of a list,
-and a name may be in quotes.
+What Nix must evaluate, such as a call, is refused. Without FILE, or if it is -, standard input is read. In PATH, a number selects an item of
+a list, and a name may be in quotes.
 
     --lossy    write what is not data as its source, in a string
     --to-nix   print JSON as Nix
@@ -36,9 +36,9 @@ Ends with 0, with 1 if the text is refused or has no such PATH, or with 2 if som
     most: 2,
 };
 
-// Prints a text that was made, if there is one.
-fn write_made(rt: &HostRuntime, made: Option<String>) -> io::Result<u8> {
-    match made {
+// Prints a converted text, or refuses if there is none.
+fn write_converted(rt: &HostRuntime, converted: Option<String>) -> io::Result<u8> {
+    match converted {
         Some(text) => {
             rt.stdout().write_all(text.as_bytes())?;
             Ok(0)
@@ -54,13 +54,13 @@ fn write_made(rt: &HostRuntime, made: Option<String>) -> io::Result<u8> {
     }
 }
 
-// Prints data, or their part at a path, as JSON.
+// Prints data, or the part at a path, as JSON.
 fn write_part(rt: &HostRuntime, name: &str, data: Data, path: Option<&str>) -> io::Result<u8> {
     let Some(path) = path else {
-        return write_made(rt, json_of(rt.alloc(), &data)?);
+        return write_converted(rt, json_of(rt.alloc(), &data)?);
     };
     match data.part(rt.alloc(), path)? {
-        Some(part) => write_made(rt, json_of(rt.alloc(), &part)?),
+        Some(part) => write_converted(rt, json_of(rt.alloc(), &part)?),
         None => {
             eprintln!(rt;
                 "nix-json: {}: nothing has the path {path}",
@@ -96,7 +96,7 @@ fn to_json(
 // Prints a JSON text as Nix.
 fn to_nix(rt: &HostRuntime, name: &str, text: &str) -> io::Result<u8> {
     let error = match data_of_json(rt.alloc(), text)? {
-        Ok(data) => return write_made(rt, nix_of(rt.alloc(), &data)?),
+        Ok(data) => return write_converted(rt, nix_of(rt.alloc(), &data)?),
         Err(error) => error,
     };
     let name = shown_name(name);
@@ -127,7 +127,7 @@ fn convert(rt: &HostRuntime, arguments: &Arguments) -> io::Result<u8> {
     }
 }
 
-// Does what the command line asks for.
+// Runs what the command line asks for.
 fn run(rt: &HostRuntime) -> io::Result<u8> {
     match read_arguments(rt, &PROGRAM)? {
         Start::Run(arguments) => convert(rt, &arguments),

@@ -1,4 +1,4 @@
-//! What is wrong with a text, with its place and its line.
+//! Messages on a text, with the place and the line.
 
 use nix_cli::{shown_name, write_excerpt};
 use nix_data::NoData;
@@ -7,7 +7,7 @@ use rnix::{Parse, TextRange};
 use rnix_text::{ColumnUnit, LineIndex};
 use std::io::{self, BufWriter, Write};
 
-// The errors that are printed of a text.
+// The largest number of errors that are printed.
 const LIMIT: usize = 20;
 
 // A text with its name and lines.
@@ -69,7 +69,7 @@ pub fn report_errors(rt: &HostRuntime, name: &str, text: &str, parse: &Parse) ->
     out.flush()
 }
 
-/// Prints why a part of a text is no data.
+/// Prints why a part of a text is not data.
 pub fn report_no_data(rt: &HostRuntime, name: &str, text: &str, reason: NoData) -> io::Result<()> {
     let index = LineIndex::new(rt.alloc(), text, ColumnUnit::Chars)?;
     let source = Source {
