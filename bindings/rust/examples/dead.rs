@@ -17,7 +17,7 @@ fn bound(entry: &AttrpathValue) -> Option<Ident> {
 
 // The names that are used as values in a `let`.
 fn used(let_in: &LetIn) -> HashSet<String> {
-    let names = let_in.syntax().descendants().filter_map(Ident::cast);
+    let names = let_in.syntax().elements().filter_map(|element| element.cast::<Ident>());
     let is_value = |name: &Ident| {
         let parent = name.syntax().parent().map(|parent| parent.kind());
         !matches!(
@@ -32,7 +32,8 @@ fn main() -> io::Result<()> {
     let mut text = String::new();
     io::stdin().read_to_string(&mut text)?;
     let lines = LineIndex::new(&text, ColumnUnit::Chars);
-    for let_in in Root::parse(&text).syntax().descendants().filter_map(LetIn::cast) {
+    let root = Root::parse(&text).syntax();
+    for let_in in root.elements().filter_map(|element| element.cast::<LetIn>()) {
         let used = used(&let_in);
         for name in let_in.attrpath_values().filter_map(|entry| bound(&entry)) {
             if used.contains(&name.to_string()) {

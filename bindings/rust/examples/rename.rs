@@ -2,7 +2,6 @@
 //! Replaces every identifier OLD by NEW, but not in strings and comments. It does not look at scopes.
 
 use rnix::ast::Ident;
-use rnix::syntax::ast::AstNode;
 use rnix::{Edits, Root};
 use std::env;
 use std::error::Error;
@@ -16,9 +15,10 @@ fn main() -> Result<(), Box<dyn Error>> {
     let mut text = String::new();
     io::stdin().read_to_string(&mut text)?;
     let mut edits = Edits::new(&text);
-    for name in Root::parse(&text).syntax().descendants().filter_map(Ident::cast) {
-        if name.to_string() == old {
-            edits.replace(name.syntax().text_range(), new.as_str())?;
+    let root = Root::parse(&text).syntax();
+    for name in root.elements().filter(|element| element.kind() == Ident::KIND) {
+        if name.text() == old {
+            edits.replace(name.text_range(), new.as_str())?;
         }
     }
     print!("{}", edits.apply());

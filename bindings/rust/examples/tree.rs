@@ -27,7 +27,7 @@ fn print(text: &[u8], out: &mut impl Write) -> Result<bool, Box<dyn Error>> {
         writeln!(out, "error: {error}")?;
     }
     let mut depth = 0;
-    for event in parse.syntax().preorder_with_tokens() {
+    for event in parse.syntax().preorder_ref() {
         let WalkEvent::Enter(element) = event else {
             depth -= 1;
             continue;

@@ -15,6 +15,9 @@
 //! assert_eq!(let_in.entries().next().unwrap().syntax().text(), "a = 1;");
 //! ```
 //!
+//! Nodes and tokens own their tree, so walks over them count references. [`SyntaxNode::elements`] and [`SyntaxNode::preorder_ref`] borrow the tree and
+//! count none.
+//!
 //! Trees are immutable: there is no `clone_for_update`, `splice_children`, `detach` or `replace_with`. To change a text, use [`Edits`].
 
 #[macro_use]
@@ -43,13 +46,20 @@ pub use kind::{ParseSyntaxKindError, SyntaxKind};
 pub use language::NixLanguage;
 pub use line_index::{ColumnUnit, LineIndex, Position};
 pub use parse::Parse;
+pub use syntax::borrowed::{ElementRef, Elements};
 pub use syntax::children::{SyntaxElementChildren, SyntaxNodeChildren};
+pub use syntax::descendants::{Descendants, DescendantsWithTokens};
 pub use syntax::element::{NodeOrToken, SyntaxElement};
 pub use syntax::node::SyntaxNode;
 pub use syntax::offset::TokenAtOffset;
 pub use syntax::pointer::{AstPtr, SyntaxNodePtr};
 pub use syntax::text::SyntaxText;
 pub use syntax::token::SyntaxToken;
-pub use syntax::walk::{Direction, WalkEvent};
+pub use syntax::walk::{Direction, PreorderRef, WalkEvent};
 pub use text_size::{TextRange, TextSize};
 pub use tokenizer::{tokenize, try_tokenize, Token};
+
+// The examples of the README are tested.
+#[cfg(doctest)]
+#[doc = include_str!("../README.md")]
+struct Readme;

@@ -1,7 +1,9 @@
 //! Syntax trees, with the names of the crate rowan that read them. Trees are immutable; [`Edits`](crate::Edits) edits a text. A program that says
 //! `use rowan::..` depends on the crate in `rowan/`, which re-exports this module, or says `use rnix::syntax::..` instead.
 
+pub(crate) mod borrowed;
 pub(crate) mod children;
+pub(crate) mod descendants;
 pub(crate) mod element;
 pub(crate) mod node;
 pub(crate) mod offset;
@@ -10,12 +12,14 @@ pub(crate) mod text;
 pub(crate) mod token;
 pub(crate) mod walk;
 
+pub use self::borrowed::{ElementRef, Elements};
 pub use self::children::Siblings;
+pub use self::descendants::{Descendants, DescendantsWithTokens};
 pub use self::element::NodeOrToken;
 pub use self::node::Ancestors;
 pub use self::offset::TokenAtOffset;
 pub use self::text::SyntaxText;
-pub use self::walk::{Direction, WalkEvent};
+pub use self::walk::{Direction, PreorderRef, WalkEvent};
 pub use crate::language::{Language, RawKind as SyntaxKind};
 pub use crate::text_size::{TextLen, TextRange, TextSize};
 
@@ -95,7 +99,7 @@ pub mod ast {
         type Item = N;
 
         fn next(&mut self) -> Option<N> {
-            self.nodes.find_map(N::cast)
+            std::iter::from_fn(|| self.nodes.next_of(&N::can_cast)).find_map(N::cast)
         }
     }
 
@@ -104,11 +108,15 @@ pub mod ast {
     /// Functions to write accessors with.
     pub mod support {
         use super::{AstChildren, AstNode};
-        use crate::{NixLanguage, NodeOrToken, SyntaxKind, SyntaxNode, SyntaxToken};
+        use crate::{NixLanguage, SyntaxKind, SyntaxNode, SyntaxToken};
 
         /// Returns the first child of type `N`.
         pub fn child<N: AstNode<Language = NixLanguage>>(parent: &SyntaxNode) -> Option<N> {
-            parent.children().find_map(N::cast)
+            let tree = &parent.tree;
+            let mut nodes = tree
+                .children(parent.number)
+                .filter(|number| tree.is_node_of(*number, &N::can_cast));
+            nodes.find_map(|number| N::cast(SyntaxNode::at(tree, number)))
         }
 
         /// Returns an iterator over the children of type `N`.
@@ -118,8 +126,10 @@ pub mod ast {
 
         /// Returns the first child token of a kind.
         pub fn token(parent: &SyntaxNode, kind: SyntaxKind) -> Option<SyntaxToken> {
-            let mut tokens = parent.children_with_tokens().filter_map(NodeOrToken::into_token);
-            tokens.find(|token| token.kind() == kind)
+            let tree = &parent.tree;
+            let mut children = tree.children(parent.number);
+            let number = children.find(|number| tree.is_token_of(*number, &|one| one == kind))?;
+            Some(SyntaxToken::at(tree, number))
         }
     }
 }

@@ -138,6 +138,56 @@ impl Tree {
         number + 1 + self.record(number).inside
     }
 
+    // The elements from a child of a node to the end of the node, without their subtrees.
+    #[inline]
+    fn siblings(&self, first: u32, end: u32) -> impl Iterator<Item = u32> + '_ {
+        let mut next = first;
+        std::iter::from_fn(move || {
+            let number = (next < end).then_some(next)?;
+            next = self.end(number);
+            Some(number)
+        })
+    }
+
+    /// Returns an iterator over the children of a node.
+    #[inline]
+    pub(crate) fn children(&self, number: u32) -> impl Iterator<Item = u32> + '_ {
+        self.siblings(number + 1, self.end(number))
+    }
+
+    /// Returns an iterator over the siblings after an element.
+    #[inline]
+    pub(crate) fn next_siblings(&self, number: u32) -> impl Iterator<Item = u32> + '_ {
+        let end = self.parent(number).map_or(0, |parent| self.end(parent));
+        self.siblings(self.end(number), end)
+    }
+
+    /// Returns an iterator over the siblings before an element, from the nearest one.
+    #[inline]
+    pub(crate) fn prev_siblings(&self, number: u32) -> impl Iterator<Item = u32> + '_ {
+        std::iter::successors(self.prev_sibling(number), |number| self.prev_sibling(*number))
+    }
+
+    /// Returns the index of an element among its siblings.
+    pub(crate) fn index(&self, number: u32) -> usize {
+        let parent = self.parent(number);
+        parent.map_or(0, |parent| {
+            self.children(parent).take_while(|child| *child < number).count()
+        })
+    }
+
+    /// Returns whether an element is a node whose kind passes a test.
+    #[inline]
+    pub(crate) fn is_node_of(&self, number: u32, matcher: &impl Fn(SyntaxKind) -> bool) -> bool {
+        !self.is_token(number) && matcher(self.kind(number))
+    }
+
+    /// Returns whether an element is a token whose kind passes a test.
+    #[inline]
+    pub(crate) fn is_token_of(&self, number: u32, matcher: &impl Fn(SyntaxKind) -> bool) -> bool {
+        self.is_token(number) && matcher(self.kind(number))
+    }
+
     /// Returns the first child of a node.
     #[inline]
     pub(crate) fn first_child(&self, number: u32) -> Option<u32> {

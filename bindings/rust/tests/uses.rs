@@ -4,8 +4,8 @@ use rnix::ast::{self, Attr, BinOpKind, Entry, Expr, HasEntry, InterpolPart, Lite
 use rnix::syntax::ast::{support, AstNode};
 use rnix::SyntaxKind::{self, *};
 use rnix::{
-    match_ast, AstPtr, NodeOrToken, ParseError, Root, SyntaxElement, SyntaxNode, SyntaxNodePtr, SyntaxToken, TextRange,
-    TextSize, WalkEvent, T,
+    match_ast, AstPtr, ElementRef, NodeOrToken, ParseError, Root, SyntaxElement, SyntaxNode, SyntaxNodePtr,
+    SyntaxToken, TextRange, TextSize, WalkEvent, T,
 };
 use std::collections::HashSet;
 use std::thread;
@@ -17,6 +17,7 @@ fn nodes_go_between_threads() {
     shared_by_threads::<SyntaxNode>();
     shared_by_threads::<SyntaxToken>();
     shared_by_threads::<ast::Expr>();
+    shared_by_threads::<ElementRef<'static>>();
     shared_by_threads::<ParseError>();
     shared_by_threads::<rnix::Parse<Root>>();
     let body = Root::parse("a: b").tree().expr().unwrap();
@@ -129,8 +130,76 @@ fn all_walks_visit_the_elements_of_a_subtree() {
             let mut lent = Vec::new();
             root.for_each_element(|element| lent.push(element.clone()));
             assert_eq!(lent, elements);
+            borrowed_walks_agree(&root, &elements);
         }
     }
+}
+
+// The borrowed walks visit the elements that the owned ones do, and by_kind the same as a filter.
+fn borrowed_walks_agree(root: &SyntaxNode, elements: &[SyntaxElement]) {
+    let borrowed = root.elements();
+    assert_eq!(borrowed.len(), elements.len());
+    assert_eq!(
+        borrowed.clone().map(|one| one.to_element()).collect::<Vec<_>>(),
+        elements
+    );
+    let backwards: Vec<_> = borrowed.clone().rev().map(|one| one.to_element()).collect();
+    assert!(backwards.iter().eq(elements.iter().rev()));
+    assert_eq!(borrowed.clone().nth(1), elements.get(1).map(SyntaxElement::element_ref));
+    let steps = root.preorder_ref().map(|step| step.map(ElementRef::to_element));
+    assert!(steps.eq(root.preorder_with_tokens()));
+    let is_name = |kind| matches!(kind, NODE_IDENT | TOKEN_IDENT);
+    let named: Vec<_> = root.descendants_with_tokens().by_kind(is_name).collect();
+    assert!(named.iter().eq(elements.iter().filter(|one| is_name(one.kind()))));
+    let names: Vec<ast::Ident> = borrowed.filter_map(ElementRef::cast).collect();
+    assert!(names
+        .iter()
+        .map(AstNode::syntax)
+        .eq(&root.descendants().by_kind(is_name).collect::<Vec<_>>()));
+}
+
+#[test]
+fn borrowed_elements_are_as_owned_ones() {
+    let root = Root::parse("let a = [ ]; in { b = ''c${a}''; /* a long comment of it */ } (").syntax();
+    for element in root.descendants_with_tokens() {
+        let borrowed = element.element_ref();
+        assert_eq!(borrowed.to_element(), element);
+        assert_eq!(
+            (borrowed.kind(), borrowed.text_range()),
+            (element.kind(), element.text_range())
+        );
+        assert_eq!(borrowed.index(), element.index());
+        assert_eq!(borrowed.parent().and_then(ElementRef::to_node), element.parent());
+        assert_eq!(borrowed.text(), element.to_string());
+        assert_eq!(
+            (borrowed.to_node(), borrowed.to_token()),
+            match &element {
+                NodeOrToken::Node(node) => (Some(node.clone()), None),
+                NodeOrToken::Token(token) => (None, Some(token.clone())),
+            }
+        );
+        let shown = match &element {
+            NodeOrToken::Node(node) => format!("{node} {node:?}"),
+            NodeOrToken::Token(token) => format!("{token} {token:?}"),
+        };
+        assert_eq!(format!("{borrowed} {borrowed:?}"), shown);
+        let children = element
+            .as_node()
+            .map(|node| node.children_with_tokens().collect::<Vec<_>>());
+        let borrowed_children: Vec<_> = borrowed.children().map(ElementRef::to_element).collect();
+        assert_eq!(borrowed_children, children.unwrap_or_default());
+        assert_eq!(
+            borrowed.ancestors().skip(1).count(),
+            borrowed.parent().map_or(0, |one| one.ancestors().count())
+        );
+    }
+    let kinds = root.elements().map(ElementRef::kind).collect::<HashSet<_>>();
+    assert!(kinds.contains(&NODE_STRING) && kinds.contains(&TOKEN_COMMENT));
+    assert_eq!(root.elements().collect::<HashSet<_>>().len(), root.elements().len());
+    assert_ne!(
+        Root::parse("a").syntax().element_ref(),
+        Root::parse("a").syntax().element_ref()
+    );
 }
 
 #[test]
@@ -141,7 +210,18 @@ fn a_skipped_subtree_is_left_at_once() {
     assert_eq!(walk.by_ref().nth(1), Some(WalkEvent::Enter(list.clone().into())));
     walk.skip_subtree();
     let rest: Vec<_> = walk.collect();
-    assert_eq!(rest, [WalkEvent::Leave(list.into()), WalkEvent::Leave(root.into())]);
+    assert_eq!(
+        rest,
+        [WalkEvent::Leave(list.into()), WalkEvent::Leave(root.clone().into())]
+    );
+    let mut walk = root.preorder_ref();
+    assert_eq!(
+        walk.by_ref().nth(1).unwrap().map(ElementRef::kind),
+        WalkEvent::Enter(NODE_LIST)
+    );
+    walk.skip_subtree();
+    let left: Vec<_> = walk.map(|step| step.map(ElementRef::kind)).collect();
+    assert_eq!(left, [WalkEvent::Leave(NODE_LIST), WalkEvent::Leave(NODE_ROOT)]);
 }
 
 #[test]

@@ -1,22 +1,23 @@
 //! Functions and macros that the typed nodes are made of.
 
 use super::{AstNode, AstToken, Float, Integer, Literal, LiteralKind, Uri};
-use crate::syntax::ast::AstChildren;
-use crate::{NodeOrToken, SyntaxKind, SyntaxToken};
-
-// The child tokens of a node.
-pub(super) fn tokens(node: &impl AstNode) -> impl Iterator<Item = SyntaxToken> {
-    node.syntax().children_with_tokens().filter_map(NodeOrToken::into_token)
-}
+use crate::syntax::ast::{support, AstChildren};
+use crate::{ElementRef, SyntaxKind, SyntaxToken};
 
 // The first child token of a kind.
 pub(super) fn token(node: &impl AstNode, kind: SyntaxKind) -> Option<SyntaxToken> {
-    tokens(node).find(|token| token.kind() == kind)
+    support::token(node.syntax(), kind)
+}
+
+// The child tokens of a node, borrowed.
+fn tokens(node: &impl AstNode) -> impl Iterator<Item = ElementRef<'_>> {
+    node.syntax().element_ref().children().filter(|child| child.is_token())
 }
 
 // The first child token of a type.
 pub(super) fn token_of_type<T: AstToken>(node: &impl AstNode) -> Option<T> {
-    tokens(node).find_map(T::cast)
+    let mut tokens = tokens(node).filter(|token| T::can_cast(token.kind()));
+    tokens.find_map(|token| T::cast(token.to_token()?))
 }
 
 // The operator that the first operator token stands for.
@@ -35,7 +36,9 @@ pub(super) fn literal(node: &Literal) -> LiteralKind {
 
 // The child of a type that has an index among those of the type.
 pub(super) fn nth<N: AstNode>(node: &impl AstNode, index: usize) -> Option<N> {
-    children(node).nth(index)
+    let nodes = node.syntax().element_ref().children();
+    let is_of_type = |child: &ElementRef<'_>| !child.is_token() && N::can_cast(child.kind());
+    nodes.filter(is_of_type).nth(index)?.cast()
 }
 
 // The children of a type.

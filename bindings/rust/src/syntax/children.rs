@@ -27,17 +27,25 @@ impl SyntaxElementChildren {
         }
     }
 
-    /// Returns an iterator over the nodes and tokens among these whose kind passes a test.
-    pub fn by_kind(self, matcher: impl Fn(SyntaxKind) -> bool) -> impl Iterator<Item = SyntaxElement> {
-        self.filter(move |element| matcher(element.kind()))
+    /// Returns an iterator over the nodes and tokens among these whose kind passes a test. The others are not cloned.
+    pub fn by_kind(mut self, matcher: impl Fn(SyntaxKind) -> bool) -> impl Iterator<Item = SyntaxElement> {
+        std::iter::from_fn(move || {
+            let number = self.find_number(|tree, number| matcher(tree.kind(number)))?;
+            Some(SyntaxElement::at(&self.tree, number))
+        })
     }
 
-    // The number of the next child.
+    // The number of the next child that passes a test.
     #[inline]
-    fn next_number(&mut self) -> Option<u32> {
-        let number = (self.next < self.end).then_some(self.next)?;
-        self.next = self.tree.end(number);
-        Some(number)
+    fn find_number(&mut self, is_wanted: impl Fn(&Tree, u32) -> bool) -> Option<u32> {
+        while self.next < self.end {
+            let number = self.next;
+            self.next = self.tree.end(number);
+            if is_wanted(&self.tree, number) {
+                return Some(number);
+            }
+        }
+        None
     }
 }
 
@@ -46,7 +54,7 @@ impl Iterator for SyntaxElementChildren {
 
     #[inline]
     fn next(&mut self) -> Option<SyntaxElement> {
-        let number = self.next_number()?;
+        let number = self.find_number(|_, _| true)?;
         Some(SyntaxElement::at(&self.tree, number))
     }
 }
@@ -73,9 +81,18 @@ impl SyntaxNodeChildren {
         }
     }
 
-    /// Returns an iterator over the nodes among these whose kind passes a test.
-    pub fn by_kind(self, matcher: impl Fn(SyntaxKind) -> bool) -> impl Iterator<Item = SyntaxNode> {
-        self.filter(move |node| matcher(node.kind()))
+    // The next node whose kind passes a test.
+    #[inline]
+    pub(crate) fn next_of(&mut self, matcher: &impl Fn(SyntaxKind) -> bool) -> Option<SyntaxNode> {
+        let number = self
+            .elements
+            .find_number(|tree, number| tree.is_node_of(number, matcher))?;
+        Some(SyntaxNode::at(&self.elements.tree, number))
+    }
+
+    /// Returns an iterator over the nodes among these whose kind passes a test. The others are not cloned.
+    pub fn by_kind(mut self, matcher: impl Fn(SyntaxKind) -> bool) -> impl Iterator<Item = SyntaxNode> {
+        std::iter::from_fn(move || self.next_of(&matcher))
     }
 }
 
@@ -84,12 +101,7 @@ impl Iterator for SyntaxNodeChildren {
 
     #[inline]
     fn next(&mut self) -> Option<SyntaxNode> {
-        loop {
-            let number = self.elements.next_number()?;
-            if !self.elements.tree.is_token(number) {
-                return Some(SyntaxNode::at(&self.elements.tree, number));
-            }
-        }
+        self.next_of(&|_| true)
     }
 }
 

@@ -1,5 +1,6 @@
 //! Nodes or tokens.
 
+use super::borrowed::ElementRef;
 use super::node::{Ancestors, SyntaxNode};
 use super::token::SyntaxToken;
 use crate::tree::Tree;
@@ -113,12 +114,17 @@ impl SyntaxElement {
         tree.range(number)
     }
 
+    /// Returns the element as one that borrows the tree.
+    #[inline]
+    pub fn element_ref(&self) -> ElementRef<'_> {
+        let (tree, number) = self.location();
+        ElementRef::at(tree, number)
+    }
+
     /// Returns the index among the siblings, nodes and tokens.
     pub fn index(&self) -> usize {
-        match self {
-            NodeOrToken::Node(node) => node.index(),
-            NodeOrToken::Token(token) => token.index(),
-        }
+        let (tree, number) = self.location();
+        tree.index(number)
     }
 
     /// Returns the parent, or `None` for the root.

@@ -1,11 +1,13 @@
 //! Nodes.
 
+use super::borrowed::{ElementRef, Elements};
 use super::children::{Siblings, SyntaxElementChildren, SyntaxNodeChildren};
+use super::descendants::{Descendants, DescendantsWithTokens};
 use super::element::{NodeOrToken, SyntaxElement};
 use super::offset::TokenAtOffset;
 use super::text::SyntaxText;
 use super::token::SyntaxToken;
-use super::walk::{Direction, Preorder, PreorderWithTokens, WalkEvent};
+use super::walk::{Direction, Preorder, PreorderRef, PreorderWithTokens, WalkEvent};
 use crate::tree::Tree;
 use crate::{SyntaxKind, TextRange, TextSize};
 use std::fmt;
@@ -34,6 +36,19 @@ impl SyntaxNode {
         SyntaxElement::at(&self.tree, number)
     }
 
+    // The first node among some elements of the tree.
+    #[inline]
+    fn first_node_in(&self, numbers: &mut impl Iterator<Item = u32>) -> Option<SyntaxNode> {
+        let number = numbers.find(|number| !self.tree.is_token(*number))?;
+        Some(SyntaxNode::at(&self.tree, number))
+    }
+
+    // The first child of an element whose range contains a range.
+    fn child_around(&self, number: u32, range: TextRange) -> Option<u32> {
+        let mut children = self.tree.children(number);
+        children.find(|child| self.tree.range(*child).contains_range(range))
+    }
+
     /// Returns the node's kind.
     #[inline]
     pub fn kind(&self) -> SyntaxKind {
@@ -48,7 +63,7 @@ impl SyntaxNode {
 
     /// Returns the node's index among its siblings, tokens included.
     pub fn index(&self) -> usize {
-        self.siblings_with_tokens(Direction::Prev).skip(1).count()
+        self.tree.index(self.number)
     }
 
     /// Returns the node's text.
@@ -89,18 +104,16 @@ impl SyntaxNode {
 
     /// Returns the first child node whose kind passes a test.
     pub fn first_child_by_kind(&self, matcher: &impl Fn(SyntaxKind) -> bool) -> Option<SyntaxNode> {
-        self.children().find(|node| matcher(node.kind()))
+        let mut children = self.tree.children(self.number);
+        let number = children.find(|number| self.tree.is_node_of(*number, matcher))?;
+        Some(SyntaxNode::at(&self.tree, number))
     }
 
     /// Returns the last child node.
     pub fn last_child(&self) -> Option<SyntaxNode> {
-        let last = self.last_child_or_token()?;
-        match last {
-            NodeOrToken::Node(node) => Some(node),
-            NodeOrToken::Token(token) => token
-                .siblings_with_tokens(Direction::Prev)
-                .find_map(NodeOrToken::into_node),
-        }
+        let last = self.tree.last_child(self.number)?;
+        let mut from_last = std::iter::once(last).chain(self.tree.prev_siblings(last));
+        self.first_node_in(&mut from_last)
     }
 
     /// Returns the first child node or token.
@@ -111,7 +124,9 @@ impl SyntaxNode {
 
     /// Returns the first child node or token whose kind passes a test.
     pub fn first_child_or_token_by_kind(&self, matcher: &impl Fn(SyntaxKind) -> bool) -> Option<SyntaxElement> {
-        self.children_with_tokens().find(|element| matcher(element.kind()))
+        let mut children = self.tree.children(self.number);
+        let number = children.find(|number| matcher(self.tree.kind(*number)))?;
+        Some(self.element_at(number))
     }
 
     /// Returns the last child node or token.
@@ -121,17 +136,19 @@ impl SyntaxNode {
 
     /// Returns the next sibling node.
     pub fn next_sibling(&self) -> Option<SyntaxNode> {
-        self.siblings(Direction::Next).nth(1)
+        self.first_node_in(&mut self.tree.next_siblings(self.number))
     }
 
     /// Returns the next sibling node whose kind passes a test.
     pub fn next_sibling_by_kind(&self, matcher: &impl Fn(SyntaxKind) -> bool) -> Option<SyntaxNode> {
-        self.siblings(Direction::Next).skip(1).find(|node| matcher(node.kind()))
+        let mut following = self.tree.next_siblings(self.number);
+        let number = following.find(|number| self.tree.is_node_of(*number, matcher))?;
+        Some(SyntaxNode::at(&self.tree, number))
     }
 
     /// Returns the previous sibling node.
     pub fn prev_sibling(&self) -> Option<SyntaxNode> {
-        self.siblings(Direction::Prev).nth(1)
+        self.first_node_in(&mut self.tree.prev_siblings(self.number))
     }
 
     /// Returns the next sibling node or token.
@@ -142,8 +159,9 @@ impl SyntaxNode {
 
     /// Returns the next sibling node or token whose kind passes a test.
     pub fn next_sibling_or_token_by_kind(&self, matcher: &impl Fn(SyntaxKind) -> bool) -> Option<SyntaxElement> {
-        let mut following = self.siblings_with_tokens(Direction::Next).skip(1);
-        following.find(|element| matcher(element.kind()))
+        let mut following = self.tree.next_siblings(self.number);
+        let number = following.find(|number| matcher(self.tree.kind(*number)))?;
+        Some(self.element_at(number))
     }
 
     /// Returns the previous sibling node or token.
@@ -156,20 +174,14 @@ impl SyntaxNode {
     pub fn first_token(&self) -> Option<SyntaxToken> {
         let mut inside = self.number..self.tree.end(self.number);
         let number = inside.find(|number| self.tree.is_token(*number))?;
-        Some(SyntaxToken {
-            tree: Arc::clone(&self.tree),
-            number,
-        })
+        Some(SyntaxToken::at(&self.tree, number))
     }
 
     /// Returns the last token of the subtree.
     pub fn last_token(&self) -> Option<SyntaxToken> {
         let mut inside = (self.number..self.tree.end(self.number)).rev();
         let number = inside.find(|number| self.tree.is_token(*number))?;
-        Some(SyntaxToken {
-            tree: Arc::clone(&self.tree),
-            number,
-        })
+        Some(SyntaxToken::at(&self.tree, number))
     }
 
     /// Returns an iterator over the node, then its sibling nodes in one direction.
@@ -184,24 +196,37 @@ impl SyntaxNode {
 
     /// Returns an iterator over the nodes of the subtree in preorder, from the node itself.
     #[inline]
-    pub fn descendants(&self) -> impl Iterator<Item = SyntaxNode> {
-        let tree = Arc::clone(&self.tree);
-        let mut inside = self.number..tree.end(self.number);
-        std::iter::from_fn(move || {
-            let number = inside.find(|number| !tree.is_token(*number))?;
-            Some(SyntaxNode::at(&tree, number))
-        })
+    pub fn descendants(&self) -> Descendants {
+        Descendants::of(self)
     }
 
     /// Returns an iterator over the nodes and tokens of the subtree in preorder, from the node itself.
     #[inline]
-    pub fn descendants_with_tokens(&self) -> impl Iterator<Item = SyntaxElement> {
-        let tree = Arc::clone(&self.tree);
-        (self.number..self.tree.end(self.number)).map(move |number| SyntaxElement::at(&tree, number))
+    pub fn descendants_with_tokens(&self) -> DescendantsWithTokens {
+        DescendantsWithTokens::of(self)
+    }
+
+    /// Returns the node as an element that borrows the tree.
+    #[inline]
+    pub fn element_ref(&self) -> ElementRef<'_> {
+        ElementRef::at(&self.tree, self.number)
+    }
+
+    /// Returns an iterator over the nodes and tokens of the subtree in preorder, from the node itself. They borrow the tree, so no references are
+    /// counted: this takes a small part of the time of `descendants_with_tokens`.
+    #[inline]
+    pub fn elements(&self) -> Elements<'_> {
+        self.element_ref().elements()
+    }
+
+    /// Returns a walk that enters and leaves each node and token of the subtree. They borrow the tree, as those of `elements` do.
+    #[inline]
+    pub fn preorder_ref(&self) -> PreorderRef<'_> {
+        PreorderRef::of(self)
     }
 
     /// Calls a function with each node and token of the subtree in preorder, from the node itself. The elements are lent, so no references are
-    /// counted: this takes a small part of the time of `descendants_with_tokens`.
+    /// counted, as in a loop over `elements`.
     #[inline]
     pub fn for_each_element(&self, mut visit: impl FnMut(&SyntaxElement)) {
         let end = self.tree.end(self.number);
@@ -245,20 +270,14 @@ impl SyntaxNode {
             self.text_range().contains_range(range),
             "the range {range:?} is not inside {self:?}"
         );
-        let mut around = self.clone();
-        loop {
-            match around.child_or_token_at_range(range) {
-                Some(NodeOrToken::Node(node)) => around = node,
-                Some(token) => return token,
-                None => return around.into(),
-            }
-        }
+        let inwards = |number: &u32| self.child_around(*number, range);
+        let innermost = std::iter::successors(Some(self.number), inwards).last();
+        self.element_at(innermost.unwrap_or(self.number))
     }
 
     /// Returns the first child node or token whose range contains `range`.
     pub fn child_or_token_at_range(&self, range: TextRange) -> Option<SyntaxElement> {
-        self.children_with_tokens()
-            .find(|element| element.text_range().contains_range(range))
+        Some(self.element_at(self.child_around(self.number, range)?))
     }
 
     /// Returns a copy of the subtree as a tree of its own, whose root is the copy of the node. Its offsets start at 0.
@@ -297,18 +316,15 @@ impl fmt::Display for SyntaxNode {
 impl fmt::Debug for SyntaxNode {
     fn fmt(&self, f: &mut fmt::Formatter<'_>) -> fmt::Result {
         if !f.alternate() {
-            return write!(f, "{:?}@{:?}", self.kind(), self.text_range());
+            return fmt::Debug::fmt(&self.element_ref(), f);
         }
         let mut depth = 0;
-        for event in self.preorder_with_tokens() {
+        for event in self.preorder_ref() {
             let WalkEvent::Enter(element) = event else {
                 depth -= 1;
                 continue;
             };
-            match element {
-                NodeOrToken::Node(node) => writeln!(f, "{:width$}{node:?}", "", width = 2 * depth)?,
-                NodeOrToken::Token(token) => writeln!(f, "{:width$}{token:?}", "", width = 2 * depth)?,
-            }
+            writeln!(f, "{:width$}{element:?}", "", width = 2 * depth)?;
             depth += 1;
         }
         Ok(())

@@ -3,7 +3,6 @@
 use super::node::SyntaxNode;
 use super::token::SyntaxToken;
 use crate::TextSize;
-use std::sync::Arc;
 
 /// The token that contains an offset, or the two tokens that meet there.
 #[derive(Clone, Debug, PartialEq, Eq, Hash)]
@@ -92,8 +91,5 @@ fn token_containing(node: &SyntaxNode, offset: TextSize) -> SyntaxToken {
     let tree = &node.tree;
     let mut candidates = (0..tree.count_before(offset + TextSize::new(1))).rev();
     let found = candidates.find(|number| tree.is_token(*number) && tree.range(*number).contains(offset));
-    SyntaxToken {
-        tree: Arc::clone(tree),
-        number: found.expect("each byte of a text is in a token"),
-    }
+    SyntaxToken::at(tree, found.expect("each byte of a text is in a token"))
 }

@@ -34,15 +34,14 @@ impl SyntaxNodePtr {
 
     /// Returns the node in the tree that has this root, or `None` if the tree has no such node or `root` has a parent.
     pub fn try_to_node(&self, root: &SyntaxNode) -> Option<SyntaxNode> {
-        if root.parent().is_some() {
+        let tree = &root.tree;
+        if tree.parent(root.number).is_some() {
             return None;
         }
-        let holds = |node: &SyntaxNode| {
-            node.children()
-                .find(|child| child.text_range().contains_range(self.range))
-        };
-        let mut inwards = std::iter::successors(Some(root.clone()), holds);
-        inwards.find(|node| node.text_range() == self.range && node.kind() == self.kind)
+        let is_around = |number: &u32| !tree.is_token(*number) && tree.range(*number).contains_range(self.range);
+        let mut inwards = std::iter::successors(Some(root.number), |node| tree.children(*node).find(is_around));
+        let number = inwards.find(|number| tree.range(*number) == self.range && tree.kind(*number) == self.kind)?;
+        Some(SyntaxNode::at(tree, number))
     }
 
     /// Returns the pointer as one to a typed node, or `None` if the kind is another.

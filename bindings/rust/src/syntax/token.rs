@@ -1,5 +1,6 @@
 //! Tokens.
 
+use super::borrowed::ElementRef;
 use super::children::Siblings;
 use super::element::SyntaxElement;
 use super::node::{Ancestors, SyntaxNode};
@@ -10,12 +11,6 @@ use std::fmt;
 use std::hash::{Hash, Hasher};
 use std::sync::Arc;
 
-/// `{:?}` shows a text whole if it has fewer bytes than this.
-const SHOWN_WHOLE: usize = 25;
-
-/// How many bytes of a longer text `{:?}` shows, or a few more so as not to split a character.
-const SHOWN_BEGINNING: usize = 21;
-
 /// A token of a tree, which it keeps alive. Cloning it only counts a reference; two tokens are equal if they are the same token of the same tree.
 #[derive(Clone)]
 pub struct SyntaxToken {
@@ -24,6 +19,14 @@ pub struct SyntaxToken {
 }
 
 impl SyntaxToken {
+    #[inline]
+    pub(crate) fn at(tree: &Arc<Tree>, number: u32) -> SyntaxToken {
+        SyntaxToken {
+            tree: Arc::clone(tree),
+            number,
+        }
+    }
+
     #[inline]
     fn element_at(&self, number: u32) -> SyntaxElement {
         SyntaxElement::at(&self.tree, number)
@@ -43,13 +46,19 @@ impl SyntaxToken {
 
     /// Returns the token's index among its siblings, nodes included.
     pub fn index(&self) -> usize {
-        self.siblings_with_tokens(Direction::Prev).skip(1).count()
+        self.tree.index(self.number)
     }
 
     /// Returns the token's text.
     #[inline]
     pub fn text(&self) -> &str {
         self.tree.text(self.number)
+    }
+
+    /// Returns the token as an element that borrows the tree.
+    #[inline]
+    pub fn element_ref(&self) -> ElementRef<'_> {
+        ElementRef::at(&self.tree, self.number)
     }
 
     /// Returns the parent, which every token has.
@@ -85,10 +94,7 @@ impl SyntaxToken {
     pub fn next_token(&self) -> Option<SyntaxToken> {
         let mut following = self.number + 1..self.tree.count();
         let number = following.find(|number| self.tree.is_token(*number))?;
-        Some(SyntaxToken {
-            tree: Arc::clone(&self.tree),
-            number,
-        })
+        Some(SyntaxToken::at(&self.tree, number))
     }
 
     /// Returns the previous token in the text.
@@ -96,10 +102,7 @@ impl SyntaxToken {
     pub fn prev_token(&self) -> Option<SyntaxToken> {
         let mut preceding = (0..self.number).rev();
         let number = preceding.find(|number| self.tree.is_token(*number))?;
-        Some(SyntaxToken {
-            tree: Arc::clone(&self.tree),
-            number,
-        })
+        Some(SyntaxToken::at(&self.tree, number))
     }
 }
 
@@ -127,12 +130,6 @@ impl fmt::Display for SyntaxToken {
 /// Prints `KIND@start..end "text"`, with only the beginning of a long text.
 impl fmt::Debug for SyntaxToken {
     fn fmt(&self, f: &mut fmt::Formatter<'_>) -> fmt::Result {
-        let text = self.text();
-        write!(f, "{:?}@{:?} ", self.kind(), self.text_range())?;
-        if text.len() < SHOWN_WHOLE {
-            return write!(f, "{text:?}");
-        }
-        let end = (SHOWN_BEGINNING..SHOWN_WHOLE).find(|end| text.is_char_boundary(*end));
-        write!(f, "{:?}", format!("{} ...", &text[..end.unwrap_or(0)]))
+        fmt::Debug::fmt(&self.element_ref(), f)
     }
 }

@@ -3,7 +3,7 @@
 use crate::json::{array, object_of, Value};
 use crate::protocol::Outcome;
 use crate::request::Request;
-use rnix::{NodeOrToken, SyntaxKind, SyntaxNode, SyntaxToken, TextRange};
+use rnix::{ElementRef, SyntaxKind, TextRange};
 
 /// A first and a last line, and whether they hold a comment.
 type Fold = (usize, usize, bool);
@@ -34,12 +34,11 @@ fn lines(request: &Request, range: TextRange, has_bracket: bool) -> (usize, usiz
 }
 
 // The lines of a node, if it is folded.
-fn fold_of(request: &Request, node: &SyntaxNode) -> Option<Fold> {
+fn fold_of(request: &Request, node: ElementRef<'_>) -> Option<Fold> {
     let kind = node.kind();
     let range = node.text_range();
     if kind == SyntaxKind::NODE_LET_IN {
-        let mut tokens = node.children_with_tokens().filter_map(NodeOrToken::into_token);
-        let end = tokens.find(|token| token.kind() == SyntaxKind::TOKEN_IN)?;
+        let end = node.children().find(|child| child.kind() == SyntaxKind::TOKEN_IN)?;
         let (start, end) = lines(request, TextRange::new(range.start(), end.text_range().start()), true);
         return Some((start, end, false));
     }
@@ -49,14 +48,14 @@ fn fold_of(request: &Request, node: &SyntaxNode) -> Option<Fold> {
 }
 
 // Whether nothing but white space comes before a token in its line.
-fn is_first(request: &Request, token: &SyntaxToken) -> bool {
+fn is_first(request: &Request, token: ElementRef<'_>) -> bool {
     let start = usize::from(token.text_range().start());
     let line = request.text().line(request.text().line_at(start));
     request.text().content()[line.start..start].trim().is_empty()
 }
 
 // Adds the lines of a comment: to those of the comment in the line above, if each has its lines for itself.
-fn add_comment(request: &Request, token: &SyntaxToken, folds: &mut Vec<Fold>) {
+fn add_comment(request: &Request, token: ElementRef<'_>, folds: &mut Vec<Fold>) {
     let (start, end) = lines(request, token.text_range(), false);
     match folds.last_mut() {
         Some((_, last, true)) if *last + 1 == start && is_first(request, token) => *last = end,
@@ -78,13 +77,11 @@ fn chosen(mut folds: Vec<Fold>) -> Vec<Fold> {
 /// Never.
 pub fn folds(request: &Request) -> Outcome {
     let (mut nodes, mut comments) = (Vec::new(), Vec::new());
-    for element in request.analysis.root().descendants_with_tokens() {
-        match element {
-            NodeOrToken::Node(node) => nodes.extend(fold_of(request, &node)),
-            NodeOrToken::Token(token) if token.kind() == SyntaxKind::TOKEN_COMMENT => {
-                add_comment(request, &token, &mut comments);
-            }
-            NodeOrToken::Token(_) => {}
+    for element in request.analysis.root().elements() {
+        if element.kind() == SyntaxKind::TOKEN_COMMENT {
+            add_comment(request, element, &mut comments);
+        } else if !element.is_token() {
+            nodes.extend(fold_of(request, element));
         }
     }
     nodes.append(&mut comments);

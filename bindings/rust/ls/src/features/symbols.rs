@@ -97,7 +97,8 @@ fn symbols_of(node: SyntaxNode) -> Vec<Symbol> {
 fn symbols_in(root: &SyntaxNode) -> Vec<Symbol> {
     let mut symbols: Vec<Symbol> = Vec::new();
     let mut open: Vec<usize> = Vec::new();
-    for node in root.descendants() {
+    let is_named = |kind| AttrpathValue::can_cast(kind) || Inherit::can_cast(kind);
+    for node in root.descendants().by_kind(is_named) {
         for mut symbol in symbols_of(node) {
             while open
                 .last()

@@ -7,7 +7,7 @@ use crate::protocol::{range_of, Outcome};
 use crate::request::Request;
 use crate::text::Text;
 use rnix::scopes::Binding;
-use rnix::{NodeOrToken, SyntaxKind, SyntaxToken, TextRange};
+use rnix::{ElementRef, SyntaxKind, TextRange};
 use std::collections::HashMap;
 use std::ops::Range;
 
@@ -94,7 +94,7 @@ fn classes(analysis: &Analysis) -> HashMap<u32, Class> {
 }
 
 // The class of an identifier: that of the name, or an attribute.
-fn name_class(token: &SyntaxToken, classes: &HashMap<u32, Class>) -> Class {
+fn name_class(token: ElementRef<'_>, classes: &HashMap<u32, Class>) -> Class {
     let start = token.text_range().start();
     match classes.get(&start.into()) {
         Some(class) => *class,
@@ -103,7 +103,7 @@ fn name_class(token: &SyntaxToken, classes: &HashMap<u32, Class>) -> Class {
 }
 
 // The class of a token, if it has one.
-fn token_class(token: &SyntaxToken, classes: &HashMap<u32, Class>) -> Option<Class> {
+fn token_class(token: ElementRef<'_>, classes: &HashMap<u32, Class>) -> Option<Class> {
     use SyntaxKind::*;
     Some(match token.kind() {
         TOKEN_IDENT => name_class(token, classes),
@@ -167,13 +167,13 @@ fn encoded(request: &Request, range: TextRange) -> Value {
         column: 0,
         numbers: Vec::new(),
     };
-    let elements = request.analysis.root().descendants_with_tokens();
-    for token in elements.filter_map(NodeOrToken::into_token) {
+    let root = request.analysis.root();
+    for token in root.elements().filter(|element| element.is_token()) {
         let place = token.text_range();
         if place.end() <= range.start() || range.end() <= place.start() {
             continue;
         }
-        if let Some(class) = token_class(&token, &classes) {
+        if let Some(class) = token_class(token, &classes) {
             encoder.add(place.into(), class);
         }
     }
