@@ -6,8 +6,8 @@ use Rattle.rnix_green.specs.{Forest.{Forest, empty, leaf, node, text_of, element
 use Rattle.rnix_green.specs.{Tree.{item_of, forest_of, part_at, children_in}, Walk.{Spot, spot_at, nodes_in, children_of}, Numbers.tree_numbers}
 use Rattle.rnix_green.proofs.{PartLemmas.{IsPart, IsOne, one_leaf, one_node, part_there, one_there}, PieceLemmas.length-items_from}
 use Rattle.{rnix_tree.proofs.StandingItems.{Stands, first_item, front_stands, back_stands}, rnix_base.specs.Select.{has_kind, tokens_in, child_of, token_of}}
-use Rattle.{rnix_grammar.specs.{CompleteRows.is_row, Shape.item_kinds, Derivation.has_tokens_alone}, rnix_lemmas.proofs.Basics.true_is_not_false}
-use Rattle.rnix_rows.proofs.PartRows.{HasRows, HasTokens, rows_part, tokens_part, row_of_node}
+use Rattle.{rnix_grammar.specs.{CompleteRows.is_row, Shape.item_kinds, Derivation.has_tokens_alone}, rnix_proof_lemmas.proofs.Basics.true_is_not_false}
+use Rattle.rnix_proof_rows.proofs.PartRows.{HasRows, HasTokens, rows_part, tokens_part, row_of_node}
 
 -- whether an element is a node, and its kind
 abbrev pub Sight : Type 0

@@ -1,9 +1,9 @@
 -- Derivations are found, and found alone.
 use Rattle.{std.proofs.Common.{◌≡◌, List, [], ap, sym, subst, ◌∙◌}, rnix_green.specs.Forest.Forest}
 use Rattle.rnix_grammar.specs.{Fault.Fault, AnnotatedForest.{Token, AnnotatedForest, tokens_in, forget}, Reads.ReadsRoot}
-use Rattle.{rnix_grammar.specs.Derivation.{annotate, IsDerivation}, rnix_lemmas.proofs.AnnotateLemmas.{IsAnnotatedRoot, annotate_root}}
-use Rattle.{rnix_completeness.proofs.{GrammarReads.expression_reads, OverTokens.{Over, over_trees}}, rnix_uniqueness.proofs.AllReads.one_row}
-use Rattle.rnix_strict.proofs.GrammarLeaves.{expression_fine}
+use Rattle.{rnix_grammar.specs.Derivation.{annotate, IsDerivation}, rnix_proof_lemmas.proofs.AnnotateLemmas.{IsAnnotatedRoot, annotate_root}}
+use Rattle.{rnix_proof_completeness.proofs.{GrammarReads.expression_reads, OverTokens.{Over, over_trees}}, rnix_proof_uniqueness.proofs.AllReads.one_row}
+use Rattle.rnix_proof_strict.proofs.GrammarLeaves.{expression_fine}
 
 -- a derivation over its items
 annotate_derivation : (t : Forest) (ts : List Token) → IsDerivation t ts → IsAnnotatedRoot t ts

@@ -4,10 +4,10 @@ use Rattle.rnix_kinds.specs.{declared.kinds.SyntaxKind.TheVariants.NODE_ROOT, Le
 use Rattle.{rnix_green.specs.{Forest.text_of, Tree.Tree}, rnix_grammar.specs.{Fault.Fault, AnnotatedForest.{Token, AnnotatedForest, blank, token, branch}}}
 use Rattle.rnix_grammar.specs.{AnnotatedForest.{fault, forget, tokens_in, without_trivia, placed_from}, Layout.{items, with_all_trivia}, Machine.with_leading}
 use Rattle.rnix_grammar.specs.{WithoutTrivia.{without_trivia_machine, without_trivia_frame, without_trivia_frames}, Reads.ReadsRoot, Reading.IsReading}
-use Rattle.{rnix_grammar.specs.{Parsed.IsParsed, Document.IsRead}, rnix_lemmas.proofs.{ReportLemmas.without_trivia_tokens, SpelledLemmas.AreRuled}}
-use Rattle.{rnix_lemmas.proofs.WithoutTriviaLemmas.{runs_without_trivia, with_leading_without_trivia}, rnix_rows.proofs.WithAllTrivia.with_all_trivia_tokens}
-use Rattle.{rnix_rows.proofs.WithAllTrivia.{with_trivia_same, read_with_trivia}, rnix_existence.proofs.StepsReadRoot.steps_read_root}
-use Rattle.{rnix_uniqueness.proofs.AllReads.one_row, rnix_reader.specs.Placed.texts_in}
+use Rattle.{rnix_grammar.specs.{Parsed.IsParsed, Document.IsRead}, rnix_proof_lemmas.proofs.{ReportLemmas.without_trivia_tokens, SpelledLemmas.AreRuled}}
+use Rattle.{rnix_proof_lemmas.proofs.WithoutTriviaLemmas.{runs_without_trivia, with_leading_without_trivia}, rnix_proof_rows.proofs.WithAllTrivia.with_all_trivia_tokens}
+use Rattle.{rnix_proof_rows.proofs.WithAllTrivia.{with_trivia_same, read_with_trivia}, rnix_proof_existence.proofs.StepsReadRoot.steps_read_root}
+use Rattle.{rnix_proof_uniqueness.proofs.AllReads.one_row, rnix_reader.specs.Placed.texts_in}
 use Rattle.{rnix_reader.proofs.{EachText.each_read, TextLeft.placed_text}, rnix_parser.proofs.ParsedLemmas.all_follows}
 
 -- the items of a reading are those of the tokens

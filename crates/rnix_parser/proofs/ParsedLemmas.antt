@@ -6,12 +6,12 @@ use Rattle.rnix_grammar.specs.{AnnotatedForest.HaveLeafKinds, Layout.items, Trim
 use Rattle.rnix_grammar.specs.{TriviaBetween.AreTriviaBetween, Named.{AreSpelled, is_repeated, Lacks}, Repaired.{repaired, ended_count}, Extensions.has_no_extension}
 use Rattle.rnix_grammar.specs.{Fault.Fault, PathPieces.ArePaths, Nest.nest, Grammar.IsExpression}
 use Rattle.rnix_grammar.specs.{Derivation.IsDerivation, Reads.ReadsRoot, Reading.IsReading, Parsed.IsParsed}
-use Rattle.rnix_rows.proofs.{ReadsFaults.{Errors, reads_errors}, RootReadings.{root_few, root_end_errors, root_begun, root_last}, TreeShapes.root_shaped}
-use Rattle.rnix_rows.proofs.{TreeShapes.without_trivia_reports, TriviaBetweenLemmas.trivia_between, ReadsNest.reads_nested, NamedRows.are_named}
-use Rattle.rnix_rows.proofs.{WithAllTrivia.{without_trivia_items, placed_leaf_kinds, placed_faults_trimmed, placed_names, placed_nodes_trimmed}, ReadsLeafKinds.reads_leaf_kinds}
-use Rattle.{rnix_rows.proofs.{ReadsShapes.{AreErrorFreeRows, repaired_none, root_rows}, ErrorFreeDerivations.derived}, rnix_soundness.proofs.Converse.converse}
-use Rattle.rnix_lemmas.proofs.{ReachableRows.known_row, SpelledLemmas.{AreRuled, spelled_from, without_trivia_spelled}}
-use Rattle.rnix_strict.proofs.GrammarLeaves.{expression_fine}
+use Rattle.rnix_proof_rows.proofs.{ReadsFaults.{Errors, reads_errors}, RootReadings.{root_few, root_end_errors, root_begun, root_last}, TreeShapes.root_shaped}
+use Rattle.rnix_proof_rows.proofs.{TreeShapes.without_trivia_reports, TriviaBetweenLemmas.trivia_between, ReadsNest.reads_nested, NamedRows.are_named}
+use Rattle.rnix_proof_rows.proofs.{WithAllTrivia.{without_trivia_items, placed_leaf_kinds, placed_faults_trimmed, placed_names, placed_nodes_trimmed}, ReadsLeafKinds.reads_leaf_kinds}
+use Rattle.{rnix_proof_rows.proofs.{ReadsShapes.{AreErrorFreeRows, repaired_none, root_rows}, ErrorFreeDerivations.derived}, rnix_proof_soundness.proofs.Converse.converse}
+use Rattle.rnix_proof_lemmas.proofs.{ReachableRows.known_row, SpelledLemmas.{AreRuled, spelled_from, without_trivia_spelled}}
+use Rattle.rnix_proof_strict.proofs.GrammarLeaves.{expression_fine}
 use Rattle.rnix_parser.proofs.Found.{derivation_found}
 
 -- a tree without trivia, and its errors, as they must be to be a derivation

@@ -6,8 +6,8 @@ use Rattle.rnix_green.specs.{Forest.{Forest, node}, Tree.Tree}
 use Rattle.rnix_grammar.specs.AnnotatedForest.{Token, AnnotatedForest, blank, token, branch, fault, forget, without_trivia, token_if, placed_from, leaf_kind_as, HaveLeafKinds}
 use Rattle.rnix_grammar.specs.{Extensions.has_no_extension, Derivation.{annotate, IsDerivation}, Fault.Fault, Grammar.IsExpression, Layout.items, Nest.nest}
 use Rattle.rnix_grammar.specs.{Parsed.IsParsed, PathPieces.ArePaths, Repaired.{repaired, ended_count}, Named.{is_repeated, Lacks}, Tables.depth_limit}
-use Rattle.rnix_rows.proofs.{ErrorFreeDerivations.annotate_same, ReadsShapes.{AreErrorFreeRows, repaired_none, root_rows}, WithAllTrivia.without_trivia_items}
-use Rattle.rnix_strict.proofs.GrammarLeaves.{expression_fine}
+use Rattle.rnix_proof_rows.proofs.{ErrorFreeDerivations.annotate_same, ReadsShapes.{AreErrorFreeRows, repaired_none, root_rows}, WithAllTrivia.without_trivia_items}
+use Rattle.rnix_proof_strict.proofs.GrammarLeaves.{expression_fine}
 use Rattle.rnix_parser.specs.Significant.{leaf_unless, significant}
 
 -- a leaf is trivia exactly if its token is

@@ -7,7 +7,7 @@ use Rattle.rnix_grammar.specs.{Fault.{Fault, ended, ended_before, named_twice}, 
 use Rattle.rnix_grammar.specs.Reports.{first_kind, report, repeats, entry_name, is_same_name, has_entry}
 use Rattle.rnix_grammar.specs.AnnotatedForest.{Token, Note, Stray, Unwanted, Extra, DoubleBind, TooDeep, AnnotatedForest, blank, token, branch, fault, tokens_in}
 use Rattle.rnix_grammar.specs.AnnotatedForest.{extent_of}
-use Rattle.rnix_lemmas.proofs.Basics.{true_is_not_false}
+use Rattle.rnix_proof_lemmas.proofs.Basics.{true_is_not_false}
 use Rattle.rnix_proof_layout.specs.AlikeItems.{AreOfSameItems, IsSameFault, AreSameFaults}
 use Rattle.rnix_proof_layout.proofs.{MovedItems.{at, moved, past, later, moved_trees}, Unplaced.{unplaced, alike}}
 

@@ -8,7 +8,7 @@ use Rattle.rnix_grammar.specs.{AnnotatedForest.{tokens_in, head_kind, touches}, 
 use Rattle.rnix_grammar.specs.Machine.{Node, Operand, Frame, Machine, put, opened, leaf, kind_of, made, min_bp_of, closed, entry_closed}
 use Rattle.rnix_grammar.specs.Machine.{begun, limited, operand_on, reading, perform, step_on, step, Runs, rest as here, then as further}
 use Rattle.rnix_grammar.specs.{FrameKinds.{IsStackedOn, AreStacked}, Allowed.{Allowed, is_there}}
-use Rattle.rnix_lemmas.proofs.{AllowedLemmas.allowed, StackedFrames.{BeginsInner, begin_inner, step_stacked}}
+use Rattle.rnix_proof_lemmas.proofs.{AllowedLemmas.allowed, StackedFrames.{BeginsInner, begin_inner, step_stacked}}
 use Rattle.{rnix_proof_prefix.specs.Prefix.{BeginAllFrom}}
 use Rattle.rnix_proof_prefix.proofs.Late.{AreFrom, from_tail, from_dropped, starts_there, starts_run, report_from, more_from, row_below, AreLate}
 use Rattle.rnix_proof_prefix.proofs.Late.{HasLate, late_more, plain_late, entry_late, second_late, head_frame, entry_reports, second_reports}

@@ -2,7 +2,7 @@
 use Rattle.{std.proofs.Common.{◌≡◌, ◌≤◌, ℕ, List, [], ◌∷◌, ◌++◌, true, false, ap, ◌∙◌, subst, arith}, rnix_kinds.specs.SyntaxKind.is_trivia}
 use Rattle.rnix_grammar.specs.{declared.expected_set.ExpectedSet.{ExpectedSet, TheVariants.End}, AnnotatedForest.{Token, row_of, end_from}, Layout.{items, from_item, from_item_if, tail_of}}
 use Rattle.rnix_grammar.specs.{Layout.left_after, Machine.{behind, item_end, end_of, run_rest, dropped}, UnwantedRun.run_of}
-use Rattle.rnix_lemmas.proofs.{WithoutTriviaLemmas.run_prefix, LayoutLemmas.{IsFirst, first_item, items-from_item}}
+use Rattle.rnix_proof_lemmas.proofs.{WithoutTriviaLemmas.run_prefix, LayoutLemmas.{IsFirst, first_item, items-from_item}}
 use Rattle.rnix_reader.{specs.Placed.AreInOrder, proofs.{CursorLemmas.in_order_from, SkippedRuns.run_all}}
 
 -- from the first item on tokens are in order

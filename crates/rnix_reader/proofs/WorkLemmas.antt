@@ -6,8 +6,8 @@ use Rattle.rnix_grammar.specs.{Tables.{stops, depth_limit}, SlotRows.slot_at, Be
 use Rattle.rnix_grammar.specs.{Layout.{items, from_item, tail_of}, Machine.{Node, Operand, Frame, Machine, put, opened, behind, closed, limited, min_bp_of}}
 use Rattle.rnix_grammar.specs.{Machine.{run_rest, dropped, begun, operand_on, reading, machine, perform, entry_closed}, UnwantedRun.run_of, FrameKinds.{FrameKind, NodeFrame, Entry, frame_kind}}
 use Rattle.rnix_grammar.specs.{FrameKinds.IsStackedOn, Measures.{measure, begin_measure_in, begin_measure}, Allowed.{Allowed, IsNext, is_there}}
-use Rattle.rnix_lemmas.proofs.{Basics.true_is_not_false, LayoutLemmas.items-from_item, WithoutTriviaLemmas.{items_behind, run_prefix, all_prefix, run_bared}}
-use Rattle.rnix_lemmas.proofs.{UnwantedRuns.{dropped_all, run_begins}, AllowedLemmas.{sort_by, sort_there, measure_there}}
+use Rattle.rnix_proof_lemmas.proofs.{Basics.true_is_not_false, LayoutLemmas.items-from_item, WithoutTriviaLemmas.{items_behind, run_prefix, all_prefix, run_bared}}
+use Rattle.rnix_proof_lemmas.proofs.{UnwantedRuns.{dropped_all, run_begins}, AllowedLemmas.{sort_by, sort_there, measure_there}}
 use Rattle.rnix_reader.{specs.{declared.mark.Mark.Mark, Erase.{marks_of, mark_of, erase}, Performed.is_finish, Holds.{places_on, measures, begin_measure_at, cost, work}}, proofs.FrameKindLemmas.is_root}
 use Rattle.rnix_grammar.specs.declared.position.Position.TheVariants as p
 use Rattle.rnix_grammar.specs.declared.action.Action.TheVariants as a
