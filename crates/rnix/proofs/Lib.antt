@@ -1,6 +1,6 @@
 mod AnyParts
-pub mod Chains
-pub mod Inside
+pub mod ChainLemmas
+pub mod RecursionLemmas
 mod KindParts
 pub mod SameParts
 mod SameTree

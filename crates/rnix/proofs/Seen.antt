@@ -3,7 +3,7 @@ use Rattle.std.proofs.Common.{◌≡◌, ℕ, zero, suc, ◌+◌, ◌-◌, Bool,
 use Rattle.std.{proofs.lemmas.Bool.and_parts, specs.Prelude.{if◌then◌else◌, is_some, slice_get, filter, find}}
 use Rattle.{rnix_kinds.specs.{declared.kinds.SyntaxKind.SyntaxKind, SyntaxKind.{is_token, is_trivia}}, rnix_green.specs.Equality.{same_kind, same_kind-decides}}
 use Rattle.rnix_green.specs.{Forest.{Forest, empty, leaf, node, text_of, element_count}, Tree.{Tree, Item, Located, IsNodeAt, items_from, items_of, item}}
-use Rattle.rnix_green.specs.{Tree.{item_of, forest_of, part_at, children_in}, Walk.{Spot, spot_at, nodes_in, children_of}, Numbers.tree_numbers}
+use Rattle.rnix_green.specs.{Tree.{item_of, forest_of, part_at, children_in}, Walk.{Spot, spot_at, nodes_in, children_of}, PreorderNumbers.tree_numbers}
 use Rattle.rnix_green.proofs.{PartLemmas.{IsPart, IsOne, one_leaf, one_node, part_there, one_there}, PieceLemmas.length-items_from}
 use Rattle.{rnix_tree.proofs.StandingItems.{Stands, first_item, front_stands, back_stands}, rnix_base.specs.Select.{has_kind, tokens_in, child_of, token_of}}
 use Rattle.{rnix_grammar.specs.{CompleteRows.is_row, Shape.item_kinds, Derivation.has_tokens_alone}, rnix_proof_lemmas.proofs.Basics.true_is_not_false}

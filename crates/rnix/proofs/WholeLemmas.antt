@@ -3,7 +3,7 @@ use Rattle.std.proofs.{Common.{◌≡◌, ℕ, suc, Bool, true, false, cond, Lis
 use Rattle.std.specs.Prelude.{◌&&◌, ◌||◌, if◌then◌else◌, not, is_some, IsSome, slice_get, filter, find, option_map}
 use Rattle.rnix_kinds.{specs.{declared.kinds.SyntaxKind.SyntaxKind, SyntaxKind.{is_token, is_trivia}}, proofs.AllKinds.implied}
 use Rattle.{rnix_green.specs.{Equality.same_kind, Tree.{Located, item_of}, Walk.children_of}, rnix_base.specs.{Kinds.is_path_token, Select.has_kind}}
-use Rattle.rnix_base.specs.{Select.{tokens_in, child_of, token_of}, Operators.{or_else, first_operator, binary_operator, unary_operator}, Literal.first_literal}
+use Rattle.rnix_base.specs.{Select.{tokens_in, child_of, token_of}, TokenOperators.{or_else, first_operator, binary_operator, unary_operator}, Literal.first_literal}
 use Rattle.{rnix_grammar.specs.CompleteRows.is_row, rnix_proof_lemmas.proofs.Basics.{true_is_not_false, not_if}, rnix_proof_rows.proofs.RowCounts.{row_has, row_first, row_nth}}
 use Rattle.{rnix_proof_rows.proofs.RowCounts.row_is, rnix.specs.{NodeKinds.{is_expr, is_param}, Presence.{HasToken, HasNode, HasExpr, AreTogether}}}
 use Rattle.rnix.proofs.Seen.{AreItems, AreNodes, exact_items, exact_nodes, Sees}

@@ -7,7 +7,7 @@ use Rattle.rnix_green.specs.Equality.{same_kind}
 use Rattle.rnix_green.specs.Walk.{children_of}
 use Rattle.rnix_base.specs.Kinds.{is_path_token}
 use Rattle.rnix_base.specs.Select.{child_of, token_of, tokens_in}
-use Rattle.rnix_base.specs.Operators.{binary_operator, unary_operator, first_operator}
+use Rattle.rnix_base.specs.TokenOperators.{binary_operator, unary_operator, first_operator}
 use Rattle.rnix_base.specs.Literal.{first_literal}
 use Rattle.rnix.specs.NodeKinds.{is_expr, is_param}
 use Rattle.rnix.specs.Presence.{HasToken, HasNode, HasExpr, AreTogether}

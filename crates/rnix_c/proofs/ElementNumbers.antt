@@ -4,7 +4,7 @@ use Rattle.std.{specs.{List.{slice_get}, Prelude.{option_map, IfSome, IfNone, is
 use Rattle.rnix_kinds.specs.{declared.kinds.SyntaxKind.TheVariants.{NODE_STRING}}
 use Rattle.rnix_green.specs.{Equality.{same_kind, same_kind-decides}, Tree.{Tree, Located, items_of, item, item_of}, Walk.{Spot, spot_at, counted, elements_of}}
 use Rattle.rnix_green.proofs.InsideLemmas.{elements_in_all}
-use Rattle.{rnix_tree.proofs.CountLemmas.{counted-many}, rnix_c.specs.Strings.{located, IsString}}
+use Rattle.{rnix_tree.proofs.CountLemmas.{counted-many}, rnix_c.specs.StringCalls.{located, IsString}}
 
 get_counted : (a k i : ℕ) → i < k → slice_get (counted a k) i ≡ Some (a + i)
 get_counted a zero i l = absurd (omega arith)

@@ -1,7 +1,7 @@
 -- Bindings that are written.
 use Rattle.std.proofs.Common.{◌≡◌, ℕ, suc, ◌<◌, List, [], ◌∷◌, length, map, get_or, Some, refl, sym, ap, ◌∙◌, arith}
 use Rattle.nix_scopes.specs.{Bound.{bound_of, AreFirst}, Scopes.{Bound, number_in}, declared.resolution.Binding.{Binding}}
-use Rattle.rnix_c.specs.{declared.names.RnixBinding.{RnixBinding}, Elements.{number_or_none}, Names.{binding_of, binding_among}}
+use Rattle.rnix_c.specs.{declared.names.RnixBinding.{RnixBinding}, Elements.{number_or_none}, NameCalls.{binding_of, binding_among}}
 
 -- what is written of a binding
 abbrev pub own_binding : Binding → RnixBinding

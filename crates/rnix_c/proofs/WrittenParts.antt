@@ -3,7 +3,7 @@ use Rattle.std.proofs.Common.{◌≡◌, ℕ, suc, ◌+◌, ◌<◌, List, [], �
 use Rattle.std.proofs.{Math.Seq.{drop-cons}}
 use Rattle.rnix_green.specs.Tree.{Located}
 use Rattle.rnix_base.specs.{declared.parts.InterpolPart.{InterpolPart}, Normal.{Parts}}
-use Rattle.rnix_c.specs.Strings.{end_after, part_at, parts_from}
+use Rattle.rnix_c.specs.StringCalls.{end_after, part_at, parts_from}
 
 pub length-parts_from : (before : ℕ) (parts : Parts Located) → length (parts_from before parts) ≡ length parts
 length-parts_from before [] = refl

@@ -1,8 +1,8 @@
 -- Tokens that are written one after another.
 use Rattle.std.proofs.Common.{◌≡◌, ℕ, suc, ◌+◌, ◌<◌, ◌≤◌, List, [], ◌∷◌, length, drop, get_or, IsUtf8, refl, sym, ap, ◌∙◌, arith, add-one, length-append}
 use Rattle.std.{proofs.{Math.Seq.{drop-cons}, lemmas.List.{Elements.{All-head, All-tail}}}, specs.List.{flat_map, All}}
-use Rattle.rnix_kinds.{specs.{declared.kinds.SyntaxKind.{SyntaxKind}, SyntaxKind.{place_of}, Lexical.Tokens.{Lexeme, text_of, tokens_of}}, proofs.Lexical.Laws.{AreSound-tokens_under}}
-use Rattle.rnix_c.specs.{declared.tokens.RnixToken.{RnixToken}, Tokens.{tokens_from, tokens_written}}
+use Rattle.rnix_kinds.{specs.{declared.kinds.SyntaxKind.{SyntaxKind}, SyntaxKind.{place_of}, Lexical.Tokens.{Lexeme, text_of, tokens_of}}, proofs.LexicalLemmas.Laws.{AreSound-tokens_under}}
+use Rattle.rnix_c.specs.{declared.tokens.RnixToken.{RnixToken}, TokenCalls.{tokens_from, tokens_written}}
 
 -- a token has text
 abbrev HasText : Lexeme → Type 0

@@ -6,9 +6,9 @@ use Rattle.rnix_green.specs.Tree.{Tree, Located, item_of}
 use Rattle.rnix_green.specs.Walk.{Spot, elements_of}
 use Rattle.rnix_base.specs.declared.parts.InterpolPart.{InterpolPart}
 use Rattle.rnix_base.specs.declared.parts.InterpolPart.TheVariants.{Literal, Interpolation}
-use Rattle.rnix.specs.Strings.{normalized_parts}
+use Rattle.rnix.specs.StringParts.{normalized_parts}
 use Rattle.rnix_c.specs.declared.all_strings.RnixStringPart.{RnixStringPart}
-use Rattle.rnix_c.specs.Strings.{located}
+use Rattle.rnix_c.specs.StringCalls.{located}
 
 -- the parts of some strings, and the joined texts of those that are literals
 pub record Found : Type 0 where

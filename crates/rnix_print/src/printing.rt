@@ -3,7 +3,7 @@
 ghost use Rattle.std.specs.Prelude.{OnOk, map};
 ghost use Rattle.std.specs.Io.KnownBytes.{Appends};
 ghost use Rattle.rnix_grammar.specs.Fault.{fault_of};
-ghost use Rattle.rnix_print.specs.Lines.{error_lines};
+ghost use Rattle.rnix_print.specs.OutputLines.{error_lines};
 
 use rnix_grammar::ParseError;
 use std::io;

@@ -5,7 +5,7 @@ ghost use Rattle.std.specs.Io.KnownBytes.{Appends, IsAtEnd};
 ghost use Rattle.rnix_grammar.specs.Fault.{fault_of};
 ghost use Rattle.rnix_print.specs.declared.outcome.RunError.TheVariants as refused;
 ghost use Rattle.rnix_print.specs.Ran.{HasRun, IsNotUtf8};
-ghost use Rattle.rnix_print.specs.Lines.{output};
+ghost use Rattle.rnix_print.specs.OutputLines.{output};
 
 use crate::outcome::RunError;
 use crate::printing::write_errors;

@@ -6,7 +6,7 @@ use Rattle.rnix_grammar.specs.{declared.{position.Position.Position, begin.Begin
 use Rattle.rnix_grammar.specs.AnnotatedForest.{Token, Stray, TooDeep, AnnotatedForest, head_of, end_from, blank, ◌⊕◌, one_branch, one_fault}
 use Rattle.rnix_grammar.specs.Machine.{Node, Operand, Frame, put, opened, with_leading, leaf, behind, item_end, machine, begun, operand_on, reading, limited, run_row, run_rest}
 use Rattle.rnix_reader.specs.{declared.mark.Mark.Mark, State.{State, eaten, bumped, started_here, started, ended, failed}, Erase.{erase, erase_with}}
-use Rattle.rnix_reader.specs.Steps.{node_here, node_started, node_begun, operand_here, operand_begun, lambda_begun, leaf_node_made, parameter_read, binding_read, begins_with}
+use Rattle.rnix_reader.specs.FrameSteps.{node_here, node_started, node_begun, operand_here, operand_begun, lambda_begun, leaf_node_made, parameter_read, binding_read, begins_with}
 use Rattle.rnix_reader.{specs.{Performed.{begun_as, operand_with, operand_read, expression_read}, Reported.limit_reported}}
 use Rattle.rnix_reader.proofs.SkippedRuns.{run_all}
 use Rattle.rnix_reader.proofs.EraseLemmas.{erase-eaten, erase-settled, erase-over, erase-bumped, erase-next, erase-started, erase-first, erase-closed, erase-node_started, erase-operand}

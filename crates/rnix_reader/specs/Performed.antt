@@ -21,7 +21,7 @@ use Rattle.rnix_reader.specs.declared.mark.Mark.{Mark}
 use Rattle.rnix_reader.specs.declared.names.Names.{Names}
 use Rattle.rnix_reader.specs.PatternNames.{entries_in, PatternOpened, PatternClosed, EntryNamed, EntryClosed}
 use Rattle.rnix_reader.specs.State.{State, items_left, IsNextItem, bumped, ended, failed}
-use Rattle.rnix_reader.specs.Steps.{moved_to, node_started, node_begun, leaf_node_made, entry_begun, second_begun, node_wrapped, or_applied, parameter_read, binding_read, operand_begun, node_operand_begun, lambda_begun, begins_with}
+use Rattle.rnix_reader.specs.FrameSteps.{moved_to, node_started, node_begun, leaf_node_made, entry_begun, second_begun, node_wrapped, or_applied, parameter_read, binding_read, operand_begun, node_operand_begun, lambda_begun, begins_with}
 use Rattle.rnix_reader.specs.Reported.{unwanted_reported, extra_reported, stray_reported, limit_reported, end_reported, second_reported}
 
 -- an operand of a level begins with this token, inside so many counted positions

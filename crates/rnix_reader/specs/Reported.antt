@@ -9,7 +9,7 @@ use Rattle.rnix_grammar.specs.AnnotatedForest.{Token, Stray, Unwanted, Extra}
 use Rattle.rnix_grammar.specs.UnwantedRun.{run_of}
 use Rattle.rnix_grammar.specs.Reports.{report}
 use Rattle.rnix_reader.specs.State.{State, items_left, eaten, skipped, started, ended, failed}
-use Rattle.rnix_reader.specs.Steps.{leaf_node_made}
+use Rattle.rnix_reader.specs.FrameSteps.{leaf_node_made}
 
 -- the items that come next, up to one that stops a run
 abbrev pub next_run : ExpectedSet → State → List Token

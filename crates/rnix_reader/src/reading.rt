@@ -14,7 +14,7 @@ ghost use Rattle.rnix_reader.specs.Performed.{EntryReported, IsReady, NamesAfter
 ghost use Rattle.rnix_reader.specs.Placed.{token_of, AreInOrder};
 ghost use Rattle.rnix_reader.specs.Reported.{second_reported};
 ghost use Rattle.rnix_reader.specs.State.{state, items_left, IsNextItem};
-ghost use Rattle.rnix_reader.specs.Steps.{entry_begun, second_begun};
+ghost use Rattle.rnix_reader.specs.FrameSteps.{entry_begun, second_begun};
 
 use crate::cursor::PlacedToken;
 use crate::mark::Mark;

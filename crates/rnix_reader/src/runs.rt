@@ -8,7 +8,7 @@ ghost use Rattle.rnix_grammar.specs.AnnotatedForest.{extent_of, head_kind};
 ghost use Rattle.rnix_reader.specs.Placed.{token_of};
 ghost use Rattle.rnix_reader.specs.State.{state, items_left, skipped, IsNextItem};
 ghost use Rattle.rnix_reader.specs.Reported.{end_reported, error_over, extra_reported, limit_reported, next_run, stray_reported, unwanted_reported};
-ghost use Rattle.rnix_reader.specs.Steps.{leaf_node_made};
+ghost use Rattle.rnix_reader.specs.FrameSteps.{leaf_node_made};
 
 use crate::cursor::PlacedToken;
 use crate::leaf_kind::leaf_kind_as;

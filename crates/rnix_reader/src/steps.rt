@@ -5,7 +5,7 @@ ghost use Rattle.rnix_kinds.specs.declared.kinds.SyntaxKind.TheVariants.{NODE_RO
 ghost use Rattle.rnix_green.specs.Draft.{is_checkpoint_of};
 ghost use Rattle.rnix_grammar.specs.Fault.{ended as ended_fault};
 ghost use Rattle.rnix_reader.specs.State.{state, bumped, failed};
-ghost use Rattle.rnix_reader.specs.Steps.{moved_to, node_started, operand_begun, entry_begun, leaf_node_made, node_begun, or_applied, node_wrapped};
+ghost use Rattle.rnix_reader.specs.FrameSteps.{moved_to, node_started, operand_begun, entry_begun, leaf_node_made, node_begun, or_applied, node_wrapped};
 ghost use Rattle.rnix_reader.specs.Reported.{end_reported};
 
 use crate::cursor::PlacedToken;

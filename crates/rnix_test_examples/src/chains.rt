@@ -6,7 +6,7 @@ use std::alloc::{AllocError, Global};
 use std::test::Fail;
 
 // The set behind lambdas, lets, `with`, `assert` and parentheses.
-#[tactic(auto, using(rnix::proofs::Chains::child_falls))]
+#[tactic(auto, using(rnix::proofs::ChainLemmas::child_falls))]
 fn set_within<'t>(root: &Root<'t>) -> Option<AttrSet<'t>> {
     let mut next = root.expr();
     while let Some(expr) = next {
@@ -24,7 +24,7 @@ fn set_within<'t>(root: &Root<'t>) -> Option<AttrSet<'t>> {
 }
 
 // The comments right before a node, the first first. A blank line ends them.
-#[tactic(auto, using(rnix::proofs::Chains::prev_falls))]
+#[tactic(auto, using(rnix::proofs::ChainLemmas::prev_falls))]
 fn comments_before<'t>(
     alloc: Global,
     node: &SyntaxNode<'t>,
@@ -48,7 +48,7 @@ fn comments_before<'t>(
 }
 
 // How many parameters the function has that is an attribute's value.
-#[tactic(auto, using(rnix::proofs::Chains::child_falls))]
+#[tactic(auto, using(rnix::proofs::ChainLemmas::child_falls))]
 fn parameter_count(entry: &AttrpathValue<'_>) -> usize {
     let mut count: usize = 0;
     let mut value = entry.value();
@@ -60,7 +60,7 @@ fn parameter_count(entry: &AttrpathValue<'_>) -> usize {
 }
 
 // How many elements stand behind the node with its parent.
-#[tactic(auto, using(rnix::proofs::Chains::next_falls))]
+#[tactic(auto, using(rnix::proofs::ChainLemmas::next_falls))]
 fn elements_behind(node: &SyntaxNode<'_>) -> usize {
     let mut count: usize = 0;
     let mut next = node.next_sibling_or_token();
@@ -72,7 +72,7 @@ fn elements_behind(node: &SyntaxNode<'_>) -> usize {
 }
 
 // How many nodes stand behind the node with its parent.
-#[tactic(auto, using(rnix::proofs::Chains::next_node_falls))]
+#[tactic(auto, using(rnix::proofs::ChainLemmas::next_node_falls))]
 fn nodes_behind(node: &SyntaxNode<'_>) -> usize {
     let mut count: usize = 0;
     let mut next = node.next_sibling();
@@ -84,7 +84,7 @@ fn nodes_behind(node: &SyntaxNode<'_>) -> usize {
 }
 
 // How many tokens of the tree come before the token.
-#[tactic(auto, using(rnix::proofs::Chains::prev_token_falls))]
+#[tactic(auto, using(rnix::proofs::ChainLemmas::prev_token_falls))]
 fn tokens_before(token: &SyntaxToken<'_>) -> usize {
     let mut count: usize = 0;
     let mut next = token.prev_token();
@@ -96,7 +96,7 @@ fn tokens_before(token: &SyntaxToken<'_>) -> usize {
 }
 
 // How many sets are around the node.
-#[tactic(auto, using(rnix::proofs::Chains::parent_falls))]
+#[tactic(auto, using(rnix::proofs::ChainLemmas::parent_falls))]
 fn sets_around(node: &SyntaxNode<'_>) -> usize {
     let mut count: usize = 0;
     let mut next = node.parent();
@@ -108,7 +108,7 @@ fn sets_around(node: &SyntaxNode<'_>) -> usize {
 }
 
 // How many nodes lie in one another, each the last of its parent's elements.
-#[tactic(auto, using(rnix::proofs::Chains::last_child_falls))]
+#[tactic(auto, using(rnix::proofs::ChainLemmas::last_child_falls))]
 fn last_in_last(node: &SyntaxNode<'_>) -> usize {
     let mut count: usize = 0;
     let mut next = node.last_child_or_token();

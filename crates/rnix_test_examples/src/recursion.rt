@@ -5,7 +5,7 @@ use rnix::{NodeOrToken, Root, SyntaxKind, SyntaxNode};
 use std::test::Fail;
 
 // How many sets stand in one another where there are most.
-#[tactic(auto, using(rnix::proofs::Inside::child_nodes_fit))]
+#[tactic(auto, using(rnix::proofs::RecursionLemmas::child_nodes_fit))]
 fn nested_sets(node: &SyntaxNode<'_>) -> usize {
     let mut deepest: usize = 0;
     for child in node.children() {
@@ -16,7 +16,7 @@ fn nested_sets(node: &SyntaxNode<'_>) -> usize {
 }
 
 // How many tokens are inside the node.
-#[tactic(auto, using(rnix::proofs::Inside::children_fit))]
+#[tactic(auto, using(rnix::proofs::RecursionLemmas::children_fit))]
 fn tokens_within(node: &SyntaxNode<'_>) -> usize {
     let mut all: usize = 0;
     for element in node.children_with_tokens() {
@@ -30,7 +30,7 @@ fn tokens_within(node: &SyntaxNode<'_>) -> usize {
 }
 
 // How many lists stand in one another where there are most, parentheses around them aside.
-#[tactic(auto, using(rnix::proofs::Inside::child_fits, rnix::proofs::Inside::selected_fit))]
+#[tactic(auto, using(rnix::proofs::RecursionLemmas::child_fits, rnix::proofs::RecursionLemmas::selected_fit))]
 fn nested_lists(expr: &Expr<'_>) -> usize {
     match expr {
         Expr::Paren(paren) => match paren.expr() {
@@ -49,7 +49,7 @@ fn nested_lists(expr: &Expr<'_>) -> usize {
 }
 
 // How many strings stand in one another where there are most.
-#[tactic(auto, using(rnix::proofs::Inside::child_fits, rnix::proofs::Inside::parts_fit))]
+#[tactic(auto, using(rnix::proofs::RecursionLemmas::child_fits, rnix::proofs::RecursionLemmas::parts_fit))]
 fn nested_strings(expr: &Expr<'_>) -> usize {
     let Expr::Str(string) = expr else {
         return 0;

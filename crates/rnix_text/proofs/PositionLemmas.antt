@@ -1,9 +1,9 @@
 -- The position of an offset, counted from the last mark in front of it.
 use Rattle.std.proofs.Common.{◌≡◌, ℕ, zero, suc, ◌+◌, ◌-◌, ◌≤◌, ◌<◌, ◌^◌, inl, inr, length-take-le, List, [], ◌∷◌, length, take, fold, Bool, true, false, refl}
 use Rattle.std.{proofs.{Common.{ap, sym, ◌∙◌, subst, arith}, lemmas.Bool.Decides.nat_tests}, specs.{Prelude.if◌then◌else◌, Str.IsCharBoundary}}
-use Rattle.rnix_text.specs.{declared.mark.{ColumnUnit.ColumnUnit, Position.Position, Mark.Mark}, Positions.{origin, step, position_at}, Texts.Counted}
-use Rattle.rnix_text.specs.{Texts.last_mark, Marks.{is_plain, is_before, first_mark, mark_behind, marks_behind, last_of, position_behind}}
-use Rattle.rnix_text.proofs.{StepLemmas.{plain_step, column_bound}, MarkLemmas.{last_here, last_alike}}
+use Rattle.rnix_text.specs.{declared.mark.{ColumnUnit.ColumnUnit, Position.Position, Mark.Mark}, Positions.{origin, step, position_at}, TextColumns.Counted}
+use Rattle.rnix_text.specs.{TextColumns.last_mark, Marks.{is_plain, is_before, first_mark, mark_behind, marks_behind, last_of, position_behind}}
+use Rattle.rnix_text.proofs.{ByteSteps.{plain_step, column_bound}, MarkLemmas.{last_here, last_alike}}
 
 -- a mark in front of an offset stands behind others in front of it
 pub before_back : (unit : ColumnUnit) (o : ℕ) (m : Mark) (b : ℕ) → is_before o (mark_behind unit m b) ≡ true → is_before o m ≡ true

@@ -1,5 +1,5 @@
 use Rattle.{std.proofs.Common.{[], ◌∷◌, ap, refl, length, arith}, rnix_base.specs.declared.parts.InterpolPart.TheVariants.Interpolation}
-use Rattle.rnix_base.proofs.{KeptLemmas.grown, StepLemmas.{quoted_next, pushed}}
+use Rattle.rnix_base.proofs.{UnindentLemmas.grown, NextPartLemmas.{quoted_next, pushed}}
 use Rattle.rnix_base.proofs.normal.quoted_parts.Goals as goal
 
 pub loop-part-preserved : goal.loop-part-preserved

@@ -1,5 +1,5 @@
 use Rattle.std.proofs.{Common.{map, ap, sym, ◌∙◌, arith}, lemmas.List.{get_or-map, length-map}}
-use Rattle.{nix_scopes.specs.Bound.{resolved_of}, rnix_c.{specs.Names.{reference_of}, proofs.FilledLemmas.{filled-none, filled-more, filled-all}}}
+use Rattle.{nix_scopes.specs.Bound.{resolved_of}, rnix_c.{specs.NameCalls.{reference_of}, proofs.FilledLemmas.{filled-none, filled-more, filled-all}}}
 use Rattle.rnix_c.proofs.names.fill_references.Goals as goal
 
 pub loop-number-init : goal.loop-number-init

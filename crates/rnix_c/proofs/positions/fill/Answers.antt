@@ -1,5 +1,5 @@
 use Rattle.std.proofs.{Common.{sym, ◌∙◌, arith}, lemmas.List.{get_or-map, length-map}}
-use Rattle.rnix_c.{specs.Positions.{position_of, positions_of}, proofs.FilledLemmas.{filled-none, filled-more, filled-all}}
+use Rattle.rnix_c.{specs.PositionCalls.{position_of, positions_of}, proofs.FilledLemmas.{filled-none, filled-more, filled-all}}
 use Rattle.rnix_c.proofs.positions.fill.Goals as goal
 
 pub loop-number-init : goal.loop-number-init

@@ -1,5 +1,5 @@
 use Rattle.std.proofs.lemmas.Iterator.Consumers.{nth_from_yields_List, YieldsList-from_first}
-use Rattle.{rnix_green.specs.Walk.{elements_of}, rnix_tree.specs.Spots.{spot_of}, rnix_c.specs.Strings.{located}}
+use Rattle.{rnix_green.specs.Walk.{elements_of}, rnix_tree.specs.Spots.{spot_of}, rnix_c.specs.StringCalls.{located}}
 use Rattle.std.proofs.Common.{ap, ◌∙◌}
 use Rattle.rnix_c.proofs.strings.element_at.Goals as goal
 

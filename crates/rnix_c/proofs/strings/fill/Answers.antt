@@ -1,6 +1,6 @@
 use Rattle.std.{proofs.{Common.{List, ℕ, ◌≡◌, ◌+◌, drop, get_or, sym, ap, ◌∙◌, arith}, lemmas.List.{get_or-map, get_or_default, length-map}}, specs.Prelude.{string_bytes}}
 use Rattle.rnix_base.specs.{declared.parts.InterpolPart.{InterpolPart}, Normal.{owned, with_text}}
-use Rattle.{rnix_green.specs.Tree.{Located}, rnix_c.specs.Strings.{part_at, parts_from}}
+use Rattle.{rnix_green.specs.Tree.{Located}, rnix_c.specs.StringCalls.{part_at, parts_from}}
 use Rattle.rnix_c.proofs.{FilledLemmas.{filled-more, filled-all}, WrittenParts.{length-parts_from, next_is, rest_is}}
 use Rattle.rnix_c.proofs.strings.fill.Goals as goal
 

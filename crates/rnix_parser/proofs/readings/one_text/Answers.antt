@@ -1,4 +1,4 @@
-use Rattle.{std.proofs.Common.[], rnix_kinds.proofs.Lexical.Laws.AreSound-tokens_under, rnix_parser.proofs.OneReading.one_text}
+use Rattle.{std.proofs.Common.[], rnix_kinds.proofs.LexicalLemmas.Laws.AreSound-tokens_under, rnix_parser.proofs.OneReading.one_text}
 use Rattle.rnix_parser.proofs.readings.one_text.Goals as goal
 
 pub returns : goal.returns

@@ -1,4 +1,4 @@
-use Rattle.{std.{proofs.Common.{take, map}, specs.Io.KnownBytes.Appends}, rnix_grammar.specs.Fault.fault_of, rnix_print.specs.Lines.error_lines}
+use Rattle.{std.{proofs.Common.{take, map}, specs.Io.KnownBytes.Appends}, rnix_grammar.specs.Fault.fault_of, rnix_print.specs.OutputLines.error_lines}
 use Rattle.rnix_print.proofs.printing.write_errors.Given as goal
 
 abbrev pub invariant-loop-error : goal.invariant-loop-error

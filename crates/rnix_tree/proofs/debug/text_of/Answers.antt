@@ -1,6 +1,6 @@
 use Rattle.std.{proofs.{Common.{◌≡◌, Some, Ok, IfSome, subst, sym, ap, refl, ◌∙◌}, Output.displays_on_ok_of_eq}, specs.Fmt.formatter_writer}
 use Rattle.{std.specs.Fmt.InlineText.{inline_text, IsIntact, AppendsIfIntact}, rnix_green.specs.{Range.bounds_of, Tree.{item_of, extent_of}}}
-use Rattle.rnix_tree.{specs.{Lines.{element_text, spot_text, token_text}, Spots.spot_of}, proofs.TextLemmas.inline_told}
+use Rattle.rnix_tree.{specs.{Lines.{element_text, spot_text, token_text}, Spots.spot_of}, proofs.DumpTextLemmas.inline_told}
 use Rattle.rnix_tree.proofs.debug.text_of.Goals.{in-Node+in_ok-write_place-in-Node, in-Token+in_ok-write_token-in-Token}
 use Rattle.rnix_tree.proofs.debug.text_of.Goals as goal
 

@@ -1,6 +1,6 @@
 use Rattle.std.{proofs.{Common.{ℕ, List, [], Option, Some, None, Ok, IfSome, subst, ap, ◌∙◌, refl}, Output.has_written_styled_nil}, specs.Fmt.{◌++?◌, IsFlush}}
 use Rattle.{std.specs.Fmt.{HasWrittenStyled, DisplaysStyledOnOk}, rnix_tree.specs.{Spots.spot_of, Lines.{text_line, text_lines_of}, Walked.event_texts}}
-use Rattle.rnix_tree.proofs.{DumpLemmas.{deeper, begun}, TextLemmas.{entered, finished, nothing_first, written_more}}
+use Rattle.rnix_tree.proofs.{DumpLemmas.{deeper, begun}, DumpTextLemmas.{entered, finished, nothing_first, written_more}}
 use Rattle.rnix_tree.proofs.debug.write_tree.Goals as goal
 
 pub loop-event-init : goal.loop-event-init

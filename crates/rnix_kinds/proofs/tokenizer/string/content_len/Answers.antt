@@ -1,6 +1,6 @@
 use Rattle.std.proofs.{Common.{◌≡◌, ◌+◌, ◌<◌, ◌≤◌, length, arith, drop, length-drop, sym, ◌∙◌, ap}, lemmas.List.{drop-drop, drop_all, take_rest}}
-use Rattle.rnix_kinds.{specs.Lexical.Strings.content_len, proofs.Lexical.StringsLemmas.{content_len-run_end, content_len-stop, content_len-piece}}
-use Rattle.rnix_kinds.proofs.Lexical.StringsLemmas.{content_len-past, content_len-nil}
+use Rattle.rnix_kinds.{specs.Lexical.Strings.content_len, proofs.LexicalLemmas.StringsLemmas.{content_len-run_end, content_len-stop, content_len-piece}}
+use Rattle.rnix_kinds.proofs.LexicalLemmas.StringsLemmas.{content_len-past, content_len-nil}
 use Rattle.rnix_kinds.proofs.tokenizer.string.content_len.Goals as goal
 
 pub returns-then-len-eq0-clause-value : goal.returns-then-len-eq0-clause-value

@@ -2,7 +2,7 @@
 use Rattle.std.proofs.Common.{◌≡◌, ℕ, suc, ◌+◌, ◌<◌, Bool, true, false, ◌==◌, List, [], ◌∷◌, length, drop, get_or, refl, ap, get_or-drop, length-drop, arith}
 use Rattle.std.{proofs.lemmas.{Bool.Decides.nat_tests, List.{drop-drop, Sums.prefix_len_stops}}, specs.List.prefix_len}
 use Rattle.rnix_kinds.specs.{declared.tokenizer.text.Class.TheVariants.Comment, Lexical.{Classes.class_test, Texts.{before_pair, run_end}}}
-use Rattle.rnix_kinds.proofs.Lexical.WordsLemmas.{before_pair-turn}
+use Rattle.rnix_kinds.proofs.LexicalLemmas.WordsLemmas.{before_pair-turn}
 
 -- how many bytes come before the end of a comment
 abbrev end_in : List ℕ → ℕ

@@ -3,7 +3,7 @@ use Rattle.std.proofs.Common.{◌≡◌, ◌≢◌, ◌<◌, ◌≤◌, ◌++◌
 use Rattle.std.{proofs.{Common.{append_assoc, append-nil}, lemmas.Bool.Decides.nat_tests}, specs.Prelude.{if◌then◌else◌, option_to_list}}
 use Rattle.rnix_base.specs.{declared.parts.InterpolPart.TheVariants.{Literal, Interpolation}, Escapes.unescaped, Normal.{Parts, Symbol, symbols, lines}}
 use Rattle.rnix_base.specs.Normal.{least_indentation, unindented, text_of, with_texts, with_text, without_last_spaces, opened, closed, indented_parts}
-use Rattle.rnix_base.{specs.Indent.{is_lost, left_after, kept, left_behind, indent_of, no_indent}, proofs.LineLemmas.{row_kept, row_kept-lines, kept_step}}
+use Rattle.rnix_base.{specs.Indent.{is_lost, left_after, kept, left_behind, indent_of, no_indent}, proofs.SymbolLineLemmas.{row_kept, row_kept-lines, kept_step}}
 use Rattle.rnix_base.proofs.LeastLemmas.{least-parts}
 
 -- the parts without indentation, part by part

@@ -13,12 +13,12 @@ use Rattle.rnix_kinds.specs.Lexical.Paths.{is_broken, segment, first_segment, sl
 use Rattle.rnix_kinds.specs.Lexical.{Strings.{piece_len, content_len, string_cut}, Tokens.{CountsUp, opens_alone, opens, IsPathBegun, IsCutOf, IsPathGoingOn}}
 use Rattle.rnix_kinds.specs.Lexical.{Tokens.{first_that_fits, normal_rules, normal_cut, cut_at}, Numbers.{number, digits_to, fraction, exponent}}
 use Rattle.rnix_kinds.specs.Lexical.{Numbers.exponent_digits, Operators.{ellipsis, opener, brace, operator, operators, first_row}}
-use Rattle.rnix_kinds.proofs.Lexical.{StringsLemmas.{content_len-le, content_len-stops}, WordsLemmas.{IsCharBoundary-space_len, IsCharBoundary-char_len}}
-use Rattle.rnix_kinds.proofs.Lexical.{WordsLemmas.char_len_some, CutParts.{FitsWell, if_fits, if_good, is_free, free_named, free_if, free_path, path_opens}}
-use Rattle.rnix_kinds.proofs.Lexical.CutParts.{interpolation_next, good_named, good_plain, is_plain_byte, byte_end, stands_end, run_boundary, run_some}
-use Rattle.rnix_kinds.proofs.Lexical.CutParts.{alphabetic_uri, letter_name, word_named, exponent_mark, exponent_sign, block_good, opening_brace_good}
-use Rattle.rnix_kinds.proofs.Lexical.CutParts.{closing_brace_good, path_some, slash_path, slash_is_path, step_path, positive_from, none_from, or_right}
-use Rattle.rnix_kinds.proofs.Lexical.CutParts.{tilde_good, search_boundary, content_boundary, closer_cut}
+use Rattle.rnix_kinds.proofs.LexicalLemmas.{StringsLemmas.{content_len-le, content_len-stops}, WordsLemmas.{IsCharBoundary-space_len, IsCharBoundary-char_len}}
+use Rattle.rnix_kinds.proofs.LexicalLemmas.{WordsLemmas.char_len_some, CutParts.{FitsWell, if_fits, if_good, is_free, free_named, free_if, free_path, path_opens}}
+use Rattle.rnix_kinds.proofs.LexicalLemmas.CutParts.{interpolation_next, good_named, good_plain, is_plain_byte, byte_end, stands_end, run_boundary, run_some}
+use Rattle.rnix_kinds.proofs.LexicalLemmas.CutParts.{alphabetic_uri, letter_name, word_named, exponent_mark, exponent_sign, block_good, opening_brace_good}
+use Rattle.rnix_kinds.proofs.LexicalLemmas.CutParts.{closing_brace_good, path_some, slash_path, slash_is_path, step_path, positive_from, none_from, or_right}
+use Rattle.rnix_kinds.proofs.LexicalLemmas.CutParts.{tilde_good, search_boundary, content_boundary, closer_cut}
 
 module _ (top : Option Mode) (text : List ℕ) (utf8 : IsUtf8 text) (some : 0 < length text) where
   good_begins : (kind : SyntaxKind) (bytes : List ℕ) → is_free kind ≡ true → 0 < length bytes → list_all is_plain_byte bytes ≡ true → begins bytes text ≡ true

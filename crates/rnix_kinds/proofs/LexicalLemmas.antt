@@ -1,5 +1,5 @@
 -- Lemmas on the lexical rules.
-pub mod ClassTable
+pub mod ClassTableLemmas
 pub mod CutLemmas
 pub mod CutParts
 pub mod FirstBytes

@@ -11,8 +11,8 @@ use Rattle.rnix_kinds.specs.declared.tokenizer.rule.{PathStart.TheVariants.Home 
 use Rattle.rnix_kinds.specs.declared.tokenizer.{rule.Change.TheVariants.Close, text.Class.{Class, TheVariants.{Name, Step, Angle}}}
 use Rattle.rnix_kinds.specs.Lexical.{PathKinds.kind_of_path, Texts.{stands_at, begins, run_end, before_pair, char_len}, Classes.{class_test, is_path, is_uri}}
 use Rattle.rnix_kinds.specs.Lexical.{Plain.{plain, block_comment, word, kind_of_word}, Strings.{piece_len, content_len}, Tokens.{MayBe, opens_path, IsCutOf}}
-use Rattle.rnix_kinds.{specs.{Lexical.Operators.{opening_brace, closing_brace}, SyntaxKind.is_token}, proofs.Lexical.StringsLemmas.content_len-stops}
-use Rattle.rnix_kinds.proofs.Lexical.WordsLemmas.{within_from_byte, IsCharBoundary-run, IsCharBoundary-char_len, before_pair-le, before_pair-found}
+use Rattle.rnix_kinds.{specs.{Lexical.Operators.{opening_brace, closing_brace}, SyntaxKind.is_token}, proofs.LexicalLemmas.StringsLemmas.content_len-stops}
+use Rattle.rnix_kinds.proofs.LexicalLemmas.WordsLemmas.{within_from_byte, IsCharBoundary-run, IsCharBoundary-char_len, before_pair-le, before_pair-found}
 
 -- if the rule fits, its cut is good
 abbrev pub FitsWell : Option Mode → List ℕ → Option Cut → Type 0

@@ -7,7 +7,7 @@ use Rattle.rnix_kinds.specs.{declared.tokenizer.{rule.Mode.Mode, text.Class.TheV
 use Rattle.rnix_kinds.specs.Lexical.{Texts.{before_pair, space_len, run_end}, Plain.{plain, block_comment, space, kind_of_word, comment, uri, word}}
 use Rattle.rnix_kinds.specs.Lexical.{Plain.{begins_word, goes_past_name}, Paths.{slash, home, relative, search_path, goes_on_as_path}, Numbers.number}
 use Rattle.rnix_kinds.specs.Lexical.{Operators.{ellipsis, opener, opening_brace, closing_brace, brace, operator}, Tokens.{first_that_fits, normal_rules}}
-use Rattle.rnix_kinds.{specs.Lexical.Tokens.{one_error, normal_cut}, proofs.Lexical.WordsLemmas.{space_len-stop, space_len-step}}
+use Rattle.rnix_kinds.{specs.Lexical.Tokens.{one_error, normal_cut}, proofs.LexicalLemmas.WordsLemmas.{space_len-stop, space_len-step}}
 
 no_cut : (a b : Bool) (cut : Cut) → b ≡ false → cond (a && b) (Some cut) None ≡ None
 no_cut true b cut e = rw e refl

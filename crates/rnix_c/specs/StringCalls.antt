@@ -6,7 +6,7 @@ use Rattle.rnix_green.specs.Tree.{Tree, Located, item_of, IsNodeAt}
 use Rattle.rnix_base.specs.declared.parts.InterpolPart.{InterpolPart}
 use Rattle.rnix_base.specs.declared.parts.InterpolPart.TheVariants.{Literal, Interpolation}
 use Rattle.rnix_base.specs.Normal.{Parts}
-use Rattle.rnix.specs.Strings.{normalized_parts}
+use Rattle.rnix.specs.StringParts.{normalized_parts}
 use Rattle.rnix_c.specs.declared.strings.RnixPart.{RnixPart}
 use Rattle.rnix_c.specs.Answers.{none_such, IsWritten}
 

@@ -2,8 +2,8 @@
 use Rattle.std.proofs.Common.{◌≡◌, ℕ, zero, suc, ◌+◌, ◌<◌, ◌≤◌, Bool, true, false, List, [], ◌∷◌, length, take, drop, refl, sym, subst, inl, inr, arith}
 use Rattle.std.{proofs.{Common.length-drop, lemmas.{Bool.{cases_lt, and_parts}, List.Sums.prefix_len-le-length}}, specs.List.{list_all, prefix_len}}
 use Rattle.rnix_kinds.specs.Lexical.{Strings.{piece_len, content_len}, Texts.before_pair, Longest.{IsLongest, IsRun, IsRow, empty, piece, IsFirstPair}}
-use Rattle.rnix_kinds.proofs.Lexical.{StringsLemmas.{content_len-piece, content_len-stop, content_len-past}, WordsLemmas.{before_pair-le, before_pair-found}}
-use Rattle.rnix_kinds.proofs.Lexical.WordsLemmas.{before_pair-begins, before_pair-first, within_from_byte}
+use Rattle.rnix_kinds.proofs.LexicalLemmas.{StringsLemmas.{content_len-piece, content_len-stop, content_len-past}, WordsLemmas.{before_pair-le, before_pair-found}}
+use Rattle.rnix_kinds.proofs.LexicalLemmas.WordsLemmas.{before_pair-begins, before_pair-first, within_from_byte}
 
 run_step : (p : ℕ → Bool) (x : ℕ) (xs : List ℕ) (b : Bool) → p x ≡ b → list_all p (take (prefix_len p xs) xs) ≡ true
     → list_all p (take (prefix_len p (x ∷ xs)) (x ∷ xs)) ≡ true

@@ -2,7 +2,7 @@
 use Rattle.std.proofs.Common.{◌≡◌, ◌≢◌, ◌++◌, ◌∙◌, ℕ, true, List, [], ◌∷◌, refl, sym, ap, length, arith, append-nil, String, string_bytes}
 use Rattle.{std.proofs.lemmas.List.map_push, rnix_base.specs.declared.parts.InterpolPart.{InterpolPart, TheVariants.{Literal, Interpolation}}}
 use Rattle.rnix_base.specs.{Escapes.unescaped, Normal.{Parts, with_text, borrowed, owned, without_last_spaces, quoted_parts}, Indent.{kept, left_behind}}
-use Rattle.rnix_base.proofs.PartLemmas.{last_text, indented_from}
+use Rattle.rnix_base.proofs.StringPartLemmas.{last_text, indented_from}
 use denote.Ref.{Bor}
 
 -- the next part

@@ -2,8 +2,8 @@
 use Rattle.std.proofs.Common.{◌≡◌, ℕ, zero, suc, ◌<◌, ◌≤◌, List, [], ◌∷◌, ◌++◌, length, take, drop, IsUtf8, refl, sym, ap, ◌∙◌, subst, arith, length-drop}
 use Rattle.std.proofs.{Common.{length-take-le, take-append-drop}, lemmas.{List.Elements.{All-nil, All-cons}, Str.{IsUtf8-drop, IsUtf8-take}}}
 use Rattle.rnix_kinds.specs.{declared.tokenizer.rule.{Cut.Cut, Mode.Mode}, Lexical.Tokens.{cut_at, top, without_ended_paths, changed, tokens_under, Lexeme}}
-use Rattle.rnix_kinds.{specs.Lexical.Tokens.{MayBe, IsCutOf, AreTokens, none, next, AreSound}, proofs.Lexical.CutLemmas.cut_good}
-use Rattle.rnix_kinds.proofs.Lexical.TokensLemmas.{tokens_under-nil, tokens_under-cut, IsPathGoingOn-settled}
+use Rattle.rnix_kinds.{specs.Lexical.Tokens.{MayBe, IsCutOf, AreTokens, none, next, AreSound}, proofs.LexicalLemmas.CutLemmas.cut_good}
+use Rattle.rnix_kinds.proofs.LexicalLemmas.TokensLemmas.{tokens_under-nil, tokens_under-cut, IsPathGoingOn-settled}
 
 -- an induction over the tokens of a text
 module _ (P : List Mode → List ℕ → List Lexeme → Type 0) (end : (modes : List Mode) → P modes [] [])
