@@ -1,7 +1,7 @@
 //! Finding and reading files.
 
 use crate::arguments::Program;
-use crate::replacing::replace_text;
+use crate::file_replacement::replace_text;
 use std::io::{Read, Write};
 use std::{fs, io};
 

@@ -1,7 +1,7 @@
 -- What calls write of the lines and columns of offsets.
 use Rattle.std.specs.Prelude.{◌≡◌, ◌⊎◌, ◌<◌, ◌-◌, ◌^◌, ◌&&◌, ◌||◌, ℕ, ℤ, nat_lt, nat_le, Bool, List, map, length, slice_index, IsUtf8, if◌then◌else◌}
-use Rattle.rnix_text.specs.declared.mark.ColumnUnit.{ColumnUnit}
-use Rattle.rnix_text.specs.declared.mark.ColumnUnit.TheVariants.{Bytes, Chars, Utf16}
+use Rattle.rnix_text.specs.declared.line_column.ColumnUnit.{ColumnUnit}
+use Rattle.rnix_text.specs.declared.line_column.ColumnUnit.TheVariants.{Bytes, Chars, Utf16}
 use Rattle.rnix_text.specs.Positions.{position_at}
 use Rattle.rnix_c.specs.declared.positions.RnixPosition.{RnixPosition}
 use Rattle.rnix_c.specs.Answers.{none_such, IsRefused, IsWritten}

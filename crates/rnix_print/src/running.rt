@@ -7,9 +7,9 @@ ghost use Rattle.rnix_print.specs.declared.outcome.RunError.TheVariants as refus
 ghost use Rattle.rnix_print.specs.Ran.{HasRun, IsNotUtf8};
 ghost use Rattle.rnix_print.specs.OutputLines.{output};
 
+use crate::error_lines::write_errors;
+use crate::input::read_all;
 use crate::outcome::RunError;
-use crate::printing::write_errors;
-use crate::reading::read_all;
 use crate::tree_lines::write_tree;
 use rnix_grammar::ParseError;
 use rnix_kinds::tokenize;

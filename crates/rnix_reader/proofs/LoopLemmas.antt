@@ -5,7 +5,7 @@ use Rattle.rnix_grammar.specs.{declared.{slot_table.TheConstants.ROOT, action.Ac
 use Rattle.rnix_grammar.specs.{AnnotatedForest.{forget, head_kind, touches}, Layout.{items, from_item}, Fault.Fault, Allowed.Allowed, FrameKinds.AreStacked}
 use Rattle.rnix_grammar.specs.Machine.{Head, Node, Machine, opened, with_leading, machine, begins, step, Runs, rest as here, then as further}
 use Rattle.{rnix_proof_lemmas.proofs.{StackedFrames.step_stacked, AllowedLemmas.allowed}, rnix_reader.specs.declared.mark.Mark.Mark}
-use Rattle.rnix_reader.specs.{declared.names.Names.Names, Placed.AreInOrder, PatternNames.entries_in, State.{State, with_marks, eaten, ended}, Erase.marks_of}
+use Rattle.rnix_reader.specs.{declared.pattern_names.Names.Names, Placed.AreInOrder, PatternNames.entries_in, State.{State, with_marks, eaten, ended}, Erase.marks_of}
 use Rattle.rnix_reader.specs.{Erase.{mark_of, erase, erase_with, popped}, Holds.{IsGoing, IsThrough, IsReadTo, work}, Performed.{Performed, NamesAfter, IsReady}}
 use Rattle.rnix_reader.{specs.Performed.{action_of, is_finish}, proofs.{StateLemmas.state_is, DocumentLemmas.root_through, EraseLemmas.erase-eaten}}
 use Rattle.rnix_reader.proofs.{StepsOfReader.{ready, performs}, GoesLemmas.Goes, PerformLemmas.perform_goes, WorkLemmas.{work_is, perform_less}}

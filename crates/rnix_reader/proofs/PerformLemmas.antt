@@ -8,7 +8,7 @@ use Rattle.rnix_grammar.specs.Machine.{Node, Operand, Frame, put, opened, with_l
 use Rattle.rnix_grammar.specs.{Machine.{dropped, machine, closed, entry_closed, perform}, UnwantedRun.run_of, FrameKinds.{Pattern, Entry, OperandFrame, frame_kind, is_open, IsStackedOn}, Allowed.Allowed}
 use Rattle.{rnix_grammar.specs.Allowed.is_there, rnix_proof_lemmas.proofs.{Basics.true_is_not_false, AnnotatedForestLemmas.tokens_in-row_of}}
 use Rattle.rnix_proof_lemmas.proofs.{WithoutTriviaLemmas.{leaf_without_trivia, item_end_items, run_prefix, all_prefix, run_bared}, LayoutLemmas.first_item}
-use Rattle.{rnix_proof_lemmas.proofs.LayoutLemmas.without_trivia-trivia, rnix_reader.specs.{declared.names.Names.Names, PatternNames.{PatternClosed, EntryClosed, EntryNamed}}}
+use Rattle.{rnix_proof_lemmas.proofs.LayoutLemmas.without_trivia-trivia, rnix_reader.specs.{declared.pattern_names.Names.Names, PatternNames.{PatternClosed, EntryClosed, EntryNamed}}}
 use Rattle.rnix_reader.specs.{Placed.AreInOrder, Erase.{mark_of, popped}, State.{pushed, started_at}, Holds.{IsBegun, AreNamed, IsWell}, Performed.NamesAfter}
 use Rattle.rnix_reader.{specs.Performed.{DoubleBindOpened, is_finish}, proofs.{FrameKindLemmas.{head_operand, is_root, head_sort, head_pattern}, EntryLemmas.entry_there}}
 use Rattle.rnix_reader.proofs.{OrderLemmas.{order_from, order_behind, reach_least, order_run, order_all}, RowLemmas.{HasNoEntry, no_entry_leaf, no_entry_fault}}

@@ -6,7 +6,7 @@ use Rattle.rnix_grammar.specs.AnnotatedForest.{Token, Note, AnnotatedForest, bla
 use Rattle.rnix_grammar.specs.{AnnotatedForest.{end_from, extent_of}, Layout.{items, trivia_before}, Reports.{entry_name, is_same_name, has_entry}}
 use Rattle.{rnix_grammar.specs.{Machine.{Head, Node, SecondBind, Operand, leaf, leaf_in}, FrameKinds.frame_kind_of_head}, rnix_proof_lemmas.proofs.Basics.true_is_not_false}
 use Rattle.rnix_proof_lemmas.proofs.{AnnotatedForestLemmas.tokens_in-⊕, WithoutTriviaLemmas.leaf_without_trivia, LayoutLemmas.without_trivia-⊕}
-use Rattle.{rnix_proof_lemmas.proofs.{LayoutLemmas.without_trivia-trivia, TokenEnds.end_behind}, rnix_reader.specs.{declared.names.NameSet.NameSet, PatternNames.has_name}}
+use Rattle.{rnix_proof_lemmas.proofs.{LayoutLemmas.without_trivia-trivia, TokenEnds.end_behind}, rnix_reader.specs.{declared.pattern_names.NameSet.NameSet, PatternNames.has_name}}
 use Rattle.rnix_reader.{specs.Holds.{IsBegun, HasRange, name_of, AreOpenSetsOn}, proofs.FrameKindLemmas.is_pattern}
 
 -- a row has no entry of a pattern

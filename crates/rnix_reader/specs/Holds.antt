@@ -14,8 +14,8 @@ use Rattle.rnix_grammar.specs.Fault.{Fault}
 use Rattle.rnix_grammar.specs.FrameKinds.{IsStackedOn}
 use Rattle.rnix_grammar.specs.Measures.{measure, begin_measure}
 use Rattle.rnix_reader.specs.declared.mark.Mark.{Mark}
-use Rattle.rnix_reader.specs.declared.names.NameSet.{NameSet}
-use Rattle.rnix_reader.specs.declared.names.Names.{Names}
+use Rattle.rnix_reader.specs.declared.pattern_names.NameSet.{NameSet}
+use Rattle.rnix_reader.specs.declared.pattern_names.Names.{Names}
 use Rattle.rnix_reader.specs.Placed.{AreInOrder}
 use Rattle.rnix_reader.specs.PatternNames.{has_name, entries_in, entry_at}
 use Rattle.rnix_reader.specs.State.{State, items_left}

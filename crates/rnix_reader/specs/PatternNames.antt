@@ -7,8 +7,8 @@ use Rattle.std.specs.Str.{bytes_eq}
 use Rattle.rnix_green.specs.Range.{Extent, bounds_of}
 use Rattle.rnix_grammar.specs.Fault.{Fault, named_twice}
 use Rattle.rnix_grammar.specs.AnnotatedForest.{Token}
-use Rattle.rnix_reader.specs.declared.names.NameSet.{NameSet}
-use Rattle.rnix_reader.specs.declared.names.Names.{Names}
+use Rattle.rnix_reader.specs.declared.pattern_names.NameSet.{NameSet}
+use Rattle.rnix_reader.specs.declared.pattern_names.Names.{Names}
 
 -- a set has the name
 abbrev pub has_name : List ℕ → NameSet → Bool

@@ -18,7 +18,7 @@ use Rattle.rnix_grammar.specs.Levels.{no_level, application_level, selection_lev
 use Rattle.rnix_grammar.specs.Machine.{min_bp_of}
 use Rattle.rnix_grammar.specs.Tables.{depth_limit, stops}
 use Rattle.rnix_reader.specs.declared.mark.Mark.{Mark}
-use Rattle.rnix_reader.specs.declared.names.Names.{Names}
+use Rattle.rnix_reader.specs.declared.pattern_names.Names.{Names}
 use Rattle.rnix_reader.specs.PatternNames.{entries_in, PatternOpened, PatternClosed, EntryNamed, EntryClosed}
 use Rattle.rnix_reader.specs.State.{State, items_left, IsNextItem, bumped, ended, failed}
 use Rattle.rnix_reader.specs.FrameSteps.{moved_to, node_started, node_begun, leaf_node_made, entry_begun, second_begun, node_wrapped, or_applied, parameter_read, binding_read, operand_begun, node_operand_begun, lambda_begun, begins_with}

@@ -18,8 +18,8 @@ ghost use Rattle.rnix_reader.specs.FrameSteps.{entry_begun, second_begun};
 
 use crate::cursor::PlacedToken;
 use crate::mark::Mark;
-use crate::names::Names;
 use crate::parser::Parser;
+use crate::pattern_names::Names;
 use rnix_grammar::{
     APPLICATION_LEVEL, APPLIED, Action, BOUND_PATTERN, Begin, EXPRESSION_LEVEL, ExpectedSet,
     LEGACY_LET, NO_LEVEL, PATTERN, ParseError, Position, SECOND_BIND, SELECTION_LEVEL, action_at,

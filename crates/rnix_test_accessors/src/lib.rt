@@ -2,7 +2,7 @@
 #![tactic(auto)]
 
 #[cfg(test)]
-mod built;
+mod built_nodes;
 #[cfg(test)]
 mod describe;
 #[cfg(test)]

@@ -2,7 +2,7 @@
 
 use crate::again::{read_again, report_refusal};
 use crate::compared::prints;
-use crate::parsed::EMPTY_PARENTHESIS;
+use crate::parsing::EMPTY_PARENTHESIS;
 use rnix::Parse;
 use std::alloc::AllocError;
 use std::process::Abort;

@@ -5,14 +5,14 @@
 #[cfg(test)]
 mod again;
 #[cfg(test)]
-mod built;
+mod builder_calls;
 #[cfg(test)]
 mod compared;
 #[cfg(test)]
 mod copied;
 #[cfg(test)]
-mod parsed;
+mod parsing;
 #[cfg(test)]
-mod parts;
+mod string_parts;
 #[cfg(test)]
 mod tokens;

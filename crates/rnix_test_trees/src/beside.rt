@@ -1,6 +1,6 @@
 //! Along the siblings of a node.
 
-use crate::found::{is_element, is_node};
+use crate::expected::{is_element, is_node};
 use crate::parsed::Parsed;
 use rnix_kinds::SyntaxKind;
 use rnix_tree::{Direction, SyntaxNode};

@@ -1,6 +1,6 @@
 //! What the calls of an element return, and the elements that contain a range.
 
-use crate::found::{is_node, is_token};
+use crate::expected::{is_node, is_token};
 use crate::parsed::Parsed;
 use rnix_green::TextRange;
 use rnix_kinds::SyntaxKind;

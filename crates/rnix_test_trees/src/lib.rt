@@ -4,7 +4,9 @@
 #[cfg(test)]
 mod beside;
 #[cfg(test)]
-mod built;
+mod builder_steps;
+#[cfg(test)]
+mod built_trees;
 #[cfg(test)]
 mod elements;
 #[cfg(test)]
@@ -12,9 +14,9 @@ mod ends;
 #[cfg(test)]
 mod errors;
 #[cfg(test)]
-mod faults;
+mod expected;
 #[cfg(test)]
-mod found;
+mod faults;
 #[cfg(test)]
 mod identity;
 #[cfg(test)]
@@ -24,19 +26,17 @@ mod parsed;
 #[cfg(test)]
 mod pointers;
 #[cfg(test)]
-mod printed;
+mod program_runs;
 #[cfg(test)]
 mod proportion;
 #[cfg(test)]
 mod ranges;
 #[cfg(test)]
-mod runs;
-#[cfg(test)]
 mod skipping;
 #[cfg(test)]
-mod steps;
-#[cfg(test)]
 mod texts;
+#[cfg(test)]
+mod tree_printing;
 #[cfg(test)]
 mod trees;
 #[cfg(test)]

@@ -1,6 +1,6 @@
 //! Pointers to nodes.
 
-use crate::steps::{Step, built};
+use crate::builder_steps::{Step, built};
 use rnix_kinds::SyntaxKind;
 use rnix_tree::{GreenNode, SyntaxNode, SyntaxNodePtr, TextRange};
 use std::alloc::{AllocError, Global};

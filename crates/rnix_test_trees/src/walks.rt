@@ -1,6 +1,6 @@
 //! Walks over trees that were read, what stands around their nodes, and tokens at an offset.
 
-use crate::found::{is_element, is_node, is_token};
+use crate::expected::{is_element, is_node, is_token};
 use crate::parsed::Parsed;
 use rnix_kinds::SyntaxKind;
 use rnix_tree::{SyntaxNode, SyntaxToken};

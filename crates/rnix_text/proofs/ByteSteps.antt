@@ -1,7 +1,7 @@
 -- Where single bytes lead.
 use Rattle.std.proofs.Common.{◌≡◌, ℕ, suc, ◌+◌, ◌*◌, ◌≤◌, ◌==◌, not, List, [], ◌∷◌, length, fold, Bool, true, false, refl, ap, ◌∙◌, arith}
 use Rattle.std.{proofs.lemmas.Bool.{eqb-true, not-true, and_parts, Decides.nat_tests}, specs.Prelude.if◌then◌else◌}
-use Rattle.rnix_text.specs.{declared.mark.{ColumnUnit.{ColumnUnit, TheVariants.{Bytes, Chars, Utf16}}, Position.Position, Mark.Mark}, Positions.newline}
+use Rattle.rnix_text.specs.{declared.line_column.{ColumnUnit.{ColumnUnit, TheVariants.{Bytes, Chars, Utf16}}, Position.Position, Mark.Mark}, Positions.newline}
 use Rattle.rnix_text.specs.{Positions.{weight, step}, Marks.{is_plain, is_up_to}}
 
 -- a position is another one or in front of it

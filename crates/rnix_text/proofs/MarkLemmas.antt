@@ -1,7 +1,7 @@
 -- Marks that pass a test which, where it passes behind a byte, passes in front of it.
 use Rattle.std.proofs.Common.{◌≡◌, ℕ, zero, suc, ◌-◌, ◌≤◌, ◌<◌, ◌⊎◌, inl, inr, List, [], ◌∷◌, length, get_or, Bool, true, false, refl, ap, sym, ◌∙◌, subst}
 use Rattle.std.{proofs.{Common.arith, lemmas.Bool.{false_from_ne_true, both_ways}}, specs.{Prelude.if◌then◌else◌, List.Sorted.IsPartitionedBy}}
-use Rattle.{std.specs.List.Sorted.IsPartitionPoint, rnix_text.specs.{declared.mark.{ColumnUnit.ColumnUnit, Mark.Mark}, Marks.{is_plain, first_mark}}}
+use Rattle.{std.specs.List.Sorted.IsPartitionPoint, rnix_text.specs.{declared.line_column.{ColumnUnit.ColumnUnit, Mark.Mark}, Marks.{is_plain, first_mark}}}
 use Rattle.rnix_text.specs.Marks.{mark_behind, marks_behind, marks_of, last_of}
 
 found : (test : Mark → Bool) (xs : List Mark) (m : Mark) (r : ℕ) (d : Mark) → test m ≡ true → r ≤ length (m ∷ xs)

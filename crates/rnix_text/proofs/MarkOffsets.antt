@@ -1,7 +1,7 @@
 -- The offset of a position, counted from the last mark that is up to it.
 use Rattle.std.proofs.Common.{◌≡◌, ℕ, zero, suc, ◌+◌, ◌-◌, ◌≤◌, ◌<◌, inl, inr, List, [], ◌∷◌, length, take, fold, get_or, Bool, true, false, refl, ap, sym, ◌∙◌}
 use Rattle.std.{proofs.{Common.{subst, arith}, lemmas.Bool.false_from_ne_true}, specs.Prelude.if◌then◌else◌}
-use Rattle.rnix_text.specs.{declared.mark.{ColumnUnit.ColumnUnit, Position.Position, Mark.Mark}, Positions.{step, IsAt}, TextColumns.{Counted, last_mark}}
+use Rattle.rnix_text.specs.{declared.line_column.{ColumnUnit.ColumnUnit, Position.Position, Mark.Mark}, Positions.{step, IsAt}, TextColumns.{Counted, last_mark}}
 use Rattle.rnix_text.{specs.Marks.{is_plain, is_up_to, first_mark, mark_behind, marks_behind, last_of}, proofs.ByteSteps.{IsUpTo, up_to_true, is_up_to_from}}
 use Rattle.rnix_text.proofs.{ByteSteps.{up_trans, step_up, fold_up, first_passes, plain_step}, MarkLemmas.{last_here, last_alike}}
 

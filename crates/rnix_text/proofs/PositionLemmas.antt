@@ -1,7 +1,7 @@
 -- The position of an offset, counted from the last mark in front of it.
 use Rattle.std.proofs.Common.{◌≡◌, ℕ, zero, suc, ◌+◌, ◌-◌, ◌≤◌, ◌<◌, ◌^◌, inl, inr, length-take-le, List, [], ◌∷◌, length, take, fold, Bool, true, false, refl}
 use Rattle.std.{proofs.{Common.{ap, sym, ◌∙◌, subst, arith}, lemmas.Bool.Decides.nat_tests}, specs.{Prelude.if◌then◌else◌, Str.IsCharBoundary}}
-use Rattle.rnix_text.specs.{declared.mark.{ColumnUnit.ColumnUnit, Position.Position, Mark.Mark}, Positions.{origin, step, position_at}, TextColumns.Counted}
+use Rattle.rnix_text.specs.{declared.line_column.{ColumnUnit.ColumnUnit, Position.Position, Mark.Mark}, Positions.{origin, step, position_at}, TextColumns.Counted}
 use Rattle.rnix_text.specs.{TextColumns.last_mark, Marks.{is_plain, is_before, first_mark, mark_behind, marks_behind, last_of, position_behind}}
 use Rattle.rnix_text.proofs.{ByteSteps.{plain_step, column_bound}, MarkLemmas.{last_here, last_alike}}
 

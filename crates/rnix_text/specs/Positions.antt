@@ -1,9 +1,9 @@
 -- Lines and columns.
 use Rattle.std.specs.Prelude.{◌≡◌, ℕ, ◌+◌, ◌==◌, nat_lt, List, take, fold, if◌then◌else◌}
 use Rattle.std.specs.Str.{IsCharBoundary}
-use Rattle.rnix_text.specs.declared.mark.ColumnUnit.{ColumnUnit}
-use Rattle.rnix_text.specs.declared.mark.ColumnUnit.TheVariants.{Bytes, Chars, Utf16}
-use Rattle.rnix_text.specs.declared.mark.Position.{Position}
+use Rattle.rnix_text.specs.declared.line_column.ColumnUnit.{ColumnUnit}
+use Rattle.rnix_text.specs.declared.line_column.ColumnUnit.TheVariants.{Bytes, Chars, Utf16}
+use Rattle.rnix_text.specs.declared.line_column.Position.{Position}
 
 -- the byte that ends a line
 abbrev pub newline : ℕ

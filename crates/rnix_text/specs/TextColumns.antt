@@ -1,7 +1,7 @@
 -- A text whose columns are counted in some unit.
 use Rattle.std.specs.Prelude.{ℕ, List, Bool}
-use Rattle.rnix_text.specs.declared.mark.ColumnUnit.{ColumnUnit}
-use Rattle.rnix_text.specs.declared.mark.Mark.{Mark}
+use Rattle.rnix_text.specs.declared.line_column.ColumnUnit.{ColumnUnit}
+use Rattle.rnix_text.specs.declared.line_column.Mark.{Mark}
 use Rattle.rnix_text.specs.Marks.{first_mark, marks_behind, last_of}
 
 -- a text, and what its columns count

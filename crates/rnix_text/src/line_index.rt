@@ -6,7 +6,7 @@ ghost use Rattle.rnix_text.specs.Positions.{position_at, IsAt};
 ghost use Rattle.rnix_text.specs.TextColumns.{last_mark};
 ghost use Rattle.rnix_text.specs.Marks.{marks_of, is_before, is_up_to};
 
-use crate::mark::{ColumnUnit, Mark, Position, moves_alike};
+use crate::line_column::{ColumnUnit, Mark, Position, moves_alike};
 use std::alloc::{AllocError, Global};
 use std::marker::Model;
 

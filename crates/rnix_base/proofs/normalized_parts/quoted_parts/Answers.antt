@@ -1,6 +1,6 @@
 use Rattle.{std.proofs.Common.{[], ◌∷◌, ap, refl, length, arith}, rnix_base.specs.declared.parts.InterpolPart.TheVariants.Interpolation}
 use Rattle.rnix_base.proofs.{UnindentLemmas.grown, NextPartLemmas.{quoted_next, pushed}}
-use Rattle.rnix_base.proofs.normal.quoted_parts.Goals as goal
+use Rattle.rnix_base.proofs.normalized_parts.quoted_parts.Goals as goal
 
 pub loop-part-preserved : goal.loop-part-preserved
 loop-part-preserved g c = record {

@@ -1,5 +1,5 @@
 use Rattle.rnix_base.proofs.NormalLemmas.{opened_set}
-use Rattle.rnix_base.proofs.normal.opened.Goals as goal
+use Rattle.rnix_base.proofs.normalized_parts.opened.Goals as goal
 
 pub returns-else-is_empty : goal.returns-else-is_empty
 returns-else-is_empty g c =

@@ -1,7 +1,7 @@
 //! Trees that were built by hand, with empty nodes and empty leaves.
 
-use crate::found::is_token;
-use crate::steps::{Step, built};
+use crate::builder_steps::{Step, built};
+use crate::expected::is_token;
 use rnix_kinds::SyntaxKind;
 use rnix_tree::{GreenNode, GreenNodeBuilder, SyntaxNode};
 use std::alloc::{AllocError, Global};

@@ -1,5 +1,5 @@
 use Rattle.std.specs.Io.KnownBytes.{Consumes}
-use Rattle.rnix_print.proofs.reading.read_bytes.Given as goal
+use Rattle.rnix_print.proofs.input.read_bytes.Given as goal
 
 -- the bytes so far are those that the reader has given
 abbrev pub invariant-loop-turn : goal.invariant-loop-turn

@@ -1,7 +1,7 @@
 use Rattle.std.proofs.{Common.{rules}, lemmas.List.Sorted.{IsPartitionPoint-from_clause, IsPartitionedBy-leb}}
 use Rattle.std.specs.Prelude.{nat_le}
 use Rattle.nix_scopes.proofs.AlikeLemmas.{counted}
-use Rattle.nix_scopes.proofs.alike.ended_by.Goals as goal
+use Rattle.nix_scopes.proofs.renaming.ended_by.Goals as goal
 
 pub returns : goal.returns
 returns c =

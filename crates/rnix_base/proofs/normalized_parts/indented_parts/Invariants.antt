@@ -1,6 +1,6 @@
 use Rattle.{std.{proofs.Common.{◌≡◌, ◌++◌, length}, specs.Vec.Iter.{into_iter_items, into_iter_len}}, rnix_base.specs.Normal.{borrowed, owned}}
 use Rattle.rnix_base.proofs.StringPartLemmas.{indented_from}
-use Rattle.rnix_base.proofs.normal.indented_parts.Given as goal
+use Rattle.rnix_base.proofs.normalized_parts.indented_parts.Given as goal
 
 abbrev pub invariant-loop-part : goal.invariant-loop-part
 invariant-loop-part g l = record {

@@ -1,6 +1,6 @@
 //! What is printed of nodes and tokens.
 
-use crate::steps::{Step, built};
+use crate::builder_steps::{Step, built};
 use rnix_kinds::SyntaxKind;
 use rnix_tree::{GreenNode, SyntaxNode, dump};
 use std::alloc::{AllocError, Global};

@@ -2,8 +2,8 @@ use Rattle.std.{proofs.Common.{◌≡◌, ◌∙◌, [], ◌∷◌, ap, sym, ref
 use Rattle.rnix_base.specs.{declared.parts.InterpolPart.TheVariants.{Literal, Interpolation}, Escapes.unescaped, Normal.{borrowed, without_last_spaces}}
 use Rattle.rnix_base.{specs.Indent.{kept, indent_of, no_indent}, proofs.{UnindentLemmas.grown, StringPartLemmas.{last_text, indented_from, indented_parts-from}}}
 use Rattle.rnix_base.proofs.NextPartLemmas.{pushed, interpolation_next, literal_next, last_at_end, last_before_end, all_read}
-use Rattle.rnix_base.proofs.normal.indented_parts.Goals.{then-len-eq0, else-len-eq0}
-use Rattle.rnix_base.proofs.normal.indented_parts.Goals as goal
+use Rattle.rnix_base.proofs.normalized_parts.indented_parts.Goals.{then-len-eq0, else-len-eq0}
+use Rattle.rnix_base.proofs.normalized_parts.indented_parts.Goals as goal
 
 pub loop-part-preserved-in-Literal : goal.loop-part-preserved-in-Literal
 loop-part-preserved-in-Literal g c =

@@ -1,5 +1,5 @@
 use Rattle.{rnix_proof_rows.proofs.ParsedRanges.{parsed_order, parsed_nodes}}
-use Rattle.rnix_parser.proofs.ranges.ranges_of_errors.Goals as goal
+use Rattle.rnix_parser.proofs.error_ranges.ranges_of_errors.Goals as goal
 
 pub returns : goal.returns
 returns c = record {

@@ -1,5 +1,5 @@
 use Rattle.{std.{proofs.Common.{◌≡◌, ◌++◌, length}, specs.Vec.Iter.{into_iter_items, into_iter_len}}, rnix_base.specs.Normal.{borrowed, owned, quoted_parts}}
-use Rattle.rnix_base.proofs.normal.quoted_parts.Given as goal
+use Rattle.rnix_base.proofs.normalized_parts.quoted_parts.Given as goal
 
 abbrev pub invariant-loop-part : goal.invariant-loop-part
 invariant-loop-part g l = record {
