@@ -35,7 +35,8 @@ main, nav { overflow: auto; padding: 1em }
 nav { border-left: 1px solid var(--line); background: var(--side) }
 pre { margin: 0; font: inherit; white-space: pre-wrap; overflow-wrap: anywhere; position: relative; padding: 0 0 1.5em 4.5em; counter-reset: line }
 pre b { counter-increment: line }
-pre b::before { content: counter(line); position: absolute; left: 0; width: 3.5em; text-align: right; color: var(--dim); font-weight: normal; font-style: normal }
+pre b::before { content: counter(line); position: absolute; left: 0; width: 3.5em; text-align: right; \
+    color: var(--dim); font-weight: normal; font-style: normal }
 details { padding-left: 1em }
 details > div { padding-left: 2em; overflow-wrap: anywhere }
 .plain nav .trivia { display: none }
