@@ -24,7 +24,8 @@ IsBelow e (parent ∷ nodes) = parent_of e ≡ Some parent
 -- each node is entered where those around it are open, at higher and higher numbers
 abbrev pub Placed : Located → ℕ → List NodeEvent → Type 0
 Placed root n [] = Unit {0}
-Placed root n ((true, e) ∷ es) = (n ≤ e.number) × (open_nodes es ≡ around root e) × (around root e ≡ e ∷ drop 1 (open_nodes es)) × IsBelow e (drop 1 (open_nodes es))
+Placed root n ((true, e) ∷ es) =
+    (n ≤ e.number) × (open_nodes es ≡ around root e) × (around root e ≡ e ∷ drop 1 (open_nodes es)) × IsBelow e (drop 1 (open_nodes es))
     × Placed root (e.number + 1) es
 Placed root n ((false, e) ∷ es) = Placed root n es
 
@@ -66,7 +67,8 @@ around_child : (root : Located) (t : Tree) (n p : ℕ) → n < length (items_of 
     around root (record { tree = t; number = n }) ≡ record { tree = t; number = n } ∷ around root (record { tree = t; number = p })
 around_child root t n p l e inside =
     ap (filter (within root)) (ancestors_step t n l)
-    ∙ cond-true (within root (record { tree = t; number = n })) (record { tree = t; number = n } ∷ filter (within root) (ancestors_if t (item t n).parent)) _ (le-leb root.number n inside)
+    ∙ cond-true (within root (record { tree = t; number = n })) (record { tree = t; number = n } ∷ filter (within root) (ancestors_if t (item t n).parent)) _
+    (le-leb root.number n inside)
     ∙ ap (λ parent. record { tree = t; number = n } ∷ filter (within root) (ancestors_if t parent)) e
 
 -- the first item of a row that stands in the tree is there
@@ -83,7 +85,8 @@ parent_around : (root : Located) (t : Tree) (n : ℕ) → n < length (items_of t
 parent_around root t n l inside =
     let all : around root (record { tree = t; number = n }) ≡ record { tree = t; number = n } ∷ filter (within root) (ancestors_if t (item t n).parent) =
     ap (filter (within root)) (ancestors_step t n l)
-    ∙ cond-true (within root (record { tree = t; number = n })) (record { tree = t; number = n } ∷ filter (within root) (ancestors_if t (item t n).parent)) _ (le-leb root.number n inside) in
+    ∙ cond-true (within root (record { tree = t; number = n })) (record { tree = t; number = n } ∷ filter (within root) (ancestors_if t (item t n).parent)) _
+    (le-leb root.number n inside) in
     subst (λ nodes. IsBelow (record { tree = t; number = n }) (drop 1 nodes)) (sym all) (outwards (item t n).parent refl)
   where
     outwards : (parent : Option ℕ) → (item t n).parent ≡ parent → IsBelow (record { tree = t; number = n }) (filter (within root) (ancestors_if t parent))
@@ -93,9 +96,11 @@ parent_around root t n l inside =
           subst (IsBelow (record { tree = t; number = n })) (sym (none_held root t p (p + 1) (omega (arith, out)))) tt
       | inr more ↦
           let there = parent_is_before t n p l e in
-          let first : filter (within root) (ancestors_of record { tree = t; number = p }) ≡ record { tree = t; number = p } ∷ filter (within root) (ancestors_if t (item t p).parent) =
+          let first : filter (within root) (ancestors_of record { tree = t; number = p }) ≡ record { tree = t; number = p } ∷ filter (within root)
+          (ancestors_if t (item t p).parent) =
           ap (filter (within root)) (ancestors_step t p (omega (arith, l, there)))
-          ∙ cond-true (within root (record { tree = t; number = p })) (record { tree = t; number = p } ∷ filter (within root) (ancestors_if t (item t p).parent)) _ (le-leb root.number p more) in
+          ∙ cond-true (within root (record { tree = t; number = p }))
+          (record { tree = t; number = p } ∷ filter (within root) (ancestors_if t (item t p).parent)) _ (le-leb root.number p more) in
           subst (IsBelow (record { tree = t; number = n })) (sym first) (ap (located t) e)
     ]
 
@@ -149,10 +154,12 @@ walked_row root t n s p (node k c f) later stands inside are_open placed =
     let around_here = around_child root t n p (there t n _ _ stands) (ap (λ (i : Item). i.parent) own) inside in
     let after = walked_row root t (n + 1 + element_count c) (s + length (text_of c)) p f later
     (back_stands t (n + 1) (n + 1 + element_count c) (items_from (n + 1) s (Some n) c) _ (omega (arith, count)) behind)
-    (omega (arith, inside)) are_open (placed_lower root (n + 1 + element_count c + element_count f) (n + suc (element_count c + element_count f)) later (omega arith) placed) in
+    (omega (arith, inside)) are_open
+    (placed_lower root (n + 1 + element_count c + element_count f) (n + suc (element_count c + element_count f)) later (omega arith) placed) in
     let left : List NodeEvent = (false, here) ∷ row t (n + 1 + element_count c) f later in
     let left_open : open_nodes left ≡ around root here = ap (λ es. here ∷ es) (after.opened ∙ are_open) ∙ sym around_here in
-    let inner = walked_row root t (n + 1) s n c left (front_stands t (n + 1) (items_from (n + 1) s (Some n) c) _ behind) (omega (arith, inside)) left_open after.placed in
+    let inner =
+    walked_row root t (n + 1) s n c left (front_stands t (n + 1) (items_from (n + 1) s (Some n) c) _ behind) (omega (arith, inside)) left_open after.placed in
     subst (λ es. IsWalked root n es later) (sym (node_row t n k c f later (ap (λ (i : Item). i.is_node) own)))
     (record {
       placed = (
@@ -171,7 +178,8 @@ walk_placed root = elim (cases_lt root.number (length (items_of root.tree))) [
   | inl there ↦ walked (part_at root) (part_there root.tree root.number there) (one_there root.tree root.number there) there
   | inr absent ↦
       let none : part_at root ≡ empty = absent_part root.number 0 (forest_of root.tree) (omega (arith, elements_in_all root.tree)) in
-      subst (λ f. IsWalked root root.number (node_events (map (event_at root.tree) (steps_from root.number f))) []) (sym none) (record { placed = tt; opened = refl })
+      subst (λ f. IsWalked root root.number (node_events (map (event_at root.tree) (steps_from root.number f))) []) (sym none)
+      (record { placed = tt; opened = refl })
 ]
   where
     walked : (part : Forest) → IsPart 0 root.number part (items_of root.tree) → IsOne part → root.number < length (items_of root.tree) →
@@ -179,7 +187,8 @@ walk_placed root = elim (cases_lt root.number (length (items_of root.tree))) [
     walked _ h (one_leaf k x) l =
         let own = first_item root.tree root.number _ _ (part_stands root.tree root.number _ h) in
         let none : row root.tree root.number (leaf k x empty) [] ≡ [] = token_row root.tree root.number k x empty [] (ap (λ (i : Item). i.is_node) own) in
-        subst (λ es. IsWalked root root.number es []) (sym (sym (append-nil (node_events (map (event_at root.tree) (steps_from root.number (leaf k x empty))))) ∙ none)) (record { placed = tt; opened = refl })
+        subst (λ es. IsWalked root root.number es []) (sym (sym (append-nil (node_events (map (event_at root.tree) (steps_from root.number (leaf k x empty)))))
+        ∙ none)) (record { placed = tt; opened = refl })
     walked _ h (one_node k c) l =
         let stands = part_stands root.tree root.number _ h in
         let own = first_item root.tree root.number _ _ stands in

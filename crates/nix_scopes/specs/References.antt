@@ -51,7 +51,8 @@ inherited_at e = inherited_from (child_of (same_kind k.NODE_INHERIT_FROM) 0 e) e
 
 -- the references that a node is, or has as an `inherit`
 abbrev pub references_at : Located → List Named
-references_at e = if is_expression e then record { text = text_at e; node = e } ∷ [] else (if same_kind k.NODE_INHERIT (item_of e).kind then inherited_at e else [])
+references_at e =
+    if is_expression e then record { text = text_at e; node = e } ∷ [] else (if same_kind k.NODE_INHERIT (item_of e).kind then inherited_at e else [])
 
 -- the references inside a node, in the order of the nodes that are or have them
 abbrev pub references_in : Located → List Named

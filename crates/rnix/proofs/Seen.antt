@@ -73,7 +73,8 @@ node_in n r w there =
           kind = k;
           children = c;
           is = ap (λ (x : Item). x.kind) own;
-          sights = row_seen n.tree (m + 1) h.start (Some m) c (front_stands n.tree (m + 1) xs [] (back_stands n.tree m (m + 1) (i ∷ []) (xs ++ []) refl (stood (node k c empty) h)));
+          sights = row_seen n.tree (m + 1) h.start (Some m) c
+              (front_stands n.tree (m + 1) xs [] (back_stands n.tree m (m + 1) (i ∷ []) (xs ++ []) refl (stood (node k c empty) h)));
           row = r.0;
           rows = r.1;
           tokens = (and_parts (has_tokens_alone c) true w).0;
@@ -89,11 +90,13 @@ branches [] = []
 branches (s ∷ ss) = if s.0 then s.1 ∷ branches ss else branches ss
 
 -- one more element of a set, or not
-same_first : {A B : Type 0} (w : Bool) (a : A) (b : B) (x : Option A) (y : Option B) → is_some x ≡ is_some y → is_some (cond w (Some a) x) ≡ is_some (cond w (Some b) y)
+same_first : {A B : Type 0} (w : Bool) (a : A) (b : B) (x : Option A) (y : Option B) → is_some x ≡ is_some y →
+    is_some (cond w (Some a) x) ≡ is_some (cond w (Some b) y)
 same_first true a b x y e = refl
 same_first false a b x y e = e
 
-same_length : {A B : Type 0} (w : Bool) (a : A) (b : B) (xs : List A) (ys : List B) → length xs ≡ length ys → length (cond w (a ∷ xs) xs) ≡ length (cond w (b ∷ ys) ys)
+same_length : {A B : Type 0} (w : Bool) (a : A) (b : B) (xs : List A) (ys : List B) → length xs ≡ length ys →
+    length (cond w (a ∷ xs) xs) ≡ length (cond w (b ∷ ys) ys)
 same_length true a b xs ys e = ap suc e
 same_length false a b xs ys e = e
 
@@ -102,13 +105,16 @@ tokens_seen : (test : SyntaxKind → Bool) (spots : List Spot) → is_some (find
 tokens_seen test [] = refl
 tokens_seen test ((true, e) ∷ spots) = tokens_seen test spots
 tokens_seen test ((false, e) ∷ spots) =
-    same_first (test (item_of e).kind) e (item_of e).kind (find (has_kind test) (tokens_in spots)) (find test (leaves (map seen spots))) (tokens_seen test spots)
+    same_first (test (item_of e).kind) e (item_of e).kind (find (has_kind test) (tokens_in spots)) (find test (leaves (map seen spots)))
+    (tokens_seen test spots)
 
-nodes_seen : (test : SyntaxKind → Bool) (spots : List Spot) → length (filter (has_kind test) (nodes_in spots)) ≡ length (filter test (branches (map seen spots)))
+nodes_seen : (test : SyntaxKind → Bool) (spots : List Spot) →
+    length (filter (has_kind test) (nodes_in spots)) ≡ length (filter test (branches (map seen spots)))
 nodes_seen test [] = refl
 nodes_seen test ((false, e) ∷ spots) = nodes_seen test spots
 nodes_seen test ((true, e) ∷ spots) =
-    same_length (test (item_of e).kind) e (item_of e).kind (filter (has_kind test) (nodes_in spots)) (filter test (branches (map seen spots))) (nodes_seen test spots)
+    same_length (test (item_of e).kind) e (item_of e).kind (filter (has_kind test) (nodes_in spots)) (filter test (branches (map seen spots)))
+    (nodes_seen test spots)
 
 -- a set of kinds of tokens that are no trivia, and a set of kinds of nodes
 pub record AreItems (test : SyntaxKind → Bool) : Type 0 where
@@ -136,18 +142,21 @@ pub exact_nodes : (x : SyntaxKind) → is_token x ≡ false → AreNodes (same_k
 exact_nodes x t k h = ap is_token (sym ((same_kind-decides x k).0 h)) ∙ t
 
 -- the tokens of a row that are no trivia
-leaf_items : (test : SyntaxKind → Bool) (k : SyntaxKind) (ks js : List SyntaxKind) (w : Bool) → is_trivia k ≡ w → AreItems test → is_some (find test ks) ≡ is_some (find test js)
+leaf_items : (test : SyntaxKind → Bool) (k : SyntaxKind) (ks js : List SyntaxKind) (w : Bool) → is_trivia k ≡ w → AreItems test →
+    is_some (find test ks) ≡ is_some (find test js)
     → is_some (find test (k ∷ ks)) ≡ is_some (find test (if w then js else k ∷ js))
 leaf_items test k ks js true e a ih =
     ap (λ w. is_some (cond w (Some k) (find test ks))) (none_if test k (λ h. true_is_not_false (sym e ∙ a.item k h))) ∙ ih
 leaf_items test k ks js false e a ih = same_first (test k) k k (find test ks) (find test js) ih
 
-leaves_items : (test : SyntaxKind → Bool) → AreItems test → (c : Forest) → HasRows c → is_some (find test (leaves (tops c))) ≡ is_some (find test (item_kinds c))
+leaves_items : (test : SyntaxKind → Bool) → AreItems test → (c : Forest) → HasRows c →
+    is_some (find test (leaves (tops c))) ≡ is_some (find test (item_kinds c))
 leaves_items test a empty r = refl
 leaves_items test a (leaf k t f) r = leaf_items test k (leaves (tops f)) (item_kinds f) (is_trivia k) refl a (leaves_items test a f r)
 leaves_items test a (node k c f) r =
     leaves_items test a f r.2
-    ∙ sym (ap (λ w. is_some (cond w (Some k) (find test (item_kinds f)))) (none_if test k (λ h. true_is_not_false (sym (a.token k h) ∙ row_of_node k (item_kinds c) r.0))))
+    ∙ sym (ap (λ w. is_some (cond w (Some k) (find test (item_kinds f))))
+    (none_if test k (λ h. true_is_not_false (sym (a.token k h) ∙ row_of_node k (item_kinds c) r.0))))
 
 -- the nodes of a row
 leaf_nodes : (test : SyntaxKind → Bool) (k : SyntaxKind) (n : ℕ) (js : List SyntaxKind) (w : Bool) → test k ≡ false → n ≡ length (filter test js)
@@ -155,14 +164,16 @@ leaf_nodes : (test : SyntaxKind → Bool) (k : SyntaxKind) (n : ℕ) (js : List 
 leaf_nodes test k n js true e ih = ih
 leaf_nodes test k n js false e ih = ih ∙ sym (ap (λ w. length (cond w (k ∷ filter test js) (filter test js))) e)
 
-branches_items : (test : SyntaxKind → Bool) → AreNodes test → (c : Forest) → HasTokens c → length (filter test (branches (tops c))) ≡ length (filter test (item_kinds c))
+branches_items : (test : SyntaxKind → Bool) → AreNodes test → (c : Forest) → HasTokens c →
+    length (filter test (branches (tops c))) ≡ length (filter test (item_kinds c))
 branches_items test a empty w = refl
 branches_items test a (leaf k t f) w =
     let both = and_parts (is_token k) (has_tokens_alone f) w in
     leaf_nodes test k (length (filter test (branches (tops f)))) (item_kinds f) (is_trivia k) (none_if test k (λ h. true_is_not_false (sym both.0 ∙ a k h)))
     (branches_items test a f both.1)
 branches_items test a (node k c f) w =
-    same_length (test k) k k (filter test (branches (tops f))) (filter test (item_kinds f)) (branches_items test a f (and_parts (has_tokens_alone c) (has_tokens_alone f) w).1)
+    same_length (test k) k k (filter test (branches (tops f))) (filter test (item_kinds f))
+    (branches_items test a f (and_parts (has_tokens_alone c) (has_tokens_alone f) w).1)
 
 -- lists as long as one another have the same numbers
 get_alike : {A B : Type 0} (xs : List A) (ys : List B) (n : ℕ) → length xs ≡ length ys → is_some (slice_get xs n) ≡ is_some (slice_get ys n)

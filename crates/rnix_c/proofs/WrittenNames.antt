@@ -17,6 +17,7 @@ among all (binding ∷ bindings) known =
     ∙ ap (λ rest. binding_among all (bound_of binding) ∷ rest) (among all bindings (λ k d l. known (suc k) d (omega (arith, l))))
 
 -- what is written of bindings that name the first of their names
-pub all_among : (bindings : List Binding) (bounds : List Bound) → AreFirst bindings → map bound_of bindings ≡ bounds → map own_binding bindings ≡ map (binding_among bounds) bounds
+pub all_among : (bindings : List Binding) (bounds : List Bound) → AreFirst bindings → map bound_of bindings ≡ bounds →
+    map own_binding bindings ≡ map (binding_among bounds) bounds
 all_among bindings bounds firsts is =
     among (map bound_of bindings) bindings firsts ∙ ap (λ all. map (binding_among all) all) is

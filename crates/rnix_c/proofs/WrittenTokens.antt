@@ -24,7 +24,13 @@ length-tokens_from start ((kind, text) ∷ tokens) = ap suc (length-tokens_from 
 pub at_first : (text : List ℕ) → IsUtf8 text → IsAt text (tokens_of text) 0 0
 at_first text utf8 =
     let sound = AreSound-tokens_under [] text utf8 in
-    record { rest = refl; counted = omega (arith, length-tokens_from 0 (tokens_of text)); fits = omega (arith, ap length sound.joined); some = sound.some; ahead = omega arith }
+    record {
+      rest = refl;
+      counted = omega (arith, length-tokens_from 0 (tokens_of text));
+      fits = omega (arith, ap length sound.joined);
+      some = sound.some;
+      ahead = omega arith;
+    }
 
 -- what is written of a token that begins at an offset
 abbrev token_at : ℕ → SyntaxKind → List ℕ → RnixToken

@@ -18,10 +18,12 @@ pub record Found : Type 0 where
 abbrev pub found : List RnixStringPart → List ℕ → Found
 found parts text = record { parts = parts; text = text }
 
--- a part more of the string that is the element of this number: of a literal its range in the joined text, of an interpolation its range in the text that was read
+-- a part more of the string that is the element of this number: of a literal its range in the joined text, of an interpolation its range in the text
+-- that was read
 abbrev pub with_part : ℕ → Found → InterpolPart (List ℕ) Located → Found
 with_part string before (Literal text) =
-    found (before.parts ++ record { string = string; start = length before.text; end = length (before.text ++ text); is_interpolation = 0 } ∷ []) (before.text ++ text)
+    found (before.parts ++ record { string = string; start = length before.text; end = length (before.text ++ text); is_interpolation = 0 } ∷ [])
+    (before.text ++ text)
 with_part string before (Interpolation node) =
     found (before.parts ++ record { string = string; start = (item_of node).start; end = (item_of node).end; is_interpolation = 1 } ∷ []) before.text
 

@@ -17,7 +17,8 @@ derivation_reads t ts d =
     expression_reads d.strict (annotate t ts) over d.joined d.shallow
 
 -- what the items of a derivation are read as is the derivation, without errors
-pub derivation_found : (f : AnnotatedForest) (ts : List Token) (es : List Fault) → ReadsRoot f es → tokens_in f ≡ ts → (t : Forest) → IsDerivation t ts → (es ≡ []) × (forget f ≡ t)
+pub derivation_found : (f : AnnotatedForest) (ts : List Token) (es : List Fault) → ReadsRoot f es → tokens_in f ≡ ts → (t : Forest) → IsDerivation t ts →
+    (es ≡ []) × (forget f ≡ t)
 derivation_found f ts es r e t d =
     let l = annotate_derivation t ts d in
     let same = one_row f (annotate t ts) es [] r (derivation_reads t ts d) (e ∙ sym l.tokens) in

@@ -68,7 +68,8 @@ reads_begun {p} {d} {q = q} {us = us} q0 (wrong {r = r} {f = f} n ts x o v h) w 
         subst (IsBegun q0) (ap (λ o. if is_some o then repair n (repaired_nonempty f) else repaired_nonempty f) (sym (tokens_in-row_of ts ∙ e)))
         (begun_repair n q0 (repaired_nonempty f) more)
 reads_begun q0 (second {c = c} {f = f} s y h) w i m =
-    subst (IsBegun q0) (elim (is_some (tokens_in c)) as (λ u. repaired_nonempty f ≡ (if u then repaired_nonempty f else repaired_nonempty f)) [ true ↦ refl | false ↦ refl ])
+    subst (IsBegun q0)
+    (elim (is_some (tokens_in c)) as (λ u. repaired_nonempty f ≡ (if u then repaired_nonempty f else repaired_nonempty f)) [ true ↦ refl | false ↦ refl ])
     (reads_begun q0 h w (known_past i) (simulates_both m second_simulates))
 reads_begun {q = q} q0 (inner {k = k} {c = c} o s y x j z h) w i m =
     let on : after q0 k ≡ after q k = m.goes k (reads_viable h (end_viable _ w)) in

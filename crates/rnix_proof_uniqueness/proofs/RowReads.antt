@@ -165,7 +165,8 @@ module _ (m : ℕ) (q : SyntaxKind) (d n : ℕ) (x : Position) (to : Row) (b : A
       (trees k (deeper (rest_at x) d) n vs c ds r e) y h fs gs))
 
 -- a node that stands at a position is read there
-pub inner_one : (m : ℕ) → AllRows m → Trees m → {q k : SyntaxKind} {d n : ℕ} {x : Position} {b : AnnotatedForest} {vs : List Token} {c : AnnotatedForest} {ds : List Fault}
+pub inner_one : (m : ℕ) → AllRows m → Trees m →
+    {q k : SyntaxKind} {d n : ℕ} {x : Position} {b : AnnotatedForest} {vs : List Token} {c : AnnotatedForest} {ds : List Fault}
     → is_at q x ≡ true → Complete m k (deeper (rest_at x) d) n (row_of_kind k) blank vs c ds → IsRoom (rest_at x) d
     → IsExpected (rest_at x) n (tokens_in c ++ vs) (is_first_expected (rest_at x) k c) → IsOperandOf (level_at (rest_at x) (one_branch k c)) (one_branch k c) vs
     → is_viable (after (rest_at x) k) ≡ true → OneTo q d n x (after (rest_at x) k) b (tokens_in c) vs (one_branch k c) (ds ++ repeats k b c)
@@ -203,7 +204,8 @@ second_one rows {q} {d} {n} {x} {b} {c} {vs} {ds} l i r =
     (runs_to (cc (append_assoc gs ds (report DoubleBind (t.item ∷ tokens_in t.more) ∷ []))) stays))))
 
 -- a row that is not so high is read
-pub row_next : (m : ℕ) → AllRows m → Trees m → {k : SyntaxKind} {d n : ℕ} {q s : Row} {b : AnnotatedForest} {us : List Token} {f : AnnotatedForest} {es : List Fault} (x : Position)
+pub row_next : (m : ℕ) → AllRows m → Trees m →
+    {k : SyntaxKind} {d n : ℕ} {q s : Row} {b : AnnotatedForest} {us : List Token} {f : AnnotatedForest} {es : List Fault} (x : Position)
     → is_at k x ≡ true → rest_at x ≡ q → (r : Reads k d n q s b us f es) → height r < suc m → is_viable s ≡ true → ReadsTo k d n x s b us f es
 row_next m rows trees {k} {d} {n} {s = s} {b} {us} x e i end h l = row_end k d n x s b us i e
 row_next m rows trees {k} {d} {n} {q} {b = b} {us} x e i (leaf {t = t} {f = f} o w r) h l =

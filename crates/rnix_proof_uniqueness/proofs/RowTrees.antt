@@ -121,7 +121,8 @@ pub row_end : (k : SyntaxKind) (d n : ℕ) (x : Position) (s : Row) (b : Annotat
 row_end k d n x s b us i e = record { position = x; is = i; here = e; row = λ h fs gs o e. runs_to (cc (⊕-blank b, append-nil gs)) here }
 
 -- so the row is read if its first tree is
-pub row_on : {m : ℕ} {k : SyntaxKind} {d n : ℕ} {x : Position} {to s : Row} {b : AnnotatedForest} {ts us : List Token} {w f : AnnotatedForest} {ds es : List Fault} → AllRows m
+pub row_on : {m : ℕ} {k : SyntaxKind} {d n : ℕ} {x : Position} {to s : Row} {b : AnnotatedForest} {ts us : List Token} {w f : AnnotatedForest}
+    {ds es : List Fault} → AllRows m
     → (o : OneTo k d n x to b ts (tokens_in f ++ us) w ds) → IsLower m k d (end_from n ts) to s (b ⊕ w) us f es → is_viable s ≡ true → tokens_in (w ⊕ f) ≡ ts
     ++ tokens_in f
     → ReadsTo k d n x s b us (w ⊕ f) (ds ++ es)
@@ -145,7 +146,8 @@ one_leaf {q} {d} {n} {x} {b} {t} {vs} l o g =
     (λ y h fs gs e. runs_to (cc (e, append-nil gs)) here)
 
 -- what is missing where the text ends
-pub row_lost : {m : ℕ} {k : SyntaxKind} {d n : ℕ} {x : Position} {r s : Row} {b : AnnotatedForest} {us : List Token} {f : AnnotatedForest} {e : Fault} {es : List Fault} → AllRows m
+pub row_lost : {m : ℕ} {k : SyntaxKind} {d n : ℕ} {x : Position} {r s : Row} {b : AnnotatedForest} {us : List Token} {f : AnnotatedForest} {e : Fault}
+    {es : List Fault} → AllRows m
     → is_at k x ≡ true → us ≡ [] → tokens_in f ≡ [] → missing (rest_at x) ≡ Some (e, r) → (expects_end (rest_at x) ≡ false → IsRoom (rest_at x) d)
     → IsLower m k d n r s b us f es → is_viable s ≡ true → ReadsTo k d n x s b us f (e ∷ es)
 row_lost {m} {k} {d} {n} {x} {r} {s} {b} {us} {f} {e} {es} rows at u v l room h viable = record { position = q.position; is = q.is; here = q.here; row = row }

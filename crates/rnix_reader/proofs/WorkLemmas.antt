@@ -107,7 +107,8 @@ left_none ts = (run_bared (items ts) ts (dropped (items ts) (items ts)) (all_pre
 
 -- the sums
 close_less : (us : List Token) (position below : Position) (z : ℕ) → begin_measure position ≡ 30
-    → 100 * length us + (measure below + z) + begin_measure_at us below < 100 * length us + (measure position + (measure below + z)) + begin_measure_at us position
+    → 100 * length us + (measure below + z) + begin_measure_at us below < 100 * length us + (measure position + (measure below + z)) + begin_measure_at us
+    position
 close_less [] position below z e = omega (arith, measure_some position)
 close_less (t ∷ us) position below z e = omega (arith, e, measure_some position, begin_measure_most below)
 
@@ -171,7 +172,8 @@ module _ (f : Frame) (fs : List Frame) (ts : List Token) (n : ℕ) (es : List Fa
 begin_less : (us : List Token) (position inside after : Position) (z : ℕ) → begin_measure inside ≡ 0
     → measure inside + measure after < measure position + begin_measure position
     → ((head_kind us ≡ None) → measure inside + measure after < measure position)
-    → 100 * length us + (measure inside + (measure after + z)) + begin_measure_at us inside < 100 * length us + (measure position + z) + begin_measure_at us position
+    → 100 * length us + (measure inside + (measure after + z)) + begin_measure_at us inside < 100 * length us + (measure position + z) + begin_measure_at us
+    position
 begin_less [] position inside after z e h k = omega (arith, k refl)
 begin_less (t ∷ us) position inside after z e h k = omega (arith, h, e)
 

@@ -8,7 +8,8 @@ use Rattle.nix_scopes.proofs.resolving.add_all_inherited.Goals as goal
 pub loop-attr-init : goal.loop-attr-init
 loop-attr-init c =
     let none : c.from.result ≡ None = search rules in
-    let written : those_of is_attr c.into_iter-attr-iterator.result ≡ _ = ap (those_of is_attr) c.into_iter-attr-iterator.ensures.into_iter_gives ∙ c.attrs-attr-items.ensures.children in
+    let written : those_of is_attr c.into_iter-attr-iterator.result ≡ _ =
+    ap (those_of is_attr) c.into_iter-attr-iterator.ensures.into_iter_gives ∙ c.attrs-attr-items.ensures.children in
     let inherited : names_written (those_of is_attr c.into_iter-attr-iterator.result) ≡ inherited_at c.args.inherit.now =
     ap names_written written ∙ sym (ap (λ from. inherited_from from c.args.inherit.now) (sym c.from.ensures ∙ none)) in
     record {
@@ -26,7 +27,8 @@ loop-attr-preserved c = record {
   ends = tt;
   listing = mapped_next (λ e. named_if e (attr_text e)) (seen c.args.around.now c.outer_depth-depth.result true) (map resolved_of c.loop-attr.references.items)
       (map resolved_of c.add_inherited.new.references.items)
-      (map resolved_of c.args.references.now.items ++ map (seen c.args.around.now (outer_count c.args.around.now.scopes.items c.args.inherit.now) true) (inherited_at c.args.inherit.now))
+      (map resolved_of c.args.references.now.items ++ map (seen c.args.around.now (outer_count c.args.around.now.scopes.items c.args.inherit.now) true)
+      (inherited_at c.args.inherit.now))
       (those_of is_attr c.loop-attr.attr-iterator) (those_of is_attr c.next.new.self) (attr_node c.in-Some.attr) c.syntax-in-loop-attr.result.now
       c.loop-attr.invariant.listing c.in-Some.ensures.steps c.syntax-in-loop-attr.ensures.node c.in_ok-add_inherited.ensures;
 }

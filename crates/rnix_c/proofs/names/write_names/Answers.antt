@@ -14,7 +14,8 @@ returns-clause-bindings c =
 
 pub returns-clause-references : goal.returns-clause-references
 returns-clause-references c =
-    let referring : map resolved_of c.references-referring.result.now ≡ resolved_in c.args.root.now = ap (map resolved_of) c.references-referring.ensures ∙ c.requires.resolved in
+    let referring : map resolved_of c.references-referring.result.now ≡ resolved_in c.args.root.now =
+    ap (map resolved_of) c.references-referring.ensures ∙ c.requires.resolved in
     c.fill_references.ensures ∙ ap (λ names. filled (map reference_of names) c.args.references.now) referring
 
 pub returns-clause-count : goal.returns-clause-count

@@ -15,4 +15,5 @@ loop-number-preserved c =
 pub returns : goal.returns
 returns c =
     let place = position_of c.args.index.now.unit c.args.index.now.text in
-    c.loop-number.invariant ∙ filled-all c.loop-number.number (positions_of c.args.index.now.unit c.args.index.now.text c.args.offsets.now) c.args.room.now (omega (arith, length-map c.args.offsets.now place))
+    c.loop-number.invariant ∙ filled-all c.loop-number.number (positions_of c.args.index.now.unit c.args.index.now.text c.args.offsets.now) c.args.room.now
+    (omega (arith, length-map c.args.offsets.now place))

@@ -5,4 +5,5 @@ use Rattle.rnix_c.proofs.strings.element_at.Goals as goal
 
 pub returns : goal.returns
 returns c = nth_from_yields_List c.nth.result c.nth.new.self c.args.number c.nth.ensures.ran
-    (YieldsList-from_first spot_of (λ s. s) (elements_of (located c.args.green.now 0)) (c.descendants_with_tokens.ensures.elements ∙ ap elements_of c.new_root-root.ensures))
+    (YieldsList-from_first spot_of (λ s. s) (elements_of (located c.args.green.now 0))
+    (c.descendants_with_tokens.ensures.elements ∙ ap elements_of c.new_root-root.ensures))

@@ -10,7 +10,8 @@ loop-number-preserved c =
     let part : InterpolPart (List ℕ) Located = with_text string_bytes c.index-parts-number.result in
     let count = length-map c.args.parts.now (with_text string_bytes) in
     let is : part ≡ get_or parts c.loop-number.number part =
-    ap (with_text string_bytes) c.index-parts-number.is ∙ sym (get_or-map (with_text string_bytes) c.args.parts.now c.loop-number.number c.index-parts-number.result part (omega arith)) in
+    ap (with_text string_bytes) c.index-parts-number.is
+    ∙ sym (get_or-map (with_text string_bytes) c.args.parts.now c.loop-number.number c.index-parts-number.result part (omega arith)) in
     let there = length-parts_from 0 parts in
     record {
       rest = rest_is c.loop-number.number c.loop-number.before parts part (omega (arith, count)) is c.loop-number.invariant.rest

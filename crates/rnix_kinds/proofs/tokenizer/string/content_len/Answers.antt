@@ -35,7 +35,8 @@ loop-at-preserved c =
     = omega (arith, c.loop-at.invariant.so_far, more, ap (content_len c.args.multiline) (drop-drop c.piece_len-len.result c.loop-at.at c.args.bytes.now)) in
     record {
       within = c.long_run_end-at-in-loop-at.ensures.within;
-      so_far = content_len-run_end c.args.multiline (c.loop-at.at + c.piece_len-len.result) c.long_run_end-at-in-loop-at.result c.args.bytes.now so_far c.long_run_end-at-in-loop-at.ensures.end;
+      so_far = content_len-run_end c.args.multiline (c.loop-at.at + c.piece_len-len.result) c.long_run_end-at-in-loop-at.result c.args.bytes.now so_far
+          c.long_run_end-at-in-loop-at.ensures.end;
     }
 
 pub returns-clause-value : goal.returns-clause-value
