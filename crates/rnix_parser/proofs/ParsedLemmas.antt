@@ -2,8 +2,10 @@
 use Rattle.std.proofs.{Common.{◌≡◌, ◌↔◌, ◌≤◌, true, List, [], refl, ap, sym, ◌∙◌, subst}}
 use Rattle.{rnix_kinds.specs.{declared.kinds.SyntaxKind.TheVariants.NODE_ROOT, Lexical.Tokens.Lexeme}, rnix_green.specs.{Forest.Forest, Tree.Tree}}
 use Rattle.rnix_grammar.specs.{Tables.depth_limit, AnnotatedForest.{Token, AnnotatedForest, blank, forget, tokens_in, without_trivia, placed_from}}
-use Rattle.rnix_grammar.specs.{AnnotatedForest.HaveLeafKinds, Layout.items, Trim.{AreFaultsTrimmed, AreNodesTrimmed}, Shape.{IsShaped, IsUnrepeated, reports}}
-use Rattle.rnix_grammar.specs.{TriviaBetween.AreTriviaBetween, Named.{AreSpelled, is_repeated, Lacks}, Repaired.{repaired, ended_count}, Extensions.has_no_extension}
+use Rattle.rnix_grammar.specs.{AnnotatedForest.HaveLeafKinds, Layout.items, Trim.{AreFaultsTrimmed, AreNodesTrimmed}, Shape.{IsShaped, IsUnrepeated}}
+use Rattle.rnix_proof_lemmas.specs.RowReports.{reports}
+use Rattle.rnix_grammar.specs.{TriviaBetween.AreTriviaBetween, Named.{is_repeated, Lacks}, Repaired.{repaired, ended_count}, Extensions.has_no_extension}
+use Rattle.rnix_proof_lemmas.specs.Spelled.{AreSpelled}
 use Rattle.rnix_grammar.specs.{Fault.Fault, PathPieces.ArePaths, Nest.nest, Grammar.IsExpression}
 use Rattle.rnix_grammar.specs.{Derivation.IsDerivation, Reads.ReadsRoot, Reading.IsReading, Parsed.IsParsed}
 use Rattle.rnix_proof_rows.proofs.{ReadsFaults.{Errors, reads_errors}, RootReadings.{root_few, root_end_errors, root_begun, root_last}, TreeShapes.root_shaped}

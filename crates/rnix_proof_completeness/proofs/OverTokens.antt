@@ -4,7 +4,8 @@ use Rattle.rnix_kinds.{specs.declared.kinds.SyntaxKind.SyntaxKind, proofs.AllKin
 use Rattle.rnix_green.specs.Forest.{Forest, empty, leaf, node}
 use Rattle.rnix_grammar.specs.declared.rules.Part.TheVariants as p
 use Rattle.rnix_grammar.specs.AnnotatedForest.{Token, AnnotatedForest, blank, token, branch, fault, ◌⊕◌, one_token, one_branch, tokens_in, forget, head_kind, end_from, leaf_kind}
-use Rattle.rnix_grammar.specs.{Beginnings.IsOperandOf, PathPieces.HaveTokenKinds, Yield.kind_of_token, Reports.repeats}
+use Rattle.rnix_grammar.specs.{Beginnings.IsOperandOf, Yield.kind_of_token, Reports.repeats}
+use Rattle.rnix_proof_lemmas.specs.LeafKinds.{HaveTokenKinds}
 use Rattle.rnix_grammar.specs.Rules.{Row, ◌·◌, ◌or◌, row, after, expects, expects_item, IsExpected, is_first_expected, level_at, IsFollowed}
 use Rattle.rnix_grammar.specs.Reads as read
 use Rattle.rnix_grammar.specs.Reads.{Reads, IsRoom, IsOver, deeper}

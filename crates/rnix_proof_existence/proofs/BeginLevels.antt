@@ -5,7 +5,9 @@ use Rattle.rnix_kinds.specs.declared.kinds.SyntaxKind.TheVariants.{TOKEN_L_BRACE
 use Rattle.rnix_kinds.specs.declared.kinds.SyntaxKind.TheVariants.{NODE_BIN_OP, NODE_HAS_ATTR, NODE_IDENT, NODE_SELECT, NODE_UNARY_OP}
 use Rattle.{rnix_kinds.proofs.AllKinds.{all_kinds, implied}, rnix_green.specs.Equality.same_kind, rnix_grammar.specs.declared.begin.Begin.Begin}
 use Rattle.rnix_grammar.specs.{declared.slot_table.TheConstants.{INVERSION, NEGATION}, Begins.{is_pattern, begin_name, begin_let, begin_keyword, begin_scope}}
-use Rattle.rnix_grammar.specs.{Begins.begin_of, Tables.is_cur_pos, TokenKinds.is_or, Operands.first_tree, SlotRows.left_at, Machine.Node, Rules.{after, done}}
+use Rattle.rnix_grammar.specs.{Begins.begin_of, Tables.is_cur_pos, TokenKinds.is_or, Operands.first_tree, Rules.{after, done}}
+use Rattle.rnix_proof_lemmas.specs.Machine.{Node}
+use Rattle.rnix_proof_lemmas.specs.SlotRows.{left_at}
 use Rattle.rnix_grammar.specs.{Rules.row as row_of_kind, AnnotatedForest.{Token, AnnotatedForest, token, one_token, one_branch, leaf_kind_as}, Rows.is_atom}
 use Rattle.{rnix_grammar.specs.{Rows.{is_expression, is_keyword_expression, fits}, TreeLevels.{row_level, is_or_row}}, rnix_proof_lemmas.proofs.Basics.{true_is_not_false, not_if}}
 use Rattle.rnix_proof_lemmas.proofs.{Basics.choice, LevelLemmas.{at_most, same_number}, KindsOfNodes.is_error, RowParts.{IsFront, front, is_front}}

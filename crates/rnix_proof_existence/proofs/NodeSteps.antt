@@ -3,11 +3,14 @@ use Rattle.std.proofs.Common.{◌≡◌, inl, ℕ, suc, ◌≤◌, ◌<◌, Bool
 use Rattle.std.proofs.{Common.{append-nil, arith, if◌then◌else◌, nat_le, ◌&&◌}, lemmas.Bool.{and_parts, Decides.nat_tests}}
 use Rattle.rnix_kinds.specs.declared.kinds.SyntaxKind.{SyntaxKind, TheVariants.{NODE_IDENT, NODE_PAT_ENTRY, NODE_ERROR, NODE_LITERAL, TOKEN_AT}}
 use Rattle.rnix_grammar.specs.declared.{position.Position.Position, expected_set.ExpectedSet.ExpectedSet, action.Action.Action, slot_table.TheConstants.{PAT_ENTRY, SECOND_BIND}}
-use Rattle.rnix_grammar.specs.{declared.rules.Part.TheVariants.{BoundAlready, TextEnd}, SlotRows.left_at, Fault.{Fault, ended, ended_before}}
+use Rattle.rnix_grammar.specs.{declared.rules.Part.TheVariants.{BoundAlready, TextEnd}, Fault.{Fault, ended, ended_before}}
+use Rattle.rnix_proof_lemmas.specs.SlotRows.{left_at}
 use Rattle.rnix_grammar.specs.{Tables.{depth_limit, is_wanted, wanted_kinds}, Reports.{report, repeats, repeated}, UnwantedRun.run_of, Actions.action_at}
 use Rattle.rnix_grammar.specs.AnnotatedForest.{Token, Note, Unwanted, Extra, DoubleBind, TooDeep, AnnotatedForest, blank, ◌⊕◌, one_token, one_branch, one_fault}
-use Rattle.rnix_grammar.specs.{AnnotatedForest.{row_of, tokens_in, is_some, leaf_kind, end_from, head_kind, touches}, Machine.{Head, Node, SecondBind, Operand}}
-use Rattle.rnix_grammar.specs.{Machine.{Frame, put, opened, made, kind_of, dropped, closed, machine, operand_on, limited, reading}, Rules.IsExpected}
+use Rattle.rnix_grammar.specs.AnnotatedForest.{row_of, tokens_in, is_some, leaf_kind, end_from, head_kind, touches}
+use Rattle.rnix_proof_lemmas.specs.Machine.{Head, Node, SecondBind, Operand}
+use Rattle.rnix_grammar.specs.Rules.IsExpected
+use Rattle.rnix_proof_lemmas.specs.Machine.{Frame, put, opened, made, kind_of, dropped, closed, machine, operand_on, limited, reading}
 use Rattle.rnix_grammar.specs.Rules.{IsFollowed, Row, after, counts, done, run_at, missing, expects_end, is_first_expected, second_name, row as row_of_kind, ◌·◌}
 use Rattle.{rnix_grammar.specs.Reads.{IsOver, IsRoom, IsWrong, Reads, deeper, end, missing_part}, rnix_proof_lemmas.proofs.Basics.{true_is_not_false, not_if}}
 use Rattle.rnix_proof_lemmas.proofs.{Basics.{none_left, none_right, not_nil}, AnnotatedForestLemmas.{⊕-blank, tokens_in-row_of}, EveryKind.same, OpenHeads.is_open}

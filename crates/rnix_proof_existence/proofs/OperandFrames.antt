@@ -4,8 +4,12 @@ use Rattle.rnix_kinds.specs.declared.kinds.SyntaxKind.{SyntaxKind, TheVariants.{
 use Rattle.rnix_kinds.specs.declared.kinds.SyntaxKind.TheVariants.{NODE_LAMBDA, NODE_LEGACY_LET, NODE_PATTERN, NODE_PAT_BIND}
 use Rattle.rnix_grammar.specs.{declared.{begin.Begin.Begin, slot_table.TheConstants.{BOUND_PATTERN, LAMBDA, LEGACY_LET, PATTERN}}, Fault.Fault, Begins.begin_of}
 use Rattle.rnix_grammar.specs.{Begins.second_kind, AnnotatedForest.{Token, Stray, AnnotatedForest, blank, token, ◌⊕◌, one_token, one_branch, one_fault}}
-use Rattle.rnix_grammar.specs.{AnnotatedForest.{leaf_kind, leaf_kind_as, head_kind}, Machine.{Machine, Node, Operand, Frame, put, opened, begun, machine}}
-use Rattle.rnix_grammar.specs.{Machine.operand_on, Reports.{report, repeats}, Tables.depth_limit, Operands.{kind_of, first_tree}, SlotRows.left_at}
+use Rattle.rnix_grammar.specs.AnnotatedForest.{leaf_kind, leaf_kind_as, head_kind}
+use Rattle.rnix_proof_lemmas.specs.Machine.{Machine, Node, Operand, Frame, put, opened, begun, machine}
+use Rattle.rnix_grammar.specs.{Reports.{report, repeats}, Tables.depth_limit, Operands.{first_tree}}
+use Rattle.rnix_proof_lemmas.specs.BegunOperands.{kind_of}
+use Rattle.rnix_proof_lemmas.specs.Machine.{operand_on}
+use Rattle.rnix_proof_lemmas.specs.SlotRows.{left_at}
 use Rattle.rnix_grammar.specs.{Beginnings.BeginsAs, Reads.{IsOver, Reads, end}, Rules.{Row, after, done, is_first_expected, row as row_of_kind}}
 use Rattle.rnix_proof_lemmas.proofs.{Basics.some_same, FollowLemmas.{atom_is_selection_level, followed_keyword}, FirstTrees.{IsSingle, a_node, an_error}, BeginAlike.beginning_is}
 use Rattle.{rnix_proof_lemmas.proofs.{RowParts.{IsFront, front}, ReadsFrom.{leaf_from, name_reads, plain_from, past_over}}, rnix_proof_existence.proofs.Growing.MayGrow}

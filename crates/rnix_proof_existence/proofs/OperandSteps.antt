@@ -6,9 +6,11 @@ use Rattle.rnix_kinds.{specs.{declared.kinds.SyntaxKind.TheVariants.{NODE_BIN_OP
 use Rattle.rnix_grammar.specs.declared.{position.Position.Position, action.Action.Action, slot_table.TheConstants.{APPLIED, HAS_ATTR, SELECT}}
 use Rattle.rnix_grammar.specs.{declared.rules.Part.TheVariants.{Argument, Binary, Suffix}, Fault.Fault, Levels.{binding_power, right_of, max_bp_of}}
 use Rattle.rnix_grammar.specs.{Actions.{follow, goes_on, more_action}, TokenKinds.is_or, Rows.{is_infix, fits}, AnnotatedForest.{Token, AnnotatedForest, blank}}
-use Rattle.rnix_grammar.specs.{AnnotatedForest.{◌⊕◌, one_branch, leaf_kind, leaf_kind_as, head_kind}, Machine.{Node, Operand, Frame, put, opened}}
+use Rattle.rnix_grammar.specs.AnnotatedForest.{◌⊕◌, one_branch, leaf_kind, leaf_kind_as, head_kind}
+use Rattle.rnix_proof_lemmas.specs.Machine.{Node, Operand, Frame, put, opened}
 use Rattle.rnix_grammar.specs.{Reports.repeats, Operands.{first_tree, follows, goes_on as goes_behind}, TreeLevels.{row_level, operator_in, calls_or}}
-use Rattle.rnix_grammar.specs.{Reads.end, Beginnings.{BeginsAs, IsOperandOf}, SlotRows.left_at, Rules.{IsExpected, IsFollowed, Row, after, done}}
+use Rattle.rnix_grammar.specs.{Reads.end, Beginnings.{BeginsAs, IsOperandOf}, Rules.{IsExpected, IsFollowed, Row, after, done}}
+use Rattle.rnix_proof_lemmas.specs.SlotRows.{left_at}
 use Rattle.{rnix_grammar.specs.Rules.{row as row_of_kind, ◌·◌, only}, rnix_proof_lemmas.proofs.Basics.{true_is_not_false, not_if, some_same}}
 use Rattle.rnix_proof_lemmas.proofs.{AnnotatedForestLemmas.⊕-assoc, LevelLemmas.{at_most, at_most_true, fits_looser, right_within, within}, FollowLemmas.FollowedTo}
 use Rattle.rnix_proof_lemmas.proofs.{FollowLemmas.{followed_selection, followed_question}, FirstTrees.{a_node, first_in, single_operator, single_calls}, RowParts.IsFront}

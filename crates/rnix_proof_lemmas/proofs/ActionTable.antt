@@ -3,7 +3,8 @@ use Rattle.std.proofs.Common.{◌≡◌, ℕ, Bool, true, false, [], Option, Som
 use Rattle.rnix_kinds.proofs.AllKinds.{all_kinds}
 use Rattle.rnix_kinds.specs.declared.kinds.SyntaxKind.{SyntaxKind, TheVariants.{NODE_IDENT, NODE_LITERAL, NODE_PAT_ENTRY, TOKEN_IDENT, TOKEN_AT}}
 use Rattle.rnix_grammar.specs.declared.{position.Position.Position, action.Action.Action, slot_table.TheConstants.SLOTS, rules.Part.TheVariants.{BoundAlready, TextEnd}}
-use Rattle.rnix_grammar.specs.{Fault.{Fault, ended, ended_before}, Tables.{is_wanted, wanted_kinds}, AnnotatedForest.{blank, leaf_kind_as}, Actions.{left_action, action_at}, SlotRows.{left_at, left_in}}
+use Rattle.rnix_grammar.specs.{Fault.{Fault, ended, ended_before}, Tables.{is_wanted, wanted_kinds}, AnnotatedForest.{blank, leaf_kind_as}, Actions.{left_action, action_at}}
+use Rattle.rnix_proof_lemmas.specs.SlotRows.{left_at, left_in}
 use Rattle.rnix_grammar.specs.Rules.{Row, never, done, ◌·◌, row, only, after, may_end, missing, run_at, expects_item, expects_end, is_first_expected, level_at, counts}
 use Rattle.rnix_proof_lemmas.proofs.{EachKind.{Each, each_kind}, EachIndex.{EachSlot, from_index, each_split, each_index}, Basics.true_is_not_false, LevelLemmas.atom_fits, RowParts.{is_front, is_left, expects_next}, RestAt.rest_at}
 use Rattle.rnix_grammar.specs.declared.position.Position.TheVariants as p

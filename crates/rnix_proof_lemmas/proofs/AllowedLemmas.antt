@@ -4,9 +4,10 @@ use Rattle.std.specs.{Prelude.drop, List.list_any}
 use Rattle.rnix_kinds.specs.declared.kinds.SyntaxKind.{SyntaxKind, TheVariants.{TOKEN_INHERIT, TOKEN_OR, TOKEN_QUESTION, NODE_IDENT, NODE_INTERPOL, NODE_PAT_BIND, NODE_PATTERN, NODE_PAT_ENTRY, NODE_ERROR, NODE_ROOT}}
 use Rattle.rnix_green.specs.Equality.{same_kind}
 use Rattle.rnix_grammar.specs.declared.{position.Position.Position, action.Action.Action, rules.Part.Part, slot_table.{Slot.{Slot, TheVariants.{Next, End}}, TheConstants.{SLOTS, ROOT, PATTERN, AFTER_COMMA, AFTER_FORMAL, PATTERN_CLOSE, BOUND_AFTER_COMMA, BOUND_AFTER_FORMAL, BOUND_PATTERN_CLOSE}}}
-use Rattle.rnix_grammar.specs.{Tables.wanted_kinds, Actions.{expected_set_of, token_action, is_not, follow, goes_on, slot_action, action_at}, SlotRows.{slot_at}}
-use Rattle.rnix_grammar.specs.FrameKinds.{FrameKind, Root, Pattern, Entry, OperandFrame, NodeFrame, frame_kind, frame_kind_of_row, frame_kind_in, may_hold, is_open}
-use Rattle.rnix_grammar.specs.{Measures.{steps_with, steps_from, measure, begin_measure_in, begin_measure}, Allowed.Allowed}
+use Rattle.rnix_grammar.specs.{Tables.wanted_kinds, Actions.{expected_set_of, token_action, is_not, follow, goes_on, slot_action, action_at}, Slots.{slot_at}}
+use Rattle.rnix_proof_lemmas.specs.FrameKinds.{FrameKind, Root, Pattern, Entry, OperandFrame, NodeFrame, frame_kind, frame_kind_of_row, frame_kind_in, may_hold, is_open}
+use Rattle.rnix_proof_lemmas.specs.Allowed.{Allowed}
+use Rattle.rnix_proof_lemmas.specs.Measures.{steps_with, steps_from, measure, begin_measure_in, begin_measure}
 use Rattle.rnix_proof_lemmas.proofs.{EachKind.each_kind, EachIndex.{each_index}}
 use Rattle.rnix_grammar.specs.declared.position.Position.TheVariants as p
 use Rattle.rnix_grammar.specs.declared.rules.Part.TheVariants as r

@@ -2,8 +2,10 @@
 use Rattle.std.proofs.Common.{◌≡◌, ℕ, Bool, true, false, List, [], ◌∷◌, ◌++◌, refl, ap, sym, ◌∙◌, append-nil, append_assoc, ◌&&◌, map, if◌then◌else◌}
 use Rattle.std.proofs.lemmas.Bool.{and_parts}
 use Rattle.{rnix_kinds.specs.{declared.kinds.SyntaxKind.SyntaxKind, SyntaxKind.is_token, Lexical.Tokens.Lexeme}, rnix_green.specs.Forest.{Forest, empty, leaf}}
-use Rattle.{rnix_green.specs.Forest.node, rnix_grammar.specs.{AnnotatedForest.{Token, lexeme_of, tokens_in, forget}, Yield.{yield, kind_of_token}, PathPieces.is_node}}
-use Rattle.rnix_grammar.specs.{PathPieces.HaveTokenKinds, Derivation.{beyond, annotate, has_tokens_alone}}
+use Rattle.{rnix_green.specs.Forest.node, rnix_grammar.specs.{AnnotatedForest.{Token, lexeme_of, tokens_in, forget}, Yield.{yield, kind_of_token}}}
+use Rattle.rnix_proof_lemmas.specs.LeafKinds.{is_node}
+use Rattle.rnix_grammar.specs.Derivation.{beyond, annotate, has_tokens_alone}
+use Rattle.rnix_proof_lemmas.specs.LeafKinds.{HaveTokenKinds}
 
 -- a row over items, and what is left of them
 pub record IsAnnotated (f : Forest) (ts : List Token) (ls : List Lexeme) : Type 0 where

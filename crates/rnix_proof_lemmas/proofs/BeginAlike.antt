@@ -6,7 +6,8 @@ use Rattle.{rnix_grammar.specs.declared.begin.Begin.{Begin}, rnix_grammar.specs.
 use Rattle.rnix_grammar.specs.Begins.{begin_of, second_kind, begin_name, begin_let, begin_prefix, begin_keyword, is_pattern}
 use Rattle.rnix_grammar.specs.declared.slot_table.TheConstants.{SET}
 use Rattle.rnix_grammar.specs.Levels.{expression_level, inversion_level, negation_level, selection_level}
-use Rattle.{rnix_grammar.specs.AnnotatedForest.{Token, AnnotatedForest, tokens_in, head_kind}, rnix_grammar.specs.Operands.{kind_of, IsBegun, IsOperand}}
+use Rattle.rnix_grammar.specs.AnnotatedForest.{Token, AnnotatedForest, tokens_in, head_kind}
+use Rattle.rnix_proof_lemmas.specs.BegunOperands.{kind_of, IsBegun, IsOperand}
 use Rattle.rnix_grammar.specs.Beginnings.{first_kind, BeginsAs, IsOperandOf, first_kind_of_name, first_kind_of_let, kind_if}
 use Rattle.rnix_grammar.specs.declared.begin.Begin.TheVariants as b
 

@@ -1,6 +1,6 @@
 -- What is shown for each index of the table of rows, and past its end, holds of every index.
 use Rattle.std.proofs.Common.{◌≡◌, ℕ, zero, suc, take, drop, List, [], ◌∷◌, None, refl}
-use Rattle.{std.specs.List.slice_get, rnix_grammar.specs.{declared.slot_table.{Slot.Slot, TheConstants.SLOTS}, SlotRows.slot_at}}
+use Rattle.{std.specs.List.slice_get, rnix_grammar.specs.{declared.slot_table.{Slot.Slot, TheConstants.SLOTS}, Slots.slot_at}}
 
 -- each index of some slots is so
 abbrev pub EachSlot : (ℕ → Type 0) → List Slot → Type 0

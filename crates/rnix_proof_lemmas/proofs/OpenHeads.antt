@@ -1,6 +1,6 @@
 -- The heads of frames that are open rows.
 use Rattle.std.proofs.Common.{Bool, true, false}
-use Rattle.rnix_grammar.specs.Machine.{Head, Node, SecondBind, Operand}
+use Rattle.rnix_proof_lemmas.specs.Machine.{Head, Node, SecondBind, Operand}
 
 -- an open node or second name
 abbrev pub is_open : Head → Bool

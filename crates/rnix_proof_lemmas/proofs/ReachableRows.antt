@@ -12,7 +12,8 @@ use Rattle.{rnix_grammar.specs.{declared.{slot_table.{Slot.Slot, TheConstants.SL
 use Rattle.rnix_grammar.specs.declared.rules.Part.TheVariants.{Child, Atom, First, Suffix, Binary, Argument, Operand, Many, Entries, Wanted, Attr, Attrpath}
 use Rattle.rnix_grammar.specs.declared.rules.Part.TheVariants.{MoreAttrs, Names, Pieces, PathPieces, Formals, FormalsAfterComma, Comma, Optional, EndOr}
 use Rattle.rnix_grammar.specs.declared.rules.Part.TheVariants.{BoundAlready, TextEnd}
-use Rattle.rnix_grammar.specs.{SlotRows.{left_in, kind_in}, Rules.{Row, never, done, ◌·◌, ◌or◌, row, second_name, after, may_end, missing, run_at}}
+use Rattle.rnix_grammar.specs.Rules.{Row, never, done, ◌·◌, ◌or◌, row, second_name, after, may_end, missing, run_at}
+use Rattle.rnix_proof_lemmas.specs.SlotRows.{left_in, kind_in}
 use Rattle.rnix_grammar.specs.AnnotatedForest.{Token, Note, Stray, Unwanted, Extra, DoubleBind, TooDeep}
 use Rattle.{rnix_grammar.specs.Reads.IsWrong, rnix_proof_lemmas.proofs.Basics.true_is_not_false}
 

@@ -1,6 +1,7 @@
 -- What is left of a row at a position.
 use Rattle.std.proofs.Common.{false}
-use Rattle.rnix_grammar.specs.{declared.position.Position.{Position}, SlotRows.{left_at}, Rules.{Row, never, done, ◌·◌}, declared.rules.Part.TheVariants.{Operand}}
+use Rattle.rnix_grammar.specs.{declared.position.Position.{Position}, Rules.{Row, never, done, ◌·◌}, declared.rules.Part.TheVariants.{Operand}}
+use Rattle.rnix_proof_lemmas.specs.SlotRows.{left_at}
 use Rattle.rnix_grammar.specs.declared.position.Position.TheVariants as p
 
 -- what is left of a row at a position; none is left after an operand

@@ -3,7 +3,8 @@ use Rattle.std.{specs.List.All, proofs.Common.{◌≡◌, ℕ, ◌+◌, Bool, tr
 use Rattle.std.proofs.lemmas.{List.Elements.{All-head, All-tail}, Slice.Eq.bytes_eq-Decides}
 use Rattle.rnix_kinds.specs.{declared.kinds.SyntaxKind.{SyntaxKind, TheVariants.{TOKEN_CUR_POS, TOKEN_IDENT, TOKEN_OR}}, SyntaxKind.is_trivia}
 use Rattle.{rnix_kinds.specs.Lexical.Tokens.{Lexeme, MayBe}, rnix_grammar.specs.AnnotatedForest.{Token, AnnotatedForest, blank, token, branch, fault, token_if}}
-use Rattle.rnix_grammar.specs.{AnnotatedForest.{tokens_in, without_trivia, placed_from}, Named.{is_spelled, AreSpelled}}
+use Rattle.rnix_grammar.specs.AnnotatedForest.{tokens_in, without_trivia, placed_from}
+use Rattle.rnix_proof_lemmas.specs.Spelled.{is_spelled, AreSpelled}
 use Rattle.rnix_grammar.specs.Tables as tables
 
 -- the word `or` is found

@@ -4,9 +4,11 @@ use Rattle.rnix_kinds.specs.declared.kinds.SyntaxKind.{SyntaxKind, TheVariants.{
 use Rattle.{rnix_kinds.specs.declared.kinds.SyntaxKind.TheVariants.{TOKEN_LET, NODE_APPLY, NODE_ROOT}, rnix_grammar.specs.declared.position.Position.Position}
 use Rattle.rnix_grammar.specs.{declared.{slot_table.TheConstants.APPLIED, action.Action.Action, begin.Begin.Begin}, Fault.Fault, Tables.{is_cur_pos, depth_limit}, Actions.action_at}
 use Rattle.rnix_grammar.specs.{Begins.{is_pattern, begin_name, begin_let, begin_of, second_kind}, AnnotatedForest.{Token, blank, head_kind, touches}}
-use Rattle.rnix_grammar.specs.Machine.{Head, Node, SecondBind, Operand, Frame, Machine, put, opened, with_leading, seen, min_bp_of, closed, entry_closed, limited, begun}
-use Rattle.rnix_grammar.specs.{Machine.{operand_on, reading, perform, step_on, step, begins}, FrameKinds.{FrameKind, Root, Entry, SecondBindFrame, OperandFrame, NodeFrame, frame_kind}}
-use Rattle.rnix_grammar.specs.{FrameKinds.{frame_kind_of_head, frame_kind_of_node, may_hold, is_open, IsStackedOn, AreStacked}, Allowed.{Allowed, IsNext, is_there}}
+use Rattle.rnix_proof_lemmas.specs.Machine.{Head, Node, SecondBind, Operand, Frame, Machine, put, opened, with_leading, seen, min_bp_of, closed, entry_closed, limited, begun}
+use Rattle.rnix_proof_lemmas.specs.FrameKinds.{FrameKind, Root, Entry, SecondBindFrame, OperandFrame, NodeFrame, frame_kind}
+use Rattle.rnix_proof_lemmas.specs.Machine.{operand_on, reading, perform, step_on, step, begins}
+use Rattle.rnix_proof_lemmas.specs.Allowed.{Allowed, IsNext, is_there}
+use Rattle.rnix_proof_lemmas.specs.FrameKinds.{frame_kind_of_head, frame_kind_of_node, may_hold, is_open, IsStackedOn, AreStacked}
 use Rattle.rnix_proof_lemmas.proofs.{AllowedLemmas.allowed, Basics.{choice, true_is_not_false}}
 use Rattle.rnix_grammar.specs.declared.position.Position.TheVariants as p
 use Rattle.rnix_grammar.specs.declared.action.Action.TheVariants as a

@@ -1,6 +1,7 @@
 -- Runs of items that are not wanted.
 use Rattle.std.proofs.Common.{◌≡◌, Bool, true, false, List, [], ◌∷◌, ◌++◌, refl, sym, ap, if◌then◌else◌}
-use Rattle.rnix_grammar.specs.{declared.expected_set.ExpectedSet.ExpectedSet, Tables.{is_wanted, stops}, AnnotatedForest.{Token, head_kind, is_some}, Machine.dropped, UnwantedRun.run_of}
+use Rattle.rnix_grammar.specs.{declared.expected_set.ExpectedSet.ExpectedSet, Tables.{is_wanted, stops}, AnnotatedForest.{Token, head_kind, is_some}, UnwantedRun.run_of}
+use Rattle.rnix_proof_lemmas.specs.Machine.{dropped}
 use Rattle.{rnix_grammar.specs.ErrorNodes.AreUnwanted, rnix_proof_lemmas.proofs.Basics.true_is_not_false}
 
 -- what a run and the items behind it are

@@ -7,10 +7,14 @@ use Rattle.rnix_grammar.specs.{declared.{position.Position.Position, expected_se
 use Rattle.rnix_grammar.specs.{Tables.depth_limit, Actions.action_at, Begins.{begin_of, second_kind}, AnnotatedForest.{Token, Stray, Unwanted, Extra, DoubleBind}}
 use Rattle.rnix_grammar.specs.AnnotatedForest.{TooDeep, AnnotatedForest, blank, ◌⊕◌, one_branch, one_fault, row_of, tokens_in, without_trivia, token_if}
 use Rattle.rnix_grammar.specs.{AnnotatedForest.{leaf_kind, head_kind, touches}, Layout.{items, from_item, tail_of, trivia_before}, Reports.{report, repeated}}
-use Rattle.rnix_grammar.specs.Machine.{Head, Node, SecondBind, Operand, Frame, Machine, put, opened, with_leading, behind, end_of, item_end, leaf_in, leaf, run_row, dropped}
-use Rattle.rnix_grammar.specs.Machine.{run_rest, kind_of, made, min_bp_of, machine, closed, entry_closed, limited, begun, operand_on, reading, perform, step_on}
-use Rattle.rnix_grammar.specs.{Machine.{step, Runs, rest, then as further}, UnwantedRun.run_of, WithoutTrivia.{without_trivia_frame, without_trivia_frames}}
-use Rattle.{rnix_grammar.specs.WithoutTrivia.without_trivia_machine, rnix_proof_lemmas.proofs.AnnotatedForestLemmas.{⊕-blank, tokens_in-row_of}}
+use Rattle.rnix_proof_lemmas.specs.Machine.{Head, Node, SecondBind, Operand, Frame, Machine, put, opened, with_leading, behind, end_of, item_end, leaf_in, leaf, run_row, dropped}
+use Rattle.rnix_proof_lemmas.specs.Machine.{run_rest, kind_of, made, min_bp_of, machine, closed, entry_closed, limited, begun, operand_on, reading, perform, step_on}
+use Rattle.rnix_grammar.specs.UnwantedRun.run_of
+use Rattle.rnix_proof_lemmas.specs.Machine.{step, Runs, rest}
+use Rattle.rnix_proof_lemmas.specs.Machine.{then as further}
+use Rattle.rnix_proof_lemmas.specs.WithoutTrivia.{without_trivia_frame, without_trivia_frames}
+use Rattle.rnix_proof_lemmas.proofs.AnnotatedForestLemmas.{⊕-blank, tokens_in-row_of}
+use Rattle.rnix_proof_lemmas.specs.WithoutTrivia.{without_trivia_machine}
 use Rattle.rnix_proof_lemmas.proofs.LayoutLemmas.{items_head, items-view, items-from_item, from_item_item, without_trivia-⊕, without_trivia-trivia, IsBared, bared}
 use Rattle.rnix_grammar.specs.declared.position.Position.TheVariants as p
 use Rattle.rnix_grammar.specs.declared.action.Action.TheVariants as a

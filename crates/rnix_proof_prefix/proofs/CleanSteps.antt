@@ -5,9 +5,11 @@ use Rattle.rnix_grammar.specs.declared.{slot_table.TheConstants.APPLIED, action.
 use Rattle.rnix_grammar.specs.{Fault.{Fault, ended, ended_before, too_deep}, Tables.{depth_limit, wanted_kinds}, Actions.action_at, Begins.{begin_of, second_kind}}
 use Rattle.rnix_grammar.specs.AnnotatedForest.{Token, Stray, Unwanted, Extra, DoubleBind, TooDeep, AnnotatedForest, blank, token, branch, fault, ◌⊕◌, one_branch, one_fault}
 use Rattle.rnix_grammar.specs.{AnnotatedForest.{row_of, tokens_in, head_kind, touches}, Reports.{report, repeated, repeated_if}, UnwantedRun.run_of}
-use Rattle.rnix_grammar.specs.Machine.{Head, Node, SecondBind, Operand, Frame, Machine, put, opened, leaf, kind_of, made, min_bp_of, machine, closed, entry_closed}
-use Rattle.rnix_grammar.specs.Machine.{begun, limited, operand_on, reading, perform, step_on, step, Runs, rest as here, then as further}
-use Rattle.rnix_grammar.specs.{FrameKinds.{FrameKind, Entry, SecondBindFrame, frame_kind, frame_kind_of_head, IsStackedOn, AreStacked}, Allowed.Allowed}
+use Rattle.rnix_proof_lemmas.specs.Machine.{Head, Node, SecondBind, Operand, Frame, Machine, put, opened, leaf, kind_of, made, min_bp_of, machine, closed, entry_closed}
+use Rattle.rnix_proof_lemmas.specs.Machine.{begun, limited, operand_on, reading, perform, step_on, step, Runs}
+use Rattle.rnix_proof_lemmas.specs.Machine.{rest as here, then as further}
+use Rattle.rnix_proof_lemmas.specs.Allowed.{Allowed}
+use Rattle.rnix_proof_lemmas.specs.FrameKinds.{FrameKind, Entry, SecondBindFrame, frame_kind, frame_kind_of_head, IsStackedOn, AreStacked}
 use Rattle.rnix_proof_lemmas.proofs.{AllowedLemmas.allowed, StackedFrames.step_stacked, Basics.{true_is_not_false, not_nil, none_left, none_right}}
 use Rattle.rnix_proof_prefix.proofs.Late.{row_below, IsLate, AreLate, head_frame, head_entry}
 use Rattle.rnix_proof_prefix.specs.Prefix.{BeginAllFrom}

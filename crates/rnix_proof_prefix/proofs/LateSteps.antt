@@ -5,9 +5,11 @@ use Rattle.rnix_grammar.specs.declared.{position.Position.Position, slot_table.T
 use Rattle.rnix_grammar.specs.{Fault.{Fault, ended, ended_before, too_deep}, Tables.{depth_limit, wanted_kinds}, Actions.action_at, Begins.{begin_of, second_kind}}
 use Rattle.rnix_grammar.specs.AnnotatedForest.{Token, Stray, Unwanted, Extra, DoubleBind, TooDeep, AnnotatedForest, blank, ◌⊕◌, one_branch, one_fault, row_of}
 use Rattle.rnix_grammar.specs.{AnnotatedForest.{tokens_in, head_kind, touches}, Reports.{report, repeated}, UnwantedRun.run_of}
-use Rattle.rnix_grammar.specs.Machine.{Node, Operand, Frame, Machine, put, opened, leaf, kind_of, made, min_bp_of, closed, entry_closed}
-use Rattle.rnix_grammar.specs.Machine.{begun, limited, operand_on, reading, perform, step_on, step, Runs, rest as here, then as further}
-use Rattle.rnix_grammar.specs.{FrameKinds.{IsStackedOn, AreStacked}, Allowed.{Allowed, is_there}}
+use Rattle.rnix_proof_lemmas.specs.Machine.{Node, Operand, Frame, Machine, put, opened, leaf, kind_of, made, min_bp_of, closed, entry_closed}
+use Rattle.rnix_proof_lemmas.specs.Machine.{begun, limited, operand_on, reading, perform, step_on, step, Runs}
+use Rattle.rnix_proof_lemmas.specs.Machine.{rest as here, then as further}
+use Rattle.rnix_proof_lemmas.specs.Allowed.{Allowed, is_there}
+use Rattle.rnix_proof_lemmas.specs.FrameKinds.{IsStackedOn, AreStacked}
 use Rattle.rnix_proof_lemmas.proofs.{AllowedLemmas.allowed, StackedFrames.{BeginsInner, begin_inner, step_stacked}}
 use Rattle.{rnix_proof_prefix.specs.Prefix.{BeginAllFrom}}
 use Rattle.rnix_proof_prefix.proofs.Late.{AreFrom, from_tail, from_dropped, starts_there, starts_run, report_from, more_from, row_below, AreLate}

@@ -3,7 +3,8 @@ use Rattle.std.proofs.Common.{◌≡◌, ◌≤◌, ℕ, Bool, true, false, List
 use Rattle.std.proofs.lemmas.List.{map-append}
 use Rattle.rnix_kinds.specs.declared.kinds.SyntaxKind.{SyntaxKind, TheVariants.{TOKEN_CUR_POS, TOKEN_IDENT, TOKEN_OR, NODE_CUR_POS, NODE_IDENT, NODE_ROOT}}
 use Rattle.rnix_grammar.specs.AnnotatedForest.{Token, lexeme_of, AnnotatedForest, blank, token, branch, fault, tokens_in, forget, leaf_kind_as, HaveLeafKinds}
-use Rattle.rnix_grammar.specs.{Named.{is_spelled, AreSpelled}, Yield.{kind_of_token, yield}, Tables.{is_or, depth_limit}, Grammar.IsExpression, Derivation.beyond}
+use Rattle.rnix_grammar.specs.{Yield.{kind_of_token, yield}, Tables.{is_or, depth_limit}, Grammar.IsExpression, Derivation.beyond}
+use Rattle.rnix_proof_lemmas.specs.Spelled.{is_spelled, AreSpelled}
 use Rattle.rnix_grammar.specs.{Derivation.{annotate, IsDerivation}, PathPieces.ArePaths, Nest.nest}
 use Rattle.rnix_proof_lemmas.proofs.{Basics.true_is_not_false, SpelledLemmas.{spelled_first, spelled_rest}}
 use Rattle.rnix_proof_rows.proofs.ReadsShapes.{AreErrorFreeRows}

@@ -7,7 +7,8 @@ use Rattle.rnix_grammar.specs.AnnotatedForest.{one_fault, row_of}
 use Rattle.rnix_grammar.specs.{AnnotatedForest.{tokens_in, extent_of}, AnnotatedForest.leaf_kind, Reports.{report, repeated_if, entry_name, has_entry, repeats}}
 use Rattle.rnix_grammar.specs.Rules.{Row}
 use Rattle.rnix_grammar.specs.{Reads.{Reads, end, leaf, missing_part, wrong, second, inner, IsWrong}, Repaired.{is_ended, others, is_misplaced}}
-use Rattle.rnix_grammar.specs.{Repaired.{NoneMisplaced, NoErrorAfterEnd, IsNamedList, AreNamedLists}, Shape.reports_behind}
+use Rattle.rnix_grammar.specs.Repaired.{NoneMisplaced, NoErrorAfterEnd, IsNamedList, AreNamedLists}
+use Rattle.rnix_proof_lemmas.specs.RowReports.{reports_behind}
 use Rattle.rnix_proof_lemmas.proofs.{AnnotatedForestLemmas.tokens_in-row_of, MissingFacts.missing_ended, Basics.{true_is_not_false, not_nil, none_right, none_left}}
 use Rattle.rnix_proof_lemmas.proofs.ReachableRows.{IsKnown, known_row, known_second, known_after, known_missing, known_past, known_wrong}
 

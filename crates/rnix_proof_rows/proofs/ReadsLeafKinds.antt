@@ -5,7 +5,8 @@ use Rattle.rnix_kinds.specs.{declared.kinds.SyntaxKind.TheVariants.{NODE_LITERAL
 use Rattle.rnix_grammar.specs.AnnotatedForest.{Note, Stray, Unwanted, Extra, DoubleBind, TooDeep, AnnotatedForest, blank, token, branch, fault}
 use Rattle.rnix_grammar.specs.{AnnotatedForest.{tokens_in, leaf_kind_as, leaf_kind, HaveLeafKinds, Token, row_of}}
 use Rattle.rnix_grammar.specs.{Rules.{Row, done, ◌·◌, row, only, after, may_end}}
-use Rattle.rnix_grammar.specs.{Repaired.{repaired, repair}, Named.{is_spelled, AreSpelled}, Derivation.has_tokens_alone, Fault.Fault}
+use Rattle.rnix_grammar.specs.{Repaired.{repaired, repair}, Derivation.has_tokens_alone, Fault.Fault}
+use Rattle.rnix_proof_lemmas.specs.Spelled.{is_spelled, AreSpelled}
 use Rattle.rnix_grammar.specs.declared.rules.Part.TheVariants.{Child}
 use Rattle.rnix_grammar.specs.{Reads.{Reads, end, leaf, missing_part, wrong, second, inner, IsWrong}}
 use Rattle.rnix_grammar.specs.{Trim.{is_single_token, begins_with_node, HasSingleTokenName, AreNamesSingleTokens}}

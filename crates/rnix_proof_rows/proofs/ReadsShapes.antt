@@ -7,7 +7,8 @@ use Rattle.rnix_grammar.specs.AnnotatedForest.{Token, AnnotatedForest, blank, to
 use Rattle.rnix_grammar.specs.{Rules.{Row, ◌·◌, row, after, may_end}, CompleteRows.{after_all, is_row}}
 use Rattle.rnix_grammar.specs.{Reads.{Reads, ReadsRoot, end, leaf, missing_part, wrong, second, inner}}
 use Rattle.rnix_grammar.specs.{Named.{AreNamed, begins_with_token, is_bind_at, is_name_allowed}, ErrorNodes.AreErrorNodes, Reports.{report, repeats}}
-use Rattle.rnix_grammar.specs.{Repaired.{repaired, kinds_of, incomplete, is_ended, ended_count, others}, Shape.{reports_behind, reports}}
+use Rattle.rnix_grammar.specs.Repaired.{repaired, kinds_of, incomplete, is_ended, ended_count, others}
+use Rattle.rnix_proof_lemmas.specs.RowReports.{reports_behind, reports}
 use Rattle.rnix_proof_lemmas.proofs.{Basics.{true_is_not_false, not_nil, none_left, none_right, Where, where_one}, EachKind.each_kind, EntryNames.both_true}
 use Rattle.rnix_proof_lemmas.proofs.{ReachableRows.{IsKnown, is_viable, every_known, known_row, known_after}, ViableRows.{end_viable, reads_viable}}
 use Rattle.rnix_proof_rows.proofs.{NamedRows.{are_named, is_end_or}, ErrorNodeRows.root_error_nodes, ReadsFaults.reads_errors, ReadsRows.{half, reads_counts}}

@@ -8,7 +8,8 @@ use Rattle.rnix_grammar.specs.{Reports.{only_token, is_same_name, has_entry, rep
 use Rattle.rnix_grammar.specs.Named.{begins_with_token}
 use Rattle.rnix_grammar.specs.{Repaired.kinds_of, Trim.{AreNodesTrimmed, AreFaultsTrimmed}, Shape.{item_kinds, begins_with_leaf, is_bind_formed}}
 use Rattle.rnix_grammar.specs.Shape.{are_binds_formed, AreRows, IsShaped, leaf_text, text_if, name_in, name_if, with_name, entry_names, AreNew, AreUnrepeated}
-use Rattle.{rnix_grammar.specs.{Shape.{IsUnrepeated, reports_behind, reports_within}, Tables.is_among}, rnix_proof_lemmas.proofs.ViableRows.nowhere}
+use Rattle.{rnix_grammar.specs.{Shape.{IsUnrepeated, reports_within}, Tables.is_among}, rnix_proof_lemmas.proofs.ViableRows.nowhere}
+use Rattle.rnix_proof_lemmas.specs.RowReports.{reports_behind}
 use Rattle.rnix_proof_lemmas.proofs.{Basics.{true_is_not_false, none_left, none_right}, EntryNames.{name_of_items, has_branch, either_assoc, has-⊕, if_not}}
 use Rattle.rnix_proof_lemmas.proofs.{AnnotatedForestLemmas.⊕-blank, LayoutLemmas.without_trivia-⊕, ReportLemmas.{without_trivia_tokens, same_report}}
 use Rattle.rnix_proof_rows.proofs.{WithTriviaEdges.remapped_is_trivia, ReadsShapes.{is_item_bind_formed, are_item_binds_formed, AreErrorFreeRows, IsErrorFree, root_rows}}

@@ -2,8 +2,11 @@
 use Rattle.std.proofs.Common.{◌≡◌, true, List, [], ◌++◌, ap, sym, ◌∙◌, append-nil, subst}
 use Rattle.{rnix_kinds.specs.{declared.kinds.SyntaxKind.{SyntaxKind, TheVariants.NODE_ROOT}, Lexical.Tokens.Lexeme}, rnix_green.specs.Tree.Tree}
 use Rattle.rnix_grammar.specs.{Fault.Fault, AnnotatedForest.{Token, AnnotatedForest, tokens_in, without_trivia, placed_from, HaveLeafKinds, forget}}
-use Rattle.rnix_grammar.specs.{Layout.{trivia_before, from_item, items, left_after, with_trivia, with_all_trivia}, Machine.with_leading, Document.IsRead}
-use Rattle.rnix_grammar.specs.{Named.AreSpelled, Reads.ReadsRoot, Trim.{AreFaultsTrimmed, AreNamesSingleTokens, AreNodesTrimmed}}
+use Rattle.rnix_grammar.specs.Layout.{trivia_before, from_item, items, left_after, with_trivia, with_all_trivia}
+use Rattle.rnix_proof_lemmas.specs.Document.{IsRead}
+use Rattle.rnix_proof_lemmas.specs.Machine.{with_leading}
+use Rattle.rnix_grammar.specs.{Reads.ReadsRoot, Trim.{AreFaultsTrimmed, AreNamesSingleTokens, AreNodesTrimmed}}
+use Rattle.rnix_proof_lemmas.specs.Spelled.{AreSpelled}
 use Rattle.rnix_proof_lemmas.proofs.{AnnotatedForestLemmas.tokens_in-⊕, LayoutLemmas.{items-view, IsBared, bared, with_trivia_tokens, trivia_tokens, nothing_from}}
 use Rattle.rnix_proof_lemmas.proofs.{LayoutLemmas.{leaf_kind-⊕, trivia_leaf_kinds, with_trivia_leaf_kinds}, ReportLemmas.without_trivia_tokens, EdgeLemmas.faults_trimmed-⊕}
 use Rattle.{rnix_proof_lemmas.proofs.EdgeLemmas.faults_trimmed_trivia, rnix_proof_rows.proofs.{WithTrivia.root_row_with_trivia, ReadsShapes.root_rows}}

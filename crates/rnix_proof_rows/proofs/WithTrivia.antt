@@ -6,10 +6,16 @@ use Rattle.rnix_kinds.specs.declared.kinds.SyntaxKind.TheVariants.{NODE_PATTERN,
 use Rattle.rnix_grammar.specs.{declared.{expected_set.ExpectedSet.ExpectedSet, action.Action.Action, begin.Begin.Begin}, Fault.Fault, Tables.depth_limit, Actions.action_at}
 use Rattle.rnix_grammar.specs.{Begins.{begin_of, second_kind}, AnnotatedForest.{Token, Stray, Unwanted, Extra, DoubleBind, TooDeep, AnnotatedForest, blank, ◌⊕◌}}
 use Rattle.rnix_grammar.specs.{AnnotatedForest.{one_branch, one_fault, without_trivia, head_kind, touches}, Layout.{from_item, tail_of, trivia_before, items}}
-use Rattle.rnix_grammar.specs.{Layout.{left_after, with_all_trivia}, Reports.repeated, Machine.{Head, Node, SecondBind, Operand, Frame, Machine, put, opened}}
-use Rattle.rnix_grammar.specs.Machine.{with_leading, behind, leaf, run_row, dropped, run_rest, made, kind_of, min_bp_of, closed, entry_closed, limited, begun, operand_on}
-use Rattle.rnix_grammar.specs.{Machine.{reading, perform, step_on, step, begins, Runs, rest, then as further}, UnwantedRun.run_of, FrameKinds.{OperandFrame, frame_kind, IsStackedOn}}
-use Rattle.{rnix_grammar.specs.{FrameKinds.AreStacked, Allowed.{Allowed, is_there}}, rnix_proof_lemmas.proofs.{AnnotatedForestLemmas.⊕-assoc, LayoutLemmas.without_trivia-⊕}}
+use Rattle.rnix_grammar.specs.{Layout.{left_after, with_all_trivia}, Reports.repeated}
+use Rattle.rnix_proof_lemmas.specs.Machine.{Head, Node, SecondBind, Operand, Frame, Machine, put, opened}
+use Rattle.rnix_proof_lemmas.specs.Machine.{with_leading, behind, leaf, run_row, dropped, run_rest, made, kind_of, min_bp_of, closed, entry_closed, limited, begun, operand_on}
+use Rattle.rnix_grammar.specs.UnwantedRun.run_of
+use Rattle.rnix_proof_lemmas.specs.FrameKinds.{OperandFrame, frame_kind, IsStackedOn}
+use Rattle.rnix_proof_lemmas.specs.Machine.{reading, perform, step_on, step, begins, Runs, rest}
+use Rattle.rnix_proof_lemmas.specs.Machine.{then as further}
+use Rattle.rnix_proof_lemmas.proofs.{AnnotatedForestLemmas.⊕-assoc, LayoutLemmas.without_trivia-⊕}
+use Rattle.rnix_proof_lemmas.specs.Allowed.{Allowed, is_there}
+use Rattle.rnix_proof_lemmas.specs.FrameKinds.{AreStacked}
 use Rattle.rnix_proof_lemmas.proofs.{WithoutTriviaLemmas.{items_behind, with_leading_without_trivia, run_prefix, all_prefix}, AllowedLemmas.allowed, StackedFrames.BeginsInner}
 use Rattle.{rnix_proof_lemmas.proofs.StackedFrames.{begin_inner, step_stacked, begins_stacked}, rnix_proof_rows.proofs.AttachTriviaLemmas.{HasTree, tree_behind, HasNoLeadingTrivia, from_no_leading_trivia}}
 use Rattle.rnix_proof_rows.proofs.AttachTriviaLemmas.{no_leading_trivia, HasTrivia, with_trivia_blank, with_trivia_added, tree_added, with_trivia_branch, with_trivia_fault}

@@ -5,11 +5,13 @@ use Rattle.rnix_kinds.specs.declared.kinds.SyntaxKind.{SyntaxKind, TheVariants.{
 use Rattle.rnix_kinds.specs.declared.kinds.SyntaxKind.TheVariants.{NODE_CUR_POS, NODE_IDENT, NODE_LAMBDA, NODE_LITERAL, NODE_PAT_BIND, NODE_PAT_ENTRY}
 use Rattle.rnix_kinds.{specs.SyntaxKind.is_token}
 use Rattle.rnix_green.specs.{Equality.same_kind, Forest.{Forest, empty, leaf, node}}
-use Rattle.rnix_grammar.specs.{Rows.{is_attr, is_expression}, Rules.{Row, never, done, ◌·◌, ◌or◌, after, only, may_end, run_at, level_at}, PathPieces.is_node}
+use Rattle.rnix_grammar.specs.{Rows.{is_attr, is_expression}, Rules.{Row, never, done, ◌·◌, ◌or◌, after, only, may_end, run_at, level_at}}
+use Rattle.rnix_proof_lemmas.specs.LeafKinds.{is_node}
 use Rattle.rnix_grammar.specs.{BehindErrors.{after_run, after_error}, Beginnings.IsOperandOf, Levels.selection_level, Rules.IsFollowed}
 use Rattle.rnix_grammar.specs.AnnotatedForest.{Token, Note, Stray, Unwanted, Extra, DoubleBind, TooDeep, AnnotatedForest, blank, token, branch, fault, ◌⊕◌}
 use Rattle.rnix_grammar.specs.AnnotatedForest.{one_token, one_branch, one_fault, leaf_kind, leaf_kind_as}
-use Rattle.rnix_grammar.specs.{AllowedNames.{is_name_at, is_named_in, is_plain}, Named.{begins_with_token, is_repeated, is_spelled, is_name_allowed, Lacks}}
+use Rattle.rnix_grammar.specs.{AllowedNames.{is_name_at, is_named_in, is_plain}, Named.{begins_with_token, is_repeated, is_name_allowed, Lacks}}
+use Rattle.rnix_proof_lemmas.specs.Spelled.{is_spelled}
 use Rattle.rnix_grammar.specs.{Extensions.{holds_no_lambda, is_extension}, Repaired.{repaired}, Reports.{entry_name, only_token, repeats}}
 use Rattle.rnix_grammar.specs.{TreeLevels.{is_atom_row, is_or_row, level_of}, TokenKinds.is_or, Grammar.{Strict, looser, literal, atom}}
 use Rattle.rnix_proof_lemmas.proofs.{Basics.{not_if, true_is_not_false}, EveryKind.whenever_two, LevelLemmas.at_most}

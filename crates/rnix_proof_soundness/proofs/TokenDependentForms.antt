@@ -12,7 +12,8 @@ use Rattle.rnix_grammar.specs.{AnnotatedForest.{one_token, one_branch, one_fault
 use Rattle.rnix_grammar.specs.Rows.{fits, is_atom, is_expression, is_infix, is_simple}
 use Rattle.rnix_grammar.specs.{Levels.{application_level, binding_power, has_attr_level, left_of, negation_level, inversion_level, right_of, selection_level}}
 use Rattle.rnix_grammar.specs.Rules.{Row, never, done, ◌·◌, row, after, only, may_end, run_at}
-use Rattle.rnix_grammar.specs.{AllowedNames.{is_name_at, is_plain, is_position}, Named.{begins_with_token, is_spelled, is_name_allowed}, Operands.follows}
+use Rattle.rnix_grammar.specs.{AllowedNames.{is_name_at, is_plain, is_position}, Named.{begins_with_token, is_name_allowed}, Operands.follows}
+use Rattle.rnix_proof_lemmas.specs.Spelled.{is_spelled}
 use Rattle.rnix_grammar.specs.TreeLevels.{calls_or, is_atom_row, is_or_leaf, is_or_row, level_of, operator_in, prefix_in, row_level}
 use Rattle.rnix_grammar.specs.{Extensions.{holds_no_lambda, is_extension}, Repaired.{repair, repaired}, Tables.is_cur_pos, TokenKinds.is_or}
 use Rattle.rnix_proof_lemmas.proofs.{Basics.{choice, not_if, true_is_not_false}, EveryKind.{never as no_kind_both}, LevelLemmas.at_most}

@@ -1,9 +1,13 @@
 -- Each reading of some items is what the steps make of them; so there is one reading.
 use Rattle.std.proofs.Common.{◌≡◌, ℕ, suc, false, List, [], ◌∷◌, refl, ap, sym, ◌∙◌, true, zero, ◌<◌, ◌++◌, subst, append-nil, arith}
 use Rattle.{rnix_kinds.specs.declared.kinds.SyntaxKind.{TheVariants.NODE_ROOT, SyntaxKind}, rnix_grammar.specs.{Fault.Fault, AnnotatedForest.Token}}
-use Rattle.rnix_grammar.specs.{AnnotatedForest.{AnnotatedForest, blank, tokens_in, end_from}, Machine.{Node, Frame, Machine, machine, opened, begins, step}}
-use Rattle.rnix_grammar.specs.{Machine.{Runs, rest as here, then as further}, declared.{slot_table.TheConstants.ROOT, position.Position.Position}}
-use Rattle.rnix_grammar.specs.{declared.rules.Part.TheVariants.TextEnd, SlotRows.{left_at, left_in}, Rules.{Row, done, ◌·◌}, Reads.ReadsRoot}
+use Rattle.rnix_grammar.specs.AnnotatedForest.{AnnotatedForest, blank, tokens_in, end_from}
+use Rattle.rnix_proof_lemmas.specs.Machine.{Node, Frame, Machine, machine, opened, begins, step}
+use Rattle.rnix_grammar.specs.declared.{slot_table.TheConstants.ROOT, position.Position.Position}
+use Rattle.rnix_proof_lemmas.specs.Machine.{Runs}
+use Rattle.rnix_proof_lemmas.specs.Machine.{rest as here, then as further}
+use Rattle.rnix_grammar.specs.{declared.rules.Part.TheVariants.TextEnd, Rules.{Row, done, ◌·◌}, Reads.ReadsRoot}
+use Rattle.rnix_proof_lemmas.specs.SlotRows.{left_at, left_in}
 use Rattle.{rnix_proof_lemmas.proofs.{Basics.{Where, where_one}, EachIndex.each_index, RestAt.rest_at}, rnix_proof_uniqueness.proofs.ReadingHeights.{height, IsLower}}
 use Rattle.rnix_proof_uniqueness.proofs.{ReadingHeights.{AllRows, Trees}, TreeReads.tree_runs, OneAction.{is_at, is_text_end}, RowReads.row_next, StepReads.ReadsTo}
 use Rattle.rnix_grammar.specs.declared.position.Position.TheVariants as p

@@ -4,10 +4,15 @@ use Rattle.rnix_kinds.{proofs.AllKinds.implied, specs.declared.kinds.SyntaxKind.
 use Rattle.rnix_kinds.specs.declared.kinds.SyntaxKind.TheVariants.{NODE_LEGACY_LET, TOKEN_AT, TOKEN_IDENT, NODE_IDENT, NODE_IDENT_PARAM, NODE_LAMBDA}
 use Rattle.{rnix_kinds.specs.declared.kinds.SyntaxKind.TheVariants.{NODE_PATTERN, NODE_PAT_BIND}, rnix_grammar.specs.{Fault.Fault, Begins.begin_of}}
 use Rattle.rnix_grammar.specs.{Begins.second_kind, AnnotatedForest.{Token, Stray, AnnotatedForest, blank, token, ◌⊕◌, one_token, one_branch, one_fault, row_of}}
-use Rattle.rnix_grammar.specs.{AnnotatedForest.{tokens_in, leaf_kind, head_kind, end_from, branch, leaf_kind_as}, Reports.{report, repeats}, Machine.Operand}
-use Rattle.rnix_grammar.specs.{Machine.{Frame, machine, opened, begun, rest as here, Node, operand_on, Runs}, declared.rules.Part.TheVariants.Child}
-use Rattle.rnix_grammar.specs.{declared.slot_table.TheConstants.{LEGACY_LET, BOUND_PATTERN, LAMBDA, PATTERN}, SlotRows.left_at, Reads.{IsOver, end}, Rules.Row}
-use Rattle.rnix_grammar.specs.{Rules.{after, row as row_of_kind, ◌·◌, done}, declared.{position.Position.Position, begin.Begin.Begin}, Operands.kind_of}
+use Rattle.rnix_grammar.specs.{AnnotatedForest.{tokens_in, leaf_kind, head_kind, end_from, branch, leaf_kind_as}, Reports.{report, repeats}}
+use Rattle.rnix_proof_lemmas.specs.Machine.{Operand}
+use Rattle.rnix_grammar.specs.declared.rules.Part.TheVariants.Child
+use Rattle.rnix_proof_lemmas.specs.Machine.{Frame, machine, opened, begun, Node, operand_on, Runs}
+use Rattle.rnix_proof_lemmas.specs.Machine.{rest as here}
+use Rattle.rnix_grammar.specs.{declared.slot_table.TheConstants.{LEGACY_LET, BOUND_PATTERN, LAMBDA, PATTERN}, Reads.{IsOver, end}, Rules.Row}
+use Rattle.rnix_proof_lemmas.specs.SlotRows.{left_at}
+use Rattle.rnix_grammar.specs.{Rules.{after, row as row_of_kind, ◌·◌, done}, declared.{position.Position.Position, begin.Begin.Begin}}
+use Rattle.rnix_proof_lemmas.specs.BegunOperands.{kind_of}
 use Rattle.rnix_proof_lemmas.proofs.{EveryKind.{only, only_both}, FollowLemmas.{FollowedTo, atom_is_selection_level, followed_atom, followed_keyword}, Basics.true_is_not_false}
 use Rattle.{rnix_proof_lemmas.proofs.{TokenEnds.end_behind, RestAt.rest_at}, rnix_proof_uniqueness.proofs.StepReads.{runs_to, runs_from, IsOperandRead, ReadsTree}}
 use Rattle.rnix_proof_uniqueness.proofs.{StepReads.runs_on, ViableReadings.is_viable, OneAction.{is_inner, is_closed}, ReadingHeights.{Complete, AllRows, KindReads, front_of}}

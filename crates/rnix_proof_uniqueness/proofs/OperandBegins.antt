@@ -5,11 +5,15 @@ use Rattle.rnix_kinds.specs.declared.kinds.SyntaxKind.TheVariants.{TOKEN_AT, TOK
 use Rattle.rnix_kinds.specs.declared.kinds.SyntaxKind.TheVariants.{NODE_APPLY, NODE_BIN_OP, NODE_HAS_ATTR, NODE_IDENT_PARAM, NODE_LAMBDA, NODE_LEGACY_LET}
 use Rattle.{rnix_kinds.specs.declared.kinds.SyntaxKind.TheVariants.{NODE_PATTERN, NODE_SELECT, NODE_UNARY_OP}, rnix_grammar.specs.Actions.{follow, more_action}}
 use Rattle.rnix_grammar.specs.{Actions.{goes_on as goes_between}, Levels.binding_power, AnnotatedForest.{Token, AnnotatedForest, head_kind, end_from, blank}}
-use Rattle.rnix_grammar.specs.{AnnotatedForest.{token, branch, one_branch, leaf_kind_as, Stray}, Operands.{follows, first_tree, IsBegun, goes_on, kind_of}}
-use Rattle.rnix_grammar.specs.{declared.action.Action.Action, Fault.Fault, TreeLevels.{row_level, level_of}, Machine.{Operand, Frame, machine, opened, perform}}
-use Rattle.rnix_grammar.specs.{Machine.{operand_on, Runs, Node}, declared.{position.Position.Position, begin.Begin.Begin}, Tables.is_cur_pos, Begins.begin_of}
+use Rattle.rnix_grammar.specs.{AnnotatedForest.{token, branch, one_branch, leaf_kind_as, Stray}, Operands.{follows, first_tree, goes_on}}
+use Rattle.rnix_proof_lemmas.specs.BegunOperands.{IsBegun, kind_of}
+use Rattle.rnix_grammar.specs.{declared.action.Action.Action, Fault.Fault, TreeLevels.{row_level, level_of}}
+use Rattle.rnix_proof_lemmas.specs.Machine.{Operand, Frame, machine, opened, perform}
+use Rattle.rnix_grammar.specs.{declared.{position.Position.Position, begin.Begin.Begin}, Tables.is_cur_pos, Begins.begin_of}
+use Rattle.rnix_proof_lemmas.specs.Machine.{operand_on, Runs, Node}
 use Rattle.rnix_grammar.specs.{Begins.{begin_name, begin_let, is_pattern, second_kind}, Rows.{is_atom, is_expression}, Rules.{after, done, row as row_of_kind}}
-use Rattle.{rnix_grammar.specs.SlotRows.left_at, rnix_proof_lemmas.proofs.{Basics.{true_is_not_false, choice}, LevelLemmas.{at_most, at_most_true}}}
+use Rattle.rnix_proof_lemmas.proofs.{Basics.{true_is_not_false, choice}, LevelLemmas.{at_most, at_most_true}}
+use Rattle.rnix_proof_lemmas.specs.SlotRows.{left_at}
 use Rattle.rnix_proof_lemmas.proofs.FollowLemmas.{FollowedTo, follows_level, atom_is_selection_level, followed_atom, followed_negated, followed_inverted, followed_keyword}
 use Rattle.{rnix_proof_lemmas.proofs.TokenEnds.end_behind, rnix_proof_uniqueness.proofs.StepReads.{runs_on, runs_to, runs_from, step_to, IsOperandRead, ReadsTree}}
 use Rattle.rnix_proof_uniqueness.proofs.OneAction.{is_at}

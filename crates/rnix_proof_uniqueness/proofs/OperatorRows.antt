@@ -4,9 +4,11 @@ use Rattle.rnix_kinds.{proofs.AllKinds.implied, specs.declared.kinds.SyntaxKind.
 use Rattle.{rnix_kinds.specs.declared.kinds.SyntaxKind.TheVariants.{NODE_HAS_ATTR, NODE_LITERAL, NODE_SELECT}, rnix_grammar.specs.declared.position.Position.Position}
 use Rattle.rnix_grammar.specs.{Fault.Fault, Actions.{follow as follow_of}, Levels.{binding_power, right_of, max_bp_of}, AnnotatedForest.{Token, Stray}}
 use Rattle.rnix_grammar.specs.AnnotatedForest.{AnnotatedForest, blank, branch, token, ◌⊕◌, one_token, one_branch, one_fault, row_of, tokens_in, leaf_kind}
-use Rattle.rnix_grammar.specs.{AnnotatedForest.end_from, Reports.report, Machine.{Node, Operand, machine, opened}, Rows.{is_atom, is_questioned, is_operand}}
+use Rattle.rnix_grammar.specs.{AnnotatedForest.end_from, Reports.report, Rows.{is_atom, is_questioned, is_operand}}
+use Rattle.rnix_proof_lemmas.specs.Machine.{Node, Operand, machine, opened}
 use Rattle.rnix_grammar.specs.{Rows.{is_infix, is_expression}, TreeLevels.row_level, Operands.{follows, first_tree}, declared.rules.Part.TheVariants.Binary}
-use Rattle.rnix_grammar.specs.{declared.{rules.Part.TheVariants.Suffix, slot_table.TheConstants.{HAS_ATTR, SELECT}}, SlotRows.left_at, Rules.{IsFollowed, Row}}
+use Rattle.rnix_grammar.specs.{declared.{rules.Part.TheVariants.Suffix, slot_table.TheConstants.{HAS_ATTR, SELECT}}, Rules.{IsFollowed, Row}}
+use Rattle.rnix_proof_lemmas.specs.SlotRows.{left_at}
 use Rattle.{rnix_grammar.specs.{Rules.{after, done, only as row_if, row as row_of_kind, ◌·◌}, Reads.{deeper, end}}, rnix_proof_lemmas.proofs.KindsOfNodes.unreported}
 use Rattle.rnix_proof_lemmas.proofs.{KindsOfNodes.{is_error, keeps_kind}, EveryKind.only, AnnotatedForestLemmas.{⊕-assoc}, TokenEnds.end_behind, FirstTrees.IsSingle}
 use Rattle.rnix_proof_lemmas.proofs.{FirstTrees.{a_node, an_error, first_in, single_operator}, FollowLemmas.{FollowedTo, followed_infix, followed_question}}

@@ -4,9 +4,12 @@ use Rattle.{std.proofs.{Common.{arith, if◌then◌else◌, nat_le}, lemmas.Bool
 use Rattle.rnix_kinds.specs.declared.kinds.SyntaxKind.{SyntaxKind, TheVariants.{NODE_IDENT, NODE_LITERAL, NODE_PAT_ENTRY, TOKEN_AT, TOKEN_IDENT}}
 use Rattle.{rnix_kinds.specs.SyntaxKind.is_token, rnix_green.specs.Equality.same_kind, rnix_grammar.specs.declared.{position.Position.Position, action.Action.Action}}
 use Rattle.rnix_grammar.specs.{declared.{expected_set.ExpectedSet.ExpectedSet, rules.Part.TheVariants.{Argument, BoundAlready, Many, Operand, TextEnd}}, Fault.{Fault, ended}}
-use Rattle.rnix_grammar.specs.{Fault.ended_before, Tables.{depth_limit, wanted_kinds}, Actions.action_at, SlotRows.left_at, Rows.fits, Reads.{IsOver, IsRoom}}
-use Rattle.rnix_grammar.specs.{AnnotatedForest.{AnnotatedForest, Token, blank, head_kind, leaf_kind_as, touches}, Machine.{Head, Frame, machine, opened}}
-use Rattle.rnix_grammar.specs.{Machine.{perform, limited}, Rules.{Row, done, ◌·◌, row, only, after, may_end, missing, is_there, run_at, expects_end}}
+use Rattle.rnix_grammar.specs.{Fault.ended_before, Tables.{depth_limit, wanted_kinds}, Actions.action_at, Rows.fits, Reads.{IsOver, IsRoom}}
+use Rattle.rnix_proof_lemmas.specs.SlotRows.{left_at}
+use Rattle.rnix_grammar.specs.AnnotatedForest.{AnnotatedForest, Token, blank, head_kind, leaf_kind_as, touches}
+use Rattle.rnix_proof_lemmas.specs.Machine.{Head, Frame, machine, opened}
+use Rattle.rnix_grammar.specs.Rules.{Row, done, ◌·◌, row, only, after, may_end, missing, is_there, run_at, expects_end}
+use Rattle.rnix_proof_lemmas.specs.Machine.{perform, limited}
 use Rattle.{rnix_grammar.specs.Rules.{is_first_expected, level_at, counts, IsExpected}, rnix_proof_lemmas.proofs.Basics.{true_is_not_false, not_if, some_same}}
 use Rattle.rnix_proof_lemmas.proofs.{EveryKind.same, ActionTable.IsActionAt, RestAt.rest_at, RowParts.{HasNoOperand, is_left, expects_next, left_no_operand, left_first_expected, operand_goes}}
 use Rattle.{rnix_proof_lemmas.proofs.RowParts.operand_not_expected, rnix_proof_uniqueness.proofs.{ViableReadings.{is_viable, viable_only, uncounted, until_in, until_is}, OneAction.is_at}}

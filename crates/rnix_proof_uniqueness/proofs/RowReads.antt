@@ -6,10 +6,14 @@ use Rattle.{rnix_green.specs.Equality.same_kind, rnix_grammar.specs.{declared.po
 use Rattle.rnix_grammar.specs.{Reads.{deeper, IsRoom, IsOver, Reads, end, leaf, inner, missing_part, wrong, second}, Beginnings.IsOperandOf}
 use Rattle.rnix_grammar.specs.AnnotatedForest.{Token, Note, Stray, Unwanted, Extra, DoubleBind, TooDeep, AnnotatedForest, ◌⊕◌, one_fault, row_of, head_kind}
 use Rattle.rnix_grammar.specs.AnnotatedForest.{end_from, touches, blank, one_branch, tokens_in, leaf_kind_as, token, fault, one_token, leaf_kind}
-use Rattle.rnix_grammar.specs.{Machine.{machine, opened, perform, dropped, rest as stays, Frame, SecondBind}, Rules.{IsExpected, Row, after, counts, level_at}}
+use Rattle.rnix_grammar.specs.Rules.{IsExpected, Row, after, counts, level_at}
+use Rattle.rnix_proof_lemmas.specs.Machine.{machine, opened, perform, dropped, Frame, SecondBind}
+use Rattle.rnix_proof_lemmas.specs.Machine.{rest as stays}
 use Rattle.rnix_grammar.specs.{Rules.{is_first_expected, row as row_of_kind, done, ◌·◌, expects_end, missing, second_name}, declared.action.Action.Action}
-use Rattle.rnix_grammar.specs.{declared.slot_table.TheConstants.{PAT_ENTRY, SECOND_BIND}, Fault.Fault, SlotRows.{left_at, kind_at}, Rows.{fits, is_expression}}
-use Rattle.{rnix_grammar.specs.{Operands.IsBegun, declared.rules.Part.TheVariants.BoundAlready}, rnix_proof_lemmas.proofs.Basics.true_is_not_false}
+use Rattle.rnix_grammar.specs.{declared.slot_table.TheConstants.{PAT_ENTRY, SECOND_BIND}, Fault.Fault, Rows.{fits, is_expression}}
+use Rattle.rnix_proof_lemmas.specs.SlotRows.{left_at, kind_at}
+use Rattle.{rnix_grammar.specs.declared.rules.Part.TheVariants.BoundAlready, rnix_proof_lemmas.proofs.Basics.true_is_not_false}
+use Rattle.rnix_proof_lemmas.specs.BegunOperands.{IsBegun}
 use Rattle.rnix_proof_lemmas.proofs.{BeginAlike.operand_by_steps, UnwantedRuns.dropped_all, RestAt.rest_at, KindsOfNodes.{unreported, fits_expression}}
 use Rattle.rnix_proof_lemmas.proofs.{ActionTable.is_waiting, RowParts.left_level, EveryKind.only, AnnotatedForestLemmas.tokens_in-row_of}
 use Rattle.rnix_proof_uniqueness.proofs.{StepReads.{runs_from, runs_to, step_to, ReadsTo, runs_on}, ViableReadings.{is_viable, reads_viable}, OneAction.{done_at, is_any}}

@@ -4,9 +4,13 @@ use Rattle.{std.proofs.{Common.{arith, if◌then◌else◌, nat_le}, lemmas.Bool
 use Rattle.{rnix_kinds.specs.declared.kinds.SyntaxKind.TheVariants.{NODE_PAT_ENTRY, NODE_ERROR, NODE_ROOT}, rnix_grammar.specs.declared.position.Position.Position}
 use Rattle.rnix_grammar.specs.{declared.action.Action.Action, Fault.Fault, Actions.action_at, Rules.{Row, IsExpected, after, counts, expects_end, missing}}
 use Rattle.rnix_grammar.specs.{Reads.{IsOver, IsRoom, deeper}, AnnotatedForest.{Token, DoubleBind, AnnotatedForest, blank, ◌⊕◌, one_branch, one_fault, tokens_in}}
-use Rattle.rnix_grammar.specs.{AnnotatedForest.{head_kind, end_from, touches, one_token, leaf_kind}, Machine.{Head, Node, SecondBind, Operand, Frame, machine, put}}
-use Rattle.rnix_grammar.specs.{Machine.{opened, perform, step, Runs, rest as here, kind_of, limited, operand_on, dropped}, Reports.{report, repeated, repeats}}
-use Rattle.{rnix_grammar.specs.{Tables.depth_limit, Operands.{goes_on, IsBegun}, TreeLevels.row_level}, rnix_proof_lemmas.proofs.Basics.true_is_not_false}
+use Rattle.rnix_grammar.specs.AnnotatedForest.{head_kind, end_from, touches, one_token, leaf_kind}
+use Rattle.rnix_proof_lemmas.specs.Machine.{Head, Node, SecondBind, Operand, Frame, machine, put}
+use Rattle.rnix_grammar.specs.Reports.{report, repeated, repeats}
+use Rattle.rnix_proof_lemmas.specs.Machine.{opened, perform, step, Runs, kind_of, limited, operand_on, dropped}
+use Rattle.rnix_proof_lemmas.specs.Machine.{rest as here}
+use Rattle.{rnix_grammar.specs.{Tables.depth_limit, Operands.{goes_on}, TreeLevels.row_level}, rnix_proof_lemmas.proofs.Basics.true_is_not_false}
+use Rattle.rnix_proof_lemmas.specs.BegunOperands.{IsBegun}
 use Rattle.rnix_proof_lemmas.proofs.{EveryKind.same, RestAt.rest_at, AnnotatedForestLemmas.{⊕-assoc, ⊕-blank}, TokenEnds.end_behind, OpenHeads.is_open}
 use Rattle.rnix_proof_uniqueness.proofs.{StepReads.{runs_on, runs_to, step_to, ReadsRow, runs_from, ReadsTree, IsOperandRead, ReadsTo}, ViableReadings.{end_viable, is_viable}}
 use Rattle.rnix_proof_uniqueness.proofs.{OneAction.{is_at, is_closed, is_ending, is_inner, LeadsTo, done_at, goal, next_is}, PlaceActions.{ends_at, Misses, misses_at}}

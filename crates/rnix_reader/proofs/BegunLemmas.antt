@@ -4,7 +4,7 @@ use Rattle.std.proofs.Common.{◌≡◌, ◌+◌, ℕ, Bool, suc, true, false, i
 use Rattle.rnix_kinds.specs.declared.kinds.SyntaxKind.{SyntaxKind, TheVariants.{NODE_ERROR, NODE_IDENT, NODE_LAMBDA, NODE_IDENT_PARAM, NODE_PATTERN, NODE_PAT_BIND, NODE_LEGACY_LET}}
 use Rattle.rnix_grammar.specs.{declared.{position.Position.Position, begin.Begin.Begin, expected_set.ExpectedSet.TheVariants.End}, Tables.depth_limit, Fault.{Fault, too_deep}, Layout.{items, from_item, tail_of}, Reports.report}
 use Rattle.rnix_grammar.specs.AnnotatedForest.{Token, Stray, TooDeep, AnnotatedForest, head_of, end_from, blank, ◌⊕◌, one_branch, one_fault}
-use Rattle.rnix_grammar.specs.Machine.{Node, Operand, Frame, put, opened, with_leading, leaf, behind, item_end, machine, begun, operand_on, reading, limited, run_row, run_rest}
+use Rattle.rnix_proof_lemmas.specs.Machine.{Node, Operand, Frame, put, opened, with_leading, leaf, behind, item_end, machine, begun, operand_on, reading, limited, run_row, run_rest}
 use Rattle.rnix_reader.specs.{declared.mark.Mark.Mark, State.{State, eaten, bumped, started_here, started, ended, failed}, Erase.{erase, erase_with}}
 use Rattle.rnix_reader.specs.FrameSteps.{node_here, node_started, node_begun, operand_here, operand_begun, lambda_begun, leaf_node_made, parameter_read, binding_read, begins_with}
 use Rattle.rnix_reader.{specs.{Performed.{begun_as, operand_with, operand_read, expression_read}, Reported.limit_reported}}

@@ -1,8 +1,10 @@
 -- The end of a pattern's entry: it is reported if an earlier entry has its name.
 use Rattle.std.proofs.Common.{◌≡◌, ℕ, Bool, true, false, List, [], ◌∷◌, ◌++◌, Option, Some, None, refl, ap, sym, ◌∙◌, subst, append-nil, if◌then◌else◌}
 use Rattle.{rnix_kinds.specs.declared.kinds.SyntaxKind.TheVariants.{NODE_PATTERN, NODE_PAT_ENTRY}, rnix_grammar.specs.Fault.{Fault, named_twice}}
-use Rattle.rnix_grammar.specs.{AnnotatedForest.{Token, AnnotatedForest, without_trivia, extent_of}, Reports.{entry_name, has_entry, repeated_if}, Machine.Head}
-use Rattle.rnix_grammar.specs.{Machine.{Node, Frame, machine, closed, perform}, FrameKinds.{Pattern, Entry, frame_kind, may_hold, IsStackedOn}}
+use Rattle.rnix_grammar.specs.{AnnotatedForest.{Token, AnnotatedForest, without_trivia, extent_of}, Reports.{entry_name, has_entry, repeated_if}}
+use Rattle.rnix_proof_lemmas.specs.Machine.{Head}
+use Rattle.rnix_proof_lemmas.specs.FrameKinds.{Pattern, Entry, frame_kind, may_hold, IsStackedOn}
+use Rattle.rnix_proof_lemmas.specs.Machine.{Node, Frame, machine, closed, perform}
 use Rattle.{rnix_proof_lemmas.proofs.Basics.true_is_not_false, rnix_reader.specs.{declared.pattern_names.{NameSet.NameSet, Names.Names}, PatternNames.{has_name, entries_in}}}
 use Rattle.rnix_reader.specs.{PatternNames.{entry_at, EntryClosed, Entered}, State.{State, ended, failed}, Erase.{erase, popped}, Performed.{EntryReported, reported_if}}
 use Rattle.rnix_reader.{specs.Holds.{IsBegun, AreNamed, named_by, name_of, entries_of, TopSet, AreOpenSets, AreOpenSetsOn}, proofs.{EraseLemmas.closes, FrameKindLemmas.is_operand_frame}}

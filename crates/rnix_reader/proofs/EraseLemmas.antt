@@ -3,8 +3,9 @@ use Rattle.{std.proofs.Common.{◌≡◌, ℕ, true, false, List, [], ◌∷◌,
 use Rattle.rnix_green.{specs.{Forest.{Forest, join, tree_count}, Draft.wrapped-join, ForestCode.join_empty}, proofs.ForestLemmas.join_assoc}
 use Rattle.rnix_grammar.specs.{declared.{position.Position.Position, expected_set.ExpectedSet.ExpectedSet}, Fault.Fault, UnwantedRun.run_of, Layout.{items, from_item, trivia_before, tail_of, with_trivia}}
 use Rattle.rnix_grammar.specs.AnnotatedForest.{Token, Note, AnnotatedForest, blank, ◌⊕◌, one_branch, one_fault, row_of, forget, end_from}
-use Rattle.rnix_grammar.specs.Machine.{Head, Node, SecondBind, Operand, Frame, put, opened, with_leading, leaf, leaf_in, behind, item_end, end_of, made, run_row, run_rest, machine, closed}
-use Rattle.{rnix_grammar.specs.FrameKinds.{OperandFrame, frame_kind, frame_kind_of_head, IsStackedOn}, rnix_proof_lemmas.proofs.{Basics.true_is_not_false, LayoutLemmas.{from_item-from_item, items-from_item}, AnnotatedForestLemmas.forget-⊕}}
+use Rattle.rnix_proof_lemmas.specs.Machine.{Head, Node, SecondBind, Operand, Frame, put, opened, with_leading, leaf, leaf_in, behind, item_end, end_of, made, run_row, run_rest, machine, closed}
+use Rattle.rnix_proof_lemmas.proofs.{Basics.true_is_not_false, LayoutLemmas.{from_item-from_item, items-from_item}, AnnotatedForestLemmas.forget-⊕}
+use Rattle.rnix_proof_lemmas.specs.FrameKinds.{OperandFrame, frame_kind, frame_kind_of_head, IsStackedOn}
 use Rattle.rnix_reader.specs.{declared.mark.Mark.Mark, State.{State, eaten, taken, bumped, skipped, started_here, started, started_at, ended, failed, pushed}}
 use Rattle.rnix_reader.{specs.{Erase.{trees_of, marks_of, mark_at, erase, erase_with, popped}, FrameSteps.{node_here, operand_here, leaf_node_made}, Reported.error_over}, proofs.FrameKindLemmas.{is_operand_frame, is_root, node_not_operand, head_operand}}
 use Rattle.rnix_reader.proofs.StateLemmas.{state_is, eaten-settled}

@@ -5,8 +5,9 @@ use Rattle.rnix_kinds.specs.declared.kinds.SyntaxKind.{SyntaxKind, TheVariants.{
 use Rattle.{rnix_kinds.specs.declared.kinds.SyntaxKind.TheVariants.{NODE_IDENT_PARAM, NODE_LEGACY_LET}, rnix_grammar.specs.declared.{begin.Begin.Begin}}
 use Rattle.rnix_grammar.specs.{Fault.{Fault}, Tables.depth_limit, Begins.{begin_of, second_kind}, AnnotatedForest.{Token, Stray, TooDeep}}
 use Rattle.rnix_grammar.specs.{AnnotatedForest.{AnnotatedForest, blank, ◌⊕◌, one_branch, one_fault, head_kind, end_from}, Layout.{items}}
-use Rattle.rnix_grammar.specs.Machine.{Head, Node, SecondBind, Operand, Frame, Machine, put, opened, with_leading, leaf, behind, item_end, run_row, run_rest, machine}
-use Rattle.rnix_grammar.specs.{Machine.{limited, begun, operand_on, reading}, FrameKinds.{FrameKind, SecondBindFrame, frame_kind, frame_kind_of_head, may_hold, is_open, IsStackedOn}}
+use Rattle.rnix_proof_lemmas.specs.Machine.{Head, Node, SecondBind, Operand, Frame, Machine, put, opened, with_leading, leaf, behind, item_end, run_row, run_rest, machine}
+use Rattle.rnix_proof_lemmas.specs.FrameKinds.{FrameKind, SecondBindFrame, frame_kind, frame_kind_of_head, may_hold, is_open, IsStackedOn}
+use Rattle.rnix_proof_lemmas.specs.Machine.{limited, begun, operand_on, reading}
 use Rattle.{rnix_proof_lemmas.proofs.{Basics.true_is_not_false, StackedFrames.{BeginsInner, begin_inner}}, rnix_reader.specs.declared.pattern_names.Names.Names}
 use Rattle.rnix_reader.{specs.{Placed.AreInOrder, Holds.{HasRange, AreNamed}, Performed.{NamesFor, opens_pattern, opens_on}}, proofs.FrameKindLemmas.head_sort}
 use Rattle.rnix_reader.proofs.{OrderLemmas.{order_from, order_behind, order_all}, RowLemmas.{no_entry_leaf, no_entry_fault}, OpenNames.{grow_trivia, grow_behind, push_node, push_operand, push_pattern}}

@@ -1,7 +1,8 @@
 -- Tokens that are left stay in order.
 use Rattle.{std.proofs.Common.{◌≡◌, ◌≤◌, ℕ, List, [], ◌∷◌, ◌++◌, true, false, ap, ◌∙◌, subst, arith}, rnix_kinds.specs.SyntaxKind.is_trivia}
 use Rattle.rnix_grammar.specs.{declared.expected_set.ExpectedSet.{ExpectedSet, TheVariants.End}, AnnotatedForest.{Token, row_of, end_from}, Layout.{items, from_item, from_item_if, tail_of}}
-use Rattle.rnix_grammar.specs.{Layout.left_after, Machine.{behind, item_end, end_of, run_rest, dropped}, UnwantedRun.run_of}
+use Rattle.rnix_grammar.specs.{Layout.left_after, UnwantedRun.run_of}
+use Rattle.rnix_proof_lemmas.specs.Machine.{behind, item_end, end_of, run_rest, dropped}
 use Rattle.rnix_proof_lemmas.proofs.{WithoutTriviaLemmas.run_prefix, LayoutLemmas.{IsFirst, first_item, items-from_item}}
 use Rattle.rnix_reader.{specs.Placed.AreInOrder, proofs.{CursorLemmas.in_order_from, SkippedRuns.run_all}}
 

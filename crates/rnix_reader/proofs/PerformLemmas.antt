@@ -4,9 +4,13 @@ use Rattle.{rnix_kinds.specs.declared.kinds.SyntaxKind.{SyntaxKind, TheVariants.
 use Rattle.rnix_grammar.specs.{declared.{slot_table.TheConstants.APPLIED, position.Position.Position, action.Action.Action}, Fault.Fault, AnnotatedForest.{Token, Note}}
 use Rattle.rnix_grammar.specs.AnnotatedForest.{Unwanted, Extra, AnnotatedForest, blank, ◌⊕◌, one_branch, one_fault, tokens_in, without_trivia, head_of}
 use Rattle.rnix_grammar.specs.{AnnotatedForest.{head_kind, end_from, extent_of}, Layout.{items, from_item, trivia_before, tail_of}, Reports.only_token}
-use Rattle.rnix_grammar.specs.Machine.{Node, Operand, Frame, put, opened, with_leading, leaf, leaf_in, kind_of, min_bp_of, behind, item_end, end_of, run_row, run_rest}
-use Rattle.rnix_grammar.specs.{Machine.{dropped, machine, closed, entry_closed, perform}, UnwantedRun.run_of, FrameKinds.{Pattern, Entry, OperandFrame, frame_kind, is_open, IsStackedOn}, Allowed.Allowed}
-use Rattle.{rnix_grammar.specs.Allowed.is_there, rnix_proof_lemmas.proofs.{Basics.true_is_not_false, AnnotatedForestLemmas.tokens_in-row_of}}
+use Rattle.rnix_proof_lemmas.specs.Machine.{Node, Operand, Frame, put, opened, with_leading, leaf, leaf_in, kind_of, min_bp_of, behind, item_end, end_of, run_row, run_rest}
+use Rattle.rnix_grammar.specs.UnwantedRun.run_of
+use Rattle.rnix_proof_lemmas.specs.Allowed.{Allowed}
+use Rattle.rnix_proof_lemmas.specs.FrameKinds.{Pattern, Entry, OperandFrame, frame_kind, is_open, IsStackedOn}
+use Rattle.rnix_proof_lemmas.specs.Machine.{dropped, machine, closed, entry_closed, perform}
+use Rattle.rnix_proof_lemmas.proofs.{Basics.true_is_not_false, AnnotatedForestLemmas.tokens_in-row_of}
+use Rattle.rnix_proof_lemmas.specs.Allowed.{is_there}
 use Rattle.rnix_proof_lemmas.proofs.{WithoutTriviaLemmas.{leaf_without_trivia, item_end_items, run_prefix, all_prefix, run_bared}, LayoutLemmas.first_item}
 use Rattle.{rnix_proof_lemmas.proofs.LayoutLemmas.without_trivia-trivia, rnix_reader.specs.{declared.pattern_names.Names.Names, PatternNames.{PatternClosed, EntryClosed, EntryNamed}}}
 use Rattle.rnix_reader.specs.{Placed.AreInOrder, Erase.{mark_of, popped}, State.{pushed, started_at}, Holds.{IsBegun, AreNamed, IsWell}, Performed.NamesAfter}

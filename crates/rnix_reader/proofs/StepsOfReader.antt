@@ -5,8 +5,10 @@ use Rattle.rnix_kinds.specs.declared.kinds.SyntaxKind.{SyntaxKind, TheVariants.{
 use Rattle.rnix_green.{specs.{Forest.tree_count, Draft.{OpenNode, is_inside}, ForestCode.join_empty}, proofs.ForestLemmas.tree_count-join}
 use Rattle.rnix_grammar.specs.{declared.{position.Position.Position, action.Action.Action, expected_set.ExpectedSet.TheVariants.End}, Fault.{Fault, bound_twice}, Layout.{items, from_item}, UnwantedRun.run_of, Reports.report}
 use Rattle.rnix_grammar.specs.AnnotatedForest.{Token, Unwanted, Extra, DoubleBind, AnnotatedForest, forget, without_trivia, tokens_in, blank, ◌⊕◌, one_branch, head_kind}
-use Rattle.rnix_grammar.specs.Machine.{Head, Node, SecondBind, Operand, Frame, put, opened, with_leading, leaf, behind, item_end, machine, perform, min_bp_of}
-use Rattle.{rnix_grammar.specs.{FrameKinds.{SecondBindFrame, OperandFrame, frame_kind, frame_kind_of_head}, Allowed.Allowed}, rnix_proof_lemmas.proofs.Basics.true_is_not_false}
+use Rattle.rnix_proof_lemmas.specs.Machine.{Head, Node, SecondBind, Operand, Frame, put, opened, with_leading, leaf, behind, item_end, machine, perform, min_bp_of}
+use Rattle.rnix_proof_lemmas.proofs.Basics.true_is_not_false
+use Rattle.rnix_proof_lemmas.specs.Allowed.{Allowed}
+use Rattle.rnix_proof_lemmas.specs.FrameKinds.{SecondBindFrame, OperandFrame, frame_kind, frame_kind_of_head}
 use Rattle.rnix_reader.specs.{declared.pattern_names.Names.Names, State.{State, bumped, started_at, ended, failed, pushed}, Reported.error_over, FrameSteps.{node_started, node_here, node_wrapped, leaf_node_made}, Holds.{HasRange, IsWell, AreNamed}}
 use Rattle.rnix_reader.specs.{Erase.{trees_of, nodes_of, mark_of, opened_on, erase, popped}, Performed.{Performed, IsReady, IsCheckpoint, expression_read, is_finish}}
 use Rattle.rnix_reader.proofs.{FrameKindLemmas.{is_operand_frame, is_root, is_name, head_operand, head_second_bind, head_sort, place_named, own_leaf}, BegunLemmas.expression_is, SkippedRuns.run_all, EntryLemmas.done_entry}

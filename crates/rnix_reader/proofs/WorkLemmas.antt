@@ -2,10 +2,15 @@
 use Rattle.std.proofs.Common.{◌≡◌, ◌≤◌, ◌<◌, ◌+◌, ◌*◌, ℕ, suc, length, true, false, Bool, List, [], ◌∷◌, ◌++◌, map, Option, Some, None, refl, ap, sym, ◌∙◌, subst, arith, nat_le}
 use Rattle.{std.proofs.{Common.if◌then◌else◌, lemmas.Bool.leb-true}, rnix_kinds.specs.declared.kinds.SyntaxKind.TheVariants.{NODE_APPLY}}
 use Rattle.rnix_grammar.specs.{declared.{position.Position.Position, expected_set.ExpectedSet.ExpectedSet, action.Action.Action, begin.Begin.Begin, slot_table.{Slot.{Slot, TheVariants.Next}, TheConstants.{APPLIED, LAMBDA, LEGACY_LET, PATTERN, BOUND_PATTERN, PAT_ENTRY, SECOND_BIND}}}, Fault.Fault}
-use Rattle.rnix_grammar.specs.{Tables.{stops, depth_limit}, SlotRows.slot_at, Begins.{begin_of, second_kind}, AnnotatedForest.{Token, blank, head_kind}}
-use Rattle.rnix_grammar.specs.{Layout.{items, from_item, tail_of}, Machine.{Node, Operand, Frame, Machine, put, opened, behind, closed, limited, min_bp_of}}
-use Rattle.rnix_grammar.specs.{Machine.{run_rest, dropped, begun, operand_on, reading, machine, perform, entry_closed}, UnwantedRun.run_of, FrameKinds.{FrameKind, NodeFrame, Entry, frame_kind}}
-use Rattle.rnix_grammar.specs.{FrameKinds.IsStackedOn, Measures.{measure, begin_measure_in, begin_measure}, Allowed.{Allowed, IsNext, is_there}}
+use Rattle.rnix_grammar.specs.{Tables.{stops, depth_limit}, Slots.slot_at, Begins.{begin_of, second_kind}, AnnotatedForest.{Token, blank, head_kind}}
+use Rattle.rnix_grammar.specs.Layout.{items, from_item, tail_of}
+use Rattle.rnix_proof_lemmas.specs.Machine.{Node, Operand, Frame, Machine, put, opened, behind, closed, limited, min_bp_of}
+use Rattle.rnix_grammar.specs.UnwantedRun.run_of
+use Rattle.rnix_proof_lemmas.specs.FrameKinds.{FrameKind, NodeFrame, Entry, frame_kind}
+use Rattle.rnix_proof_lemmas.specs.Machine.{run_rest, dropped, begun, operand_on, reading, machine, perform, entry_closed}
+use Rattle.rnix_proof_lemmas.specs.Allowed.{Allowed, IsNext, is_there}
+use Rattle.rnix_proof_lemmas.specs.FrameKinds.{IsStackedOn}
+use Rattle.rnix_proof_lemmas.specs.Measures.{measure, begin_measure_in, begin_measure}
 use Rattle.rnix_proof_lemmas.proofs.{Basics.true_is_not_false, LayoutLemmas.items-from_item, WithoutTriviaLemmas.{items_behind, run_prefix, all_prefix, run_bared}}
 use Rattle.rnix_proof_lemmas.proofs.{UnwantedRuns.{dropped_all, run_begins}, AllowedLemmas.{sort_by, sort_there, measure_there}}
 use Rattle.rnix_reader.{specs.{declared.mark.Mark.Mark, Erase.{marks_of, mark_of, erase}, Performed.is_finish, Holds.{places_on, measures, begin_measure_at, cost, work}}, proofs.FrameKindLemmas.is_root}

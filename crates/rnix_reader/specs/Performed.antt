@@ -10,12 +10,12 @@ use Rattle.rnix_grammar.specs.declared.begin.Begin.TheVariants as b
 use Rattle.rnix_grammar.specs.declared.position.Position.{Position}
 use Rattle.rnix_grammar.specs.declared.position.Position.TheVariants as p
 use Rattle.rnix_grammar.specs.Actions.{action_at}
-use Rattle.rnix_grammar.specs.Allowed.{is_there}
+use Rattle.rnix_proof_lemmas.specs.Allowed.{is_there}
 use Rattle.rnix_grammar.specs.AnnotatedForest.{Token, head_of, head_kind, touches}
 use Rattle.rnix_grammar.specs.Fault.{Fault, ended as ended_fault}
 use Rattle.rnix_grammar.specs.Layout.{tail_of}
 use Rattle.rnix_grammar.specs.Levels.{no_level, application_level, selection_level}
-use Rattle.rnix_grammar.specs.Machine.{min_bp_of}
+use Rattle.rnix_proof_lemmas.specs.Machine.{min_bp_of}
 use Rattle.rnix_grammar.specs.Tables.{depth_limit, stops}
 use Rattle.rnix_reader.specs.declared.mark.Mark.{Mark}
 use Rattle.rnix_reader.specs.declared.pattern_names.Names.{Names}

@@ -2,7 +2,7 @@
 
 ghost use Rattle.std.specs.Prelude.{map, IfOk};
 ghost use Rattle.rnix_grammar.specs.Fault.{fault_of};
-ghost use Rattle.rnix_grammar.specs.Document.{IsRead};
+ghost use Rattle.rnix_proof_lemmas.specs.Document.{IsRead};
 
 use crate::cursor::Cursor;
 use crate::parser::Parser;

@@ -11,7 +11,7 @@ ghost use Rattle.rnix_grammar.specs.declared.slot_table.TheConstants.{APPLIED, B
 ghost use Rattle.rnix_grammar.specs.Actions.{action_at};
 ghost use Rattle.rnix_grammar.specs.AnnotatedForest.{Token};
 ghost use Rattle.rnix_grammar.specs.Levels.{application_level, selection_level};
-ghost use Rattle.rnix_grammar.specs.Machine.{begins, min_bp_of};
+ghost use Rattle.rnix_proof_lemmas.specs.Machine.{begins, min_bp_of};
 ghost use Rattle.rnix_reader.specs.Erase.{erase};
 ghost use Rattle.rnix_reader.specs.Holds.{IsReadTo};
 ghost use Rattle.rnix_reader.specs.PatternNames.{entries_in, EntryNamed, PatternOpened};

@@ -3,7 +3,7 @@
 ghost use Rattle.std.specs.Prelude.{◌≡◌, IfOk, OnOk, false, true, Some};
 ghost use Rattle.rnix_green.specs.Range.{bounds_of};
 ghost use Rattle.rnix_grammar.specs.Tables.{stops};
-ghost use Rattle.rnix_grammar.specs.Allowed.{is_there};
+ghost use Rattle.rnix_proof_lemmas.specs.Allowed.{is_there};
 ghost use Rattle.rnix_grammar.specs.AnnotatedForest.{extent_of, head_kind};
 ghost use Rattle.rnix_reader.specs.Placed.{token_of};
 ghost use Rattle.rnix_reader.specs.State.{state, items_left, skipped, IsNextItem};

@@ -4,7 +4,7 @@ ghost use Rattle.std.specs.Prelude.{◌≡◌, ◌<◌, length, false, true, OnO
 ghost use Rattle.rnix_kinds.specs.declared.kinds.SyntaxKind.TheVariants.{NODE_ROOT};
 ghost use Rattle.rnix_green.specs.Draft.{is_checkpoint_of};
 ghost use Rattle.rnix_grammar.specs.declared.position.Position.TheVariants.{Left};
-ghost use Rattle.rnix_grammar.specs.Allowed.{is_there};
+ghost use Rattle.rnix_proof_lemmas.specs.Allowed.{is_there};
 ghost use Rattle.rnix_grammar.specs.AnnotatedForest.{head_kind};
 ghost use Rattle.rnix_grammar.specs.Fault.{ended as ended_fault};
 ghost use Rattle.rnix_grammar.specs.Tables.{stops};

@@ -8,7 +8,7 @@ use Rattle.rnix_grammar.specs.declared.slot_table.TheConstants.{ROOT}
 use Rattle.rnix_grammar.specs.Fault.{Fault}
 use Rattle.rnix_grammar.specs.AnnotatedForest.{placed_from, forget}
 use Rattle.rnix_grammar.specs.Layout.{items}
-use Rattle.rnix_grammar.specs.Machine.{Node, Frame, Machine, begins, with_leading, Runs}
+use Rattle.rnix_proof_lemmas.specs.Machine.{Node, Frame, Machine, begins, with_leading, Runs}
 
 -- the machine of steps reads these tokens to the end: its last frame is the root, and its row is the tree's
 pub record IsRead (lexemes : List Lexeme) (tree : Tree) (faults : List Fault) : Type 0 where

@@ -7,7 +7,7 @@ use Rattle.rnix_grammar.specs.declared.slot_table.Slot.TheVariants.{Next}
 use Rattle.rnix_grammar.specs.declared.rules.Part.TheVariants.{Attr, Attrpath}
 use Rattle.rnix_grammar.specs.declared.action.Action.{Action}
 use Rattle.rnix_grammar.specs.declared.action.Action.TheVariants as a
-use Rattle.rnix_grammar.specs.SlotRows.{slot_at}
+use Rattle.rnix_grammar.specs.Slots.{slot_at}
 use Rattle.rnix_grammar.specs.Actions.{action_at}
 
 -- a step with an action and those that follow in its row, where so many follow from each position

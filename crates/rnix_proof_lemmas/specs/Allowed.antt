@@ -8,8 +8,8 @@ use Rattle.rnix_grammar.specs.declared.slot_table.TheConstants.{ROOT}
 use Rattle.rnix_grammar.specs.declared.action.Action.{Action}
 use Rattle.rnix_grammar.specs.declared.action.Action.TheVariants as a
 use Rattle.rnix_grammar.specs.Tables.{stops}
-use Rattle.rnix_grammar.specs.FrameKinds.{Root, Pattern, Entry, SecondBindFrame, OperandFrame, NodeFrame, frame_kind, frame_kind_of_node, may_hold, is_open}
-use Rattle.rnix_grammar.specs.Measures.{measure, full_begin_measure, begin_measure}
+use Rattle.rnix_proof_lemmas.specs.FrameKinds.{Root, Pattern, Entry, SecondBindFrame, OperandFrame, NodeFrame, frame_kind, frame_kind_of_node, may_hold, is_open}
+use Rattle.rnix_proof_lemmas.specs.Measures.{measure, full_begin_measure, begin_measure}
 
 -- an item is at hand
 abbrev pub is_there : Option SyntaxKind → Bool

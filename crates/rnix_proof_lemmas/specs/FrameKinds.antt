@@ -7,8 +7,8 @@ use Rattle.rnix_grammar.specs.declared.position.Position.TheVariants as p
 use Rattle.rnix_grammar.specs.declared.slot_table.Slot.{Slot}
 use Rattle.rnix_grammar.specs.declared.slot_table.Slot.TheVariants.{End}
 use Rattle.rnix_grammar.specs.declared.slot_table.TheConstants.{SLOTS}
-use Rattle.rnix_grammar.specs.SlotRows.{kind_in}
-use Rattle.rnix_grammar.specs.Machine.{Head, Node, SecondBind, Operand, Frame}
+use Rattle.rnix_proof_lemmas.specs.SlotRows.{kind_in}
+use Rattle.rnix_proof_lemmas.specs.Machine.{Head, Node, SecondBind, Operand, Frame}
 
 -- the root, a pattern, its entry, its second name, an operand, a name alone, another node
 pub data FrameKind : Type 0 where

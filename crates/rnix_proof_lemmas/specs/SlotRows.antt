@@ -1,6 +1,5 @@
 -- What is left of a row at an index of the table of rows.
-use Rattle.std.specs.Prelude.{ℕ, List, [], ◌∷◌, Option, drop}
-use Rattle.std.specs.List.{slice_get}
+use Rattle.std.specs.Prelude.{ℕ, List, [], ◌∷◌, drop}
 use Rattle.rnix_kinds.specs.declared.kinds.SyntaxKind.{SyntaxKind}
 use Rattle.rnix_kinds.specs.declared.kinds.SyntaxKind.TheVariants.{NODE_LITERAL}
 use Rattle.rnix_grammar.specs.declared.slot_table.Slot.{Slot}
@@ -27,7 +26,3 @@ kind_in (End kind ∷ ss) = kind
 -- so at an index
 abbrev pub kind_at : ℕ → SyntaxKind
 kind_at i = kind_in (drop i SLOTS)
-
--- the slot at an index, if there is one
-abbrev pub slot_at : ℕ → Option Slot
-slot_at i = slice_get SLOTS i

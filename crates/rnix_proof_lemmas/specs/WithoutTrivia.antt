@@ -2,7 +2,7 @@
 use Rattle.std.specs.Prelude.{List, [], ◌∷◌}
 use Rattle.rnix_grammar.specs.AnnotatedForest.{without_trivia}
 use Rattle.rnix_grammar.specs.Layout.{items}
-use Rattle.rnix_grammar.specs.Machine.{Frame, Machine, put, machine}
+use Rattle.rnix_proof_lemmas.specs.Machine.{Frame, Machine, put, machine}
 
 -- frames whose rows have no trivia
 abbrev pub without_trivia_frame : Frame → Frame
