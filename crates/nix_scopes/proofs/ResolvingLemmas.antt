@@ -8,7 +8,7 @@ use Rattle.rnix_base.specs.Select.{token_of}
 use Rattle.nix_scopes.specs.declared.{resolution.{Binding.Binding, Reference.Reference}, environment.Environment.Environment}
 use Rattle.nix_scopes.specs.{Names.Named, Binders.{is_binder, is_scope}, References.{references_at, references_in}, Bound.{bound_of, resolved_of, name_of, AreFirst}}
 use Rattle.nix_scopes.specs.Scopes.{Resolved, bindings_at, bindings_in, around, resolved_among, resolved_at, resolved_in}
-use Rattle.nix_scopes.specs.Resolving.{Sees, seen_at}
+use Rattle.nix_scopes.specs.Resolving.{Sees, resolve_at}
 use Rattle.nix_scopes.proofs.{WalkLemmas.{entered, walk_entered}, OpenLemmas.{open_nodes, Placed, walk_placed}, ScopeLemmas.sees_begun, ResolvedLemmas.{bound_later, seen_resolved}}
 
 -- what is found of a text before some events of the walk
@@ -75,7 +75,7 @@ pub found_entered : (root : Located) (bindings more : List Binding) (references 
     (e : Located) → IsFound root bindings references env events → events ≡ (true, e) ∷ later →
     ((n : ℕ) → (nodes : List Located) → n ≤ e.number → Sees bindings env n nodes → Sees more inner (e.number + 1) (e ∷ nodes)) →
     map bound_of more ≡ map bound_of bindings ++ bindings_at e →
-    map resolved_of others ≡ map resolved_of references ++ map (seen_at inner e) (references_at e) →
+    map resolved_of others ≡ map resolved_of references ++ map (resolve_at inner e) (references_at e) →
     IsFound root more others inner later
 found_entered root bindings more references others env inner events later e found is sees bound referred =
     go (subst (IsFound root bindings references env) is found)
@@ -88,8 +88,8 @@ found_entered root bindings more references others env inner events later e foun
         let inside = sees h.number nodes h.placed.0 h.sees in
         let bound_is : map bound_of more ++ flat_map bindings_at (entered later) ≡ bindings_in root =
         more_listed bindings_at (map bound_of bindings) (map bound_of more) (bindings_in root) e (entered later) h.bound bound in
-        let same : map (seen_at inner e) (references_at e) ≡ resolved_at root e =
-        map_alike (seen_at inner e) (resolved_among (bindings_in root) (around root e) e)
+        let same : map (resolve_at inner e) (references_at e) ≡ resolved_at root e =
+        map_alike (resolve_at inner e) (resolved_among (bindings_in root) (around root e) e)
         (λ name. seen_resolved (map bound_of more) (flat_map bindings_at (entered later)) (bindings_in root) (e.number + 1) inner.scopes.items
         inner.with_bodies.items e nodes name (sym bound_is) (bound_later root (e.number + 1) later h.placed.4) (inherit_no_scope e) h.placed.3
         inside.scopes.around inside.bodies

@@ -1,7 +1,7 @@
 //! What stands at the place of an expression, and what stands in the body of a `with`.
 
 ghost use Rattle.std.specs.Prelude.{◌≡◌};
-ghost use Rattle.nix_scopes.specs.References.{is_behind_node, stands_for_value, is_expression};
+ghost use Rattle.nix_scopes.specs.References.{is_behind_node, is_value_below, is_expression};
 ghost use Rattle.nix_scopes.specs.Scopes.{is_with_body};
 
 use rnix::{Direction, SyntaxKind, SyntaxNode};
@@ -16,8 +16,8 @@ fn is_behind_node(node: &SyntaxNode<'_>) -> bool
 }
 
 // Whether a name in a parent of a kind stands for a value: it is neither bound, nor inherited, nor a part of an attribute path.
-fn stands_for_value(parent: SyntaxKind, node: &SyntaxNode<'_>) -> bool
-    ensures { result ≡ stands_for_value parent node.now }
+fn is_value_below(parent: SyntaxKind, node: &SyntaxNode<'_>) -> bool
+    ensures { result ≡ is_value_below parent node.now }
 {
     match parent {
         SyntaxKind::NODE_ATTRPATH
@@ -36,7 +36,7 @@ pub fn is_expression(node: &SyntaxNode<'_>) -> bool
     let Some(parent) = node.parent() else {
         return false;
     };
-    node.kind() == SyntaxKind::NODE_IDENT && stands_for_value(parent.kind(), node)
+    node.kind() == SyntaxKind::NODE_IDENT && is_value_below(parent.kind(), node)
 }
 
 /// Whether a node is the body of a `with`.

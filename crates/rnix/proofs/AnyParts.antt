@@ -5,7 +5,7 @@ use Rattle.{rnix_kinds.specs.{declared.kinds.SyntaxKind.SyntaxKind, SyntaxKind.i
 use Rattle.rnix_green.specs.{Forest.{Forest, empty, leaf, node, text_of, element_count}, Tree.{Item, Located, IsNodeAt, items_from, items_of, no_item, item_of}}
 use Rattle.{rnix_green.specs.Tree.forest_of, rnix_base.specs.Select.HasKind, rnix_grammar.specs.{Shape.item_kinds, Derivation.has_tokens_alone}}
 use Rattle.{rnix_grammar.specs.Parsed.IsParsed, rnix_proof_lemmas.proofs.{SpelledLemmas.AreRuled, EntryNames.both_true}, rnix_proof_rows.proofs.PartRows.HasRows}
-use Rattle.{rnix_proof_rows.proofs.PartRows.{HasTokens, shaped_rows, parsed_tokens}, rnix.{specs.Whole.HasParts, proofs.{Seen.{node_in, sees}, KindParts.parts}}}
+use Rattle.{rnix_proof_rows.proofs.PartRows.{HasTokens, shaped_rows, parsed_tokens}, rnix.{specs.Whole.HasParts, proofs.{ChildKinds.{node_in, sees}, KindParts.parts}}}
 use Rattle.rnix_kinds.specs.declared.kinds.SyntaxKind.TheVariants as k
 
 -- a node of a tree whose nodes have their rows

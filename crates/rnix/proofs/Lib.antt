@@ -4,5 +4,5 @@ pub mod RecursionLemmas
 mod KindParts
 pub mod SameParts
 mod SameTree
-mod Seen
+mod ChildKinds
 mod WholeLemmas

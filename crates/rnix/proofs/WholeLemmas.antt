@@ -6,7 +6,7 @@ use Rattle.{rnix_green.specs.{Equality.same_kind, Tree.{Located, item_of}, Walk.
 use Rattle.rnix_base.specs.{Select.{tokens_in, child_of, token_of}, TokenOperators.{or_else, first_operator, binary_operator, unary_operator}, Literal.first_literal}
 use Rattle.{rnix_grammar.specs.CompleteRows.is_row, rnix_proof_lemmas.proofs.Basics.{true_is_not_false, not_if}, rnix_proof_rows.proofs.RowCounts.{row_has, row_first, row_nth}}
 use Rattle.{rnix_proof_rows.proofs.RowCounts.row_is, rnix.specs.{NodeKinds.{is_expr, is_param}, Presence.{HasToken, HasNode, HasExpr, AreTogether}}}
-use Rattle.rnix.proofs.Seen.{AreItems, AreNodes, exact_items, exact_nodes, Sees}
+use Rattle.rnix.proofs.ChildKinds.{AreItems, AreNodes, exact_items, exact_nodes, Sees}
 use Rattle.rnix_kinds.specs.declared.kinds.SyntaxKind.TheVariants as k
 use Rattle.rnix_base.specs.declared.literal.LiteralKind.TheVariants as literal
 
@@ -44,13 +44,13 @@ path_items = record {
 operator_found : {A : Type 0} (operator : SyntaxKind → Option A) (ts : List Located) → is_some (find (has_kind (λ kind. is_some (operator kind))) ts) ≡ true
     → is_some (first_operator operator ts) ≡ true
 operator_found operator [] h = absurd (true_is_not_false (sym h))
-operator_found {A = A} operator (t ∷ ts) h = by (operator (item_of t).kind) h (operator_found operator ts)
+operator_found {A = A} operator (t ∷ ts) h = operator_cases (operator (item_of t).kind) h (operator_found operator ts)
   where
-    by : (o : Option A) → is_some (cond (is_some o) (Some t) (find (has_kind (λ kind. is_some (operator kind))) ts)) ≡ true
+    operator_cases : (o : Option A) → is_some (cond (is_some o) (Some t) (find (has_kind (λ kind. is_some (operator kind))) ts)) ≡ true
         → (is_some (find (has_kind (λ kind. is_some (operator kind))) ts) ≡ true → is_some (first_operator operator ts) ≡ true)
         → is_some (or_else o (first_operator operator ts)) ≡ true
-    by (Some a) h ih = refl
-    by None h ih = ih h
+    operator_cases (Some a) h ih = refl
+    operator_cases None h ih = ih h
 
 -- a literal is found by one of its tokens
 literal_found : (a b c : Option Located)

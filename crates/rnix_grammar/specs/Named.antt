@@ -2,7 +2,7 @@
 use Rattle.std.specs.Prelude.{◌≡◌, Bool, true, false, List, [], ◌∷◌, if◌then◌else◌}
 use Rattle.rnix_kinds.specs.declared.kinds.SyntaxKind.{SyntaxKind}
 use Rattle.rnix_kinds.specs.declared.kinds.SyntaxKind.TheVariants.{NODE_PAT_BIND}
-use Rattle.rnix_grammar.specs.Fault.{Fault, named_twice}
+use Rattle.rnix_grammar.specs.Fault.{Fault, duplicated_args}
 use Rattle.rnix_grammar.specs.AnnotatedForest.{AnnotatedForest, blank, token, branch, fault}
 use Rattle.rnix_grammar.specs.declared.rules.Part.TheVariants.{EndOr}
 use Rattle.rnix_grammar.specs.Rules.{Row, ◌·◌, row, after}
@@ -33,7 +33,7 @@ AreNamed q (fault n c f) = AreNamed (after_error q n) f
 
 -- a name is repeated
 abbrev pub is_repeated : Fault → Bool
-is_repeated (named_twice range name) = true
+is_repeated (duplicated_args range name) = true
 is_repeated e = false
 
 -- no error meets the test

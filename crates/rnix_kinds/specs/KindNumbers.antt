@@ -55,11 +55,11 @@ tied_in_place a b = unsigned_tied (place_of a) (place_of b)
 
 -- which kinds are in the set of some kinds
 pub contains-set_of : (kinds : List SyntaxKind) (kind : SyntaxKind) → set.contains (set_of kinds) kind ≡ list_any (λ k. place_of kind == place_of k) kinds
-contains-set_of kinds kind = contains-from_list kind_cmp_total kinds kind ∙ by kinds
+contains-set_of kinds kind = contains-from_list kind_cmp_total kinds kind ∙ same_any kinds
   where
-    by : (ks : List SyntaxKind) → list_any (eq_by_cmp kind_cmp kind) ks ≡ list_any (λ k. place_of kind == place_of k) ks
-    by [] = refl
-    by (k ∷ ks) = λ i. tied_in_place kind k i || by ks i
+    same_any : (ks : List SyntaxKind) → list_any (eq_by_cmp kind_cmp kind) ks ≡ list_any (λ k. place_of kind == place_of k) ks
+    same_any [] = refl
+    same_any (k ∷ ks) = λ i. tied_in_place kind k i || same_any ks i
 
 as_bit_back : (n : ℕ) → n < 2 → as_bit (n == 1) ≡ n
 as_bit_back zero low = refl

@@ -4,7 +4,7 @@ use Rattle.rnix_kinds.specs.declared.kinds.SyntaxKind.{SyntaxKind, TheVariants.{
 use Rattle.rnix_kinds.specs.declared.kinds.SyntaxKind.TheVariants.{TOKEN_INTERPOL_START, TOKEN_OR, TOKEN_QUESTION, TOKEN_R_BRACE, TOKEN_STRING_START, NODE_ATTR_SET, NODE_IDENT, NODE_PAT_ENTRY, NODE_PATTERN}
 use Rattle.rnix_green.specs.Forest.{Forest, empty, leaf}
 use Rattle.rnix_grammar.specs.AnnotatedForest.{Token, AnnotatedForest, branch, ◌⊕◌, one_token, one_branch, tokens_in, head_kind, extent_of}
-use Rattle.rnix_grammar.specs.{Begins.{is_pattern, second_kind}, Beginnings.{first_kind, first_kind_of_name}, Yield.kind_of_token, Tables.{is_or, is_among}, Fault.named_twice, Reports.{repeats, has_entry}}
+use Rattle.rnix_grammar.specs.{Begins.{is_pattern, second_kind}, Beginnings.{first_kind, first_kind_of_name}, Yield.kind_of_token, Tables.{is_or, is_among}, Fault.duplicated_args, Reports.{repeats, has_entry}}
 use Rattle.rnix_grammar.specs.Grammar.{Entries, entries_end, inheriting, binding, bind, inherit_names, inherit_from, Attrpath, last_attr, attr_dot, Attr, named_attr, string_attr, dynamic_attr}
 use Rattle.rnix_grammar.specs.Grammar.{Parameter, parameter, pattern, bound_pattern, Formals, formals_end, ellipsis, last_entry, entry_comma, pattern_end, bound_behind, Formal, entry, default_entry}
 use Rattle.rnix_proof_lemmas.proofs.{Basics.{true_is_not_false, not_if}, EntryNames.has-⊕, PlainTables.binds_at_most}
@@ -107,7 +107,7 @@ neither false w h = (refl, h)
 named_new : (names : List (List ℕ)) (g f : AnnotatedForest) (x : List ℕ) (y : Token) → y.text ≡ x → Covers names g → is_among x names ≡ false
     → (repeats NODE_PAT_ENTRY g (branch NODE_IDENT (one_token TOKEN_IDENT y) f) ≡ [])
     × Covers (x ∷ names) (g ⊕ one_branch NODE_PAT_ENTRY (branch NODE_IDENT (one_token TOKEN_IDENT y) f))
-named_new names g f x y i h m = (ap (λ w. if w then named_twice (extent_of (y ∷ [])) y.text ∷ [] else []) (ap (λ t. has_entry t g) i ∙ h x m), covers)
+named_new names g f x y i h m = (ap (λ w. if w then duplicated_args (extent_of (y ∷ [])) y.text ∷ [] else []) (ap (λ t. has_entry t g) i ∙ h x m), covers)
   where
     covers : Covers (x ∷ names) (g ⊕ one_branch NODE_PAT_ENTRY (branch NODE_IDENT (one_token TOKEN_IDENT y) f))
     covers n a =

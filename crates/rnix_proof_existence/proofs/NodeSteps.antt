@@ -3,7 +3,7 @@ use Rattle.std.proofs.Common.{◌≡◌, inl, ℕ, suc, ◌≤◌, ◌<◌, Bool
 use Rattle.std.proofs.{Common.{append-nil, arith, if◌then◌else◌, nat_le, ◌&&◌}, lemmas.Bool.{and_parts, Decides.nat_tests}}
 use Rattle.rnix_kinds.specs.declared.kinds.SyntaxKind.{SyntaxKind, TheVariants.{NODE_IDENT, NODE_PAT_ENTRY, NODE_ERROR, NODE_LITERAL, TOKEN_AT}}
 use Rattle.rnix_grammar.specs.declared.{position.Position.Position, expected_set.ExpectedSet.ExpectedSet, action.Action.Action, slot_table.TheConstants.{PAT_ENTRY, SECOND_BIND}}
-use Rattle.rnix_grammar.specs.{declared.rules.Part.TheVariants.{BoundAlready, TextEnd}, Fault.{Fault, ended, ended_before}}
+use Rattle.rnix_grammar.specs.{declared.rules.Part.TheVariants.{BoundAlready, TextEnd}, Fault.{Fault, unexpected_eof, unexpected_eof_wanted}}
 use Rattle.rnix_proof_lemmas.specs.SlotRows.{left_at}
 use Rattle.rnix_grammar.specs.{Tables.{depth_limit, is_wanted, wanted_kinds}, Reports.{report, repeats, repeated}, UnwantedRun.run_of, Actions.action_at}
 use Rattle.rnix_grammar.specs.AnnotatedForest.{Token, Note, Unwanted, Extra, DoubleBind, TooDeep, AnnotatedForest, blank, ◌⊕◌, one_token, one_branch, one_fault}
@@ -247,9 +247,9 @@ module _ (whole : Outcome) (f : Frame) (n : ℕ) (gs : List Fault) where
     -- an operand of a level begins, inside d counted positions, or the text ends
     operand_at : (ts : List Token) (level d y : ℕ) → level ≤ 16 → d ≤ depth_limit → is_in_row_of (p.Left y) kind ≡ true → Takes here level (left_at y)
         → d ≡ deeper here f.depth → IsRoom here f.depth
-        → IsExpected here n ts false → (ts ≡ [] → missing here ≡ Some (ended, left_at y))
+        → IsExpected here n ts false → (ts ≡ [] → missing here ≡ Some (unexpected_eof, left_at y))
         → IsPreserved whole (operand_on false level d (put (p.Left y) f.row f) fs ts ts n gs) f fs ts n gs
-    operand_at [] level d y l s in_row_of takes e room own lost = misses ended y in_row_of (lost refl) (λ v. room)
+    operand_at [] level d y l s in_row_of takes e room own lost = misses unexpected_eof y in_row_of (lost refl) (λ v. room)
     operand_at (t ∷ us) level d y l s in_row_of takes e room own lost =
         let b = operand_begins whole level d (put (p.Left y) f.row f) fs n gs (stayed f fs (p.Left y) r in_row_of) s l t us in (b.0, λ ends. by (b.1 ends))
       where
@@ -262,7 +262,7 @@ module _ (whole : Outcome) (f : Frame) (n : ℕ) (gs : List Fault) where
 
     -- an operand of a level is read, unless it is nested too deep
     reads_operand : (ts : List Token) (level : ℕ) (counted : Bool) (y : ℕ) → (nat_le level 16 && is_in_row_of (p.Left y) kind) ≡ true
-        → IsOperandHere here (touches n ts) (head_kind ts) level counted (left_at y) → (ts ≡ [] → missing here ≡ Some (ended, left_at y))
+        → IsOperandHere here (touches n ts) (head_kind ts) level counted (left_at y) → (ts ≡ [] → missing here ≡ Some (unexpected_eof, left_at y))
         → IsPreservedBy whole (a.Read level counted y) f fs ts n gs
     reads_operand ts level counted y h w lost = by counted w.1
       where
@@ -303,8 +303,8 @@ module _ (whole : Outcome) (f : Frame) (n : ℕ) (gs : List Fault) where
     done_by a.Finish ts w h = (node r, λ ends. ends)
     done_by a.Extra (t ∷ ts) w h = left_over t ts w
     done_by (a.Take y) (t ∷ ts) w h = takes t ts y h (expected here n (t ∷ ts) true w.0) (ap (after here) (plain f.head t r.is.sound) ∙ w.1)
-    done_by (a.Miss y) [] w h = misses ended y h w.0 (λ z. absurd (true_is_not_false (sym w.1 ∙ z)))
-    done_by (a.MissWanted until y) [] w h = misses (ended_before (wanted_kinds until)) y h w.0 (λ z. absurd (true_is_not_false (sym w.1 ∙ z)))
+    done_by (a.Miss y) [] w h = misses unexpected_eof y h w.0 (λ z. absurd (true_is_not_false (sym w.1 ∙ z)))
+    done_by (a.MissWanted until y) [] w h = misses (unexpected_eof_wanted (wanted_kinds until)) y h w.0 (λ z. absurd (true_is_not_false (sym w.1 ∙ z)))
     done_by (a.Run until y) (t ∷ ts) w h = runs t ts until y h (expected here n (t ∷ ts) false w.0) w.1 w.2
     done_by (a.Leaf NODE_IDENT y) (t ∷ ts) w h = names t ts y h w.0 w.1
     done_by (a.Open k z y) (t ∷ ts) w h = opens_node k z y (item k t) (t ∷ ts) ts t.end h spanned

@@ -3,7 +3,7 @@ use Rattle.std.proofs.Common.{◌≡◌, ℕ, Bool, true, false, [], Option, Som
 use Rattle.rnix_kinds.proofs.AllKinds.{all_kinds}
 use Rattle.rnix_kinds.specs.declared.kinds.SyntaxKind.{SyntaxKind, TheVariants.{NODE_IDENT, NODE_LITERAL, NODE_PAT_ENTRY, TOKEN_IDENT, TOKEN_AT}}
 use Rattle.rnix_grammar.specs.declared.{position.Position.Position, action.Action.Action, slot_table.TheConstants.SLOTS, rules.Part.TheVariants.{BoundAlready, TextEnd}}
-use Rattle.rnix_grammar.specs.{Fault.{Fault, ended, ended_before}, Tables.{is_wanted, wanted_kinds}, AnnotatedForest.{blank, leaf_kind_as}, Actions.{left_action, action_at}}
+use Rattle.rnix_grammar.specs.{Fault.{Fault, unexpected_eof, unexpected_eof_wanted}, Tables.{is_wanted, wanted_kinds}, AnnotatedForest.{blank, leaf_kind_as}, Actions.{left_action, action_at}}
 use Rattle.rnix_proof_lemmas.specs.SlotRows.{left_at, left_in}
 use Rattle.rnix_grammar.specs.Rules.{Row, never, done, ◌·◌, row, only, after, may_end, missing, run_at, expects_item, expects_end, is_first_expected, level_at, counts}
 use Rattle.rnix_proof_lemmas.proofs.{EachKind.{Each, each_kind}, EachIndex.{EachSlot, from_index, each_split, each_index}, Basics.true_is_not_false, LevelLemmas.atom_fits, RowParts.{is_front, is_left, expects_next}, RestAt.rest_at}
@@ -36,8 +36,8 @@ IsActionAt r touch next a.CloseDoubleBind = MayEnd r touch next
 IsActionAt r touch next a.Finish = Unit {0}
 IsActionAt r touch (Some k) a.Extra = r ≡ TextEnd · done
 IsActionAt r touch (Some k) (a.Take y) = (expects_item r touch k ≡ true) × (after r k ≡ left_at y)
-IsActionAt r touch None (a.Miss y) = IsMissing r ended (left_at y)
-IsActionAt r touch None (a.MissWanted until y) = IsMissing r (ended_before (wanted_kinds until)) (left_at y)
+IsActionAt r touch None (a.Miss y) = IsMissing r unexpected_eof (left_at y)
+IsActionAt r touch None (a.MissWanted until y) = IsMissing r (unexpected_eof_wanted (wanted_kinds until)) (left_at y)
 IsActionAt r touch (Some k) (a.Run until y) = (expects_item r touch k ≡ false) × (is_wanted until k ≡ false) × (run_at r ≡ Some (wanted_kinds until, left_at y))
 IsActionAt r touch (Some j) (a.Leaf NODE_IDENT y) =
     IsNodeHere r touch (Some j) NODE_IDENT (left_at y) × (after (row NODE_IDENT) (leaf_kind_as NODE_IDENT j) ≡ done)
@@ -46,7 +46,7 @@ IsActionAt r touch (Some j) (a.Open k z y) =
 IsActionAt r touch next (a.Begin k z y) = IsNodeHere r touch next k (left_at y) × (row k ≡ left_at z)
 IsActionAt r touch (Some j) (a.Entry y) = IsNodeHere r touch (Some j) NODE_PAT_ENTRY (left_at y) × (j ≡ TOKEN_IDENT)
 IsActionAt r touch (Some j) (a.DoubleBind y) = (r ≡ BoundAlready · done) × (j ≡ TOKEN_AT) × (left_at y ≡ done)
-IsActionAt r touch None (a.Read level counted y) = IsOperandHere r touch None level counted (left_at y) × (missing r ≡ Some (ended, left_at y))
+IsActionAt r touch None (a.Read level counted y) = IsOperandHere r touch None level counted (left_at y) × (missing r ≡ Some (unexpected_eof, left_at y))
 IsActionAt r touch next (a.Read level counted y) = IsOperandHere r touch next level counted (left_at y)
 IsActionAt r touch next action = ⊥
 

@@ -3,7 +3,7 @@ use Rattle.std.proofs.Common.{◌≡◌, Bool, true, false, List, [], ◌∷◌,
 use Rattle.rnix_kinds.specs.declared.kinds.SyntaxKind.{SyntaxKind, TheVariants.{TOKEN_R_PAREN, TOKEN_L_BRACE, TOKEN_R_BRACE, TOKEN_SEMICOLON}}
 use Rattle.rnix_kinds.specs.declared.kinds.SyntaxKind.TheVariants.{TOKEN_ASSIGN, TOKEN_COLON, TOKEN_THEN, TOKEN_ELSE, TOKEN_INTERPOL_END, TOKEN_STRING_END}
 use Rattle.rnix_kinds.specs.declared.kinds.SyntaxKind.TheVariants.{TOKEN_IDENT}
-use Rattle.rnix_grammar.specs.{declared.expected_set.ExpectedSet.ExpectedSet, Fault.{Fault, ended_before}, Tables.wanted_kinds, Repaired.{is_ended, IsNamedList}}
+use Rattle.rnix_grammar.specs.{declared.expected_set.ExpectedSet.ExpectedSet, Fault.{Fault, unexpected_eof_wanted}, Tables.wanted_kinds, Repaired.{is_ended, IsNamedList}}
 use Rattle.rnix_grammar.specs.{Rules.{Row, missing}}
 use Rattle.rnix_proof_lemmas.proofs.{Basics.true_is_not_false, ReachableRows.{IsKnown, each_known}}
 use Rattle.rnix_grammar.specs.declared.expected_set.ExpectedSet.TheVariants as u
@@ -32,11 +32,11 @@ is_end until = false
 
 -- a list of wanted kinds, if there is one, is one of those
 abbrev IsListed : Fault → Type 0
-IsListed (ended_before kinds) = (is_end (expected_set_of kinds) ≡ false) × (kinds ≡ wanted_kinds (expected_set_of kinds))
+IsListed (unexpected_eof_wanted kinds) = (is_end (expected_set_of kinds) ≡ false) × (kinds ≡ wanted_kinds (expected_set_of kinds))
 IsListed e = Unit {0}
 
 listed : (e : Fault) → IsListed e → IsNamedList e
-listed (ended_before kinds) h = (expected_set_of kinds, λ e. true_is_not_false (sym (ap is_end e) ∙ h.0), h.1)
+listed (unexpected_eof_wanted kinds) h = (expected_set_of kinds, λ e. true_is_not_false (sym (ap is_end e) ∙ h.0), h.1)
 listed _ h = h
 
 -- an error of the end of the text

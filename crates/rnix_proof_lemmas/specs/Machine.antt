@@ -10,7 +10,7 @@ use Rattle.rnix_grammar.specs.declared.action.Action.{Action}
 use Rattle.rnix_grammar.specs.declared.action.Action.TheVariants as a
 use Rattle.rnix_grammar.specs.declared.begin.Begin.{Begin}
 use Rattle.rnix_grammar.specs.declared.begin.Begin.TheVariants as b
-use Rattle.rnix_grammar.specs.Fault.{Fault, ended, ended_before, too_deep}
+use Rattle.rnix_grammar.specs.Fault.{Fault, unexpected_eof, unexpected_eof_wanted, too_deep}
 use Rattle.rnix_grammar.specs.Tables.{wanted_kinds, depth_limit}
 use Rattle.rnix_grammar.specs.Actions.{action_at}
 use Rattle.rnix_grammar.specs.Begins.{begin_of, second_kind}
@@ -183,7 +183,7 @@ begun raw b.Stray level d t f fs ts n es =
 
 -- an operand of a level, where f goes on behind it
 abbrev pub operand_on : Bool → ℕ → ℕ → Frame → List Frame → List Token → List Token → ℕ → List Fault → Machine
-operand_on raw level d f fs ts [] n es = machine (f ∷ fs) ts n (es ++ ended ∷ [])
+operand_on raw level d f fs ts [] n es = machine (f ∷ fs) ts n (es ++ unexpected_eof ∷ [])
 operand_on raw level d f fs ts (t ∷ us) n es = begun raw (begin_of level t.kind t.text (head_kind us) (second_kind us)) level d t f fs ts n es
 
 -- an operand of a level, counted or not: a counted one only as deep as the limit
@@ -206,8 +206,8 @@ perform raw a.Extra f fs ts n es =
     (es ++ report Extra (seen raw ts) ∷ [])
 perform raw (a.Take after) f fs ts n es =
     machine (put (p.Left after) (with_leading raw f.row ts ⊕ leaf raw (kind_of f.head) ts) f ∷ fs) (behind raw ts) (item_end raw n ts) es
-perform raw (a.Miss after) f fs ts n es = machine (put (p.Left after) f.row f ∷ fs) ts n (es ++ ended ∷ [])
-perform raw (a.MissWanted until after) f fs ts n es = machine (put (p.Left after) f.row f ∷ fs) ts n (es ++ ended_before (wanted_kinds until) ∷ [])
+perform raw (a.Miss after) f fs ts n es = machine (put (p.Left after) f.row f ∷ fs) ts n (es ++ unexpected_eof ∷ [])
+perform raw (a.MissWanted until after) f fs ts n es = machine (put (p.Left after) f.row f ∷ fs) ts n (es ++ unexpected_eof_wanted (wanted_kinds until) ∷ [])
 perform raw (a.Run until after) f fs ts n es =
     machine (put (p.Left after) (with_leading raw f.row ts ⊕ one_fault (Unwanted until) (run_row raw (run_of until (seen raw ts)) ts)) f ∷ fs)
     (run_rest raw (run_of until (seen raw ts)) ts) (end_from n (run_of until (seen raw ts))) (es ++ report (Unwanted until) (run_of until (seen raw ts)) ∷ [])

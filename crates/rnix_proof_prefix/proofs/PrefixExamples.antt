@@ -53,13 +53,13 @@ path n =
     ∷ item TOKEN_INTERPOL_END (codes "}") (n + 3) (n + 4) ∷ []
 
 -- so it is not: items with the same kinds and texts as others that are read without errors have no error
-abbrev AreTold : Type 0
-AreTold =
+abbrev DecidedByTexts : Type 0
+DecidedByTexts =
     (xs ys : List Token) (first second : Machine) → map lexeme_of xs ≡ map lexeme_of ys → Runs false (begins xs) first → Runs false (begins ys) second
     → first.left ≡ [] → second.left ≡ [] → HasNone second → BeginAllFrom (end_from 0 xs) first.faults
 
-pub untold : AreTold → ⊥
-untold claim =
+pub places_decide : DecidedByTexts → ⊥
+places_decide claim =
     let apart : Machine = begins (path 8) in
     let joined : Machine = begins (path 7) in
     let h = claim (path 8) (path 7) (steps 40 apart) (steps 40 joined) refl (run 40 apart) (run 40 joined) refl refl ((tt, tt), refl) in

@@ -2,7 +2,7 @@
 use Rattle.std.proofs.Common.{◌≡◌, ℕ, ◌+◌, Bool, true, false, List, [], ◌∷◌, ◌++◌, map, Option, refl, ap, sym, ◌∙◌, arith, if◌then◌else◌, ◌||◌}
 use Rattle.std.proofs.lemmas.List.{map-append}
 use Rattle.rnix_green.specs.{Forest.{Forest, empty, leaf, node, element_count}, Tree.{Tree, Item, item}, Walk.{Step, Event, event_at, steps_from}}
-use Rattle.rnix_grammar.specs.{Fault.{Fault, ended, ended_before, named_twice}, Repaired.others, Shape.{name_if, with_name}, Ranges.{of_nodes, is_error_node}}
+use Rattle.rnix_grammar.specs.{Fault.{Fault, unexpected_eof, unexpected_eof_wanted, duplicated_args}, Repaired.others, Shape.{name_if, with_name}, Ranges.{of_nodes, is_error_node}}
 use Rattle.{rnix_grammar.specs.Ranges.{leaves_error, errors_left, is_among_if, at_fault_from, AreErrorsOf}, rnix_proof_rows.proofs.RowsIn.{IsRowIn, row_first}}
 use Rattle.rnix_proof_rows.proofs.RowsIn.{row_inside, row_behind_leaf, row_behind_node}
 
@@ -23,10 +23,10 @@ errors_among-++ t (m ∷ ms) ns =
 pub node_errors : (t : Tree) (es : List Fault) (ms : List ℕ) → AreErrorsOf t (others es) ms → AreErrorsOf t (of_nodes es) (errors_among t ms)
 node_errors t [] [] h = tt
 node_errors t [] (m ∷ ms) h = absurd h
-node_errors t (ended ∷ es) ms h = node_errors t es ms h
-node_errors t (ended_before kinds ∷ es) ms h = node_errors t es ms h
-node_errors t (named_twice range name ∷ es) [] h = absurd h
-node_errors t (named_twice range name ∷ es) (m ∷ ms) h = rw h.0.entry_is (node_errors t es ms h.1)
+node_errors t (unexpected_eof ∷ es) ms h = node_errors t es ms h
+node_errors t (unexpected_eof_wanted kinds ∷ es) ms h = node_errors t es ms h
+node_errors t (duplicated_args range name ∷ es) [] h = absurd h
+node_errors t (duplicated_args range name ∷ es) (m ∷ ms) h = rw h.0.entry_is (node_errors t es ms h.1)
 node_errors t (_ ∷ es) [] h = absurd h
 node_errors t (_ ∷ es) (m ∷ ms) h = rw h.0.0 (h.0, node_errors t es ms h.1)
 

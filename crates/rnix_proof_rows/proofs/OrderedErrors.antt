@@ -2,7 +2,7 @@
 use Rattle.std.proofs.Common.{◌≡◌, ℕ, ◌+◌, Bool, true, false, List, [], ◌∷◌, length, Option, Some, None, refl, ap, sym, ◌∙◌, arith, subst, if◌then◌else◌}
 use Rattle.std.proofs.Common.{bytes_eq, ◌||◌}
 use Rattle.rnix_kinds.specs.{declared.kinds.SyntaxKind.{SyntaxKind, TheVariants.{NODE_ERROR, NODE_PAT_ENTRY}}, SyntaxKind.is_trivia}
-use Rattle.{rnix_green.specs.{Forest.{text_of, element_count}, Tree.{Tree, Item, item}}, rnix_grammar.specs.{Fault.named_twice, AnnotatedForest.{Token, Note}}}
+use Rattle.{rnix_green.specs.{Forest.{text_of, element_count}, Tree.{Tree, Item, item}}, rnix_grammar.specs.{Fault.duplicated_args, AnnotatedForest.{Token, Note}}}
 use Rattle.rnix_grammar.specs.AnnotatedForest.{AnnotatedForest, blank, token, branch, fault, ◌⊕◌, one_token, one_branch, one_fault, tokens_in, forget}
 use Rattle.rnix_grammar.specs.{AnnotatedForest.{without_trivia, token_if, HaveLeafKinds, extent_of as place_of}, Reports.{entry_name, is_same_name, has_entry}}
 use Rattle.rnix_grammar.specs.{Reports.{repeated_if, repeats}, Shape.{reports_within, name_if, with_name}, Tables.is_among, Ranges.{is_error_node, IsEntryName}}
@@ -63,8 +63,8 @@ entry_error : (t : Tree) (n : ℕ) (names : List (List ℕ)) (b : AnnotatedFores
     → AreErrorsOf t (repeated_if o b) (if is_among_if (name_of o) names then n ∷ [] else [])
 entry_error t n names b None l h = tt
 entry_error t n names b (Some x) l h =
-    subst (λ z. AreErrorsOf t (if has_entry x.text b then named_twice (place_of (x ∷ [])) x.text ∷ [] else []) (if z then n ∷ [] else [])) (l x.text)
-    (elim (has_entry x.text b) as (λ z. AreErrorsOf t (if z then named_twice (place_of (x ∷ [])) x.text ∷ [] else []) (if z then n ∷ [] else [])) [
+    subst (λ z. AreErrorsOf t (if has_entry x.text b then duplicated_args (place_of (x ∷ [])) x.text ∷ [] else []) (if z then n ∷ [] else [])) (l x.text)
+    (elim (has_entry x.text b) as (λ z. AreErrorsOf t (if z then duplicated_args (place_of (x ∷ [])) x.text ∷ [] else []) (if z then n ∷ [] else [])) [
       | true ↦
           (h x refl, tt)
       | false ↦ tt

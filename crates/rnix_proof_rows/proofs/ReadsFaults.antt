@@ -1,7 +1,7 @@
 -- The errors of a row that is read.
 use Rattle.std.proofs.Common.{◌≡◌, ◌⊎◌, inl, inr, ℕ, true, false, List, [], ◌∷◌, ◌++◌, Option, Some, None, refl, ap, sym, ◌∙◌, subst, append_assoc}
 use Rattle.std.proofs.Common.{if◌then◌else◌}
-use Rattle.{rnix_kinds.specs.declared.kinds.SyntaxKind.{SyntaxKind, TheVariants.NODE_PAT_ENTRY}, rnix_grammar.specs.Fault.{Fault, named_twice}}
+use Rattle.{rnix_kinds.specs.declared.kinds.SyntaxKind.{SyntaxKind, TheVariants.NODE_PAT_ENTRY}, rnix_grammar.specs.Fault.{Fault, duplicated_args}}
 use Rattle.rnix_grammar.specs.AnnotatedForest.{Token, Note, Stray, Unwanted, Extra, DoubleBind, TooDeep, AnnotatedForest, blank, branch, fault, ◌⊕◌, one_token}
 use Rattle.rnix_grammar.specs.AnnotatedForest.{one_fault, row_of}
 use Rattle.rnix_grammar.specs.{AnnotatedForest.{tokens_in, extent_of}, AnnotatedForest.leaf_kind, Reports.{report, repeated_if, entry_name, has_entry, repeats}}
@@ -98,8 +98,8 @@ neither_repeats NODE_PAT_ENTRY b c = by (entry_name c)
     by : (o : Option Token) → NeitherEndNorMisplaced (repeated_if o b)
     by None = neither_none
     by (Some t) =
-        elim (has_entry t.text b) as (λ x. NeitherEndNorMisplaced (if x then named_twice (extent_of (t ∷ [])) t.text ∷ [] else []))
-        [ true ↦ neither_one (named_twice (extent_of (t ∷ [])) t.text) refl refl tt | false ↦ neither_none ]
+        elim (has_entry t.text b) as (λ x. NeitherEndNorMisplaced (if x then duplicated_args (extent_of (t ∷ [])) t.text ∷ [] else []))
+        [ true ↦ neither_one (duplicated_args (extent_of (t ∷ [])) t.text) refl refl tt | false ↦ neither_none ]
 neither_repeats _ b c = neither_none
 
 -- an error node with no token is nested too deep

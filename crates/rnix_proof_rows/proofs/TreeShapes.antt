@@ -1,7 +1,7 @@
 -- The shape of a complete tree, with its trivia; a tree reports what its items report, where no error node begins or ends with trivia.
 use Rattle.std.proofs.Common.{◌≡◌, ◌↔◌, ℕ, Bool, true, false, List, [], ◌∷◌, ◌++◌, Option, Some, None, refl, ap, sym, ◌∙◌, subst, if◌then◌else◌, ◌&&◌, bytes_eq}
 use Rattle.rnix_kinds.specs.declared.kinds.SyntaxKind.{SyntaxKind, TheVariants.{NODE_ROOT, NODE_ERROR, NODE_IDENT, NODE_PAT_BIND, NODE_PAT_ENTRY}}
-use Rattle.{rnix_kinds.specs.SyntaxKind.is_trivia, rnix_green.specs.Forest.Forest, rnix_grammar.specs.{Fault.{Fault, named_twice}, AnnotatedForest.Token}}
+use Rattle.{rnix_kinds.specs.SyntaxKind.is_trivia, rnix_green.specs.Forest.Forest, rnix_grammar.specs.{Fault.{Fault, duplicated_args}, AnnotatedForest.Token}}
 use Rattle.rnix_grammar.specs.AnnotatedForest.{AnnotatedForest, blank, token, branch, fault, ◌⊕◌, one_token, one_branch, one_fault, forget, without_trivia}
 use Rattle.rnix_grammar.specs.{AnnotatedForest.{token_if, leaf_kind, HaveLeafKinds, tokens_in, extent_of}, Reports.{repeated_if, entry_name}}
 use Rattle.rnix_grammar.specs.{Reports.{only_token, is_same_name, has_entry, repeats}, Rules.may_end, CompleteRows.is_row, Reads.ReadsRoot}
@@ -166,10 +166,10 @@ new_all before (Some name) names = (λ h. (h.0, h.1), λ h. (h.0, h.1))
 -- what is new is not reported
 new_repeated : (names : List (List ℕ)) (b : AnnotatedForest) (o : Option Token) → Lists names b → (repeated_if o b ≡ []) ↔ IsNew names (text_in o)
 new_repeated names b None h = (λ e. tt, λ e. refl)
-new_repeated names b (Some t) h = subst (λ x. ((if x then named_twice (extent_of (t ∷ [])) t.text ∷ [] else []) ≡ []) ↔ (is_among t.text names ≡ false))
+new_repeated names b (Some t) h = subst (λ x. ((if x then duplicated_args (extent_of (t ∷ [])) t.text ∷ [] else []) ≡ []) ↔ (is_among t.text names ≡ false))
     (sym (h t.text)) (by (is_among t.text names))
   where
-    by : (x : Bool) → ((if x then named_twice (extent_of (t ∷ [])) t.text ∷ [] else []) ≡ []) ↔ (x ≡ false)
+    by : (x : Bool) → ((if x then duplicated_args (extent_of (t ∷ [])) t.text ∷ [] else []) ≡ []) ↔ (x ≡ false)
     by true = (λ e. cc, λ e. cc)
     by false = (λ e. refl, λ e. refl)
 

@@ -6,7 +6,7 @@ use Rattle.rnix_kinds.proofs.AllKinds.{implied}
 use Rattle.rnix_green.specs.Forest.{Forest, node}
 use Rattle.rnix_grammar.specs.Rules.{Row, ◌·◌, row, after, may_end, missing, is_first_expected, IsExpected, IsFollowed}
 use Rattle.rnix_proof_lemmas.specs.LeafKinds.{is_node}
-use Rattle.rnix_grammar.specs.{Fault.{Fault, named_twice}, Grammar.{IsExpression, expression}, Operands.follows, TokenKinds.is_or}
+use Rattle.rnix_grammar.specs.{Fault.{Fault, duplicated_args}, Grammar.{IsExpression, expression}, Operands.follows, TokenKinds.is_or}
 use Rattle.rnix_grammar.specs.AnnotatedForest.{Token, Note, Stray, Extra, DoubleBind, AnnotatedForest, blank, token, branch, fault, ◌⊕◌, one_token, one_branch}
 use Rattle.rnix_grammar.specs.{AnnotatedForest.{one_fault, row_of, tokens_in, extent_of, head_kind}, Tables.is_among, Extensions.{is_extension, has_no_extension}}
 use Rattle.rnix_grammar.specs.Reports.{report, repeated, repeated_if, entry_name, is_same_name, has_entry, repeats}
@@ -69,7 +69,7 @@ repaired_entries _ names f h = assumption
 not_repeated : (b c : AnnotatedForest) (y : IsEntry c) → Lacks is_repeated (repeated b c) → has_entry y.name.text b ≡ false
 not_repeated b c y h = by (has_entry y.name.text b) (subst (λ z. Lacks is_repeated (repeated_if z b)) y.said h)
   where
-    by : (w : Bool) → Lacks is_repeated (if w then named_twice (extent_of (y.name ∷ [])) y.name.text ∷ [] else []) → w ≡ false
+    by : (w : Bool) → Lacks is_repeated (if w then duplicated_args (extent_of (y.name ∷ [])) y.name.text ∷ [] else []) → w ≡ false
     by true l = absurd (true_is_not_false l.0)
     by false l = refl
 

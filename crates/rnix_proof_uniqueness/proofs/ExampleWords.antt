@@ -2,7 +2,7 @@
 use Rattle.{std.proofs.Common.{ℕ, zero, suc}, rnix_kinds.specs.declared.kinds.SyntaxKind.{SyntaxKind, TheVariants.{NODE_ATTRPATH, NODE_BIN_OP, NODE_IDENT}}}
 use Rattle.rnix_kinds.specs.declared.kinds.SyntaxKind.TheVariants.{NODE_IDENT_PARAM, NODE_LAMBDA, NODE_LIST, NODE_PAREN, NODE_PATTERN, NODE_PAT_ENTRY}
 use Rattle.{rnix_kinds.specs.declared.kinds.SyntaxKind.TheVariants.NODE_SELECT, rnix_green.specs.Range.Extent, rnix_grammar.specs.declared.expected_set.ExpectedSet.ExpectedSet}
-use Rattle.rnix_grammar.specs.{Fault.{Fault, extra, unwanted, ended_before}, Tables.wanted_kinds, AnnotatedForest.{Unwanted, Extra}}
+use Rattle.rnix_grammar.specs.{Fault.{Fault, extra, unwanted, unexpected_eof_wanted}, Tables.wanted_kinds, AnnotatedForest.{Unwanted, Extra}}
 use Rattle.rnix_proof_uniqueness.proofs.OnlyReading.{Shape, done, item, node, wrong}
 
 -- a tree, before those behind it
@@ -76,4 +76,4 @@ instead until kind start end = unwanted kind (within start end) (wanted_kinds un
 
 -- the text ends where an item is wanted
 abbrev pub missing : ExpectedSet → Fault
-missing until = ended_before (wanted_kinds until)
+missing until = unexpected_eof_wanted (wanted_kinds until)

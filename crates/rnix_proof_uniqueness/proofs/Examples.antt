@@ -1,13 +1,13 @@
 -- How some broken texts are read.
 use Rattle.{std.{proofs.Common.{[], ◌∷◌}, specs.Prelude.codes}, rnix_kinds.specs.declared.kinds.SyntaxKind.TheVariants.{NODE_IF_ELSE, NODE_PAT_BIND}}
 use Rattle.{rnix_kinds.specs.declared.kinds.SyntaxKind.TheVariants.TOKEN_R_BRACK, rnix_grammar.specs.declared.expected_set.ExpectedSet.TheVariants.{RParen, Colon, Then}}
-use Rattle.rnix_grammar.specs.{declared.expected_set.ExpectedSet.TheVariants.Else, Fault.{ended, bound_twice}, AnnotatedForest.DoubleBind}
+use Rattle.rnix_grammar.specs.{declared.expected_set.ExpectedSet.TheVariants.Else, Fault.{unexpected_eof, double_bind}, AnnotatedForest.DoubleBind}
 use Rattle.rnix_proof_uniqueness.proofs.{OnlyReading.{done, item, node, wrong, Case}, ExampleWords.{paren, name, path, select, binary, function, function_of, entry}}
 use Rattle.rnix_proof_uniqueness.proofs.ExampleWords.{no_list, unwanteds, extras, within, is_extra, instead, missing}
 
 -- `if[]`: an `if` whose condition is a list, before the end of the text
 abbrev pub condition : Case
-condition = record { text = codes "if[]"; right = (node NODE_IF_ELSE (item (no_list done)) done, missing Then ∷ ended ∷ missing Else ∷ ended ∷ []) }
+condition = record { text = codes "if[]"; right = (node NODE_IF_ELSE (item (no_list done)) done, missing Then ∷ unexpected_eof ∷ missing Else ∷ unexpected_eof ∷ []) }
 
 -- `a.b)`: a selection with an extra item after it
 abbrev pub selection : Case
@@ -31,8 +31,8 @@ second_name = record {
   text = codes "a @ { } @ b";
   right = (
     function_of (node NODE_PAT_BIND (name (item done)) (item (item (wrong DoubleBind (item (name done)) done)))) done done,
-    bound_twice (within 8 11)
-        ∷ missing Colon ∷ ended ∷ [],
+    double_bind (within 8 11)
+        ∷ missing Colon ∷ unexpected_eof ∷ [],
   );
 }
 

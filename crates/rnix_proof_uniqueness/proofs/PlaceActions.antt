@@ -3,8 +3,8 @@ use Rattle.std.proofs.Common.{◌≡◌, ◌⊎◌, inl, inr, ℕ, ◌<◌, Bool
 use Rattle.{std.proofs.{Common.{arith, if◌then◌else◌, nat_le}, lemmas.Bool.{and_parts, Decides.nat_tests}}, rnix_kinds.proofs.AllKinds.implied}
 use Rattle.rnix_kinds.specs.declared.kinds.SyntaxKind.{SyntaxKind, TheVariants.{NODE_IDENT, NODE_LITERAL, NODE_PAT_ENTRY, TOKEN_AT, TOKEN_IDENT}}
 use Rattle.{rnix_kinds.specs.SyntaxKind.is_token, rnix_green.specs.Equality.same_kind, rnix_grammar.specs.declared.{position.Position.Position, action.Action.Action}}
-use Rattle.rnix_grammar.specs.{declared.{expected_set.ExpectedSet.ExpectedSet, rules.Part.TheVariants.{Argument, BoundAlready, Many, Operand, TextEnd}}, Fault.{Fault, ended}}
-use Rattle.rnix_grammar.specs.{Fault.ended_before, Tables.{depth_limit, wanted_kinds}, Actions.action_at, Rows.fits, Reads.{IsOver, IsRoom}}
+use Rattle.rnix_grammar.specs.{declared.{expected_set.ExpectedSet.ExpectedSet, rules.Part.TheVariants.{Argument, BoundAlready, Many, Operand, TextEnd}}, Fault.{Fault, unexpected_eof}}
+use Rattle.rnix_grammar.specs.{Fault.unexpected_eof_wanted, Tables.{depth_limit, wanted_kinds}, Actions.action_at, Rows.fits, Reads.{IsOver, IsRoom}}
 use Rattle.rnix_proof_lemmas.specs.SlotRows.{left_at}
 use Rattle.rnix_grammar.specs.AnnotatedForest.{AnnotatedForest, Token, blank, head_kind, leaf_kind_as, touches}
 use Rattle.rnix_proof_lemmas.specs.Machine.{Head, Frame, machine, opened}
@@ -61,8 +61,8 @@ runs_at {k} {j} {r} {s} {touch} {action} until w o e =
 -- an operand of which nothing is left
 reads_none : (level : ℕ) (z : Position) (h : Head) (d n : ℕ) (b : AnnotatedForest) (fs : List Frame) (gs : List Fault) (w : Bool) → nat_le depth_limit d ≡ w
     → d < depth_limit
-    → (if w then limited false (opened h z d b) fs [] n gs else machine (opened h z d b ∷ fs) [] n (gs ++ ended ∷ [])) ≡ machine (opened h z d b ∷ fs) [] n
-    (gs ++ ended ∷ [])
+    → (if w then limited false (opened h z d b) fs [] n gs else machine (opened h z d b ∷ fs) [] n (gs ++ unexpected_eof ∷ [])) ≡ machine (opened h z d b ∷ fs) [] n
+    (gs ++ unexpected_eof ∷ [])
 reads_none level z h d n b fs gs true e l = absurd (grind (arith, nat_tests, e, l))
 reads_none level z h d n b fs gs false e l = refl
 
@@ -77,16 +77,16 @@ misses_by : (k : SyntaxKind) (r s : Row) (touch : Bool) (d : ℕ) (e : Fault) (a
     → lands k action ≡ true
     → missing r ≡ Some (e, s) → (expects_end r ≡ false → IsRoom r d) → Misses k s d e action
 misses_by k r s touch d e (a.Miss y) w t l m room =
-    let i = two_same ended e (left_at y) s w.0 m in
+    let i = two_same unexpected_eof e (left_at y) s w.0 m in
     record { rest = i.1; here = l; steps = λ h x n b fs gs. ap (λ z. machine (opened h (p.Left y) d b ∷ fs) [] n (gs ++ z ∷ [])) i.0 }
 misses_by k r s touch d e (a.MissWanted until y) w t l m room =
-    let i = two_same (ended_before (wanted_kinds until)) e (left_at y) s w.0 m in
+    let i = two_same (unexpected_eof_wanted (wanted_kinds until)) e (left_at y) s w.0 m in
     record { rest = i.1; here = l; steps = λ h x n b fs gs. ap (λ z. machine (opened h (p.Left y) d b ∷ fs) [] n (gs ++ z ∷ [])) i.0 }
 misses_by k r s touch d e (a.Read level false y) w t l m room =
-    let i = two_same ended e (left_at y) s w.1 m in
+    let i = two_same unexpected_eof e (left_at y) s w.1 m in
     record { rest = i.1; here = l; steps = λ h x n b fs gs. ap (λ z. machine (opened h (p.Left y) d b ∷ fs) [] n (gs ++ z ∷ [])) i.0 }
 misses_by k r s touch d e (a.Read level true y) w t l m room =
-    let i = two_same ended e (left_at y) s w.1 m in
+    let i = two_same unexpected_eof e (left_at y) s w.1 m in
     record {
       rest = i.1;
       here = l;

@@ -1,6 +1,6 @@
 -- The end of a pattern's entry: it is reported if an earlier entry has its name.
 use Rattle.std.proofs.Common.{◌≡◌, ℕ, Bool, true, false, List, [], ◌∷◌, ◌++◌, Option, Some, None, refl, ap, sym, ◌∙◌, subst, append-nil, if◌then◌else◌}
-use Rattle.{rnix_kinds.specs.declared.kinds.SyntaxKind.TheVariants.{NODE_PATTERN, NODE_PAT_ENTRY}, rnix_grammar.specs.Fault.{Fault, named_twice}}
+use Rattle.{rnix_kinds.specs.declared.kinds.SyntaxKind.TheVariants.{NODE_PATTERN, NODE_PAT_ENTRY}, rnix_grammar.specs.Fault.{Fault, duplicated_args}}
 use Rattle.rnix_grammar.specs.{AnnotatedForest.{Token, AnnotatedForest, without_trivia, extent_of}, Reports.{entry_name, has_entry, repeated_if}}
 use Rattle.rnix_proof_lemmas.specs.Machine.{Head}
 use Rattle.rnix_proof_lemmas.specs.FrameKinds.{Pattern, Entry, frame_kind, may_hold, IsStackedOn}
@@ -25,7 +25,7 @@ pub record IsEntry (f g : Frame) (fs : List Frame) (names names' : Names) (again
   pub top_set : TopSet names.sets.items g.row (AreOpenSets fs)
   pub entered : Entered name.text top_set.below top_set.set names'
   pub entries : entries_in names' ≡ entries_of (g ∷ fs)
-  pub told : again ≡ (if has_name name.text top_set.set then Some (named_twice (extent_of (name ∷ [])) name.text) else None)
+  pub told : again ≡ (if has_name name.text top_set.set then Some (duplicated_args (extent_of (name ∷ [])) name.text) else None)
 
 -- so it is at an entry's place
 pub entry_there : (f g : Frame) (fs : List Frame) (names names' : Names) (again : Option Fault) → IsStackedOn f.head f.position (g ∷ fs)
@@ -59,7 +59,7 @@ pub done_entry : (f : Frame) (fs : List Frame) (ts : List Token) (n : ℕ) (es :
 done_entry f [] ts n es names names' s' st w e d = absurd (true_is_not_false (sym (ap is_root st.1) ∙ ap is_root e))
 done_entry f (g ∷ fs) ts n es names names' s' st w e d =
     let q = entry_there f g fs names names' d.again st e w d.closed in
-    let fault : Fault = named_twice (extent_of (q.name ∷ [])) q.name.text in
+    let fault : Fault = duplicated_args (extent_of (q.name ∷ [])) q.name.text in
     let old : AnnotatedForest = without_trivia g.row in
     d.state ∙ ap (λ x. reported_if x (ended (popped (machine (f ∷ (g ∷ fs)) ts n es))))
     (q.told ∙ ap (λ x. if x then Some fault else None) (q.top_set.is q.name.text))

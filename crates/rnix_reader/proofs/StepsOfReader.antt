@@ -3,7 +3,7 @@ use Rattle.rnix_grammar.specs.declared.slot_table.TheConstants.{APPLIED, PAT_ENT
 use Rattle.std.proofs.{Common.{◌≡◌, ◌≤◌, ◌<◌, nat_le, length, arith, ℕ, true, false, List, [], ◌∷◌, refl, ap, ◌∙◌, subst}, lemmas.Bool.le-leb}
 use Rattle.rnix_kinds.specs.declared.kinds.SyntaxKind.{SyntaxKind, TheVariants.{NODE_ERROR, NODE_ROOT, NODE_IDENT, NODE_PAT_ENTRY, NODE_APPLY}}
 use Rattle.rnix_green.{specs.{Forest.tree_count, Draft.{OpenNode, is_inside}, ForestCode.join_empty}, proofs.ForestLemmas.tree_count-join}
-use Rattle.rnix_grammar.specs.{declared.{position.Position.Position, action.Action.Action, expected_set.ExpectedSet.TheVariants.End}, Fault.{Fault, bound_twice}, Layout.{items, from_item}, UnwantedRun.run_of, Reports.report}
+use Rattle.rnix_grammar.specs.{declared.{position.Position.Position, action.Action.Action, expected_set.ExpectedSet.TheVariants.End}, Fault.{Fault, double_bind}, Layout.{items, from_item}, UnwantedRun.run_of, Reports.report}
 use Rattle.rnix_grammar.specs.AnnotatedForest.{Token, Unwanted, Extra, DoubleBind, AnnotatedForest, forget, without_trivia, tokens_in, blank, ◌⊕◌, one_branch, head_kind}
 use Rattle.rnix_proof_lemmas.specs.Machine.{Head, Node, SecondBind, Operand, Frame, put, opened, with_leading, leaf, behind, item_end, machine, perform, min_bp_of}
 use Rattle.rnix_proof_lemmas.proofs.Basics.true_is_not_false
@@ -90,7 +90,7 @@ module _ (f : Frame) (fs : List Frame) (ts : List Token) (n : ℕ) (es : List Fa
   performs a.CloseEntry s' names' k al g d = done_entry f fs ts n es names names' s' w.fit k al d
   performs a.CloseDoubleBind s' names' k al g d =
       let tokens : List Token = tokens_in (without_trivia f.row) in
-      d ∙ ap (λ x. failed (bound_twice x) (ended repaired_nonempty)) (again al).0
+      d ∙ ap (λ x. failed (double_bind x) (ended repaired_nonempty)) (again al).0
       ∙ ap (failed (report DoubleBind tokens)) (closes f fs ts n es w.fit (ap is_operand_frame al) (ap is_root al))
       ∙ closed_failed (report DoubleBind tokens) f fs ts n es
   performs a.Finish s' names' k al g d = absurd (true_is_not_false g)

@@ -12,7 +12,7 @@ use Rattle.rnix_grammar.specs.declared.position.Position.TheVariants as p
 use Rattle.rnix_grammar.specs.Actions.{action_at}
 use Rattle.rnix_proof_lemmas.specs.Allowed.{is_there}
 use Rattle.rnix_grammar.specs.AnnotatedForest.{Token, head_of, head_kind, touches}
-use Rattle.rnix_grammar.specs.Fault.{Fault, ended as ended_fault}
+use Rattle.rnix_grammar.specs.Fault.{Fault, unexpected_eof as ended_fault}
 use Rattle.rnix_grammar.specs.Layout.{tail_of}
 use Rattle.rnix_grammar.specs.Levels.{no_level, application_level, selection_level}
 use Rattle.rnix_proof_lemmas.specs.Machine.{min_bp_of}

@@ -6,7 +6,7 @@ ghost use Rattle.rnix_green.specs.Draft.{is_checkpoint_of};
 ghost use Rattle.rnix_grammar.specs.declared.position.Position.TheVariants.{Left};
 ghost use Rattle.rnix_proof_lemmas.specs.Allowed.{is_there};
 ghost use Rattle.rnix_grammar.specs.AnnotatedForest.{head_kind};
-ghost use Rattle.rnix_grammar.specs.Fault.{ended as ended_fault};
+ghost use Rattle.rnix_grammar.specs.Fault.{unexpected_eof as ended_fault};
 ghost use Rattle.rnix_grammar.specs.Tables.{stops};
 ghost use Rattle.rnix_reader.specs.State.{state, items_left, bumped, failed};
 ghost use Rattle.rnix_reader.specs.FrameSteps.{moved_to, node_started, operand_begun, entry_begun, leaf_node_made, node_begun, or_applied, node_wrapped};

@@ -41,11 +41,11 @@ plain_step unit p b h =
 
 -- a byte leads on
 pub step_up : (unit : ColumnUnit) (p : Position) (b : ℕ) → IsUpTo p (step unit p b)
-step_up unit p b = by (b == newline)
+step_up unit p b = newline_cases (b == newline)
   where
-    by : (w : Bool) → IsUpTo p (if w then record { line = p.line + 1; column = 0 } else record { line = p.line; column = p.column + weight unit b })
-    by true = record { line = omega arith; column = λ e. absurd (omega (arith, e)) }
-    by false = record { line = omega arith; column = λ e. omega arith }
+    newline_cases : (w : Bool) → IsUpTo p (if w then record { line = p.line + 1; column = 0 } else record { line = p.line; column = p.column + weight unit b })
+    newline_cases true = record { line = omega arith; column = λ e. absurd (omega (arith, e)) }
+    newline_cases false = record { line = omega arith; column = λ e. omega arith }
 
 pub up_trans : (p q r : Position) → IsUpTo p q → IsUpTo q r → IsUpTo p r
 up_trans p q r a b = record {
@@ -63,21 +63,21 @@ fold_up unit (b ∷ bs) p = up_trans p (step unit p b) _ (step_up unit p b) (fol
 
 -- the first byte of a character, or a newline, leads past the position
 pub first_passes : (unit : ColumnUnit) (p : Position) (b : ℕ) → (128 ≤ b → 192 ≤ b) → IsUpTo (step unit p b) p → ⊥
-first_passes unit p b h = by (b == newline)
+first_passes unit p b h = newline_cases (b == newline)
   where
-    by : (w : Bool) → IsUpTo (if w then record { line = p.line + 1; column = 0 } else record { line = p.line; column = p.column + weight unit b }) p → ⊥
-    by true u = omega (arith, u.line)
-    by false u = omega (arith, u.column refl, weight_first unit b h)
+    newline_cases : (w : Bool) → IsUpTo (if w then record { line = p.line + 1; column = 0 } else record { line = p.line; column = p.column + weight unit b }) p → ⊥
+    newline_cases true u = omega (arith, u.line)
+    newline_cases false u = omega (arith, u.column refl, weight_first unit b h)
 
 -- a column is at most two for each byte
 pub column_bound : (unit : ColumnUnit) (bs : List ℕ) (p : Position) → (fold (step unit) p bs).column ≤ p.column + 2 * length bs
 column_bound unit [] p = omega arith
-column_bound unit (b ∷ bs) p = by (b == newline) (column_bound unit bs)
+column_bound unit (b ∷ bs) p = newline_cases (b == newline) (column_bound unit bs)
   where
-    by : (w : Bool) → ((q : Position) → (fold (step unit) q bs).column ≤ q.column + 2 * length bs)
+    newline_cases : (w : Bool) → ((q : Position) → (fold (step unit) q bs).column ≤ q.column + 2 * length bs)
         → (let q : Position = if w then record { line = p.line + 1; column = 0 } else record {
           line = p.line;
           column = p.column + weight unit b;
         } in (fold (step unit) q bs).column ≤ p.column + 2 * suc (length bs))
-    by true rest = let h = rest record { line = p.line + 1; column = 0 } in omega (arith, h)
-    by false rest = let h = rest record { line = p.line; column = p.column + weight unit b } in omega (arith, h, weight_small unit b)
+    newline_cases true rest = let h = rest record { line = p.line + 1; column = 0 } in omega (arith, h)
+    newline_cases false rest = let h = rest record { line = p.line; column = p.column + weight unit b } in omega (arith, h, weight_small unit b)

@@ -35,7 +35,7 @@ led unit o p (b ∷ bs) m zero l first e f =
     (at_mark o p m (omega (arith, e)) f)
 led unit o p [] m (suc n) l first e f = absurd (omega (arith, l))
 led unit o p (b ∷ bs) m (suc n) l first e f =
-    by (is_plain unit b) refl (led unit o p bs (mark_behind unit m b) n (omega (arith, l)) (λ x. first (omega (arith, x))) (omega (arith, e)) f)
+    plain_cases (is_plain unit b) refl (led unit o p bs (mark_behind unit m b) n (omega (arith, l)) (λ x. first (omega (arith, x))) (omega (arith, e)) f)
   where
     next : Mark
     next = mark_behind unit m b
@@ -46,12 +46,12 @@ led unit o p (b ∷ bs) m (suc n) l first e f =
     reached : is_up_to p next ≡ true
     reached = is_up_to_from p next (subst (IsUpTo next.position) f (fold_up unit (take n bs) next.position))
 
-    by : (w : Bool) → is_plain unit b ≡ w → Leads o p (last_of (is_up_to p) next rest) → Leads o p (last_of (is_up_to p) m (if w then rest else next ∷ rest))
-    by false h told = subst (Leads o p) (sym (ap (λ w. if w then last_of (is_up_to p) next rest else m) reached)) told
-    by true h told = elim (last_alike (is_up_to p) m next rest) [
-      | inr one ↦ subst (Leads o p) (sym one) told
+    plain_cases : (w : Bool) → is_plain unit b ≡ w → Leads o p (last_of (is_up_to p) next rest) → Leads o p (last_of (is_up_to p) m (if w then rest else next ∷ rest))
+    plain_cases false h rest_leads = subst (Leads o p) (sym (ap (λ w. if w then last_of (is_up_to p) next rest else m) reached)) rest_leads
+    plain_cases true h rest_leads = elim (last_alike (is_up_to p) m next rest) [
+      | inr one ↦ subst (Leads o p) (sym one) rest_leads
       | inl both ↦ (
-          let t = subst (Leads o p) both.1 told in
+          let t = subst (Leads o p) both.1 rest_leads in
           let s = plain_step unit m.position b h in
           let line = ap (λ q. q.line) s in
           let column = ap (λ q. q.column) s in

@@ -103,11 +103,11 @@ pub inline_written : {n : ℕ} (w v : InlineText n) (bs : List ℕ) → WritesIn
 inline_written w v bs h intact = (folded w v h.parts h.calls intact).1 ∙ ap (λ x. inline_text w ++ x) h.whole
 
 -- what a formatter over an empty inline text wrote is what it has
-pub inline_told : {n : ℕ} (f g : Formatter (InlineText n)) (r : Result (Unit {0}) Error) (o : Option (List ℕ)) (v : InlineText n) → IsPlainFormatter f
+pub inline_text_written : {n : ℕ} (f g : Formatter (InlineText n)) (r : Result (Unit {0}) Error) (o : Option (List ℕ)) (v : InlineText n) → IsPlainFormatter f
     → IsIntact f.writer
     → inline_text f.writer ≡ [] → IsOk r → DisplaysOnOk AppendsIfIntact f r o g → v ≡ formatter_writer g → IfSome o (λ bs. inline_text v ≡ bs)
-inline_told f g r None v plain intact none ok h is = tt
-inline_told f g r (Some bs) v plain intact none ok h is =
+inline_text_written f g r None v plain intact none ok h is = tt
+inline_text_written f g r (Some bs) v plain intact none ok h is =
     ap inline_text is ∙ inline_written f.writer g.writer bs (h plain ok).wrote intact ∙ ap (λ x. x ++ bs) none
 
 -- an indent, what is shown if that is known, and the end of the line

@@ -4,7 +4,7 @@ pub mod AncestorLemmas
 pub mod OffsetLemmas
 pub mod EqualElements
 pub mod CountLemmas
-pub mod StandingItems
+pub mod ItemsAt
 pub mod WalkRows
 pub mod EnterSteps
 pub mod LeaveSteps

@@ -7,7 +7,7 @@ use Rattle.rnix_kinds.specs.declared.kinds.SyntaxKind.{SyntaxKind, TheVariants.{
 use Rattle.rnix_kinds.specs.declared.tokenizer.rule.{Cut.Cut, PathStart.{PathStart, TheVariants.{Root as StartSlash, Relative as StartName}}}
 use Rattle.rnix_kinds.specs.declared.tokenizer.rule.{PathStart.TheVariants.Home as StartTilde, Mode.{Mode, TheVariants.{Quoted, Interpolation, Path}}}
 use Rattle.rnix_kinds.specs.declared.tokenizer.{rule.Change.{Change, TheVariants.{Stay, Open, Close}}, text.Class.{Class, TheVariants.{Digit, Name, Step}}}
-use Rattle.rnix_kinds.specs.{declared.tokenizer.text.Class.TheVariants.{Scheme, Angle, Uri, Line}, Lexical.{PathKinds.kind_of_path, Texts.{stands_at, begins}}}
+use Rattle.rnix_kinds.specs.{declared.tokenizer.text.Class.TheVariants.{Scheme, Angle, Uri, Line}, Lexical.{PathKinds.kind_of_path, Texts.{occurs_at, begins}}}
 use Rattle.rnix_kinds.specs.Lexical.{Texts.{run_end, space_len}, Classes.{class_test, is_path, is_uri}, Plain.{plain, space, comment, uri, word}}
 use Rattle.rnix_kinds.specs.Lexical.Paths.{is_broken, segment, first_segment, slash, home, relative, goes_on_as_path, search_path, path_goes_on, path_cut}
 use Rattle.rnix_kinds.specs.Lexical.{Strings.{piece_len, content_len, string_cut}, Tokens.{CountsUp, opens_alone, opens, IsPathBegun, IsCutOf, IsPathGoingOn}}
@@ -15,7 +15,7 @@ use Rattle.rnix_kinds.specs.Lexical.{Tokens.{first_that_fits, normal_rules, norm
 use Rattle.rnix_kinds.specs.Lexical.{Numbers.exponent_digits, Operators.{ellipsis, opener, brace, operator, operators, first_row}}
 use Rattle.rnix_kinds.proofs.LexicalLemmas.{StringsLemmas.{content_len-le, content_len-stops}, WordsLemmas.{IsCharBoundary-space_len, IsCharBoundary-char_len}}
 use Rattle.rnix_kinds.proofs.LexicalLemmas.{WordsLemmas.char_len_some, CutParts.{FitsWell, if_fits, if_good, is_free, free_named, free_if, free_path, path_opens}}
-use Rattle.rnix_kinds.proofs.LexicalLemmas.CutParts.{interpolation_next, good_named, good_plain, is_plain_byte, byte_end, stands_end, run_boundary, run_some}
+use Rattle.rnix_kinds.proofs.LexicalLemmas.CutParts.{interpolation_next, good_named, good_plain, is_plain_byte, byte_end, occurrence_end, run_boundary, run_some}
 use Rattle.rnix_kinds.proofs.LexicalLemmas.CutParts.{alphabetic_uri, letter_name, word_named, exponent_mark, exponent_sign, block_good, opening_brace_good}
 use Rattle.rnix_kinds.proofs.LexicalLemmas.CutParts.{closing_brace_good, path_some, slash_path, slash_is_path, step_path, positive_from, none_from, or_right}
 use Rattle.rnix_kinds.proofs.LexicalLemmas.CutParts.{tilde_good, search_boundary, content_boundary, closer_cut}
@@ -24,7 +24,7 @@ module _ (top : Option Mode) (text : List ℕ) (utf8 : IsUtf8 text) (some : 0 < 
   good_begins : (kind : SyntaxKind) (bytes : List ℕ) → is_free kind ≡ true → 0 < length bytes → list_all is_plain_byte bytes ≡ true → begins bytes text ≡ true
       → IsCutOf top text (plain kind (length bytes))
   good_begins kind bytes free some ascii e =
-      good_plain top text kind _ free some (subst (IsCharBoundary text) (zero-add (length bytes)) (stands_end bytes 0 text utf8 some ascii e))
+      good_plain top text kind _ free some (subst (IsCharBoundary text) (zero-add (length bytes)) (occurrence_end bytes 0 text utf8 some ascii e))
 
   first_row_fits : (rows : List (List ℕ × SyntaxKind)) → list_all (λ row. nat_lt 0 (length row.0) && list_all is_plain_byte row.0 && is_free row.1) rows ≡ true
       → FitsWell top text (first_row rows text)
@@ -105,7 +105,7 @@ module _ (top : Option Mode) (text : List ℕ) (utf8 : IsUtf8 text) (some : 0 < 
       → list_all is_plain_byte bytes ≡ true → begins bytes text ≡ true → IsCutOf top text (record { kind = kind; len = length bytes; change = change })
   good_change kind bytes change free may counted some ascii e = record {
     some = some;
-    boundary = subst (IsCharBoundary text) (zero-add (length bytes)) (stands_end bytes 0 text utf8 some ascii e);
+    boundary = subst (IsCharBoundary text) (zero-add (length bytes)) (occurrence_end bytes 0 text utf8 some ascii e);
     counted = counted;
     named = free_named kind _ free;
     opener = λ _. inl may;
@@ -131,7 +131,7 @@ module _ (top : Option Mode) (text : List ℕ) (utf8 : IsUtf8 text) (some : 0 < 
       let end : IsCharBoundary text (run_end is_path from text) =
       run_boundary (Rattle.rnix_kinds.specs.declared.tokenizer.text.Class.TheVariants.Path) from text utf8 begins_at in
       let more : 0 < prefix_len is_path (drop from text) = path_some text from first in
-      if_good top text (stands_at (codes "${") (run_end is_path from text) text) _ _
+      if_good top text (occurs_at (codes "${") (run_end is_path from text) text) _ _
       (λ e. record {
         some = omega arith;
         boundary = end;

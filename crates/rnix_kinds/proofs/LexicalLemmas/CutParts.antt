@@ -9,7 +9,7 @@ use Rattle.rnix_kinds.specs.declared.kinds.SyntaxKind.TheVariants.{TOKEN_THEN, T
 use Rattle.rnix_kinds.specs.declared.tokenizer.rule.{Cut.Cut, PathStart.{PathStart, TheVariants.{Root as StartSlash, Relative as StartName}}}
 use Rattle.rnix_kinds.specs.declared.tokenizer.rule.{PathStart.TheVariants.Home as StartTilde, Mode.{Mode, TheVariants.{Quoted, Interpolation, Path}}}
 use Rattle.rnix_kinds.specs.declared.tokenizer.{rule.Change.TheVariants.Close, text.Class.{Class, TheVariants.{Name, Step, Angle}}}
-use Rattle.rnix_kinds.specs.Lexical.{PathKinds.kind_of_path, Texts.{stands_at, begins, run_end, before_pair, char_len}, Classes.{class_test, is_path, is_uri}}
+use Rattle.rnix_kinds.specs.Lexical.{PathKinds.kind_of_path, Texts.{occurs_at, begins, run_end, before_pair, char_len}, Classes.{class_test, is_path, is_uri}}
 use Rattle.rnix_kinds.specs.Lexical.{Plain.{plain, block_comment, word, kind_of_word}, Strings.{piece_len, content_len}, Tokens.{MayBe, opens_path, IsCutOf}}
 use Rattle.rnix_kinds.{specs.{Lexical.Operators.{opening_brace, closing_brace}, SyntaxKind.is_token}, proofs.LexicalLemmas.StringsLemmas.content_len-stops}
 use Rattle.rnix_kinds.proofs.LexicalLemmas.WordsLemmas.{within_from_byte, IsCharBoundary-run, IsCharBoundary-char_len, before_pair-le, before_pair-found}
@@ -53,7 +53,7 @@ pub path_opens : (start : PathStart) → opens_path (kind_of_path start) ≡ tru
 path_opens start = elim start as (λ s. opens_path (kind_of_path s) ≡ true) [ StartSlash ↦ refl | StartName ↦ refl | StartTilde ↦ refl ]
 
 -- `${` stands where the rest begins
-pub interpolation_next : (n : ℕ) (text : List ℕ) → stands_at (codes "${") n text ≡ true → begins (codes "${") (drop n text) ≡ true
+pub interpolation_next : (n : ℕ) (text : List ℕ) → occurs_at (codes "${") n text ≡ true → begins (codes "${") (drop n text) ≡ true
 interpolation_next n text e =
     let here : get_or (drop n text) 0 0 ≡ get_or text n 0 = get_or-drop n text 0 0 ∙ ap (λ k. get_or text k 0) (add-zero n) in
     let one : n + 1 ≡ suc n = omega arith in
@@ -84,12 +84,12 @@ byte_end text i b utf8 ascii e =
     IsCharBoundary-after_ascii text i utf8 (within_from_byte text i (omega arith)) (omega arith)
 
 -- ASCII bytes end where a character does
-pub stands_end : (bytes : List ℕ) (i : ℕ) (text : List ℕ) → IsUtf8 text → 0 < length bytes → list_all is_plain_byte bytes ≡ true
-    → stands_at bytes i text ≡ true → IsCharBoundary text (i + length bytes)
-stands_end [] i text utf8 some ascii e = absurd (omega arith)
-stands_end (b ∷ []) i text utf8 some ascii e = byte_end text i b utf8 (and_parts (is_plain_byte b) true ascii).0 e
-stands_end (b ∷ c ∷ bytes) i text utf8 some ascii e =
-    let more = stands_end (c ∷ bytes) (suc i) text utf8 (omega arith) (and_parts (is_plain_byte b) _ ascii).1 (and_parts _ _ e).1 in
+pub occurrence_end : (bytes : List ℕ) (i : ℕ) (text : List ℕ) → IsUtf8 text → 0 < length bytes → list_all is_plain_byte bytes ≡ true
+    → occurs_at bytes i text ≡ true → IsCharBoundary text (i + length bytes)
+occurrence_end [] i text utf8 some ascii e = absurd (omega arith)
+occurrence_end (b ∷ []) i text utf8 some ascii e = byte_end text i b utf8 (and_parts (is_plain_byte b) true ascii).0 e
+occurrence_end (b ∷ c ∷ bytes) i text utf8 some ascii e =
+    let more = occurrence_end (c ∷ bytes) (suc i) text utf8 (omega arith) (and_parts (is_plain_byte b) _ ascii).1 (and_parts _ _ e).1 in
     let same : suc i + length (c ∷ bytes) ≡ i + length (b ∷ c ∷ bytes) = omega arith in
     subst (IsCharBoundary text) same more
 

@@ -55,14 +55,14 @@ no_blank b low e = grind (arith, nat_tests)
 -- blanks are all the white space at the front, where a byte of ASCII follows them, or none
 pub space_len-blanks : (text : List ℕ) → get_or text (prefix_len is_blank text) 0 < 128 → space_len text ≡ prefix_len is_blank text
 space_len-blanks [] h = space_len-stop [] (omega arith) refl
-space_len-blanks (b ∷ text) h = by (space_len-blanks text) (is_blank b) refl h
+space_len-blanks (b ∷ text) h = blank_cases (space_len-blanks text) (is_blank b) refl h
   where
-    by : (get_or text (prefix_len is_blank text) 0 < 128 → space_len text ≡ prefix_len is_blank text) → (c : Bool) → is_blank b ≡ c
+    blank_cases : (get_or text (prefix_len is_blank text) 0 < 128 → space_len text ≡ prefix_len is_blank text) → (c : Bool) → is_blank b ≡ c
         → get_or (b ∷ text) (prefix_len is_blank (b ∷ text)) 0 < 128 → space_len (b ∷ text) ≡ prefix_len is_blank (b ∷ text)
-    by more true e h =
+    blank_cases more true e h =
         let one : 1 + prefix_len is_blank text ≡ suc (prefix_len is_blank text) = omega arith in
         rw e (space_len-step b text (blank_is b e).0 (blank_is b e).1 ∙ ap (λ n. 1 + n) (more (rw (e, one) at h)))
-    by more false e h = rw e (space_len-stop (b ∷ text) (rw e at h) (no_blank b (rw e at h) e))
+    blank_cases more false e h = rw e (space_len-stop (b ∷ text) (rw e at h) (no_blank b (rw e at h) e))
 
 space_step : (c : ℕ) (cs : List ℕ) (b : Bool) → is_whitespace c ≡ b
     → encode_utf8_all (take_while is_whitespace cs) ++ encode_utf8_all (skip_leading_whitespace cs) ≡ encode_utf8_all cs

@@ -1,7 +1,7 @@
 use Rattle.std.proofs.Common.{◌≡◌, ◌++◌, ◌∙◌, map, true, None, ap, sym, rules}
 use Rattle.rnix_base.specs.Select.{those_of}
 use Rattle.rnix.specs.{NodeKinds.{is_attr}, Sums.{attr_node}}
-use Rattle.nix_scopes.specs.{Names.{named_if, attr_text, names_written}, Bound.{resolved_of}, References.{inherited_at, inherited_from}, Resolving.{outer_count, seen}}
+use Rattle.nix_scopes.specs.{Names.{named_if, attr_text, names_written}, Bound.{resolved_of}, References.{inherited_at, inherited_from}, Resolving.{outer_count, resolve_name}}
 use Rattle.nix_scopes.proofs.ResolvingLemmas.{mapped_next}
 use Rattle.nix_scopes.proofs.resolving.add_all_inherited.Goals as goal
 
@@ -16,8 +16,8 @@ loop-attr-init c =
       next = tt;
       ends = tt;
       listing =
-          ap (λ names. map resolved_of c.args.references.now.items ++ map (seen c.args.around.now c.outer_depth-depth.result true) names) inherited
-          ∙ ap (λ depth. map resolved_of c.args.references.now.items ++ map (seen c.args.around.now depth true) (inherited_at c.args.inherit.now))
+          ap (λ names. map resolved_of c.args.references.now.items ++ map (resolve_name c.args.around.now c.outer_depth-depth.result true) names) inherited
+          ∙ ap (λ depth. map resolved_of c.args.references.now.items ++ map (resolve_name c.args.around.now depth true) (inherited_at c.args.inherit.now))
           (c.outer_depth-depth.ensures.count ∙ ap (outer_count c.args.around.now.scopes.items) c.syntax.ensures.node);
     }
 
@@ -25,9 +25,9 @@ pub loop-attr-preserved : goal.loop-attr-preserved
 loop-attr-preserved c = record {
   next = tt;
   ends = tt;
-  listing = mapped_next (λ e. named_if e (attr_text e)) (seen c.args.around.now c.outer_depth-depth.result true) (map resolved_of c.loop-attr.references.items)
+  listing = mapped_next (λ e. named_if e (attr_text e)) (resolve_name c.args.around.now c.outer_depth-depth.result true) (map resolved_of c.loop-attr.references.items)
       (map resolved_of c.add_inherited.new.references.items)
-      (map resolved_of c.args.references.now.items ++ map (seen c.args.around.now (outer_count c.args.around.now.scopes.items c.args.inherit.now) true)
+      (map resolved_of c.args.references.now.items ++ map (resolve_name c.args.around.now (outer_count c.args.around.now.scopes.items c.args.inherit.now) true)
       (inherited_at c.args.inherit.now))
       (those_of is_attr c.loop-attr.attr-iterator) (those_of is_attr c.next.new.self) (attr_node c.in-Some.attr) c.syntax-in-loop-attr.result.now
       c.loop-attr.invariant.listing c.in-Some.ensures.steps c.syntax-in-loop-attr.ensures.node c.in_ok-add_inherited.ensures;

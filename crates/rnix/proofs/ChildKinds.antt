@@ -5,7 +5,7 @@ use Rattle.{rnix_kinds.specs.{declared.kinds.SyntaxKind.SyntaxKind, SyntaxKind.{
 use Rattle.rnix_green.specs.{Forest.{Forest, empty, leaf, node, text_of, element_count}, Tree.{Tree, Item, Located, IsNodeAt, items_from, items_of, item}}
 use Rattle.rnix_green.specs.{Tree.{item_of, forest_of, part_at, children_in}, Walk.{Spot, spot_at, nodes_in, children_of}, PreorderNumbers.tree_numbers}
 use Rattle.rnix_green.proofs.{PartLemmas.{IsPart, IsOne, one_leaf, one_node, part_there, one_there}, PieceLemmas.length-items_from}
-use Rattle.{rnix_tree.proofs.StandingItems.{Stands, first_item, front_stands, back_stands}, rnix_base.specs.Select.{has_kind, tokens_in, child_of, token_of}}
+use Rattle.{rnix_tree.proofs.ItemsAt.{HasItemsAt, first_item, front_items, back_items}, rnix_base.specs.Select.{has_kind, tokens_in, child_of, token_of}}
 use Rattle.{rnix_grammar.specs.{CompleteRows.is_row, Shape.item_kinds, Derivation.has_tokens_alone}, rnix_proof_lemmas.proofs.Basics.true_is_not_false}
 use Rattle.rnix_proof_rows.proofs.PartRows.{HasRows, HasTokens, rows_part, tokens_part, row_of_node}
 
@@ -13,8 +13,8 @@ use Rattle.rnix_proof_rows.proofs.PartRows.{HasRows, HasTokens, rows_part, token
 abbrev pub Sight : Type 0
 Sight = Bool × SyntaxKind
 
-abbrev pub seen : Spot → Sight
-seen spot = (spot.0, (item_of spot.1).kind)
+abbrev pub sight_of : Spot → Sight
+sight_of spot = (spot.0, (item_of spot.1).kind)
 
 abbrev pub tops : Forest → List Sight
 tops empty = []
@@ -22,31 +22,31 @@ tops (leaf k t f) = (false, k) ∷ tops f
 tops (node k c f) = (true, k) ∷ tops f
 
 -- the elements of a row's trees are of their kinds
-row_seen : (t : Tree) (n s : ℕ) (p : Option ℕ) (f : Forest) → Stands t n (items_from n s p f) → map seen (map (spot_at t) (tree_numbers n f)) ≡ tops f
-row_seen t n s p empty h = refl
-row_seen t n s p (leaf k u f) h =
+row_sights : (t : Tree) (n s : ℕ) (p : Option ℕ) (f : Forest) → HasItemsAt t n (items_from n s p f) → map sight_of (map (spot_at t) (tree_numbers n f)) ≡ tops f
+row_sights t n s p empty h = refl
+row_sights t n s p (leaf k u f) h =
     let i : Item = record { kind = k; is_node = false; start = s; end = s + length u; parent = p; below = 0 } in
     let rest = items_from (n + 1) (s + length u) p f in
     let own : item t n ≡ i = first_item t n i rest h in
-    ap (λ (x : Item). (x.is_node, x.kind) ∷ map seen (map (spot_at t) (tree_numbers (n + 1) f))) own
-    ∙ ap (λ x. (false, k) ∷ x) (row_seen t (n + 1) (s + length u) p f (back_stands t n (n + 1) (i ∷ []) rest refl h))
-row_seen t n s p (node k c f) h =
+    ap (λ (x : Item). (x.is_node, x.kind) ∷ map sight_of (map (spot_at t) (tree_numbers (n + 1) f))) own
+    ∙ ap (λ x. (false, k) ∷ x) (row_sights t (n + 1) (s + length u) p f (back_items t n (n + 1) (i ∷ []) rest refl h))
+row_sights t n s p (node k c f) h =
     let i : Item = record { kind = k; is_node = true; start = s; end = s + length (text_of c); parent = p; below = element_count c } in
     let xs = items_from (n + 1) s (Some n) c in
     let ys = items_from (n + 1 + element_count c) (s + length (text_of c)) p f in
     let own : item t n ≡ i = first_item t n i (xs ++ ys) h in
-    let below : Stands t (n + 1) (xs ++ ys) = back_stands t n (n + 1) (i ∷ []) (xs ++ ys) refl h in
-    let there : Stands t (n + 1 + element_count c) ys =
-    back_stands t (n + 1) (n + 1 + element_count c) xs ys (ap (λ x. n + 1 + x) (length-items_from (n + 1) s (Some n) c)) below in
-    ap (λ (x : Item). (x.is_node, x.kind) ∷ map seen (map (spot_at t) (tree_numbers (n + 1 + element_count c) f))) own
-    ∙ ap (λ x. (true, k) ∷ x) (row_seen t (n + 1 + element_count c) (s + length (text_of c)) p f there)
+    let below : HasItemsAt t (n + 1) (xs ++ ys) = back_items t n (n + 1) (i ∷ []) (xs ++ ys) refl h in
+    let there : HasItemsAt t (n + 1 + element_count c) ys =
+    back_items t (n + 1) (n + 1 + element_count c) xs ys (ap (λ x. n + 1 + x) (length-items_from (n + 1) s (Some n) c)) below in
+    ap (λ (x : Item). (x.is_node, x.kind) ∷ map sight_of (map (spot_at t) (tree_numbers (n + 1 + element_count c) f))) own
+    ∙ ap (λ x. (true, k) ∷ x) (row_sights t (n + 1 + element_count c) (s + length (text_of c)) p f there)
 
 -- a node with its row, where the part of the tree at it is given
 pub record NodeIn (n : Located) (part : Forest) : Type 0 where
   pub kind : SyntaxKind
   pub children : Forest
   pub is : (item_of n).kind ≡ kind
-  pub sights : map seen (map (spot_at n.tree) (tree_numbers (n.number + 1) (children_in part))) ≡ tops children
+  pub sights : map sight_of (map (spot_at n.tree) (tree_numbers (n.number + 1) (children_in part))) ≡ tops children
   pub row : is_row kind (item_kinds children) ≡ true
   pub rows : HasRows children
   pub tokens : HasTokens children
@@ -56,25 +56,25 @@ node_in n r w there =
     go (part_at n) (part_there n.tree n.number there.is_there) (one_there n.tree n.number there.is_there) (rows_part n.number 0 (forest_of n.tree) r)
     (tokens_part n.number 0 (forest_of n.tree) w)
   where
-    stood : (part : Forest) (h : IsPart 0 n.number part (items_of n.tree)) → Stands n.tree n.number (items_from n.number h.start h.parent part)
-    stood part h = record { before = h.before; after = h.after; split = h.split; counted = omega (arith, h.counted) }
+    part_items : (part : Forest) (h : IsPart 0 n.number part (items_of n.tree)) → HasItemsAt n.tree n.number (items_from n.number h.start h.parent part)
+    part_items part h = record { before = h.before; after = h.after; split = h.split; counted = omega (arith, h.counted) }
 
     go : (part : Forest) → IsPart 0 n.number part (items_of n.tree) → IsOne part → HasRows part → HasTokens part → NodeIn n part
     go _ h (one_leaf k u) r w =
         let i : Item = record { kind = k; is_node = false; start = h.start; end = h.start + length u; parent = h.parent; below = 0 } in
-        let own : item n.tree n.number ≡ i = first_item n.tree n.number i [] (stood (leaf k u empty) h) in
+        let own : item n.tree n.number ≡ i = first_item n.tree n.number i [] (part_items (leaf k u empty) h) in
         absurd (true_is_not_false (sym there.is_node ∙ ap (λ (x : Item). x.is_node) own))
     go _ h (one_node k c) r w =
         let m = n.number in
         let i : Item = record { kind = k; is_node = true; start = h.start; end = h.start + length (text_of c); parent = h.parent; below = element_count c } in
         let xs = items_from (m + 1) h.start (Some m) c in
-        let own : item n.tree m ≡ i = first_item n.tree m i (xs ++ []) (stood (node k c empty) h) in
+        let own : item n.tree m ≡ i = first_item n.tree m i (xs ++ []) (part_items (node k c empty) h) in
         record {
           kind = k;
           children = c;
           is = ap (λ (x : Item). x.kind) own;
-          sights = row_seen n.tree (m + 1) h.start (Some m) c
-              (front_stands n.tree (m + 1) xs [] (back_stands n.tree m (m + 1) (i ∷ []) (xs ++ []) refl (stood (node k c empty) h)));
+          sights = row_sights n.tree (m + 1) h.start (Some m) c
+              (front_items n.tree (m + 1) xs [] (back_items n.tree m (m + 1) (i ∷ []) (xs ++ []) refl (part_items (node k c empty) h)));
           row = r.0;
           rows = r.1;
           tokens = (and_parts (has_tokens_alone c) true w).0;
@@ -101,20 +101,20 @@ same_length true a b xs ys e = ap suc e
 same_length false a b xs ys e = e
 
 -- tokens and nodes are found by their kinds
-tokens_seen : (test : SyntaxKind → Bool) (spots : List Spot) → is_some (find (has_kind test) (tokens_in spots)) ≡ is_some (find test (leaves (map seen spots)))
-tokens_seen test [] = refl
-tokens_seen test ((true, e) ∷ spots) = tokens_seen test spots
-tokens_seen test ((false, e) ∷ spots) =
-    same_first (test (item_of e).kind) e (item_of e).kind (find (has_kind test) (tokens_in spots)) (find test (leaves (map seen spots)))
-    (tokens_seen test spots)
+token_sights : (test : SyntaxKind → Bool) (spots : List Spot) → is_some (find (has_kind test) (tokens_in spots)) ≡ is_some (find test (leaves (map sight_of spots)))
+token_sights test [] = refl
+token_sights test ((true, e) ∷ spots) = token_sights test spots
+token_sights test ((false, e) ∷ spots) =
+    same_first (test (item_of e).kind) e (item_of e).kind (find (has_kind test) (tokens_in spots)) (find test (leaves (map sight_of spots)))
+    (token_sights test spots)
 
-nodes_seen : (test : SyntaxKind → Bool) (spots : List Spot) →
-    length (filter (has_kind test) (nodes_in spots)) ≡ length (filter test (branches (map seen spots)))
-nodes_seen test [] = refl
-nodes_seen test ((false, e) ∷ spots) = nodes_seen test spots
-nodes_seen test ((true, e) ∷ spots) =
-    same_length (test (item_of e).kind) e (item_of e).kind (filter (has_kind test) (nodes_in spots)) (filter test (branches (map seen spots)))
-    (nodes_seen test spots)
+node_sights : (test : SyntaxKind → Bool) (spots : List Spot) →
+    length (filter (has_kind test) (nodes_in spots)) ≡ length (filter test (branches (map sight_of spots)))
+node_sights test [] = refl
+node_sights test ((false, e) ∷ spots) = node_sights test spots
+node_sights test ((true, e) ∷ spots) =
+    same_length (test (item_of e).kind) e (item_of e).kind (filter (has_kind test) (nodes_in spots)) (filter test (branches (map sight_of spots)))
+    (node_sights test spots)
 
 -- a set of kinds of tokens that are no trivia, and a set of kinds of nodes
 pub record AreItems (test : SyntaxKind → Bool) : Type 0 where
@@ -126,11 +126,11 @@ AreNodes test = (k : SyntaxKind) → test k ≡ true → is_token k ≡ false
 
 -- what is in no such set
 pub none_if : (test : SyntaxKind → Bool) (k : SyntaxKind) → (test k ≡ true → ⊥) → test k ≡ false
-none_if test k h = by (test k) refl
+none_if test k h = test_cases (test k) refl
   where
-    by : (w : Bool) → test k ≡ w → test k ≡ false
-    by true e = absurd (h e)
-    by false e = e
+    test_cases : (w : Bool) → test k ≡ w → test k ≡ false
+    test_cases true e = absurd (h e)
+    test_cases false e = e
 
 pub exact_items : (x : SyntaxKind) → is_token x ≡ true → is_trivia x ≡ false → AreItems (same_kind x)
 exact_items x t i = record {
@@ -190,8 +190,8 @@ pub record Sees (n : Located) (ks : List SyntaxKind) : Type 0 where
 
 pub sees : (n : Located) (h : NodeIn n (part_at n)) → Sees n (item_kinds h.children)
 sees n h = record {
-  tokens = λ test a. tokens_seen test (children_of n) ∙ ap (λ x. is_some (find test (leaves x))) h.sights ∙ leaves_items test a h.children h.rows;
+  tokens = λ test a. token_sights test (children_of n) ∙ ap (λ x. is_some (find test (leaves x))) h.sights ∙ leaves_items test a h.children h.rows;
   nodes = λ test a number.
       get_alike (filter (has_kind test) (nodes_in (children_of n))) (filter test (item_kinds h.children)) number
-      (nodes_seen test (children_of n) ∙ ap (λ x. length (filter test (branches x))) h.sights ∙ branches_items test a h.children h.tokens);
+      (node_sights test (children_of n) ∙ ap (λ x. length (filter test (branches x))) h.sights ∙ branches_items test a h.children h.tokens);
 }
