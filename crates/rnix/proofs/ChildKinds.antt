@@ -101,7 +101,8 @@ same_length true a b xs ys e = ap suc e
 same_length false a b xs ys e = e
 
 -- tokens and nodes are found by their kinds
-token_sights : (test : SyntaxKind → Bool) (spots : List Spot) → is_some (find (has_kind test) (tokens_in spots)) ≡ is_some (find test (leaves (map sight_of spots)))
+token_sights : (test : SyntaxKind → Bool) (spots : List Spot) →
+    is_some (find (has_kind test) (tokens_in spots)) ≡ is_some (find test (leaves (map sight_of spots)))
 token_sights test [] = refl
 token_sights test ((true, e) ∷ spots) = token_sights test spots
 token_sights test ((false, e) ∷ spots) =

@@ -140,12 +140,12 @@ pub path_node : {s : List ℕ} {f : Forest} (k i : SyntaxKind) → is_path k ≡
     → ((n : ℕ) (ts : List Token) → IsExpected (row k) n ts true) → ((x : AnnotatedForest) (o : Option SyntaxKind) → IsFollowed (row k) x o)
     → depth_in k (leaf i s f) ≡ nest k f
     → PathReads (EndOr NODE_INTERPOL · PathPieces · done) joins_first f → Node (binds_at_most 16) k (leaf i s f)
-path_node {s} {f} k i path sound told behind expected followed depth rest = record { reads = whole }
+path_node {s} {f} k i path sound kind_kept behind expected followed depth rest = record { reads = whole }
   where
     whole : (d n : ℕ) (b : AnnotatedForest) (us : List Token) → Over (leaf i s f) b → (if is_path k then is_joined b us else true) ≡ true → ArePaths b us
         → d + depth_in k (leaf i s f) ≤ depth_limit → binds_at_most 16 (head_kind us) ≡ true → IsRead k d n (row k) blank b us
     whole d n b us (over_leaf {x = x} {f = h} e w o) j a m z =
-        token_read (sym (keeps_kind k x.kind sound ∙ e ∙ told)) (expected n (x ∷ (tokens_in h ++ us))) (followed blank (Some i))
+        token_read (sym (keeps_kind k x.kind sound ∙ e ∙ kind_kept)) (expected n (x ∷ (tokens_in h ++ us))) (followed blank (Some i))
         (subst (λ q. IsRead k d x.end q (one_token i x) h us) (sym behind)
         (rest k sound d x.end (one_token i x) h us o a (subst (λ y. d + y ≤ depth_limit) depth m)
         (sym (ap (λ w. if w then joins_first x.end h us else true) path) ∙ j) z))

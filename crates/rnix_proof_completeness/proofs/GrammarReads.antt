@@ -161,9 +161,9 @@ mutual
   path_pieces_read : {f : Forest} → g.PathPieces f → PathReads (PathPieces · done) joins f
   path_pieces_read g.pieces_end p sound d n x b us over_nothing a m j z = (PathPieces · done, read.end, (refl, no_piece n us j))
   path_pieces_read (g.piece {j = i} {s = s} l r) p sound d n x b us (over_leaf {x = y} {f = h} e w o) a m j z =
-      let told : y.kind ≡ i = e ∙ keeps_token_kind is_path_piece refl i s l in
+      let kind_kept : y.kind ≡ i = e ∙ keeps_token_kind is_path_piece refl i s l in
       let u = and_parts (nat_eq y.start n) (joins y.end h us) j in
-      token_read (sym (keeps_kind p y.kind sound ∙ told)) (ap (λ w. w && is_piece_start y.kind) u.0 ∙ ap is_piece_start told
+      token_read (sym (keeps_kind p y.kind sound ∙ kind_kept)) (ap (λ w. w && is_piece_start y.kind) u.0 ∙ ap is_piece_start kind_kept
       ∙ implied is_path_piece is_piece_start refl i l) tt
       (subst (λ w. IsRead p d y.end (only (w || same_kind NODE_INTERPOL i) (PathPieces · done)) (x ⊕ one_token i y) h us) (sym l)
       (path_pieces_read r p sound d y.end (x ⊕ one_token i y) h us o a m u.1 z))

@@ -88,18 +88,18 @@ binary_good {o} {j} {k} {a} {c} {s} e g h = record {
   fit = implied is_infix (λ i. fits (binding_power i) NODE_BIN_OP) refl o e;
   node = node_of refl refl (first_on {H = λ g. follows o g ≡ true} (ap (λ w. only w (Binary · done)) operand) refl (λ m ts w. tt)
       (λ x b. unreported j x b (fits_expression (left_of o) j g.fit))
-      (good_follows g o takes level) g.node (next_leaf (ap (λ i. binds_at_most g.max_bp (Some i)) told ∙ good_before g o takes level))
-      (leaf_on (sym (keeps_kind NODE_BIN_OP (kind_of_token o s) refl ∙ told)) (λ b. refl) (λ g c. c) (λ g x c. tt)
+      (good_follows g o takes level) g.node (next_leaf (ap (λ i. binds_at_most g.max_bp (Some i)) kind_kept ∙ good_before g o takes level))
+      (leaf_on (sym (keeps_kind NODE_BIN_OP (kind_of_token o s) refl ∙ kind_kept)) (λ b. refl) (λ g c. c) (λ g x c. tt)
       (subst (λ w. Rest NODE_BIN_OP (only w (Operand (right_of o) false · done)) Any (binds_at_most (max_bp_of o)) (node k c empty)) (sym e)
       (operand_on h refl (next_end (λ i z. binds_at_most_more (max_bp_of o) (below (right_of o)) i
       (most_of is_infix max_bp_of (λ i. below (right_of i)) refl o e) z)) finished))));
   tight = tight;
   begins = begins_first (binding_power o) NODE_BIN_OP (λ b f e. refl) (left_least o e) g
-      (next_leaf (ap (λ i. binds_at_most 16 (Some i)) told ∙ implied is_infix (λ i. binds_at_most 16 (Some i)) refl o e));
+      (next_leaf (ap (λ i. binds_at_most 16 (Some i)) kind_kept ∙ implied is_infix (λ i. binds_at_most 16 (Some i)) refl o e));
 }
   where
-    told : kind_of_token o s ≡ o
-    told = keeps_token_kind is_infix refl o s e
+    kind_kept : kind_of_token o s ≡ o
+    kind_kept = keeps_token_kind is_infix refl o s e
 
     takes : takes_left o ≡ true
     takes = implied is_infix takes_left refl o e

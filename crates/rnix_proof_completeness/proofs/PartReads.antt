@@ -117,18 +117,18 @@ pub leaf_on : {p : SyntaxKind} {q : Row} {G H : Before} {F : Follow} {k : Syntax
     → k ≡ leaf_kind_as p (kind_of_token k s) → ((b : Bool) → stands_so q b (kind_of_token k s) true ≡ true)
     → ((g : AnnotatedForest) → G g → IsFollowed q g (Some k))
     → ((g : AnnotatedForest) (x : Token) → G g → H (g ⊕ one_token k x)) → Rest p (after q k) H F t → Rest p q G F (leaf k s t)
-leaf_on {p} {q} {G} {H} {F} {k} {s} {t} told own followed before r = record { reads = first }
+leaf_on {p} {q} {G} {H} {F} {k} {s} {t} kind_kept own followed before r = record { reads = first }
   where
     first : (d n : ℕ) (g f : AnnotatedForest) (us : List Token) → Over (leaf k s t) f → ArePaths f us → d + nest p (leaf k s t) ≤ depth_limit → G g
         → F (head_kind us) ≡ true → IsRead p d n q g f us
-    first d n g f us (over_leaf {x = x} {f = h} e i o) a m c z = token_read (told ∙ ap (λ j. leaf_kind_as p j) (sym e))
+    first d n g f us (over_leaf {x = x} {f = h} e i o) a m c z = token_read (kind_kept ∙ ap (λ j. leaf_kind_as p j) (sym e))
         (expected_so q n x (tokens_in h ++ us) true (ap (λ j. stands_so q (nat_eq x.start n) j true) e ∙ own (nat_eq x.start n)))
         (followed g c) (r.reads d x.end (g ⊕ one_token k x) h us o a m (before g x c) z)
 
 pub item : {p : SyntaxKind} {q : Row} {G : Before} {F : Follow} {k : SyntaxKind} {s : List ℕ} {t : Forest}
     → k ≡ leaf_kind_as p (kind_of_token k s) → ((b : Bool) → stands_so q b (kind_of_token k s) true ≡ true) → ((g : AnnotatedForest) → IsFollowed q g (Some k))
     → Rest p (after q k) Any F t → Rest p q G F (leaf k s t)
-item told own followed r = leaf_on told own (λ g c. followed g) (λ g x c. tt) r
+item kind_kept own followed r = leaf_on kind_kept own (λ g c. followed g) (λ g x c. tt) r
 
 -- what is asked of a node where it stands, before some items
 abbrev pub Placed : Row → ℕ → AnnotatedForest → SyntaxKind → AnnotatedForest → List Token → Type 0

@@ -4,7 +4,7 @@ use Rattle.rnix_kinds.specs.declared.kinds.SyntaxKind.{SyntaxKind, TheVariants.{
 use Rattle.{rnix_kinds.specs.declared.kinds.SyntaxKind.TheVariants.{TOKEN_LET, NODE_APPLY, NODE_ROOT}, rnix_grammar.specs.declared.position.Position.Position}
 use Rattle.rnix_grammar.specs.{declared.{slot_table.TheConstants.APPLIED, action.Action.Action, begin.Begin.Begin}, Fault.Fault, Tables.{is_cur_pos, depth_limit}, Actions.action_at}
 use Rattle.rnix_grammar.specs.{Begins.{is_pattern, begin_name, begin_let, begin_of, second_kind}, AnnotatedForest.{Token, blank, head_kind, touches}}
-use Rattle.rnix_proof_lemmas.specs.Machine.{Head, Node, SecondBind, Operand, Frame, Machine, put, opened, with_leading, seen, min_bp_of, closed, entry_closed, limited, begun}
+use Rattle.rnix_proof_lemmas.specs.Machine.{Head, Node, SecondBind, Operand, Frame, Machine, put, opened, with_leading, next_items, min_bp_of, closed, entry_closed, limited, begun}
 use Rattle.rnix_proof_lemmas.specs.FrameKinds.{FrameKind, Root, Entry, SecondBindFrame, OperandFrame, NodeFrame, frame_kind}
 use Rattle.rnix_proof_lemmas.specs.Machine.{operand_on, reading, perform, step_on, step, begins}
 use Rattle.rnix_proof_lemmas.specs.Allowed.{Allowed, IsNext, is_there}
@@ -138,22 +138,22 @@ reading_stacked : (raw : Bool) (level : ℕ) (counted : Bool) (f : Frame) (fs : 
     → may_hold (frame_kind f.position) OperandFrame ≡ true → IsStackedOn f.head f.position fs → AreStacked (reading raw level counted f fs ts n es).frames
 reading_stacked raw level true f fs ts n es m w =
     elim (nat_le depth_limit f.depth) as (λ x. AreStacked (if x then limited raw f fs ts n es else operand_on raw level (suc f.depth) f fs ts
-    (seen raw ts) n es).frames)
-    [ true ↦ w | false ↦ operand_stacked raw level (suc f.depth) f fs ts (seen raw ts) n es m w ]
-reading_stacked raw level false f fs ts n es m w = operand_stacked raw level f.depth f fs ts (seen raw ts) n es m w
+    (next_items raw ts) n es).frames)
+    [ true ↦ w | false ↦ operand_stacked raw level (suc f.depth) f fs ts (next_items raw ts) n es m w ]
+reading_stacked raw level false f fs ts n es m w = operand_stacked raw level f.depth f fs ts (next_items raw ts) n es m w
 
 -- what is done at the innermost frame
 perform_stacked : (raw : Bool) (action : Action) (f : Frame) (fs : List Frame) (ts : List Token) (n : ℕ) (es : List Fault)
-    → Allowed f.position (head_kind (seen raw ts)) action → IsStackedOn f.head f.position fs → AreStacked (perform raw action f fs ts n es).frames
+    → Allowed f.position (head_kind (next_items raw ts)) action → IsStackedOn f.head f.position fs → AreStacked (perform raw action f fs ts n es).frames
 perform_stacked raw action f fs ts n es al w = by action al
   where
-    same : (after : ℕ) → IsNext f.position (head_kind (seen raw ts)) after → frame_kind (p.Left after) ≡ frame_kind f.position
-    same after h = next_sort f.position after (head_kind (seen raw ts)) h
+    same : (after : ℕ) → IsNext f.position (head_kind (next_items raw ts)) after → frame_kind (p.Left after) ≡ frame_kind f.position
+    same after h = next_sort f.position after (head_kind (next_items raw ts)) h
 
-    next : (after : ℕ) → IsNext f.position (head_kind (seen raw ts)) after → IsStackedOn f.head (p.Left after) fs
+    next : (after : ℕ) → IsNext f.position (head_kind (next_items raw ts)) after → IsStackedOn f.head (p.Left after) fs
     next after h = onward f.head f.position (p.Left after) fs (same after h) w
 
-    by : (action : Action) → Allowed f.position (head_kind (seen raw ts)) action → AreStacked (perform raw action f fs ts n es).frames
+    by : (action : Action) → Allowed f.position (head_kind (next_items raw ts)) action → AreStacked (perform raw action f fs ts n es).frames
     by a.Close al = closed_stacked f fs ts n es w
     by a.ClosePattern al = closed_stacked f fs ts n es w
     by a.CloseEntry al = entry_stacked raw f fs ts n es w
@@ -190,8 +190,8 @@ step_stacked raw m w = by m.frames w
     by : (fs : List Frame) → AreStacked fs → AreStacked (step_on raw fs m.left m.prev_end m.faults).frames
     by [] w = absurd w
     by (f ∷ fs) w =
-        let next : Option SyntaxKind = head_kind (seen raw m.left) in
-        let near : Bool = touches m.prev_end (seen raw m.left) in
+        let next : Option SyntaxKind = head_kind (next_items raw m.left) in
+        let near : Bool = touches m.prev_end (next_items raw m.left) in
         perform_stacked raw (action_at f.position next near) f fs m.left m.prev_end m.faults (allowed f.position next near) w
 
 -- and where the text is about to be read

@@ -7,7 +7,7 @@ use Rattle.rnix_grammar.specs.{declared.{position.Position.Position, expected_se
 use Rattle.rnix_grammar.specs.{Tables.depth_limit, Actions.action_at, Begins.{begin_of, second_kind}, AnnotatedForest.{Token, Stray, Unwanted, Extra, DoubleBind}}
 use Rattle.rnix_grammar.specs.AnnotatedForest.{TooDeep, AnnotatedForest, blank, ◌⊕◌, one_branch, one_fault, row_of, tokens_in, without_trivia, token_if}
 use Rattle.rnix_grammar.specs.{AnnotatedForest.{leaf_kind, head_kind, touches}, Layout.{items, from_item, tail_of, trivia_before}, Reports.{report, repeated}}
-use Rattle.rnix_proof_lemmas.specs.Machine.{Head, Node, SecondBind, Operand, Frame, Machine, put, opened, with_leading, behind, end_of, item_end, leaf_in, leaf, run_row, dropped}
+use Rattle.rnix_proof_lemmas.specs.Machine.{Head, Node, SecondBind, Operand, Frame, Machine, put, opened, with_leading, after_item, end_of, item_end, leaf_in, leaf, run_row, dropped}
 use Rattle.rnix_proof_lemmas.specs.Machine.{run_rest, kind_of, made, min_bp_of, machine, closed, entry_closed, limited, begun, operand_on, reading, perform, step_on}
 use Rattle.rnix_grammar.specs.UnwantedRun.run_of
 use Rattle.rnix_proof_lemmas.specs.Machine.{step, Runs, rest}
@@ -21,7 +21,7 @@ use Rattle.rnix_grammar.specs.declared.action.Action.TheVariants as a
 use Rattle.rnix_grammar.specs.declared.begin.Begin.TheVariants as b
 
 -- the items behind the first
-pub items_behind : (ts : List Token) → items (behind true ts) ≡ tail_of (items ts)
+pub items_behind : (ts : List Token) → items (after_item true ts) ≡ tail_of (items ts)
 items_behind ts = by_head (from_item ts) ∙ ap tail_of (sym (items-view ts))
   where
     by_head : (xs : List Token) → items (tail_of xs) ≡ tail_of (items_head xs)
@@ -130,18 +130,18 @@ waiting_without_trivia : (f : Frame) (fs : List Frame) (ts : List Token)
 waiting_without_trivia f fs ts = cons_same (row_same f.head f.position f.depth (with_leading_without_trivia f.row ts)) refl
 
 -- two items that touch nothing between them
-reach_two : (n : ℕ) (ts : List Token) → item_end true (item_end true n ts) (behind true ts) ≡ item_end false (item_end false n (items ts))
-    (behind false (items ts))
-reach_two n ts = item_end_items (item_end true n ts) (behind true ts) ∙ ap (λ x. end_of x (items (behind true ts))) (item_end_items n ts)
+reach_two : (n : ℕ) (ts : List Token) → item_end true (item_end true n ts) (after_item true ts) ≡ item_end false (item_end false n (items ts))
+    (after_item false (items ts))
+reach_two n ts = item_end_items (item_end true n ts) (after_item true ts) ∙ ap (λ x. end_of x (items (after_item true ts))) (item_end_items n ts)
     ∙ ap (end_of (end_of n (items ts))) (items_behind ts)
 
 -- what is left behind two items
-behind_two : (ts : List Token) → items (behind true (behind true ts)) ≡ tail_of (tail_of (items ts))
-behind_two ts = items_behind (behind true ts) ∙ ap tail_of (items_behind ts)
+behind_two : (ts : List Token) → items (after_item true (after_item true ts)) ≡ tail_of (tail_of (items ts))
+behind_two ts = items_behind (after_item true ts) ∙ ap tail_of (items_behind ts)
 
 -- the second item as a leaf
-leaf_behind : (k : SyntaxKind) (ts : List Token) → without_trivia (leaf true k (behind true ts)) ≡ leaf_in k (tail_of (items ts))
-leaf_behind k ts = leaf_without_trivia k (behind true ts) ∙ ap (leaf_in k) (items_behind ts)
+leaf_behind : (k : SyntaxKind) (ts : List Token) → without_trivia (leaf true k (after_item true ts)) ≡ leaf_in k (tail_of (items ts))
+leaf_behind k ts = leaf_without_trivia k (after_item true ts) ∙ ap (leaf_in k) (items_behind ts)
 
 -- an operand begins
 begun_without_trivia : (begin : Begin) (level d : ℕ) (t : Token) (f : Frame) (fs : List Frame) (ts : List Token) (n : ℕ) (es : List Fault)
@@ -157,7 +157,7 @@ begun_without_trivia b.LegacyLet level d t f fs ts n es =
     machine_same
     (cons_same
     (row_same (Node NODE_LEGACY_LET) (p.Left LEGACY_LET) d
-    (added_without_trivia (leaf true NODE_LEGACY_LET ts) (behind true ts) (leaf true NODE_LEGACY_LET (behind true ts)) (leaf_behind NODE_LEGACY_LET ts)
+    (added_without_trivia (leaf true NODE_LEGACY_LET ts) (after_item true ts) (leaf true NODE_LEGACY_LET (after_item true ts)) (leaf_behind NODE_LEGACY_LET ts)
     ∙ ap (λ x. x ⊕ leaf_in NODE_LEGACY_LET (tail_of (items ts))) (leaf_without_trivia NODE_LEGACY_LET ts))) (cons_same refl (waiting_without_trivia f fs ts)))
     (behind_two ts) (reach_two n ts)
 begun_without_trivia b.NameLambda level d t f fs ts n es =
@@ -170,7 +170,7 @@ begun_without_trivia b.BoundLambda level d t f fs ts n es =
     (cons_same
     (row_same (Node NODE_PATTERN) (p.Left BOUND_PATTERN) d
     (ap (one_branch NODE_PAT_BIND)
-    (added_without_trivia (one_branch NODE_IDENT (leaf true NODE_IDENT ts)) (behind true ts) (leaf true NODE_PAT_BIND (behind true ts))
+    (added_without_trivia (one_branch NODE_IDENT (leaf true NODE_IDENT ts)) (after_item true ts) (leaf true NODE_PAT_BIND (after_item true ts))
     (leaf_behind NODE_PAT_BIND ts)
     ∙ ap (λ x. one_branch NODE_IDENT x ⊕ leaf_in NODE_PAT_BIND (tail_of (items ts))) (leaf_without_trivia NODE_IDENT ts))))
     (cons_same refl (cons_same refl (waiting_without_trivia f fs ts)))) (behind_two ts) (reach_two n ts)

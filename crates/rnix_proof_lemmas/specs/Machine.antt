@@ -49,14 +49,14 @@ abbrev pub opened : Head → Position → ℕ → AnnotatedForest → Frame
 opened head position depth row = record { head = head; position = position; depth = depth; row = row }
 
 -- the items that are left, where trivia are read
-abbrev pub seen : Bool → List Token → List Token
-seen true ts = items ts
-seen false ts = ts
+abbrev pub next_items : Bool → List Token → List Token
+next_items true ts = items ts
+next_items false ts = ts
 
 -- the tokens from the next item on, where trivia are read
-abbrev pub past : Bool → List Token → List Token
-past true ts = from_item ts
-past false ts = ts
+abbrev pub skip_trivia : Bool → List Token → List Token
+skip_trivia true ts = from_item ts
+skip_trivia false ts = ts
 
 -- a row with the trivia before the next item, where trivia are read
 abbrev pub with_leading : Bool → AnnotatedForest → List Token → AnnotatedForest
@@ -64,8 +64,8 @@ with_leading true f ts = f ⊕ trivia_before ts
 with_leading false f ts = f
 
 -- the tokens behind the next item
-abbrev pub behind : Bool → List Token → List Token
-behind raw ts = tail_of (past raw ts)
+abbrev pub after_item : Bool → List Token → List Token
+after_item raw ts = tail_of (skip_trivia raw ts)
 
 -- where the first of some tokens ends
 abbrev pub end_of : ℕ → List Token → ℕ
@@ -74,7 +74,7 @@ end_of n (t ∷ ts) = t.end
 
 -- where the next item ends
 abbrev pub item_end : Bool → ℕ → List Token → ℕ
-item_end raw n ts = end_of n (past raw ts)
+item_end raw n ts = end_of n (skip_trivia raw ts)
 
 -- the next item as a leaf below a node
 abbrev pub leaf_in : SyntaxKind → List Token → AnnotatedForest
@@ -83,7 +83,7 @@ leaf_in parent (t ∷ ts) = one_token (leaf_kind parent t) t
 
 -- the next item as a leaf below a node, where trivia may come first
 abbrev pub leaf : Bool → SyntaxKind → List Token → AnnotatedForest
-leaf raw parent ts = leaf_in parent (past raw ts)
+leaf raw parent ts = leaf_in parent (skip_trivia raw ts)
 
 -- the run as leaves, with its trivia where they are read
 abbrev pub run_row : Bool → List Token → List Token → AnnotatedForest
@@ -143,43 +143,45 @@ open_on raw head inside row after f fs ts = opened head inside f.depth row ∷ (
 -- all that is left is nested too deep
 abbrev pub limited : Bool → Frame → List Frame → List Token → ℕ → List Fault → Machine
 limited raw f fs ts n es =
-    machine (put f.position (with_leading raw (with_leading raw f.row ts ⊕ one_fault TooDeep (run_row raw (seen raw ts) ts)) (run_rest raw (seen raw ts) ts)) f
+    machine (put f.position
+    (with_leading raw (with_leading raw f.row ts ⊕ one_fault TooDeep (run_row raw (next_items raw ts) ts)) (run_rest raw (next_items raw ts) ts)) f
     ∷ fs)
-    (past raw (run_rest raw (seen raw ts) ts)) (end_from n (seen raw ts)) (es ++ too_deep ∷ [])
+    (skip_trivia raw (run_rest raw (next_items raw ts) ts)) (end_from n (next_items raw ts)) (es ++ too_deep ∷ [])
 
 -- an operand begins with the next item, inside so many counted positions: f waits below
 abbrev pub begun : Bool → Begin → ℕ → ℕ → Token → Frame → List Frame → List Token → ℕ → List Fault → Machine
 begun raw (b.Leaf k) level d t f fs ts n es =
     machine (opened Operand (p.AfterOperand level selection_level) d (one_branch k (leaf raw k ts)) ∷ (put f.position (with_leading raw f.row ts) f ∷ fs))
-    (behind raw ts) (item_end raw n ts) es
+    (after_item raw ts) (item_end raw n ts) es
 begun raw (b.Node k left max_bp) level d t f fs ts n es =
     machine (opened (Node k) (p.Left left) d (leaf raw k ts) ∷ (opened Operand (p.AfterOperand level max_bp) d blank
     ∷ (put f.position (with_leading raw f.row ts) f ∷ fs)))
-    (behind raw ts) (item_end raw n ts) es
+    (after_item raw ts) (item_end raw n ts) es
 begun raw b.LegacyLet level d t f fs ts n es =
-    machine (opened (Node NODE_LEGACY_LET) (p.Left LEGACY_LET) d (with_leading raw (leaf raw NODE_LEGACY_LET ts) (behind raw ts)
-    ⊕ leaf raw NODE_LEGACY_LET (behind raw ts))
+    machine (opened (Node NODE_LEGACY_LET) (p.Left LEGACY_LET) d (with_leading raw (leaf raw NODE_LEGACY_LET ts) (after_item raw ts)
+    ⊕ leaf raw NODE_LEGACY_LET (after_item raw ts))
     ∷ (opened Operand (p.AfterOperand level no_level) d blank ∷ (put f.position (with_leading raw f.row ts) f ∷ fs)))
-    (behind raw (behind raw ts)) (item_end raw (item_end raw n ts) (behind raw ts)) es
+    (after_item raw (after_item raw ts)) (item_end raw (item_end raw n ts) (after_item raw ts)) es
 begun raw b.NameLambda level d t f fs ts n es =
     machine (opened (Node NODE_LAMBDA) (p.Left LAMBDA) d (one_branch NODE_IDENT_PARAM (one_branch NODE_IDENT (leaf raw NODE_IDENT ts)))
-    ∷ (opened Operand (p.AfterOperand level selection_level) d blank ∷ (put f.position (with_leading raw f.row ts) f ∷ fs))) (behind raw ts)
+    ∷ (opened Operand (p.AfterOperand level selection_level) d blank ∷ (put f.position (with_leading raw f.row ts) f ∷ fs))) (after_item raw ts)
     (item_end raw n ts) es
 begun raw b.BoundLambda level d t f fs ts n es =
     machine (opened (Node NODE_PATTERN) (p.Left BOUND_PATTERN) d
-    (one_branch NODE_PAT_BIND (with_leading raw (one_branch NODE_IDENT (leaf raw NODE_IDENT ts)) (behind raw ts) ⊕ leaf raw NODE_PAT_BIND (behind raw ts)))
+    (one_branch NODE_PAT_BIND
+    (with_leading raw (one_branch NODE_IDENT (leaf raw NODE_IDENT ts)) (after_item raw ts) ⊕ leaf raw NODE_PAT_BIND (after_item raw ts)))
     ∷ (opened (Node NODE_LAMBDA) (p.Left LAMBDA) d blank ∷ (opened Operand (p.AfterOperand level selection_level) d blank
     ∷ (put f.position (with_leading raw f.row ts) f ∷ fs))))
-    (behind raw (behind raw ts)) (item_end raw (item_end raw n ts) (behind raw ts)) es
+    (after_item raw (after_item raw ts)) (item_end raw (item_end raw n ts) (after_item raw ts)) es
 begun raw b.PatternLambda level d t f fs ts n es =
     machine (opened (Node NODE_PATTERN) (p.Left PATTERN) d (leaf raw NODE_PATTERN ts)
     ∷ (opened (Node NODE_LAMBDA) (p.Left LAMBDA) d blank ∷ (opened Operand (p.AfterOperand level selection_level) d blank
     ∷ (put f.position (with_leading raw f.row ts) f ∷ fs))))
-    (behind raw ts) (item_end raw n ts) es
+    (after_item raw ts) (item_end raw n ts) es
 begun raw b.Stray level d t f fs ts n es =
     machine (opened Operand (p.AfterOperand level selection_level) d (one_fault Stray (leaf raw NODE_ERROR ts))
     ∷ (put f.position (with_leading raw f.row ts) f ∷ fs))
-    (behind raw ts) (item_end raw n ts) (es ++ report Stray (t ∷ []) ∷ [])
+    (after_item raw ts) (item_end raw n ts) (es ++ report Stray (t ∷ []) ∷ [])
 
 -- an operand of a level, where f goes on behind it
 abbrev pub operand_on : Bool → ℕ → ℕ → Frame → List Frame → List Token → List Token → ℕ → List Fault → Machine
@@ -189,8 +191,8 @@ operand_on raw level d f fs ts (t ∷ us) n es = begun raw (begin_of level t.kin
 -- an operand of a level, counted or not: a counted one only as deep as the limit
 abbrev pub reading : Bool → ℕ → Bool → Frame → List Frame → List Token → ℕ → List Fault → Machine
 reading raw level true f fs ts n es = if nat_le depth_limit f.depth then limited raw f fs ts n es else operand_on raw level (suc f.depth) f fs ts
-    (seen raw ts) n es
-reading raw level false f fs ts n es = operand_on raw level f.depth f fs ts (seen raw ts) n es
+    (next_items raw ts) n es
+reading raw level false f fs ts n es = operand_on raw level f.depth f fs ts (next_items raw ts) n es
 
 -- a step at the innermost frame
 abbrev pub perform : Bool → Action → Frame → List Frame → List Token → ℕ → List Fault → Machine
@@ -201,43 +203,44 @@ perform raw a.CloseDoubleBind f fs ts n es = closed f fs ts n (es ++ report Doub
 perform raw a.Finish f fs ts n es = machine (f ∷ fs) ts n es
 perform raw a.EndOperand f fs ts n es = closed f fs ts n es
 perform raw a.Extra f fs ts n es =
-    machine (put f.position (with_leading raw f.row ts ⊕ one_fault Extra (run_row raw (seen raw ts) ts)) f ∷ fs) (run_rest raw (seen raw ts) ts)
-    (end_from n (seen raw ts))
-    (es ++ report Extra (seen raw ts) ∷ [])
+    machine (put f.position (with_leading raw f.row ts ⊕ one_fault Extra (run_row raw (next_items raw ts) ts)) f ∷ fs) (run_rest raw (next_items raw ts) ts)
+    (end_from n (next_items raw ts))
+    (es ++ report Extra (next_items raw ts) ∷ [])
 perform raw (a.Take after) f fs ts n es =
-    machine (put (p.Left after) (with_leading raw f.row ts ⊕ leaf raw (kind_of f.head) ts) f ∷ fs) (behind raw ts) (item_end raw n ts) es
+    machine (put (p.Left after) (with_leading raw f.row ts ⊕ leaf raw (kind_of f.head) ts) f ∷ fs) (after_item raw ts) (item_end raw n ts) es
 perform raw (a.Miss after) f fs ts n es = machine (put (p.Left after) f.row f ∷ fs) ts n (es ++ unexpected_eof ∷ [])
 perform raw (a.MissWanted until after) f fs ts n es = machine (put (p.Left after) f.row f ∷ fs) ts n (es ++ unexpected_eof_wanted (wanted_kinds until) ∷ [])
 perform raw (a.Run until after) f fs ts n es =
-    machine (put (p.Left after) (with_leading raw f.row ts ⊕ one_fault (Unwanted until) (run_row raw (run_of until (seen raw ts)) ts)) f ∷ fs)
-    (run_rest raw (run_of until (seen raw ts)) ts) (end_from n (run_of until (seen raw ts))) (es ++ report (Unwanted until) (run_of until (seen raw ts)) ∷ [])
+    machine (put (p.Left after) (with_leading raw f.row ts ⊕ one_fault (Unwanted until) (run_row raw (run_of until (next_items raw ts)) ts)) f ∷ fs)
+    (run_rest raw (run_of until (next_items raw ts)) ts) (end_from n (run_of until (next_items raw ts)))
+    (es ++ report (Unwanted until) (run_of until (next_items raw ts)) ∷ [])
 perform raw (a.Leaf k after) f fs ts n es =
-    machine (put (p.Left after) (with_leading raw f.row ts ⊕ one_branch k (leaf raw k ts)) f ∷ fs) (behind raw ts) (item_end raw n ts) es
+    machine (put (p.Left after) (with_leading raw f.row ts ⊕ one_branch k (leaf raw k ts)) f ∷ fs) (after_item raw ts) (item_end raw n ts) es
 perform raw (a.Open k inside after) f fs ts n es =
-    machine (open_on raw (Node k) (p.Left inside) (leaf raw k ts) (p.Left after) f fs ts) (behind raw ts) (item_end raw n ts) es
-perform raw (a.Begin k inside after) f fs ts n es = machine (open_on raw (Node k) (p.Left inside) blank (p.Left after) f fs ts) (past raw ts) n es
+    machine (open_on raw (Node k) (p.Left inside) (leaf raw k ts) (p.Left after) f fs ts) (after_item raw ts) (item_end raw n ts) es
+perform raw (a.Begin k inside after) f fs ts n es = machine (open_on raw (Node k) (p.Left inside) blank (p.Left after) f fs ts) (skip_trivia raw ts) n es
 perform raw (a.Entry after) f fs ts n es =
-    machine (open_on raw (Node NODE_PAT_ENTRY) (p.Left PAT_ENTRY) (one_branch NODE_IDENT (leaf raw NODE_IDENT ts)) (p.Left after) f fs ts) (behind raw ts)
+    machine (open_on raw (Node NODE_PAT_ENTRY) (p.Left PAT_ENTRY) (one_branch NODE_IDENT (leaf raw NODE_IDENT ts)) (p.Left after) f fs ts) (after_item raw ts)
     (item_end raw n ts) es
 perform raw (a.DoubleBind after) f fs ts n es =
-    machine (open_on raw SecondBind (p.Left SECOND_BIND) (leaf raw NODE_ERROR ts) (p.Left after) f fs ts) (behind raw ts) (item_end raw n ts) es
+    machine (open_on raw SecondBind (p.Left SECOND_BIND) (leaf raw NODE_ERROR ts) (p.Left after) f fs ts) (after_item raw ts) (item_end raw n ts) es
 perform raw (a.Read level counted after) f fs ts n es = reading raw level counted (put (p.Left after) f.row f) fs ts n es
 perform raw (a.Wrap k inside max_bp) f fs ts n es =
     machine (opened (Node k) inside f.depth (with_leading raw f.row ts ⊕ leaf raw k ts)
     ∷ (opened Operand (p.AfterOperand (min_bp_of f.position) max_bp) f.depth blank ∷ fs))
-    (behind raw ts) (item_end raw n ts) es
+    (after_item raw ts) (item_end raw n ts) es
 perform raw a.Apply f fs ts n es =
     reading raw selection_level false (opened (Node NODE_APPLY) (p.Left APPLIED) f.depth f.row)
     (opened Operand (p.AfterOperand (min_bp_of f.position) application_level) f.depth blank ∷ fs) ts n es
 perform raw a.ApplyOr f fs ts n es =
     machine (opened Operand (p.AfterOperand (min_bp_of f.position) application_level) f.depth
     (one_branch NODE_APPLY (with_leading raw f.row ts ⊕ one_branch NODE_IDENT (leaf raw NODE_IDENT ts))) ∷ fs)
-    (behind raw ts) (item_end raw n ts) es
+    (after_item raw ts) (item_end raw n ts) es
 
 -- one step at the innermost frame, if there is one
 abbrev pub step_on : Bool → List Frame → List Token → ℕ → List Fault → Machine
 step_on raw [] ts n es = machine [] ts n es
-step_on raw (f ∷ fs) ts n es = perform raw (action_at f.position (head_kind (seen raw ts)) (touches n (seen raw ts))) f fs ts n es
+step_on raw (f ∷ fs) ts n es = perform raw (action_at f.position (head_kind (next_items raw ts)) (touches n (next_items raw ts))) f fs ts n es
 
 -- one step of a machine
 abbrev pub step : Bool → Machine → Machine

@@ -5,7 +5,7 @@ use Rattle.rnix_grammar.specs.AnnotatedForest.{AnnotatedForest, blank, token, br
 use Rattle.rnix_grammar.specs.{AnnotatedForest.head_kind, Layout.{from_item, from_item_if, trivia_if, trivia_before, items, tail_of, is_last, trivia_after}}
 use Rattle.rnix_grammar.specs.Layout.{rest_after, left_after, with_trivia}
 use Rattle.rnix_proof_lemmas.specs.Allowed.{is_there}
-use Rattle.rnix_proof_lemmas.specs.Machine.{with_leading, behind, leaf_in, leaf, run_row, run_rest}
+use Rattle.rnix_proof_lemmas.specs.Machine.{with_leading, after_item, leaf_in, leaf, run_row, run_rest}
 use Rattle.rnix_proof_lemmas.proofs.{Basics.true_is_not_false, AnnotatedForestLemmas.{⊕-assoc, ⊕-blank}, LayoutLemmas.{trivia-from_item, from_item-from_item}}
 use Rattle.rnix_proof_lemmas.proofs.{LayoutLemmas.{items_head, items-view, from_item_item}, WithoutTriviaLemmas.{with_leading_without_trivia, added_without_trivia, run_bared}}
 
@@ -117,7 +117,7 @@ with_trivia_last row ts us b h =
     }
 
 -- the next item as a leaf
-pub with_trivia_leaf : (k : SyntaxKind) (ts : List Token) → HasTrivia (leaf true k ts) (from_item ts) (behind true ts)
+pub with_trivia_leaf : (k : SyntaxKind) (ts : List Token) → HasTrivia (leaf true k ts) (from_item ts) (after_item true ts)
 with_trivia_leaf k ts = by_head (from_item ts) refl
   where
     by_item : (x : Token) (xs : List Token) → is_trivia x.kind ≡ false → HasTrivia (token (leaf_kind k x) x blank) (x ∷ xs) xs

@@ -8,7 +8,7 @@ use Rattle.rnix_grammar.specs.{Begins.{begin_of, second_kind}, AnnotatedForest.{
 use Rattle.rnix_grammar.specs.{AnnotatedForest.{one_branch, one_fault, without_trivia, head_kind, touches}, Layout.{from_item, tail_of, trivia_before, items}}
 use Rattle.rnix_grammar.specs.{Layout.{left_after, with_all_trivia}, Reports.repeated}
 use Rattle.rnix_proof_lemmas.specs.Machine.{Head, Node, SecondBind, Operand, Frame, Machine, put, opened}
-use Rattle.rnix_proof_lemmas.specs.Machine.{with_leading, behind, leaf, run_row, dropped, run_rest, made, kind_of, min_bp_of, closed, entry_closed, limited, begun, operand_on}
+use Rattle.rnix_proof_lemmas.specs.Machine.{with_leading, after_item, leaf, run_row, dropped, run_rest, made, kind_of, min_bp_of, closed, entry_closed, limited, begun, operand_on}
 use Rattle.rnix_grammar.specs.UnwantedRun.run_of
 use Rattle.rnix_proof_lemmas.specs.FrameKinds.{OperandFrame, frame_kind, IsStackedOn}
 use Rattle.rnix_proof_lemmas.specs.Machine.{reading, perform, step_on, step, begins, Runs, rest}
@@ -125,16 +125,17 @@ entry_with_trivia all f (g ∷ fs) ts n es h = closed_with_trivia all f (g ∷ f
 
 -- a second item as a leaf behind a row that begins with the first
 two_with_trivia : (j : SyntaxKind) (row : AnnotatedForest) (ts : List Token) (x : Token) (us : List Token) → items ts ≡ x ∷ us → is_there (head_kind us) ≡ true
-    → HasTrivia row (from_item ts) (behind true ts)
-    → HasTrivia (with_leading true row (behind true ts) ⊕ leaf true j (behind true ts)) (from_item ts) (behind true (behind true ts))
+    → HasTrivia row (from_item ts) (after_item true ts)
+    → HasTrivia (with_leading true row (after_item true ts) ⊕ leaf true j (after_item true ts)) (from_item ts) (after_item true (after_item true ts))
 two_with_trivia j row ts x us i s h =
-    let later : items (behind true ts) ≡ us = items_behind ts ∙ ap tail_of i in
-    with_trivia_added row (leaf true j (behind true ts)) (from_item ts) (behind true ts) (behind true (behind true ts)) h (with_trivia_leaf j (behind true ts))
-    (tree_leaf j (behind true ts) (subst (λ (z : List Token). is_there (head_kind z) ≡ true) (sym later) s))
+    let later : items (after_item true ts) ≡ us = items_behind ts ∙ ap tail_of i in
+    with_trivia_added row (leaf true j (after_item true ts)) (from_item ts) (after_item true ts) (after_item true (after_item true ts)) h
+    (with_trivia_leaf j (after_item true ts))
+    (tree_leaf j (after_item true ts) (subst (λ (z : List Token). is_there (head_kind z) ≡ true) (sym later) s))
 
 -- a node over a leaf
-one_with_trivia : (j : SyntaxKind) (ts : List Token) → HasTrivia (one_branch j (leaf true j ts)) (from_item ts) (behind true ts)
-one_with_trivia j ts = with_trivia_branch j (leaf true j ts) (from_item ts) (behind true ts) (from_no_leading_trivia ts) (with_trivia_leaf j ts)
+one_with_trivia : (j : SyntaxKind) (ts : List Token) → HasTrivia (one_branch j (leaf true j ts)) (from_item ts) (after_item true ts)
+one_with_trivia j ts = with_trivia_branch j (leaf true j ts) (from_item ts) (after_item true ts) (from_no_leading_trivia ts) (with_trivia_leaf j ts)
 
 -- an operand begins, where f waits for it
 begun_with_trivia : (all : List Token) (begin : Begin) (level d : ℕ) (t x : Token) (us : List Token) (f : Frame) (fs : List Frame) (ts : List Token) (n : ℕ)
@@ -154,18 +155,18 @@ begun_with_trivia all b.LegacyLet level d t x us f fs ts n es i s w = (
 begun_with_trivia all b.NameLambda level d t x us f fs ts n es i s w = (
   from_item ts,
   (
-    with_trivia_branch NODE_IDENT_PARAM (one_branch NODE_IDENT (leaf true NODE_IDENT ts)) (from_item ts) (behind true ts) (from_no_leading_trivia ts)
+    with_trivia_branch NODE_IDENT_PARAM (one_branch NODE_IDENT (leaf true NODE_IDENT ts)) (from_item ts) (after_item true ts) (from_no_leading_trivia ts)
         (one_with_trivia NODE_IDENT ts),
     (tt, (from_item ts, (awaits_blank (from_item ts) (from_no_leading_trivia ts), w))),
   ),
 )
 begun_with_trivia all b.BoundLambda level d t x us f fs ts n es i s w =
     let name : AnnotatedForest = one_branch NODE_IDENT (leaf true NODE_IDENT ts) in
-    let row : AnnotatedForest = with_leading true name (behind true ts) ⊕ leaf true NODE_PAT_BIND (behind true ts) in
+    let row : AnnotatedForest = with_leading true name (after_item true ts) ⊕ leaf true NODE_PAT_BIND (after_item true ts) in
     let free : IsAwaiting blank (from_item ts) (from_item ts) = awaits_blank (from_item ts) (from_no_leading_trivia ts) in (
       from_item ts,
       (
-        with_trivia_branch NODE_PAT_BIND row (from_item ts) (behind true (behind true ts)) (from_no_leading_trivia ts)
+        with_trivia_branch NODE_PAT_BIND row (from_item ts) (after_item true (after_item true ts)) (from_no_leading_trivia ts)
             (two_with_trivia NODE_PAT_BIND name ts x us i s (one_with_trivia NODE_IDENT ts)),
         (tt, (from_item ts, (free, (from_item ts, (free, w))))),
       ),
@@ -176,7 +177,7 @@ begun_with_trivia all b.PatternLambda level d t x us f fs ts n es i s w =
 begun_with_trivia all b.Stray level d t x us f fs ts n es i s w = (
   from_item ts,
   (
-    with_trivia_fault Stray (leaf true NODE_ERROR ts) (from_item ts) (behind true ts) refl (from_no_leading_trivia ts)
+    with_trivia_fault Stray (leaf true NODE_ERROR ts) (from_item ts) (after_item true ts) refl (from_no_leading_trivia ts)
         (with_trivia_leaf NODE_ERROR ts),
     (tt, w),
   ),
@@ -236,13 +237,13 @@ run_with_trivia until row vs ts h =
 
 -- a leaf in a node, behind a row
 name_with_trivia : (j : SyntaxKind) (row : AnnotatedForest) (vs ts : List Token) → HasTrivia row vs ts
-    → HasTrivia (with_leading true row ts ⊕ one_branch j (leaf true j ts)) vs (behind true ts)
-name_with_trivia j row vs ts h = with_trivia_added row (one_branch j (leaf true j ts)) vs ts (behind true ts) h (one_with_trivia j ts) tt
+    → HasTrivia (with_leading true row ts ⊕ one_branch j (leaf true j ts)) vs (after_item true ts)
+name_with_trivia j row vs ts h = with_trivia_added row (one_branch j (leaf true j ts)) vs ts (after_item true ts) h (one_with_trivia j ts) tt
 
 -- the next item behind a row
 next_with_trivia : (k : SyntaxKind) (row : AnnotatedForest) (vs ts : List Token) → is_there (head_kind (items ts)) ≡ true → HasTrivia row vs ts
-    → HasTrivia (with_leading true row ts ⊕ leaf true k ts) vs (behind true ts)
-next_with_trivia k row vs ts f h = with_trivia_added row (leaf true k ts) vs ts (behind true ts) h (with_trivia_leaf k ts) (tree_leaf k ts f)
+    → HasTrivia (with_leading true row ts ⊕ leaf true k ts) vs (after_item true ts)
+next_with_trivia k row vs ts f h = with_trivia_added row (leaf true k ts) vs ts (after_item true ts) h (with_trivia_leaf k ts) (tree_leaf k ts f)
 
 -- a tree comes behind a row
 grown : (all : List Token) (f : Frame) (fs : List Frame) (ts us : List Token) (g : AnnotatedForest) → HasTree (without_trivia g)
@@ -267,7 +268,7 @@ perform_with_trivia all a.Extra f fs ts n es al w h =
     grown all f fs ts (run_rest true run ts) (one_fault Extra (run_row true run ts)) tt
     (λ vs d. with_trivia_added f.row (one_fault Extra (run_row true run ts)) vs ts (run_rest true run ts) d node tt) h
 perform_with_trivia all (a.Take after) f fs ts n es al w h =
-    grown all f fs ts (behind true ts) (leaf true (kind_of f.head) ts) (tree_leaf (kind_of f.head) ts al.0)
+    grown all f fs ts (after_item true ts) (leaf true (kind_of f.head) ts) (tree_leaf (kind_of f.head) ts al.0)
     (λ vs d. next_with_trivia (kind_of f.head) f.row vs ts al.0 d) h
 perform_with_trivia all (a.Miss after) f fs ts n es al w h = h
 perform_with_trivia all (a.MissWanted until after) f fs ts n es al w h = h
@@ -275,7 +276,7 @@ perform_with_trivia all (a.Run until after) f fs ts n es al w h =
     grown all f fs ts (run_rest true (run_of until (items ts)) ts) (one_fault (Unwanted until) (run_row true (run_of until (items ts)) ts)) tt
     (λ vs d. run_with_trivia until f.row vs ts d) h
 perform_with_trivia all (a.Leaf j after) f fs ts n es al w h =
-    grown all f fs ts (behind true ts) (one_branch j (leaf true j ts)) tt (λ vs d. name_with_trivia j f.row vs ts d) h
+    grown all f fs ts (after_item true ts) (one_branch j (leaf true j ts)) tt (λ vs d. name_with_trivia j f.row vs ts d) h
 perform_with_trivia all (a.Open j inside after) f fs ts n es al w h = (from_item ts, (with_trivia_leaf j ts, (tt, waiting all f fs ts h)))
 perform_with_trivia all (a.Begin j inside after) f fs ts n es al w h = (from_item ts, (with_trivia_blank (from_item ts), (tt, waiting all f fs ts h)))
 perform_with_trivia all (a.Entry after) f fs ts n es al w h = (from_item ts, (one_with_trivia NODE_IDENT ts, (tt, waiting all f fs ts h)))
@@ -292,7 +293,7 @@ perform_with_trivia all a.ApplyOr f fs ts n es al w h =
     let inside : AnnotatedForest = with_leading true f.row ts ⊕ one_branch NODE_IDENT (leaf true NODE_IDENT ts) in (
       h.0,
       (
-        with_trivia_branch NODE_APPLY inside h.0 (behind true ts) (on_some all f.head f.position fs h.0 al.1 w h.1.1.1)
+        with_trivia_branch NODE_APPLY inside h.0 (after_item true ts) (on_some all f.head f.position fs h.0 al.1 w h.1.1.1)
             (name_with_trivia NODE_IDENT f.row h.0 ts h.1.0),
         (tt, h.1.1.1),
       ),

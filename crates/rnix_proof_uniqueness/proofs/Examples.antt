@@ -7,7 +7,8 @@ use Rattle.rnix_proof_uniqueness.proofs.ExampleWords.{no_list, unwanteds, extras
 
 -- `if[]`: an `if` whose condition is a list, before the end of the text
 abbrev pub condition : Case
-condition = record { text = codes "if[]"; right = (node NODE_IF_ELSE (item (no_list done)) done, missing Then ∷ unexpected_eof ∷ missing Else ∷ unexpected_eof ∷ []) }
+condition =
+    record { text = codes "if[]"; right = (node NODE_IF_ELSE (item (no_list done)) done, missing Then ∷ unexpected_eof ∷ missing Else ∷ unexpected_eof ∷ []) }
 
 -- `a.b)`: a selection with an extra item after it
 abbrev pub selection : Case

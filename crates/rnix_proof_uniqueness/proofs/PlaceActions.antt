@@ -61,7 +61,8 @@ runs_at {k} {j} {r} {s} {touch} {action} until w o e =
 -- an operand of which nothing is left
 reads_none : (level : ℕ) (z : Position) (h : Head) (d n : ℕ) (b : AnnotatedForest) (fs : List Frame) (gs : List Fault) (w : Bool) → nat_le depth_limit d ≡ w
     → d < depth_limit
-    → (if w then limited false (opened h z d b) fs [] n gs else machine (opened h z d b ∷ fs) [] n (gs ++ unexpected_eof ∷ [])) ≡ machine (opened h z d b ∷ fs) [] n
+    → (if w then limited false (opened h z d b) fs [] n gs else machine (opened h z d b ∷ fs) [] n (gs ++ unexpected_eof ∷ [])) ≡ machine (opened h z d b ∷ fs)
+    [] n
     (gs ++ unexpected_eof ∷ [])
 reads_none level z h d n b fs gs true e l = absurd (grind (arith, nat_tests, e, l))
 reads_none level z h d n b fs gs false e l = refl

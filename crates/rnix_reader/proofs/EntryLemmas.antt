@@ -25,7 +25,7 @@ pub record IsEntry (f g : Frame) (fs : List Frame) (names names' : Names) (again
   pub top_set : TopSet names.sets.items g.row (AreOpenSets fs)
   pub entered : Entered name.text top_set.below top_set.set names'
   pub entries : entries_in names' ≡ entries_of (g ∷ fs)
-  pub told : again ≡ (if has_name name.text top_set.set then Some (duplicated_args (extent_of (name ∷ [])) name.text) else None)
+  pub fault_is : again ≡ (if has_name name.text top_set.set then Some (duplicated_args (extent_of (name ∷ [])) name.text) else None)
 
 -- so it is at an entry's place
 pub entry_there : (f g : Frame) (fs : List Frame) (names names' : Names) (again : Option Fault) → IsStackedOn f.head f.position (g ∷ fs)
@@ -43,7 +43,7 @@ entry_there f g fs names names' again st e w c =
     let named : name_of f.head f.row ≡ Some t = ap (λ x. name_of x f.row) entry ∙ begun.1 in
     let all : entries_in names ≡ entries_of (g ∷ fs) ++ entry_at t ∷ [] = w.entries ∙ ap (λ x. entries_of (g ∷ fs) ++ named_by x) named in
     let done = c.entered (entries_of (g ∷ fs)) t.text (extent_of (t ∷ [])) top_set.below top_set.set all top_set.all in
-    record { entry = entry; pattern = pattern; name = t; named = begun.1; top_set = top_set; entered = done.0; entries = done.1; told = done.2 }
+    record { entry = entry; pattern = pattern; name = t; named = begun.1; top_set = top_set; entered = done.0; entries = done.1; fault_is = done.2 }
 
 -- what is reported
 reported_once : (b : Bool) (e : Fault) (f g : Frame) (fs : List Frame) (ts : List Token) (n : ℕ) (es : List Fault)
@@ -62,7 +62,7 @@ done_entry f (g ∷ fs) ts n es names names' s' st w e d =
     let fault : Fault = duplicated_args (extent_of (q.name ∷ [])) q.name.text in
     let old : AnnotatedForest = without_trivia g.row in
     d.state ∙ ap (λ x. reported_if x (ended (popped (machine (f ∷ (g ∷ fs)) ts n es))))
-    (q.told ∙ ap (λ x. if x then Some fault else None) (q.top_set.is q.name.text))
+    (q.fault_is ∙ ap (λ x. if x then Some fault else None) (q.top_set.is q.name.text))
     ∙ ap (reported_if (if has_entry q.name.text old then Some fault else None)) (closes f (g ∷ fs) ts n es st (ap is_operand_frame e) (ap is_root e))
     ∙ reported_once (has_entry q.name.text old) fault f g fs ts n es
     ∙ ap (λ x. erase (closed f (g ∷ fs) ts n (es ++ repeated_if x old))) (sym q.named)

@@ -5,7 +5,7 @@ use Rattle.rnix_kinds.specs.declared.kinds.SyntaxKind.{SyntaxKind, TheVariants.{
 use Rattle.rnix_green.{specs.{Forest.tree_count, Draft.{OpenNode, is_inside}, ForestCode.join_empty}, proofs.ForestLemmas.tree_count-join}
 use Rattle.rnix_grammar.specs.{declared.{position.Position.Position, action.Action.Action, expected_set.ExpectedSet.TheVariants.End}, Fault.{Fault, double_bind}, Layout.{items, from_item}, UnwantedRun.run_of, Reports.report}
 use Rattle.rnix_grammar.specs.AnnotatedForest.{Token, Unwanted, Extra, DoubleBind, AnnotatedForest, forget, without_trivia, tokens_in, blank, ◌⊕◌, one_branch, head_kind}
-use Rattle.rnix_proof_lemmas.specs.Machine.{Head, Node, SecondBind, Operand, Frame, put, opened, with_leading, leaf, behind, item_end, machine, perform, min_bp_of}
+use Rattle.rnix_proof_lemmas.specs.Machine.{Head, Node, SecondBind, Operand, Frame, put, opened, with_leading, leaf, after_item, item_end, machine, perform, min_bp_of}
 use Rattle.rnix_proof_lemmas.proofs.Basics.true_is_not_false
 use Rattle.rnix_proof_lemmas.specs.Allowed.{Allowed}
 use Rattle.rnix_proof_lemmas.specs.FrameKinds.{SecondBindFrame, OperandFrame, frame_kind, frame_kind_of_head}
@@ -101,7 +101,7 @@ module _ (f : Frame) (fs : List Frame) (ts : List Token) (n : ℕ) (es : List Fa
       ∙ ap (failed (report Extra run)) (erase-over _ Extra End run f fs ts n es (run_all run))
   performs (a.Take after) s' names' k al g d =
       d ∙ erase-bumped _ NODE_ROOT (put (p.Left after) f.row f) fs ts n es
-      ∙ ap (λ x. erase (machine (put (p.Left after) (with_leading true f.row ts ⊕ x) f ∷ fs) (behind true ts) (item_end true n ts) es))
+      ∙ ap (λ x. erase (machine (put (p.Left after) (with_leading true f.row ts ⊕ x) f ∷ fs) (after_item true ts) (item_end true n ts) es))
       (own_leaf f.head (from_item ts) (ap is_name sort ∙ place_named f.position))
   performs (a.Miss after) s' names' k al g d = d
   performs (a.MissWanted until after) s' names' k al g d = d
@@ -134,4 +134,4 @@ module _ (f : Frame) (fs : List Frame) (ts : List Token) (n : ℕ) (es : List Fa
       let gs : List Frame = opened Operand over f.depth blank ∷ fs in
       d ∙ ap (λ x. ended (leaf_node_made NODE_IDENT x)) (erase-wrapped _ NODE_APPLY (p.Left APPLIED) over f fs ts n es (head_operand f.head (sort ∙ al.1)))
       ∙ ap ended (erase-leaf_node_made _ NODE_IDENT (opened (Node NODE_APPLY) (p.Left APPLIED) f.depth f.row) gs ts n es)
-      ∙ erase-closed _ (Node NODE_APPLY) (p.Left APPLIED) f.depth row (opened Operand over f.depth blank) fs (behind true ts) (item_end true n ts) es refl
+      ∙ erase-closed _ (Node NODE_APPLY) (p.Left APPLIED) f.depth row (opened Operand over f.depth blank) fs (after_item true ts) (item_end true n ts) es refl

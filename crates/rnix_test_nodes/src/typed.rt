@@ -18,7 +18,7 @@ fn extra_in(alloc: Global, text: &str) -> Result<Option<TextRange>, AllocError> 
 }
 
 #[test]
-fn the_first_error_is_told(rt: HostRuntime) -> Result<(), Fail> {
+fn the_first_error_is_returned(rt: HostRuntime) -> Result<(), Fail> {
     assert!(rt; extra_in(rt.alloc(), "a == b == c")? == Some(TextRange::new(7, 11)));
     assert!(rt; extra_in(rt.alloc(), "a")? == None);
     Ok(())

@@ -65,7 +65,8 @@ fold_up unit (b ∷ bs) p = up_trans p (step unit p b) _ (step_up unit p b) (fol
 pub first_passes : (unit : ColumnUnit) (p : Position) (b : ℕ) → (128 ≤ b → 192 ≤ b) → IsUpTo (step unit p b) p → ⊥
 first_passes unit p b h = newline_cases (b == newline)
   where
-    newline_cases : (w : Bool) → IsUpTo (if w then record { line = p.line + 1; column = 0 } else record { line = p.line; column = p.column + weight unit b }) p → ⊥
+    newline_cases : (w : Bool) →
+        IsUpTo (if w then record { line = p.line + 1; column = 0 } else record { line = p.line; column = p.column + weight unit b }) p → ⊥
     newline_cases true u = omega (arith, u.line)
     newline_cases false u = omega (arith, u.column refl, weight_first unit b h)
 

@@ -95,6 +95,6 @@ module _ (unit : ColumnUnit) (test : Mark → Bool) (back : (m : Mark) (b : ℕ)
   last_in text items r e h bound point d =
       let rest = marks_behind unit first_mark text in
       let parting = point (subst (IsPartitionedBy test) (sym e) (parted text first_mark)) in
-      let told = found test rest first_mark r d h (subst (λ xs. r ≤ length xs) e bound)
+      let rest_found = found test rest first_mark r d h (subst (λ xs. r ≤ length xs) e bound)
       (subst (λ xs. IsPartitionPoint (λ y. test y ≡ true) (λ y. test y ≡ false) xs r) e parting) in
-      (told.0, ap (λ xs. get_or xs (r - 1) d) e ∙ told.1)
+      (rest_found.0, ap (λ xs. get_or xs (r - 1) d) e ∙ rest_found.1)

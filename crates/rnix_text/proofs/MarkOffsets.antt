@@ -46,7 +46,8 @@ led unit o p (b ∷ bs) m (suc n) l first e f =
     reached : is_up_to p next ≡ true
     reached = is_up_to_from p next (subst (IsUpTo next.position) f (fold_up unit (take n bs) next.position))
 
-    plain_cases : (w : Bool) → is_plain unit b ≡ w → Leads o p (last_of (is_up_to p) next rest) → Leads o p (last_of (is_up_to p) m (if w then rest else next ∷ rest))
+    plain_cases : (w : Bool) → is_plain unit b ≡ w → Leads o p (last_of (is_up_to p) next rest) →
+        Leads o p (last_of (is_up_to p) m (if w then rest else next ∷ rest))
     plain_cases false h rest_leads = subst (Leads o p) (sym (ap (λ w. if w then last_of (is_up_to p) next rest else m) reached)) rest_leads
     plain_cases true h rest_leads = elim (last_alike (is_up_to p) m next rest) [
       | inr one ↦ subst (Leads o p) (sym one) rest_leads

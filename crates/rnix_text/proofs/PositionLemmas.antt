@@ -56,7 +56,8 @@ counted unit o (b ∷ bs) m (suc n) l e = plain_cases (is_plain unit b) refl (co
 
     plain_cases : (w : Bool) → is_plain unit b ≡ w → Counts o p (last_of (is_before o) next rest)
         → Counts o p (last_of (is_before o) m (if w then rest else next ∷ rest))
-    plain_cases false h rest_counts = subst (Counts o p) (sym (ap (λ w. if w then last_of (is_before o) next rest else m) (before_true o next (omega (arith, e))))) rest_counts
+    plain_cases false h rest_counts =
+        subst (Counts o p) (sym (ap (λ w. if w then last_of (is_before o) next rest else m) (before_true o next (omega (arith, e))))) rest_counts
     plain_cases true h rest_counts = elim (last_alike (is_before o) m next rest) [
       | inr one ↦ subst (Counts o p) (sym one) rest_counts
       | inl both ↦ (

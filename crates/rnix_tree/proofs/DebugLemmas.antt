@@ -31,4 +31,5 @@ start_shown P text cut utf8 long low nearest none h =
   where
     ascii_cases : (b : Bool) → list_all is_ascii (take 21 text ++ codes " ...") ≡ b → P (debug_str (take 21 text ++ codes " ..."))
     ascii_cases true e = subst (λ n. P (debug_str (take n text ++ codes " ..."))) (cut_there text cut utf8 long low nearest e) h
-    ascii_cases false e = subst P (sym (ap (λ b. if b then Some (34 ∷ (flat_map (debug_escape 34) (take 21 text ++ codes " ...") ++ 34 ∷ [])) else None) e)) none
+    ascii_cases false e =
+        subst P (sym (ap (λ b. if b then Some (34 ∷ (flat_map (debug_escape 34) (take 21 text ++ codes " ...") ++ 34 ∷ [])) else None) e)) none

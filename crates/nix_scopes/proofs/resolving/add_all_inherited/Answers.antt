@@ -25,7 +25,8 @@ pub loop-attr-preserved : goal.loop-attr-preserved
 loop-attr-preserved c = record {
   next = tt;
   ends = tt;
-  listing = mapped_next (λ e. named_if e (attr_text e)) (resolve_name c.args.around.now c.outer_depth-depth.result true) (map resolved_of c.loop-attr.references.items)
+  listing = mapped_next (λ e. named_if e (attr_text e)) (resolve_name c.args.around.now c.outer_depth-depth.result true)
+      (map resolved_of c.loop-attr.references.items)
       (map resolved_of c.add_inherited.new.references.items)
       (map resolved_of c.args.references.now.items ++ map (resolve_name c.args.around.now (outer_count c.args.around.now.scopes.items c.args.inherit.now) true)
       (inherited_at c.args.inherit.now))
