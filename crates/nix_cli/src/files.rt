@@ -56,7 +56,7 @@ fn files_below(rt: &HostRuntime, folder: &str) -> io::Result<Vec<String>> {
     Ok(found)
 }
 
-/// Returns the files that the arguments name: `-` is standard input, a folder stands for all files in it and below that end with `.nix`, and
+/// Returns the files that the arguments name: `-` is standard input, a folder means all files in it and below that end with `.nix`, and
 /// any other name is a file. No names mean standard input. A folder that cannot be read is reported and counted.
 pub fn find_files(rt: &HostRuntime, program: &Program, names: &[String]) -> io::Result<Files> {
     let mut found = Files {
@@ -160,7 +160,7 @@ mod tests {
         most: usize::MAX,
     };
 
-    // The names that the arguments in a line stand for, which are separated by spaces, joined by spaces.
+    // The names of the files that the arguments in a line mean, joined by spaces. The arguments are separated by spaces.
     fn found(rt: &HostRuntime, line: &str) -> Result<String, Fail> {
         let mut names = Vec::new(rt.alloc());
         for name in line.split_whitespace() {

@@ -8,7 +8,7 @@ pub const BEFORE_TITLE: &str = "<!DOCTYPE html>
 <meta name='color-scheme' content='light dark'>
 <title>";
 
-/// What stands between the title and the heading.
+/// What comes between the title and the heading.
 pub const AFTER_TITLE: &str = "</title>
 <style>
 :root {
@@ -71,7 +71,7 @@ dt { font-weight: bold }
 <header>
 <h1>";
 
-/// What stands between the heading and the source.
+/// What comes between the heading and the source.
 pub const AFTER_HEADING: &str = "</h1>
 <input id='search' type='search' placeholder='Search ( / )' aria-label='Search the tree' size='14'>
 <span id='count' aria-live='polite'></span>
@@ -82,7 +82,7 @@ pub const AFTER_HEADING: &str = "</h1>
 </header>
 ";
 
-/// What stands between the tree and the script.
+/// What comes between the tree and the script.
 pub const AFTER_TREE: &str = "<footer id='place'></footer>
 <dialog id='keys'>
 <dl>

@@ -1,4 +1,4 @@
-//! The scopes around the place where a walk stands, and the bodies of `with` around it.
+//! The scopes around the current node of a walk, and the bodies of `with` around it.
 
 ghost use Rattle.std.specs.Prelude.{◌≡◌, ◌==◌, ◌<◌, ◌≤◌, ◌++◌, ◌+◌, [], ◌∷◌, ℕ, List, length, map, take, not, IfOk, OnOk, Some};
 ghost use Rattle.std.specs.List.{All};

@@ -1,4 +1,4 @@
-//! What stands at the place of an expression, and what stands in the body of a `with`.
+//! Which names are expressions, and which nodes are in the body of a `with`.
 
 ghost use Rattle.std.specs.Prelude.{◌≡◌};
 ghost use Rattle.nix_scopes.specs.References.{is_behind_node, is_value_below, is_expression};
@@ -15,7 +15,7 @@ fn is_behind_node(node: &SyntaxNode<'_>) -> bool
     nodes.next().is_some()
 }
 
-// Whether a name in a parent of a kind stands for a value: it is neither bound, nor inherited, nor a part of an attribute path.
+// Returns whether a name in a parent of a kind is an expression: it is neither bound, nor inherited, nor a part of an attribute path.
 fn is_value_below(parent: SyntaxKind, node: &SyntaxNode<'_>) -> bool
     ensures { result ≡ is_value_below parent node.now }
 {
@@ -29,7 +29,7 @@ fn is_value_below(parent: SyntaxKind, node: &SyntaxNode<'_>) -> bool
     }
 }
 
-/// Whether a node is a name that stands for a value.
+/// Returns whether a node is a name that is an expression.
 pub fn is_expression(node: &SyntaxNode<'_>) -> bool
     ensures { result ≡ is_expression node.now }
 {

@@ -60,7 +60,7 @@ fn add_inherited<'t>(
     }
 }
 
-// How many of the scopes around an `inherit` are around the `let` or the set that it stands in.
+// Returns how many of the scopes around an `inherit` are around its `let` or set.
 fn outer_depth(around: &Environment<'_>, inherit: &SyntaxNode<'_>) -> usize
     ensures count { result ≡ outer_count around.now.scopes.items inherit.now }
     ensures fits { result ≤ length around.now.scopes.items }

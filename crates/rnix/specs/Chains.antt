@@ -1,4 +1,4 @@
--- How many elements are left to a chain of calls, each on what the one before answered: what the measures of loops cite.
+-- How many elements are left to a chain of calls, each on what the one before returned: what the measures of loops cite.
 use Rattle.std.specs.Prelude.{Option, option_map}
 use Rattle.rnix_green.specs.Tree.{Located}
 use Rattle.rnix.specs.declared.ast.expression.Expr.{Expr}

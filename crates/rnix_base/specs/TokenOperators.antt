@@ -1,4 +1,4 @@
--- Which operators tokens stand for.
+-- The operators of tokens.
 use Rattle.std.specs.Prelude.{◌≡◌, List, [], ◌∷◌, Option, Some, None}
 use Rattle.rnix_kinds.specs.declared.kinds.SyntaxKind.{SyntaxKind}
 use Rattle.rnix_kinds.specs.declared.kinds.SyntaxKind.TheVariants as k
@@ -8,7 +8,7 @@ use Rattle.rnix_base.specs.declared.operators.BinOpKind.TheVariants as b
 use Rattle.rnix_base.specs.declared.operators.UnaryOpKind.{UnaryOpKind}
 use Rattle.rnix_base.specs.declared.operators.UnaryOpKind.TheVariants as u
 
--- the operator between two operands that tokens of a kind stand for
+-- the operator between two operands of a kind of tokens
 abbrev pub binary_operator : SyntaxKind → Option BinOpKind
 binary_operator k.TOKEN_CONCAT = Some b.Concat
 binary_operator k.TOKEN_UPDATE = Some b.Update
@@ -29,7 +29,7 @@ binary_operator k.TOKEN_PIPE_RIGHT = Some b.PipeRight
 binary_operator k.TOKEN_PIPE_LEFT = Some b.PipeLeft
 binary_operator _ = None
 
--- the operator before an operand that tokens of a kind stand for
+-- the operator before an operand of a kind of tokens
 abbrev pub unary_operator : SyntaxKind → Option UnaryOpKind
 unary_operator k.TOKEN_INVERT = Some u.Invert
 unary_operator k.TOKEN_SUB = Some u.Negate
@@ -44,7 +44,7 @@ abbrev pub or_else : {A : Type 0} → Option A → Option A → Option A
 or_else (Some a) other = Some a
 or_else None other = other
 
--- the operator of the first token that stands for one
+-- the operator of the first token that is one
 abbrev pub first_operator : {A : Type 0} → (SyntaxKind → Option A) → List Located → Option A
 first_operator operator [] = None
 first_operator operator (token ∷ tokens) = or_else (operator (item_of token).kind) (first_operator operator tokens)

@@ -239,7 +239,11 @@ impl fmt::Display for ParseError {
                 f.write_str("unexpected end of file")?;
                 write_wanted(wanted, f)
             }
-            ParseError::DuplicatedArgs(range, name) => write_duplicated_args(*range, name.as_str(), f),
+            ParseError::DuplicatedArgs(range, name) => write_duplicated_args(
+                *range,
+                name.as_str(),
+                f,
+            ),
             ParseError::RecursionLimitExceeded => f.write_str("recursion limit exceeded"),
         }
     }

@@ -1,4 +1,4 @@
--- The numbers of the trees of a row, and of elements that stand side by side.
+-- The numbers of the trees of a row, and of elements that are side by side.
 use Rattle.std.specs.Prelude.{ℕ, zero, suc, ◌+◌, ◌-◌, List, [], ◌∷◌, drop}
 use Rattle.rnix_green.specs.Forest.{Forest, empty, leaf, node, element_count}
 use Rattle.rnix_green.specs.Tree.{Item}
@@ -16,6 +16,6 @@ passed_over n (suc skip) room (i ∷ is) = passed_over (n + 1) skip (room - 1) i
 passed_over n zero zero (i ∷ is) = []
 passed_over n zero (suc room) (i ∷ is) = n ∷ passed_over (n + 1) i.below room is
 
--- the elements that stand side by side from the number n up to the end
+-- the elements side by side from the number n up to the end
 abbrev pub siblings_between : List Item → ℕ → ℕ → List ℕ
 siblings_between is n end = passed_over n 0 (end - n) (drop n is)

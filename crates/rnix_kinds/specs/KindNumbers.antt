@@ -48,7 +48,7 @@ pub kind_cmp_total : IsTotalOrder kind_cmp
 unfolding kind_cmp
 kind_cmp_total = on_total place_of nat_cmp_total
 
--- kinds tie exactly if they stand in one place
+-- kinds tie exactly if they have one place
 pub tied_in_place : (a b : SyntaxKind) → eq_by_cmp kind_cmp a b ≡ (place_of a == place_of b)
 unfolding kind_cmp
 tied_in_place a b = unsigned_tied (place_of a) (place_of b)
@@ -90,7 +90,7 @@ number_from-lt passes (k ∷ ks) =
     let power : 2 ^ suc (length ks) ≡ 2 * 2 ^ length ks = pow-succ' 2 (length ks) in
     omega (arith, power)
 
--- the kinds of a list stand in the places from n on
+-- the kinds of a list have the places from n on
 abbrev are_placed : ℕ → List SyntaxKind → Bool
 are_placed n [] = true
 are_placed n (k ∷ ks) = place_of k == n && are_placed (suc n) ks

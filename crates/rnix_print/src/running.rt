@@ -28,7 +28,7 @@ fn print<W: Write>(tree: &GreenNode, errors: &[ParseError], out: &mut W) -> io::
 }
 
 /// Reads all of the input and prints its errors and its tree: true if there are no errors. A refusal other than `Write` leaves the writer
-/// as it was. An answer other than `Read` and `Memory` comes only once all of the input is read.
+/// as it was. An error other than `Read` and `Memory` is returned only once all of the input is read.
 pub fn run<R: Read, W: Write>(alloc: Global, input: &mut R, out: &mut W) -> Result<bool, RunError>
     ensures ran { IfOk result (λ good. HasRun (R.remaining input.old) good (W.contents out.old) (W.contents out.new)) }
     ensures read { result ≡ Err refused.Read → out.new ≡ out.old }

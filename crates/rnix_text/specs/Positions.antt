@@ -9,7 +9,7 @@ use Rattle.rnix_text.specs.declared.line_column.Position.{Position}
 abbrev pub newline : ℕ
 newline = 10
 
--- what a byte adds to a column: a character counts where its first byte stands, and bytes from 128 to 191 begin none; in UTF-16 a character that begins
+-- what a byte adds to a column: a character counts at its first byte, and bytes from 128 to 191 begin none; in UTF-16 a character that begins
 -- with 240 or more has two units
 abbrev pub weight : ColumnUnit → ℕ → ℕ
 weight Bytes b = 1

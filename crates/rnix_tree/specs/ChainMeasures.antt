@@ -1,4 +1,4 @@
--- How many elements of a tree are left to a chain of calls, each on what the one before answered: what the measures of loops cite.
+-- How many elements of a tree are left to a chain of calls, each on what the one before returned: what the measures of loops cite.
 use Rattle.std.specs.Prelude.{ℕ, suc, ◌-◌, length, Option, Some, None, option_map}
 use Rattle.rnix_green.specs.Tree.{Located, items_of}
 use Rattle.rnix_tree.specs.Spots.{place_of}
@@ -22,6 +22,6 @@ abbrev pub before_if : Option Located → ℕ
 before_if None = 0
 before_if (Some e) = suc (before_count e)
 
--- where a node or token stands, if there is one
+-- the number of a node or token, if there is one
 abbrev pub place_if : Option (NodeOrToken Located Located) → Option Located
 place_if element = option_map place_of element

@@ -4,7 +4,7 @@ use Rattle.std.specs.List.{prefix_len, take_while, list_any}
 use Rattle.std.specs.Char.{is_whitespace, len_utf8}
 use Rattle.std.specs.Str.{chars, encode_utf8_all}
 
--- these bytes stand in the text at the place i
+-- these bytes occur in the text at the index i
 abbrev pub occurs_at : List ℕ → ℕ → List ℕ → Bool
 occurs_at [] i text = true
 occurs_at (b ∷ []) i text = slice_index text i == b
