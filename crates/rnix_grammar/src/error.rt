@@ -205,7 +205,7 @@ fn write_again<W: fmt::Write>(range: TextRange, f: &mut fmt::Formatter<W>) -> fm
 }
 
 // An argument that is named twice.
-fn write_duplicated_args<W: fmt::Write>(
+fn write_duplicate<W: fmt::Write>(
     range: TextRange,
     name: &str,
     f: &mut fmt::Formatter<W>,
@@ -239,11 +239,7 @@ impl fmt::Display for ParseError {
                 f.write_str("unexpected end of file")?;
                 write_wanted(wanted, f)
             }
-            ParseError::DuplicatedArgs(range, name) => write_duplicated_args(
-                *range,
-                name.as_str(),
-                f,
-            ),
+            ParseError::DuplicatedArgs(range, name) => write_duplicate(*range, name.as_str(), f),
             ParseError::RecursionLimitExceeded => f.write_str("recursion limit exceeded"),
         }
     }
