@@ -105,58 +105,58 @@ closed_stacked : (f : Frame) (fs : List Frame) (ts : List Token) (n : ℕ) (es :
 closed_stacked f [] ts n es w = w
 closed_stacked f (g ∷ fs) ts n es w = w.2
 
-entry_stacked : (raw : Bool) (f : Frame) (fs : List Frame) (ts : List Token) (n : ℕ) (es : List Fault) → IsStackedOn f.head f.position fs
-    → AreStacked (entry_closed raw f fs ts n es).frames
-entry_stacked raw f [] ts n es w = w
-entry_stacked raw f (g ∷ fs) ts n es w = w.2
+entry_stacked : (trivia : Bool) (f : Frame) (fs : List Frame) (ts : List Token) (n : ℕ) (es : List Fault) → IsStackedOn f.head f.position fs
+    → AreStacked (entry_closed trivia f fs ts n es).frames
+entry_stacked trivia f [] ts n es w = w
+entry_stacked trivia f (g ∷ fs) ts n es w = w.2
 
 -- an operand begins where one may stand
-begun_stacked : (raw : Bool) (second : Option SyntaxKind) (begin : Begin) (level d : ℕ) (t : Token) (f : Frame) (fs : List Frame) (ts : List Token) (n : ℕ)
+begun_stacked : (trivia : Bool) (second : Option SyntaxKind) (begin : Begin) (level d : ℕ) (t : Token) (f : Frame) (fs : List Frame) (ts : List Token) (n : ℕ)
     (es : List Fault)
     → BeginsInner second begin → may_hold (frame_kind f.position) OperandFrame ≡ true → IsStackedOn f.head f.position fs
-    → AreStacked (begun raw begin level d t f fs ts n es).frames
-begun_stacked raw second (b.Leaf k) level d t f fs ts n es i m w = (refl, m, w)
-begun_stacked raw second (b.Node k position max_bp) level d t f fs ts n es i m w =
-    inside k (p.Left position) (opened Operand (p.AfterOperand level max_bp) d blank) (put f.position (with_leading raw f.row ts) f ∷ fs) i.0 i.1 refl
+    → AreStacked (begun trivia begin level d t f fs ts n es).frames
+begun_stacked trivia second (b.Leaf k) level d t f fs ts n es i m w = (refl, m, w)
+begun_stacked trivia second (b.Node k position max_bp) level d t f fs ts n es i m w =
+    inside k (p.Left position) (opened Operand (p.AfterOperand level max_bp) d blank) (put f.position (with_leading trivia f.row ts) f ∷ fs) i.0 i.1 refl
     (refl, m, w)
-begun_stacked raw second b.LegacyLet level d t f fs ts n es i m w = (refl, refl, (refl, m, w))
-begun_stacked raw second b.NameLambda level d t f fs ts n es i m w = (refl, refl, (refl, m, w))
-begun_stacked raw second b.BoundLambda level d t f fs ts n es i m w = (refl, refl, (refl, refl, (refl, m, w)))
-begun_stacked raw second b.PatternLambda level d t f fs ts n es i m w = (refl, refl, (refl, refl, (refl, m, w)))
-begun_stacked raw second b.Stray level d t f fs ts n es i m w = (refl, m, w)
+begun_stacked trivia second b.LegacyLet level d t f fs ts n es i m w = (refl, refl, (refl, m, w))
+begun_stacked trivia second b.NameLambda level d t f fs ts n es i m w = (refl, refl, (refl, m, w))
+begun_stacked trivia second b.BoundLambda level d t f fs ts n es i m w = (refl, refl, (refl, refl, (refl, m, w)))
+begun_stacked trivia second b.PatternLambda level d t f fs ts n es i m w = (refl, refl, (refl, refl, (refl, m, w)))
+begun_stacked trivia second b.Stray level d t f fs ts n es i m w = (refl, m, w)
 
 -- an operand of a level, or the end of the text
-operand_stacked : (raw : Bool) (level d : ℕ) (f : Frame) (fs : List Frame) (ts xs : List Token) (n : ℕ) (es : List Fault)
-    → may_hold (frame_kind f.position) OperandFrame ≡ true → IsStackedOn f.head f.position fs → AreStacked (operand_on raw level d f fs ts xs n es).frames
-operand_stacked raw level d f fs ts [] n es m w = w
-operand_stacked raw level d f fs ts (t ∷ us) n es m w =
-    begun_stacked raw (head_kind us) (begin_of level t.kind t.text (head_kind us) (second_kind us)) level d t f fs ts n es
+operand_stacked : (trivia : Bool) (level d : ℕ) (f : Frame) (fs : List Frame) (ts xs : List Token) (n : ℕ) (es : List Fault)
+    → may_hold (frame_kind f.position) OperandFrame ≡ true → IsStackedOn f.head f.position fs → AreStacked (operand_on trivia level d f fs ts xs n es).frames
+operand_stacked trivia level d f fs ts [] n es m w = w
+operand_stacked trivia level d f fs ts (t ∷ us) n es m w =
+    begun_stacked trivia (head_kind us) (begin_of level t.kind t.text (head_kind us) (second_kind us)) level d t f fs ts n es
     (begin_inner level t.kind t.text (head_kind us) (second_kind us)) m w
 
 -- counted or not
-reading_stacked : (raw : Bool) (level : ℕ) (counted : Bool) (f : Frame) (fs : List Frame) (ts : List Token) (n : ℕ) (es : List Fault)
-    → may_hold (frame_kind f.position) OperandFrame ≡ true → IsStackedOn f.head f.position fs → AreStacked (reading raw level counted f fs ts n es).frames
-reading_stacked raw level true f fs ts n es m w =
-    elim (nat_le depth_limit f.depth) as (λ x. AreStacked (if x then limited raw f fs ts n es else operand_on raw level (suc f.depth) f fs ts
-    (next_items raw ts) n es).frames)
-    [ true ↦ w | false ↦ operand_stacked raw level (suc f.depth) f fs ts (next_items raw ts) n es m w ]
-reading_stacked raw level false f fs ts n es m w = operand_stacked raw level f.depth f fs ts (next_items raw ts) n es m w
+reading_stacked : (trivia : Bool) (level : ℕ) (counted : Bool) (f : Frame) (fs : List Frame) (ts : List Token) (n : ℕ) (es : List Fault)
+    → may_hold (frame_kind f.position) OperandFrame ≡ true → IsStackedOn f.head f.position fs → AreStacked (reading trivia level counted f fs ts n es).frames
+reading_stacked trivia level true f fs ts n es m w =
+    elim (nat_le depth_limit f.depth) as (λ x. AreStacked (if x then limited trivia f fs ts n es else operand_on trivia level (suc f.depth) f fs ts
+    (next_items trivia ts) n es).frames)
+    [ true ↦ w | false ↦ operand_stacked trivia level (suc f.depth) f fs ts (next_items trivia ts) n es m w ]
+reading_stacked trivia level false f fs ts n es m w = operand_stacked trivia level f.depth f fs ts (next_items trivia ts) n es m w
 
 -- what is done at the innermost frame
-perform_stacked : (raw : Bool) (action : Action) (f : Frame) (fs : List Frame) (ts : List Token) (n : ℕ) (es : List Fault)
-    → Allowed f.position (head_kind (next_items raw ts)) action → IsStackedOn f.head f.position fs → AreStacked (perform raw action f fs ts n es).frames
-perform_stacked raw action f fs ts n es al w = by action al
+perform_stacked : (trivia : Bool) (action : Action) (f : Frame) (fs : List Frame) (ts : List Token) (n : ℕ) (es : List Fault)
+    → Allowed f.position (head_kind (next_items trivia ts)) action → IsStackedOn f.head f.position fs → AreStacked (perform trivia action f fs ts n es).frames
+perform_stacked trivia action f fs ts n es al w = by action al
   where
-    same : (after : ℕ) → IsNext f.position (head_kind (next_items raw ts)) after → frame_kind (p.Left after) ≡ frame_kind f.position
-    same after h = next_sort f.position after (head_kind (next_items raw ts)) h
+    same : (after : ℕ) → IsNext f.position (head_kind (next_items trivia ts)) after → frame_kind (p.Left after) ≡ frame_kind f.position
+    same after h = next_sort f.position after (head_kind (next_items trivia ts)) h
 
-    next : (after : ℕ) → IsNext f.position (head_kind (next_items raw ts)) after → IsStackedOn f.head (p.Left after) fs
+    next : (after : ℕ) → IsNext f.position (head_kind (next_items trivia ts)) after → IsStackedOn f.head (p.Left after) fs
     next after h = onward f.head f.position (p.Left after) fs (same after h) w
 
-    by : (action : Action) → Allowed f.position (head_kind (next_items raw ts)) action → AreStacked (perform raw action f fs ts n es).frames
+    by : (action : Action) → Allowed f.position (head_kind (next_items trivia ts)) action → AreStacked (perform trivia action f fs ts n es).frames
     by a.Close al = closed_stacked f fs ts n es w
     by a.ClosePattern al = closed_stacked f fs ts n es w
-    by a.CloseEntry al = entry_stacked raw f fs ts n es w
+    by a.CloseEntry al = entry_stacked trivia f fs ts n es w
     by a.CloseDoubleBind al = closed_stacked f fs ts n _ w
     by a.Finish al = w
     by a.EndOperand al = closed_stacked f fs ts n es w
@@ -166,33 +166,34 @@ perform_stacked raw action f fs ts n es al w = by action al
     by (a.MissWanted until after) al = next after al.1
     by (a.Run until after) al = next after al.1
     by (a.Leaf k after) al = next after al.1
-    by (a.Open k left after) al = inside k (p.Left left) (put (p.Left after) (with_leading raw f.row ts) f) fs al.2 al.3 (ap is_open (same after al.1) ∙ al.4)
+    by (a.Open k left after) al =
+        inside k (p.Left left) (put (p.Left after) (with_leading trivia f.row ts) f) fs al.2 al.3 (ap is_open (same after al.1) ∙ al.4)
         (next after al.1)
-    by (a.Begin k left after) al = inside k (p.Left left) (put (p.Left after) (with_leading raw f.row ts) f) fs al.1 al.2 (ap is_open al.0 ∙ al.3)
+    by (a.Begin k left after) al = inside k (p.Left left) (put (p.Left after) (with_leading trivia f.row ts) f) fs al.1 al.2 (ap is_open al.0 ∙ al.3)
         (onward f.head f.position (p.Left after) fs al.0 w)
     by (a.Entry after) al = (refl, ap (λ x. may_hold x Entry) (same after al.1 ∙ al.2), next after al.1)
     by (a.DoubleBind after) al = (refl, ap (λ x. may_hold x SecondBindFrame) (same after al.1 ∙ al.2), next after al.1)
-    by (a.Read level counted after) al = reading_stacked raw level counted (put (p.Left after) f.row f) fs ts n es
+    by (a.Read level counted after) al = reading_stacked trivia level counted (put (p.Left after) f.row f) fs ts n es
         (ap (λ x. may_hold x OperandFrame) (same after al.0) ∙ al.1) (next after al.0)
     by (a.Wrap k position max_bp) al =
         inside k position (opened Operand (p.AfterOperand (min_bp_of f.position) max_bp) f.depth blank) fs al.2 al.3 refl
         (instead f.head f.position (min_bp_of f.position) max_bp fs al.1 w)
     by a.Apply al =
-        reading_stacked raw 16 false (opened (Node NODE_APPLY) (p.Left APPLIED) f.depth f.row)
+        reading_stacked trivia 16 false (opened (Node NODE_APPLY) (p.Left APPLIED) f.depth f.row)
         (opened Operand (p.AfterOperand (min_bp_of f.position) 15) f.depth blank ∷ fs) ts n es refl
         (refl, refl, instead f.head f.position (min_bp_of f.position) 15 fs al.1 w)
     by a.ApplyOr al = instead f.head f.position (min_bp_of f.position) 15 fs al.1 w
 
 -- so it is behind each step
-pub step_stacked : (raw : Bool) (m : Machine) → AreStacked m.frames → AreStacked (step raw m).frames
-step_stacked raw m w = by m.frames w
+pub step_stacked : (trivia : Bool) (m : Machine) → AreStacked m.frames → AreStacked (step trivia m).frames
+step_stacked trivia m w = by m.frames w
   where
-    by : (fs : List Frame) → AreStacked fs → AreStacked (step_on raw fs m.left m.prev_end m.faults).frames
+    by : (fs : List Frame) → AreStacked fs → AreStacked (step_on trivia fs m.left m.prev_end m.faults).frames
     by [] w = absurd w
     by (f ∷ fs) w =
-        let next : Option SyntaxKind = head_kind (next_items raw m.left) in
-        let near : Bool = touches m.prev_end (next_items raw m.left) in
-        perform_stacked raw (action_at f.position next near) f fs m.left m.prev_end m.faults (allowed f.position next near) w
+        let next : Option SyntaxKind = head_kind (next_items trivia m.left) in
+        let near : Bool = touches m.prev_end (next_items trivia m.left) in
+        perform_stacked trivia (action_at f.position next near) f fs m.left m.prev_end m.faults (allowed f.position next near) w
 
 -- and where the text is about to be read
 pub begins_stacked : (ts : List Token) → AreStacked (begins ts).frames

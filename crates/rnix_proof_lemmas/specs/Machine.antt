@@ -65,7 +65,7 @@ with_leading false f ts = f
 
 -- the tokens behind the next item
 abbrev pub after_item : Bool → List Token → List Token
-after_item raw ts = tail_of (skip_trivia raw ts)
+after_item trivia ts = tail_of (skip_trivia trivia ts)
 
 -- where the first of some tokens ends
 abbrev pub end_of : ℕ → List Token → ℕ
@@ -74,7 +74,7 @@ end_of n (t ∷ ts) = t.end
 
 -- where the next item ends
 abbrev pub item_end : Bool → ℕ → List Token → ℕ
-item_end raw n ts = end_of n (skip_trivia raw ts)
+item_end trivia n ts = end_of n (skip_trivia trivia ts)
 
 -- the next item as a leaf below a node
 abbrev pub leaf_in : SyntaxKind → List Token → AnnotatedForest
@@ -83,7 +83,7 @@ leaf_in parent (t ∷ ts) = one_token (leaf_kind parent t) t
 
 -- the next item as a leaf below a node, where trivia may come first
 abbrev pub leaf : Bool → SyntaxKind → List Token → AnnotatedForest
-leaf raw parent ts = leaf_in parent (skip_trivia raw ts)
+leaf trivia parent ts = leaf_in parent (skip_trivia trivia ts)
 
 -- the run as leaves, with its trivia where they are read
 abbrev pub run_row : Bool → List Token → List Token → AnnotatedForest
@@ -133,124 +133,128 @@ without_trivia_if false f = f
 
 -- an entry of a pattern is complete
 abbrev pub entry_closed : Bool → Frame → List Frame → List Token → ℕ → List Fault → Machine
-entry_closed raw f [] ts n es = machine (f ∷ []) ts n es
-entry_closed raw f (g ∷ fs) ts n es = closed f (g ∷ fs) ts n (es ++ repeated (without_trivia_if raw g.row) (without_trivia_if raw f.row))
+entry_closed trivia f [] ts n es = machine (f ∷ []) ts n es
+entry_closed trivia f (g ∷ fs) ts n es = closed f (g ∷ fs) ts n (es ++ repeated (without_trivia_if trivia g.row) (without_trivia_if trivia f.row))
 
 -- a node is opened with a row
 abbrev pub open_on : Bool → Head → Position → AnnotatedForest → Position → Frame → List Frame → List Token → List Frame
-open_on raw head inside row after f fs ts = opened head inside f.depth row ∷ (put after (with_leading raw f.row ts) f ∷ fs)
+open_on trivia head inside row after f fs ts = opened head inside f.depth row ∷ (put after (with_leading trivia f.row ts) f ∷ fs)
 
 -- all that is left is nested too deep
 abbrev pub limited : Bool → Frame → List Frame → List Token → ℕ → List Fault → Machine
-limited raw f fs ts n es =
+limited trivia f fs ts n es =
     machine (put f.position
-    (with_leading raw (with_leading raw f.row ts ⊕ one_fault TooDeep (run_row raw (next_items raw ts) ts)) (run_rest raw (next_items raw ts) ts)) f
+    (with_leading trivia (with_leading trivia f.row ts ⊕ one_fault TooDeep (run_row trivia (next_items trivia ts) ts))
+    (run_rest trivia (next_items trivia ts) ts)) f
     ∷ fs)
-    (skip_trivia raw (run_rest raw (next_items raw ts) ts)) (end_from n (next_items raw ts)) (es ++ too_deep ∷ [])
+    (skip_trivia trivia (run_rest trivia (next_items trivia ts) ts)) (end_from n (next_items trivia ts)) (es ++ too_deep ∷ [])
 
 -- an operand begins with the next item, inside so many counted positions: f waits below
 abbrev pub begun : Bool → Begin → ℕ → ℕ → Token → Frame → List Frame → List Token → ℕ → List Fault → Machine
-begun raw (b.Leaf k) level d t f fs ts n es =
-    machine (opened Operand (p.AfterOperand level selection_level) d (one_branch k (leaf raw k ts)) ∷ (put f.position (with_leading raw f.row ts) f ∷ fs))
-    (after_item raw ts) (item_end raw n ts) es
-begun raw (b.Node k left max_bp) level d t f fs ts n es =
-    machine (opened (Node k) (p.Left left) d (leaf raw k ts) ∷ (opened Operand (p.AfterOperand level max_bp) d blank
-    ∷ (put f.position (with_leading raw f.row ts) f ∷ fs)))
-    (after_item raw ts) (item_end raw n ts) es
-begun raw b.LegacyLet level d t f fs ts n es =
-    machine (opened (Node NODE_LEGACY_LET) (p.Left LEGACY_LET) d (with_leading raw (leaf raw NODE_LEGACY_LET ts) (after_item raw ts)
-    ⊕ leaf raw NODE_LEGACY_LET (after_item raw ts))
-    ∷ (opened Operand (p.AfterOperand level no_level) d blank ∷ (put f.position (with_leading raw f.row ts) f ∷ fs)))
-    (after_item raw (after_item raw ts)) (item_end raw (item_end raw n ts) (after_item raw ts)) es
-begun raw b.NameLambda level d t f fs ts n es =
-    machine (opened (Node NODE_LAMBDA) (p.Left LAMBDA) d (one_branch NODE_IDENT_PARAM (one_branch NODE_IDENT (leaf raw NODE_IDENT ts)))
-    ∷ (opened Operand (p.AfterOperand level selection_level) d blank ∷ (put f.position (with_leading raw f.row ts) f ∷ fs))) (after_item raw ts)
-    (item_end raw n ts) es
-begun raw b.BoundLambda level d t f fs ts n es =
+begun trivia (b.Leaf k) level d t f fs ts n es =
+    machine (opened Operand (p.AfterOperand level selection_level) d (one_branch k (leaf trivia k ts)) ∷ (put f.position (with_leading trivia f.row ts) f ∷ fs))
+    (after_item trivia ts) (item_end trivia n ts) es
+begun trivia (b.Node k left max_bp) level d t f fs ts n es =
+    machine (opened (Node k) (p.Left left) d (leaf trivia k ts) ∷ (opened Operand (p.AfterOperand level max_bp) d blank
+    ∷ (put f.position (with_leading trivia f.row ts) f ∷ fs)))
+    (after_item trivia ts) (item_end trivia n ts) es
+begun trivia b.LegacyLet level d t f fs ts n es =
+    machine (opened (Node NODE_LEGACY_LET) (p.Left LEGACY_LET) d (with_leading trivia (leaf trivia NODE_LEGACY_LET ts) (after_item trivia ts)
+    ⊕ leaf trivia NODE_LEGACY_LET (after_item trivia ts))
+    ∷ (opened Operand (p.AfterOperand level no_level) d blank ∷ (put f.position (with_leading trivia f.row ts) f ∷ fs)))
+    (after_item trivia (after_item trivia ts)) (item_end trivia (item_end trivia n ts) (after_item trivia ts)) es
+begun trivia b.NameLambda level d t f fs ts n es =
+    machine (opened (Node NODE_LAMBDA) (p.Left LAMBDA) d (one_branch NODE_IDENT_PARAM (one_branch NODE_IDENT (leaf trivia NODE_IDENT ts)))
+    ∷ (opened Operand (p.AfterOperand level selection_level) d blank ∷ (put f.position (with_leading trivia f.row ts) f ∷ fs))) (after_item trivia ts)
+    (item_end trivia n ts) es
+begun trivia b.BoundLambda level d t f fs ts n es =
     machine (opened (Node NODE_PATTERN) (p.Left BOUND_PATTERN) d
     (one_branch NODE_PAT_BIND
-    (with_leading raw (one_branch NODE_IDENT (leaf raw NODE_IDENT ts)) (after_item raw ts) ⊕ leaf raw NODE_PAT_BIND (after_item raw ts)))
+    (with_leading trivia (one_branch NODE_IDENT (leaf trivia NODE_IDENT ts)) (after_item trivia ts) ⊕ leaf trivia NODE_PAT_BIND (after_item trivia ts)))
     ∷ (opened (Node NODE_LAMBDA) (p.Left LAMBDA) d blank ∷ (opened Operand (p.AfterOperand level selection_level) d blank
-    ∷ (put f.position (with_leading raw f.row ts) f ∷ fs))))
-    (after_item raw (after_item raw ts)) (item_end raw (item_end raw n ts) (after_item raw ts)) es
-begun raw b.PatternLambda level d t f fs ts n es =
-    machine (opened (Node NODE_PATTERN) (p.Left PATTERN) d (leaf raw NODE_PATTERN ts)
+    ∷ (put f.position (with_leading trivia f.row ts) f ∷ fs))))
+    (after_item trivia (after_item trivia ts)) (item_end trivia (item_end trivia n ts) (after_item trivia ts)) es
+begun trivia b.PatternLambda level d t f fs ts n es =
+    machine (opened (Node NODE_PATTERN) (p.Left PATTERN) d (leaf trivia NODE_PATTERN ts)
     ∷ (opened (Node NODE_LAMBDA) (p.Left LAMBDA) d blank ∷ (opened Operand (p.AfterOperand level selection_level) d blank
-    ∷ (put f.position (with_leading raw f.row ts) f ∷ fs))))
-    (after_item raw ts) (item_end raw n ts) es
-begun raw b.Stray level d t f fs ts n es =
-    machine (opened Operand (p.AfterOperand level selection_level) d (one_fault Stray (leaf raw NODE_ERROR ts))
-    ∷ (put f.position (with_leading raw f.row ts) f ∷ fs))
-    (after_item raw ts) (item_end raw n ts) (es ++ report Stray (t ∷ []) ∷ [])
+    ∷ (put f.position (with_leading trivia f.row ts) f ∷ fs))))
+    (after_item trivia ts) (item_end trivia n ts) es
+begun trivia b.Stray level d t f fs ts n es =
+    machine (opened Operand (p.AfterOperand level selection_level) d (one_fault Stray (leaf trivia NODE_ERROR ts))
+    ∷ (put f.position (with_leading trivia f.row ts) f ∷ fs))
+    (after_item trivia ts) (item_end trivia n ts) (es ++ report Stray (t ∷ []) ∷ [])
 
 -- an operand of a level, where f goes on behind it
 abbrev pub operand_on : Bool → ℕ → ℕ → Frame → List Frame → List Token → List Token → ℕ → List Fault → Machine
-operand_on raw level d f fs ts [] n es = machine (f ∷ fs) ts n (es ++ unexpected_eof ∷ [])
-operand_on raw level d f fs ts (t ∷ us) n es = begun raw (begin_of level t.kind t.text (head_kind us) (second_kind us)) level d t f fs ts n es
+operand_on trivia level d f fs ts [] n es = machine (f ∷ fs) ts n (es ++ unexpected_eof ∷ [])
+operand_on trivia level d f fs ts (t ∷ us) n es = begun trivia (begin_of level t.kind t.text (head_kind us) (second_kind us)) level d t f fs ts n es
 
 -- an operand of a level, counted or not: a counted one only as deep as the limit
 abbrev pub reading : Bool → ℕ → Bool → Frame → List Frame → List Token → ℕ → List Fault → Machine
-reading raw level true f fs ts n es = if nat_le depth_limit f.depth then limited raw f fs ts n es else operand_on raw level (suc f.depth) f fs ts
-    (next_items raw ts) n es
-reading raw level false f fs ts n es = operand_on raw level f.depth f fs ts (next_items raw ts) n es
+reading trivia level true f fs ts n es = if nat_le depth_limit f.depth then limited trivia f fs ts n es else operand_on trivia level (suc f.depth) f fs ts
+    (next_items trivia ts) n es
+reading trivia level false f fs ts n es = operand_on trivia level f.depth f fs ts (next_items trivia ts) n es
 
 -- a step at the innermost frame
 abbrev pub perform : Bool → Action → Frame → List Frame → List Token → ℕ → List Fault → Machine
-perform raw a.Close f fs ts n es = closed f fs ts n es
-perform raw a.ClosePattern f fs ts n es = closed f fs ts n es
-perform raw a.CloseEntry f fs ts n es = entry_closed raw f fs ts n es
-perform raw a.CloseDoubleBind f fs ts n es = closed f fs ts n (es ++ report DoubleBind (tokens_in (without_trivia_if raw f.row)) ∷ [])
-perform raw a.Finish f fs ts n es = machine (f ∷ fs) ts n es
-perform raw a.EndOperand f fs ts n es = closed f fs ts n es
-perform raw a.Extra f fs ts n es =
-    machine (put f.position (with_leading raw f.row ts ⊕ one_fault Extra (run_row raw (next_items raw ts) ts)) f ∷ fs) (run_rest raw (next_items raw ts) ts)
-    (end_from n (next_items raw ts))
-    (es ++ report Extra (next_items raw ts) ∷ [])
-perform raw (a.Take after) f fs ts n es =
-    machine (put (p.Left after) (with_leading raw f.row ts ⊕ leaf raw (kind_of f.head) ts) f ∷ fs) (after_item raw ts) (item_end raw n ts) es
-perform raw (a.Miss after) f fs ts n es = machine (put (p.Left after) f.row f ∷ fs) ts n (es ++ unexpected_eof ∷ [])
-perform raw (a.MissWanted until after) f fs ts n es = machine (put (p.Left after) f.row f ∷ fs) ts n (es ++ unexpected_eof_wanted (wanted_kinds until) ∷ [])
-perform raw (a.Run until after) f fs ts n es =
-    machine (put (p.Left after) (with_leading raw f.row ts ⊕ one_fault (Unwanted until) (run_row raw (run_of until (next_items raw ts)) ts)) f ∷ fs)
-    (run_rest raw (run_of until (next_items raw ts)) ts) (end_from n (run_of until (next_items raw ts)))
-    (es ++ report (Unwanted until) (run_of until (next_items raw ts)) ∷ [])
-perform raw (a.Leaf k after) f fs ts n es =
-    machine (put (p.Left after) (with_leading raw f.row ts ⊕ one_branch k (leaf raw k ts)) f ∷ fs) (after_item raw ts) (item_end raw n ts) es
-perform raw (a.Open k inside after) f fs ts n es =
-    machine (open_on raw (Node k) (p.Left inside) (leaf raw k ts) (p.Left after) f fs ts) (after_item raw ts) (item_end raw n ts) es
-perform raw (a.Begin k inside after) f fs ts n es = machine (open_on raw (Node k) (p.Left inside) blank (p.Left after) f fs ts) (skip_trivia raw ts) n es
-perform raw (a.Entry after) f fs ts n es =
-    machine (open_on raw (Node NODE_PAT_ENTRY) (p.Left PAT_ENTRY) (one_branch NODE_IDENT (leaf raw NODE_IDENT ts)) (p.Left after) f fs ts) (after_item raw ts)
-    (item_end raw n ts) es
-perform raw (a.DoubleBind after) f fs ts n es =
-    machine (open_on raw SecondBind (p.Left SECOND_BIND) (leaf raw NODE_ERROR ts) (p.Left after) f fs ts) (after_item raw ts) (item_end raw n ts) es
-perform raw (a.Read level counted after) f fs ts n es = reading raw level counted (put (p.Left after) f.row f) fs ts n es
-perform raw (a.Wrap k inside max_bp) f fs ts n es =
-    machine (opened (Node k) inside f.depth (with_leading raw f.row ts ⊕ leaf raw k ts)
+perform trivia a.Close f fs ts n es = closed f fs ts n es
+perform trivia a.ClosePattern f fs ts n es = closed f fs ts n es
+perform trivia a.CloseEntry f fs ts n es = entry_closed trivia f fs ts n es
+perform trivia a.CloseDoubleBind f fs ts n es = closed f fs ts n (es ++ report DoubleBind (tokens_in (without_trivia_if trivia f.row)) ∷ [])
+perform trivia a.Finish f fs ts n es = machine (f ∷ fs) ts n es
+perform trivia a.EndOperand f fs ts n es = closed f fs ts n es
+perform trivia a.Extra f fs ts n es =
+    machine (put f.position (with_leading trivia f.row ts ⊕ one_fault Extra (run_row trivia (next_items trivia ts) ts)) f ∷ fs)
+    (run_rest trivia (next_items trivia ts) ts)
+    (end_from n (next_items trivia ts))
+    (es ++ report Extra (next_items trivia ts) ∷ [])
+perform trivia (a.Take after) f fs ts n es =
+    machine (put (p.Left after) (with_leading trivia f.row ts ⊕ leaf trivia (kind_of f.head) ts) f ∷ fs) (after_item trivia ts) (item_end trivia n ts) es
+perform trivia (a.Miss after) f fs ts n es = machine (put (p.Left after) f.row f ∷ fs) ts n (es ++ unexpected_eof ∷ [])
+perform trivia (a.MissWanted until after) f fs ts n es = machine (put (p.Left after) f.row f ∷ fs) ts n (es ++ unexpected_eof_wanted (wanted_kinds until) ∷ [])
+perform trivia (a.Run until after) f fs ts n es =
+    machine (put (p.Left after) (with_leading trivia f.row ts ⊕ one_fault (Unwanted until) (run_row trivia (run_of until (next_items trivia ts)) ts)) f ∷ fs)
+    (run_rest trivia (run_of until (next_items trivia ts)) ts) (end_from n (run_of until (next_items trivia ts)))
+    (es ++ report (Unwanted until) (run_of until (next_items trivia ts)) ∷ [])
+perform trivia (a.Leaf k after) f fs ts n es =
+    machine (put (p.Left after) (with_leading trivia f.row ts ⊕ one_branch k (leaf trivia k ts)) f ∷ fs) (after_item trivia ts) (item_end trivia n ts) es
+perform trivia (a.Open k inside after) f fs ts n es =
+    machine (open_on trivia (Node k) (p.Left inside) (leaf trivia k ts) (p.Left after) f fs ts) (after_item trivia ts) (item_end trivia n ts) es
+perform trivia (a.Begin k inside after) f fs ts n es =
+    machine (open_on trivia (Node k) (p.Left inside) blank (p.Left after) f fs ts) (skip_trivia trivia ts) n es
+perform trivia (a.Entry after) f fs ts n es =
+    machine (open_on trivia (Node NODE_PAT_ENTRY) (p.Left PAT_ENTRY) (one_branch NODE_IDENT (leaf trivia NODE_IDENT ts)) (p.Left after) f fs ts)
+    (after_item trivia ts)
+    (item_end trivia n ts) es
+perform trivia (a.DoubleBind after) f fs ts n es =
+    machine (open_on trivia SecondBind (p.Left SECOND_BIND) (leaf trivia NODE_ERROR ts) (p.Left after) f fs ts) (after_item trivia ts) (item_end trivia n ts) es
+perform trivia (a.Read level counted after) f fs ts n es = reading trivia level counted (put (p.Left after) f.row f) fs ts n es
+perform trivia (a.Wrap k inside max_bp) f fs ts n es =
+    machine (opened (Node k) inside f.depth (with_leading trivia f.row ts ⊕ leaf trivia k ts)
     ∷ (opened Operand (p.AfterOperand (min_bp_of f.position) max_bp) f.depth blank ∷ fs))
-    (after_item raw ts) (item_end raw n ts) es
-perform raw a.Apply f fs ts n es =
-    reading raw selection_level false (opened (Node NODE_APPLY) (p.Left APPLIED) f.depth f.row)
+    (after_item trivia ts) (item_end trivia n ts) es
+perform trivia a.Apply f fs ts n es =
+    reading trivia selection_level false (opened (Node NODE_APPLY) (p.Left APPLIED) f.depth f.row)
     (opened Operand (p.AfterOperand (min_bp_of f.position) application_level) f.depth blank ∷ fs) ts n es
-perform raw a.ApplyOr f fs ts n es =
+perform trivia a.ApplyOr f fs ts n es =
     machine (opened Operand (p.AfterOperand (min_bp_of f.position) application_level) f.depth
-    (one_branch NODE_APPLY (with_leading raw f.row ts ⊕ one_branch NODE_IDENT (leaf raw NODE_IDENT ts))) ∷ fs)
-    (after_item raw ts) (item_end raw n ts) es
+    (one_branch NODE_APPLY (with_leading trivia f.row ts ⊕ one_branch NODE_IDENT (leaf trivia NODE_IDENT ts))) ∷ fs)
+    (after_item trivia ts) (item_end trivia n ts) es
 
 -- one step at the innermost frame, if there is one
 abbrev pub step_on : Bool → List Frame → List Token → ℕ → List Fault → Machine
-step_on raw [] ts n es = machine [] ts n es
-step_on raw (f ∷ fs) ts n es = perform raw (action_at f.position (head_kind (next_items raw ts)) (touches n (next_items raw ts))) f fs ts n es
+step_on trivia [] ts n es = machine [] ts n es
+step_on trivia (f ∷ fs) ts n es = perform trivia (action_at f.position (head_kind (next_items trivia ts)) (touches n (next_items trivia ts))) f fs ts n es
 
 -- one step of a machine
 abbrev pub step : Bool → Machine → Machine
-step raw m = step_on raw m.frames m.left m.prev_end m.faults
+step trivia m = step_on trivia m.frames m.left m.prev_end m.faults
 
 -- the text is about to be read
 abbrev pub begins : List Token → Machine
 begins ts = machine (opened (Node NODE_ROOT) (p.Left ROOT) 0 blank ∷ []) ts 0 []
 
 -- some steps
-pub data Runs (raw : Bool) : Machine → Machine → Type 0 where
-  rest : {m : Machine} → Runs raw m m
-  then : {m n : Machine} → Runs raw (step raw m) n → Runs raw m n
+pub data Runs (trivia : Bool) : Machine → Machine → Type 0 where
+  rest : {m : Machine} → Runs trivia m m
+  then : {m n : Machine} → Runs trivia (step trivia m) n → Runs trivia m n

@@ -9,17 +9,17 @@ use Rattle.{rnix_proof_lemmas.proofs.RestAt.rest_at, rnix_proof_uniqueness.proof
 use Rattle.rnix_grammar.specs.declared.position.Position.TheVariants as p
 
 -- runs one after another
-pub runs_on : {raw : Bool} {l m n : Machine} → Runs raw l m → Runs raw m n → Runs raw l n
+pub runs_on : {trivia : Bool} {l m n : Machine} → Runs trivia l m → Runs trivia m n → Runs trivia l n
 runs_on here r = r
 runs_on (further q) r = further (runs_on q r)
 
 -- a run comes to an equal machine
-pub runs_to : {raw : Bool} {l m n : Machine} → m ≡ n → Runs raw l m → Runs raw l n
-runs_to {raw = raw} {l = l} e r = subst (λ (z : Machine). Runs raw l z) e r
+pub runs_to : {trivia : Bool} {l m n : Machine} → m ≡ n → Runs trivia l m → Runs trivia l n
+runs_to {trivia = trivia} {l = l} e r = subst (λ (z : Machine). Runs trivia l z) e r
 
 -- one step
-pub step_to : {raw : Bool} {l m n : Machine} → step raw l ≡ m → Runs raw m n → Runs raw l n
-step_to {raw = raw} {n = n} e r = further (subst (λ (z : Machine). Runs raw z n) (sym e) r)
+pub step_to : {trivia : Bool} {l m n : Machine} → step trivia l ≡ m → Runs trivia m n → Runs trivia l n
+step_to {trivia = trivia} {n = n} e r = further (subst (λ (z : Machine). Runs trivia z n) (sym e) r)
 
 -- a run begins with an equal machine
 pub runs_from : {l m n : Machine} → l ≡ m → Runs false m n → Runs false l n

@@ -16,9 +16,9 @@ use Rattle.rnix_grammar.specs.declared.position.Position.TheVariants as p
 use Rattle.rnix_grammar.specs.declared.action.Action.TheVariants as a
 
 -- one more step
-runs_on : (raw : Bool) (a m : Machine) → Runs raw a m → Runs raw a (step raw m)
-runs_on raw a m here = further here
-runs_on raw a m (further r) = further (runs_on raw (step raw a) m r)
+runs_on : (trivia : Bool) (a m : Machine) → Runs trivia a m → Runs trivia a (step trivia m)
+runs_on trivia a m here = further here
+runs_on trivia a m (further r) = further (runs_on trivia (step trivia a) m r)
 
 -- the text is about to be read
 pub starts : (s : State) (names : Names) → s ≡ erase (begins s.rest) → AreInOrder 0 s.rest → names.sets.items ≡ [] → entries_in names ≡ []
