@@ -1,14 +1,15 @@
 -- What the steps make of what is open.
-use Rattle.rnix_grammar.specs.declared.slot_table.TheConstants.{LAMBDA, PAT_ENTRY, SECOND_BIND}
+use Rattle.rnix_grammar.specs.declared.slot_table.TheConstants.{APPLIED, BOUND_PATTERN, LAMBDA, LEGACY_LET, PAT_ENTRY, PATTERN, SECOND_BIND}
 use Rattle.std.specs.Prelude.{ℕ, Bool, true, false, List}
 use Rattle.rnix_kinds.specs.declared.kinds.SyntaxKind.{SyntaxKind}
-use Rattle.rnix_kinds.specs.declared.kinds.SyntaxKind.TheVariants.{TOKEN_IDENT, TOKEN_L_BRACE, TOKEN_LET, NODE_APPLY, NODE_ERROR, NODE_IDENT, NODE_IDENT_PARAM, NODE_LAMBDA, NODE_PAT_BIND, NODE_PAT_ENTRY}
+use Rattle.rnix_kinds.specs.declared.kinds.SyntaxKind.TheVariants.{TOKEN_IDENT, TOKEN_L_BRACE, TOKEN_LET, NODE_APPLY, NODE_ERROR, NODE_IDENT, NODE_IDENT_PARAM, NODE_LAMBDA, NODE_LEGACY_LET, NODE_PAT_BIND, NODE_PAT_ENTRY, NODE_PATTERN}
 use Rattle.rnix_green.specs.Forest.{tree_count}
 use Rattle.rnix_grammar.specs.declared.begin.Begin.{Begin}
 use Rattle.rnix_grammar.specs.declared.position.Position.{Position}
-use Rattle.rnix_grammar.specs.declared.position.Position.TheVariants.{Left}
+use Rattle.rnix_grammar.specs.declared.position.Position.TheVariants.{AfterOperand, Left}
 use Rattle.rnix_grammar.specs.Begins.{begin_of, second_kind}
 use Rattle.rnix_grammar.specs.AnnotatedForest.{Token, head_kind}
+use Rattle.rnix_grammar.specs.Levels.{application_level}
 use Rattle.rnix_reader.specs.declared.mark.Mark.{Mark}
 use Rattle.rnix_reader.specs.State.{State, eaten, taken, bumped, started, started_here, started_at, ended, pushed}
 use Rattle.rnix_reader.specs.Erase.{mark_at}
@@ -45,6 +46,10 @@ second_begun after m s = node_begun NODE_ERROR (Left SECOND_BIND) m.depth (moved
 abbrev pub node_wrapped : SyntaxKind → Position → Position → Mark → State → State
 node_wrapped k inside over m s = pushed (mark_at inside m.depth m.at) (started_at m.at k (moved_to over m s))
 
+-- the operand before is applied to the next operand
+abbrev pub application_begun : ℕ → Mark → State → State
+application_begun min_bp m s = node_wrapped NODE_APPLY (Left APPLIED) (AfterOperand min_bp application_level) m s
+
 -- the operand before `or` is applied to the name `or`
 abbrev pub or_applied : Position → Mark → State → State
 or_applied over m s = ended (leaf_node_made NODE_IDENT (started_at m.at NODE_APPLY (moved_to over m s)))
@@ -69,9 +74,21 @@ operand_begun inside d s = operand_here inside d (eaten s)
 abbrev pub node_operand_begun : SyntaxKind → Position → Position → ℕ → State → State
 node_operand_begun k inside over d s = node_begun k inside d (operand_begun over d s)
 
+-- an operand begins that is `let {`, with `let`
+abbrev pub legacy_let_begun : Position → ℕ → State → State
+legacy_let_begun over d s = bumped NODE_LEGACY_LET (node_operand_begun NODE_LEGACY_LET (Left LEGACY_LET) over d s)
+
 -- an operand begins that is a function, before its parameter
 abbrev pub lambda_begun : Position → ℕ → State → State
 lambda_begun over d s = node_started NODE_LAMBDA (Left LAMBDA) d (operand_begun over d s)
+
+-- a function begins whose parameter is a pattern, with the name that is bound to the pattern
+abbrev pub bound_lambda_begun : Position → ℕ → State → State
+bound_lambda_begun over d s = binding_read (node_started NODE_PATTERN (Left BOUND_PATTERN) d (lambda_begun over d s))
+
+-- a function begins whose parameter is a pattern, with `{`
+abbrev pub pattern_lambda_begun : Position → ℕ → State → State
+pattern_lambda_begun over d s = node_begun NODE_PATTERN (Left PATTERN) d (lambda_begun over d s)
 
 -- how an operand of a level begins with an item, by the items behind it
 abbrev pub begins_with : ℕ → Token → List Token → Begin

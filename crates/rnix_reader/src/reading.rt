@@ -2,15 +2,13 @@
 
 ghost use Rattle.std.specs.Prelude.{◌≡◌, ◌≤◌, ◌<◌, [], Bool, List, Option, length, IsTrue, OnOk, false, true};
 ghost use Rattle.rnix_kinds.specs.declared.kinds.SyntaxKind.{SyntaxKind};
-ghost use Rattle.rnix_kinds.specs.declared.kinds.SyntaxKind.TheVariants.{NODE_APPLY, NODE_LEGACY_LET, NODE_PATTERN};
 ghost use Rattle.rnix_green.specs.Draft.{is_checkpoint_of};
 ghost use Rattle.rnix_grammar.specs.declared.action.Action.TheVariants.{EndOperand};
 ghost use Rattle.rnix_grammar.specs.declared.begin.Begin.TheVariants.{Leaf};
-ghost use Rattle.rnix_grammar.specs.declared.position.Position.TheVariants.{AfterOperand, Left};
-ghost use Rattle.rnix_grammar.specs.declared.slot_table.TheConstants.{APPLIED, BOUND_PATTERN, LEGACY_LET, PATTERN};
+ghost use Rattle.rnix_grammar.specs.declared.position.Position.TheVariants.{Left};
 ghost use Rattle.rnix_grammar.specs.Actions.{action_at};
 ghost use Rattle.rnix_grammar.specs.AnnotatedForest.{Token};
-ghost use Rattle.rnix_grammar.specs.Levels.{application_level, selection_level};
+ghost use Rattle.rnix_grammar.specs.Levels.{selection_level};
 ghost use Rattle.rnix_proof_lemmas.specs.Machine.{begins, min_bp_of};
 ghost use Rattle.rnix_reader.specs.Erase.{erase};
 ghost use Rattle.rnix_reader.specs.Holds.{IsReadTo};
@@ -18,8 +16,8 @@ ghost use Rattle.rnix_reader.specs.PatternNames.{entries_in, EntryNamed, Pattern
 ghost use Rattle.rnix_reader.specs.Performed.{EntryReported, IsReady, NamesAfter, NamesFor, Performed, DoubleBindOpened, action_of, begun_as, expression_read, is_finish, opens_in, opens_on, opens_pattern, operand_read};
 ghost use Rattle.rnix_reader.specs.Placed.{token_of, AreInOrder};
 ghost use Rattle.rnix_reader.specs.Reported.{second_reported};
-ghost use Rattle.rnix_reader.specs.State.{state, items_left, bumped, IsNextItem};
-ghost use Rattle.rnix_reader.specs.FrameSteps.{binding_read, entry_begun, lambda_begun, moved_to, node_begun, node_operand_begun, node_started, node_wrapped, second_begun};
+ghost use Rattle.rnix_reader.specs.State.{state, items_left, IsNextItem};
+ghost use Rattle.rnix_reader.specs.FrameSteps.{application_begun, bound_lambda_begun, entry_begun, legacy_let_begun, moved_to, pattern_lambda_begun, second_begun};
 
 use crate::cursor::PlacedToken;
 use crate::mark::Mark;
@@ -55,7 +53,7 @@ fn begin_leaf<'t>(
 // Begins an operand that is `let {`, with `let`.
 #[inline(always)]
 fn begin_legacy_let(p: &mut Parser<'_>, over: Position, depth: usize) -> Result<(), AllocError>
-    ensures { OnOk result (state p.new ≡ bumped NODE_LEGACY_LET (node_operand_begun NODE_LEGACY_LET (Left LEGACY_LET) over depth (state p.old))) }
+    ensures { OnOk result (state p.new ≡ legacy_let_begun over depth (state p.old)) }
 {
     let kind = SyntaxKind::NODE_LEGACY_LET;
     p.node_operand(kind, Position::Left(LEGACY_LET), over, depth)?;
@@ -71,7 +69,7 @@ fn begin_bound_lambda<'t>(
     over: Position,
     depth: usize,
 ) -> Result<(), AllocError>
-    ensures state { OnOk result (state p.new ≡ binding_read (node_started NODE_PATTERN (Left BOUND_PATTERN) depth (lambda_begun over depth (state p.old)))) }
+    ensures state { OnOk result (state p.new ≡ bound_lambda_begun over depth (state p.old)) }
     ensures names { OnOk result (PatternOpened names.old names.new) }
 {
     p.lambda(over, depth)?;
@@ -93,7 +91,7 @@ fn begin_pattern_lambda<'t>(
     over: Position,
     depth: usize,
 ) -> Result<(), AllocError>
-    ensures state { OnOk result (state p.new ≡ node_begun NODE_PATTERN (Left PATTERN) depth (lambda_begun over depth (state p.old))) }
+    ensures state { OnOk result (state p.new ≡ pattern_lambda_begun over depth (state p.old)) }
     ensures names { OnOk result (PatternOpened names.old names.new) }
 {
     p.lambda(over, depth)?;
@@ -284,10 +282,8 @@ fn apply<'t>(
     min_bp: u8,
 ) -> Result<(), AllocError>
     requires { IsTrue (is_checkpoint_of p.old.builder.draft mark.at) }
-    ensures state { OnOk result (state p.new ≡ expression_read selection_level false mark.depth
-        (node_wrapped NODE_APPLY (Left APPLIED) (AfterOperand min_bp application_level) mark (state p.old))) }
-    ensures names { OnOk result (NamesFor (opens_in mark.depth false selection_level
-        (node_wrapped NODE_APPLY (Left APPLIED) (AfterOperand min_bp application_level) mark (state p.old))) names.old names.new) }
+    ensures state { OnOk result (state p.new ≡ expression_read selection_level false mark.depth (application_begun min_bp mark (state p.old))) }
+    ensures names { OnOk result (NamesFor (opens_in mark.depth false selection_level (application_begun min_bp mark (state p.old))) names.old names.new) }
 {
     let depth = mark.depth;
     let over = Position::AfterOperand(min_bp, APPLICATION_LEVEL);
