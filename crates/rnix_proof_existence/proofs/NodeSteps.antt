@@ -9,7 +9,7 @@ use Rattle.rnix_grammar.specs.{Tables.{depth_limit, is_wanted, wanted_kinds}, Re
 use Rattle.rnix_grammar.specs.AnnotatedForest.{Token, Note, Unwanted, Extra, DoubleBind, TooDeep, AnnotatedForest, blank, ◌⊕◌, one_token, one_branch, one_fault}
 use Rattle.rnix_grammar.specs.AnnotatedForest.{row_of, tokens_in, is_some, leaf_kind, end_from, head_kind, touches}
 use Rattle.rnix_proof_lemmas.specs.Machine.{Head, Node, SecondBind, Operand}
-use Rattle.rnix_grammar.specs.Rules.IsExpected
+use Rattle.rnix_grammar.specs.Rules.{IsExpected}
 use Rattle.rnix_proof_lemmas.specs.Machine.{Frame, put, opened, made, kind_of, dropped, closed, machine, operand_on, limited, reading}
 use Rattle.rnix_grammar.specs.Rules.{IsFollowed, Row, after, counts, done, run_at, missing, expects_end, is_first_expected, second_name, row as row_of_kind, ◌·◌}
 use Rattle.{rnix_grammar.specs.Reads.{IsOver, IsRoom, IsWrong, Reads, deeper, end, missing_part}, rnix_proof_lemmas.proofs.Basics.{true_is_not_false, not_if}}

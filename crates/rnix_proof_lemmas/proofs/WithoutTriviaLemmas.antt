@@ -9,7 +9,7 @@ use Rattle.rnix_grammar.specs.AnnotatedForest.{TooDeep, AnnotatedForest, blank, 
 use Rattle.rnix_grammar.specs.{AnnotatedForest.{leaf_kind, head_kind, touches}, Layout.{items, from_item, tail_of, trivia_before}, Reports.{report, repeated}}
 use Rattle.rnix_proof_lemmas.specs.Machine.{Head, Node, SecondBind, Operand, Frame, Machine, put, opened, with_leading, after_item, end_of, item_end, leaf_in, leaf, run_row, dropped}
 use Rattle.rnix_proof_lemmas.specs.Machine.{run_rest, kind_of, made, min_bp_of, machine, closed, entry_closed, limited, begun, operand_on, reading, perform, step_on}
-use Rattle.rnix_grammar.specs.UnwantedRun.run_of
+use Rattle.rnix_grammar.specs.UnwantedRun.{run_of}
 use Rattle.rnix_proof_lemmas.specs.Machine.{step, Runs, rest}
 use Rattle.rnix_proof_lemmas.specs.Machine.{then as further}
 use Rattle.rnix_proof_lemmas.specs.WithoutTrivia.{without_trivia_frame, without_trivia_frames}

@@ -9,7 +9,7 @@ use Rattle.rnix_grammar.specs.{AnnotatedForest.{one_branch, one_fault, without_t
 use Rattle.rnix_grammar.specs.{Layout.{left_after, with_all_trivia}, Reports.repeated}
 use Rattle.rnix_proof_lemmas.specs.Machine.{Head, Node, SecondBind, Operand, Frame, Machine, put, opened}
 use Rattle.rnix_proof_lemmas.specs.Machine.{with_leading, after_item, leaf, run_row, dropped, run_rest, made, kind_of, min_bp_of, closed, entry_closed, limited, begun, operand_on}
-use Rattle.rnix_grammar.specs.UnwantedRun.run_of
+use Rattle.rnix_grammar.specs.UnwantedRun.{run_of}
 use Rattle.rnix_proof_lemmas.specs.FrameKinds.{OperandFrame, frame_kind, IsStackedOn}
 use Rattle.rnix_proof_lemmas.specs.Machine.{reading, perform, step_on, step, begins, Runs, rest}
 use Rattle.rnix_proof_lemmas.specs.Machine.{then as further}

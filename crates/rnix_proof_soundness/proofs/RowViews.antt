@@ -3,7 +3,7 @@ use Rattle.std.proofs.Common.{◌≡◌, ◌⊎◌, inl, inr, ⊎_elim, ℕ, Boo
 use Rattle.{rnix_kinds.{specs.{declared.kinds.SyntaxKind.SyntaxKind, SyntaxKind.is_token}}, rnix_green.specs.Equality.same_kind}
 use Rattle.rnix_green.specs.{Equality.same_kind-decides, Forest.{Forest, empty, leaf, node}}
 use Rattle.rnix_grammar.specs.{Levels.selection_level, Rules.{Row, never, done, ◌·◌, ◌or◌, only, or_else, after, may_end}, TokenKinds.is_path_piece}
-use Rattle.rnix_grammar.specs.Extensions.holds_no_lambda
+use Rattle.rnix_grammar.specs.Extensions.{holds_no_lambda}
 use Rattle.rnix_proof_lemmas.specs.LeafKinds.{is_node}
 use Rattle.rnix_grammar.specs.{Rows.{is_attr, is_entry, is_expression, fits}, Tables.is_or}
 use Rattle.rnix_grammar.specs.Grammar.{name, Strict, Attr, Attrpath, last_attr, attr_dot, Binding, Formal, Inherit, Interpol, Parameter, Source}

@@ -6,7 +6,7 @@ use Rattle.{rnix_kinds.specs.declared.kinds.SyntaxKind.TheVariants.{NODE_PATTERN
 use Rattle.rnix_grammar.specs.{Begins.second_kind, AnnotatedForest.{Token, Stray, AnnotatedForest, blank, token, ◌⊕◌, one_token, one_branch, one_fault, row_of}}
 use Rattle.rnix_grammar.specs.{AnnotatedForest.{tokens_in, leaf_kind, head_kind, end_from, branch, leaf_kind_as}, Reports.{report, repeats}}
 use Rattle.rnix_proof_lemmas.specs.Machine.{Operand}
-use Rattle.rnix_grammar.specs.declared.rules.Part.TheVariants.Child
+use Rattle.rnix_grammar.specs.declared.rules.Part.TheVariants.{Child}
 use Rattle.rnix_proof_lemmas.specs.Machine.{Frame, machine, opened, begun, Node, operand_on, Runs}
 use Rattle.rnix_proof_lemmas.specs.Machine.{rest as here}
 use Rattle.rnix_grammar.specs.{declared.slot_table.TheConstants.{LEGACY_LET, BOUND_PATTERN, LAMBDA, PATTERN}, Reads.{IsOver, end}, Rules.Row}

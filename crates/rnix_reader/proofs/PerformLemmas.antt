@@ -5,7 +5,7 @@ use Rattle.rnix_grammar.specs.{declared.{slot_table.TheConstants.APPLIED, positi
 use Rattle.rnix_grammar.specs.AnnotatedForest.{Unwanted, Extra, AnnotatedForest, blank, ◌⊕◌, one_branch, one_fault, tokens_in, without_trivia, head_of}
 use Rattle.rnix_grammar.specs.{AnnotatedForest.{head_kind, end_from, extent_of}, Layout.{items, from_item, trivia_before, tail_of}, Reports.only_token}
 use Rattle.rnix_proof_lemmas.specs.Machine.{Node, Operand, Frame, put, opened, with_leading, leaf, leaf_in, kind_of, min_bp_of, after_item, item_end, end_of, run_row, run_rest}
-use Rattle.rnix_grammar.specs.UnwantedRun.run_of
+use Rattle.rnix_grammar.specs.UnwantedRun.{run_of}
 use Rattle.rnix_proof_lemmas.specs.Allowed.{Allowed}
 use Rattle.rnix_proof_lemmas.specs.FrameKinds.{Pattern, Entry, OperandFrame, frame_kind, is_open, IsStackedOn}
 use Rattle.rnix_proof_lemmas.specs.Machine.{dropped, machine, closed, entry_closed, perform}

@@ -6,7 +6,7 @@ use Rattle.rnix_green.{specs.{Forest.tree_count, Draft.{OpenNode, is_inside}, Fo
 use Rattle.rnix_grammar.specs.{declared.{position.Position.Position, action.Action.Action, expected_set.ExpectedSet.TheVariants.End}, Fault.{Fault, double_bind}, Layout.{items, from_item}, UnwantedRun.run_of, Reports.report}
 use Rattle.rnix_grammar.specs.AnnotatedForest.{Token, Unwanted, Extra, DoubleBind, AnnotatedForest, forget, without_trivia, tokens_in, blank, ◌⊕◌, one_branch, head_kind}
 use Rattle.rnix_proof_lemmas.specs.Machine.{Head, Node, SecondBind, Operand, Frame, put, opened, with_leading, leaf, after_item, item_end, machine, perform, min_bp_of}
-use Rattle.rnix_proof_lemmas.proofs.Basics.true_is_not_false
+use Rattle.rnix_proof_lemmas.proofs.Basics.{true_is_not_false}
 use Rattle.rnix_proof_lemmas.specs.Allowed.{Allowed}
 use Rattle.rnix_proof_lemmas.specs.FrameKinds.{SecondBindFrame, OperandFrame, frame_kind, frame_kind_of_head}
 use Rattle.rnix_reader.specs.{declared.pattern_names.Names.Names, State.{State, bumped, started_at, ended, failed, pushed}, Reported.error_over, FrameSteps.{node_started, node_here, node_wrapped, leaf_node_made}, Holds.{HasRange, IsWell, AreNamed}}

@@ -5,7 +5,7 @@ use Rattle.rnix_grammar.specs.{declared.{position.Position.Position, expected_se
 use Rattle.rnix_grammar.specs.{Tables.{stops, depth_limit}, Slots.slot_at, Begins.{begin_of, second_kind}, AnnotatedForest.{Token, blank, head_kind}}
 use Rattle.rnix_grammar.specs.Layout.{items, from_item, tail_of}
 use Rattle.rnix_proof_lemmas.specs.Machine.{Node, Operand, Frame, Machine, put, opened, after_item, closed, limited, min_bp_of}
-use Rattle.rnix_grammar.specs.UnwantedRun.run_of
+use Rattle.rnix_grammar.specs.UnwantedRun.{run_of}
 use Rattle.rnix_proof_lemmas.specs.FrameKinds.{FrameKind, NodeFrame, Entry, frame_kind}
 use Rattle.rnix_proof_lemmas.specs.Machine.{run_rest, dropped, begun, operand_on, reading, machine, perform, entry_closed}
 use Rattle.rnix_proof_lemmas.specs.Allowed.{Allowed, IsNext, is_there}
