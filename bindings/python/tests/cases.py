@@ -3,7 +3,7 @@
 import pathlib
 import sys
 
-DATA = pathlib.Path(__file__).resolve().parents[3] / "crates" / "rnix_cases" / "data"
+DATA = pathlib.Path(__file__).resolve().parents[3] / "crates" / "rnix_test_cases" / "data"
 
 
 def stored(name):

@@ -7,7 +7,7 @@ use std::{env, fs, path};
 
 // The texts of a stored list, each with the expected output. A case is a line with the lengths of both, then both, then a newline.
 fn stored(list: &str) -> Vec<(String, String)> {
-    let folder = path::Path::new(env!("CARGO_MANIFEST_DIR")).join("../../crates/rnix_cases/data");
+    let folder = path::Path::new(env!("CARGO_MANIFEST_DIR")).join("../../crates/rnix_test_cases/data");
     let all = fs::read_to_string(folder.join(list)).unwrap();
     let mut rest = all.as_str();
     let mut cases = Vec::new();

@@ -1,7 +1,7 @@
 //! Finding and reading files.
 
 use crate::arguments::Program;
-use crate::replacing::replace_text;
+use crate::file_replacement::replace_text;
 use std::io::{Read, Write};
 use std::{fs, io};
 
@@ -56,7 +56,7 @@ fn files_below(rt: &HostRuntime, folder: &str) -> io::Result<Vec<String>> {
     Ok(found)
 }
 
-/// Returns the files that the arguments name: `-` is standard input, a folder stands for all files in it and below that end with `.nix`, and
+/// Returns the files that the arguments name: `-` is standard input, a folder means all files in it and below that end with `.nix`, and
 /// any other name is a file. No names mean standard input. A folder that cannot be read is reported and counted.
 pub fn find_files(rt: &HostRuntime, program: &Program, names: &[String]) -> io::Result<Files> {
     let mut found = Files {

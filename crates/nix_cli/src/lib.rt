@@ -5,16 +5,16 @@ mod arguments;
 mod colors;
 mod ending;
 mod excerpt;
+mod file_replacement;
 mod files;
 mod json;
 mod progress;
-mod replacing;
 
 pub use arguments::{Arguments, Program, Start, VERSION, parse_arguments, read_arguments};
 pub use colors::is_colored;
 pub use ending::{FAILED, FOUND, end, refuse};
 pub use excerpt::write_excerpt;
+pub use file_replacement::replace_text;
 pub use files::{Files, find_files, place_of, read_text, shown_name, write_text};
 pub use json::write_json_string;
 pub use progress::Progress;
-pub use replacing::replace_text;

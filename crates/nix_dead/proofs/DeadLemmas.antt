@@ -31,13 +31,15 @@ unmarked_dead all names marks n (x ∷ xs) known =
     let here : IsKnown all names marks n x = (let same : n + 0 ≡ n = omega arith in subst (λ k. IsKnown all names marks k x) same (known 0 x (omega arith))) in
     let first : nat_eq x.first n ≡ is_number n (number_in all x.text.now x.scope) = ap (is_number n) (sym here.first) in
     ap (λ b. (if b && (is_judged (bound_of x) && not (get_or marks n true)) then listed (bound_of x) ∷ [] else []) ++ unmarked_from marks (n + 1) xs) first
-    ∙ ap (λ b. (if is_number n (number_in all x.text.now x.scope) && (is_judged (bound_of x) && not b) then listed (bound_of x) ∷ [] else []) ++ unmarked_from marks (n + 1) xs) here.mark
+    ∙ ap (λ b. (if is_number n (number_in all x.text.now x.scope) && (is_judged (bound_of x) && not b) then listed (bound_of x) ∷ [] else []) ++ unmarked_from
+    marks (n + 1) xs) here.mark
     ∙ ap (λ rest. (if is_dead all names n (bound_of x) then listed (bound_of x) ∷ [] else []) ++ rest)
     (unmarked_dead all names marks (n + 1) xs (λ k d l. let same : n + suc k ≡ n + 1 + k = omega arith in
     subst (λ j. IsKnown all names marks j (get_or xs k d)) same (known (suc k) d (omega (arith, l)))))
 
 -- the dead ones of a text
-pub unmarked_in : (bindings : List Binding) (references : List Reference) (marks : List Bool) → AreFirst bindings → AreMarked (length bindings) references marks →
+pub unmarked_in : (bindings : List Binding) (references : List Reference) (marks : List Bool) → AreFirst bindings →
+    AreMarked (length bindings) references marks →
     unmarked_from marks 0 bindings ≡ dead_from (map bound_of bindings) (map resolved_of references) 0 (map bound_of bindings)
 unmarked_in bindings references marks firsts marked =
     unmarked_dead (map bound_of bindings) (map resolved_of references) marks 0 bindings
@@ -54,7 +56,8 @@ unmarked_more marks xs i x l at =
 
 -- exactly the dead names are listed, in some order
 pub dead_exactly : (root : Located) (bindings : List Binding) (references : List Reference) (marks : List Bool) (unsorted sorted : List Name) →
-    map bound_of bindings ≡ bindings_in root → map resolved_of references ≡ resolved_in root → AreFirst bindings → AreMarked (length bindings) references marks →
+    map bound_of bindings ≡ bindings_in root → map resolved_of references ≡ resolved_in root → AreFirst bindings →
+    AreMarked (length bindings) references marks →
     map listed_name unsorted ≡ unmarked_from marks 0 bindings → IsPermutation unsorted sorted → IsPermutation (dead_in root) (map listed_name sorted)
 dead_exactly root bindings references marks unsorted sorted bound resolved firsts are_marked is same =
     let all : map listed_name unsorted ≡ dead_in root =

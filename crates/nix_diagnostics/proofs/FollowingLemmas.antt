@@ -6,7 +6,7 @@ use Rattle.std.specs.Prelude.{IfSome, option_map, is_some, ◌==◌, ◌&&◌}
 use Rattle.rnix_green.specs.Tree.{Tree, Located, item_of, extent_of}
 use Rattle.rnix_green.specs.Relatives.{parent_of}
 use Rattle.rnix_green.specs.Walk.{Spot, spot_at}
-use Rattle.rnix_grammar.specs.Fault.{Fault, untold, extra, unwanted, bound_twice, ended, ended_before, named_twice, too_deep}
+use Rattle.rnix_grammar.specs.Fault.{Fault, unexpected_at, extra, unwanted, double_bind, unexpected_eof, unexpected_eof_wanted, duplicated_args, too_deep}
 use Rattle.rnix_green.specs.declared.range.TextRange.{TextRange}
 use Rattle.rnix_green.specs.Range.{bounds_of}
 use Rattle.nix_diagnostics.specs.Places.{place_of}
@@ -43,13 +43,13 @@ other_last faults fault is = last_push None faults fault ∙ ap (λ b. if b then
 -- an error about an unexpected or a missing token has to follow if it is near
 pub slip_follows : (root : Located) (before : List Fault) (fault : Fault) → is_slip fault ≡ true →
     must_follow root before fault ≡ is_near root (last_slip before) fault
-slip_follows root before (untold range) is = refl
+slip_follows root before (unexpected_at range) is = refl
 slip_follows root before (extra range) is = absurd (grind (arith, is))
 slip_follows root before (unwanted kind range kinds) is = refl
-slip_follows root before (bound_twice range) is = refl
-slip_follows root before ended is = refl
-slip_follows root before (ended_before kinds) is = refl
-slip_follows root before (named_twice range name) is = absurd (grind (arith, is))
+slip_follows root before (double_bind range) is = refl
+slip_follows root before unexpected_eof is = refl
+slip_follows root before (unexpected_eof_wanted kinds) is = refl
+slip_follows root before (duplicated_args range name) is = absurd (grind (arith, is))
 slip_follows root before too_deep is = refl
 
 -- the reader stays lost
@@ -148,25 +148,25 @@ knows_other root all before fault f known other =
 -- an error that says that tokens follow the expression has to follow if there is an error in it
 extra_follows : (root : Located) (before : List Fault) (fault : Fault) → is_extra fault ≡ true →
     must_follow root before fault ≡ is_some (last_slip before)
-extra_follows root before (untold range) is = absurd (grind (arith, is))
+extra_follows root before (unexpected_at range) is = absurd (grind (arith, is))
 extra_follows root before (extra range) is = refl
 extra_follows root before (unwanted kind range kinds) is = absurd (grind (arith, is))
-extra_follows root before (bound_twice range) is = absurd (grind (arith, is))
-extra_follows root before ended is = absurd (grind (arith, is))
-extra_follows root before (ended_before kinds) is = absurd (grind (arith, is))
-extra_follows root before (named_twice range name) is = absurd (grind (arith, is))
+extra_follows root before (double_bind range) is = absurd (grind (arith, is))
+extra_follows root before unexpected_eof is = absurd (grind (arith, is))
+extra_follows root before (unexpected_eof_wanted kinds) is = absurd (grind (arith, is))
+extra_follows root before (duplicated_args range name) is = absurd (grind (arith, is))
 extra_follows root before too_deep is = absurd (grind (arith, is))
 
 -- a repeated name need not follow
 name_follows : (root : Located) (before : List Fault) (fault : Fault) → is_slip fault ≡ false → is_extra fault ≡ false →
     must_follow root before fault ≡ false
-name_follows root before (untold range) other is = absurd (grind (arith, other))
+name_follows root before (unexpected_at range) other is = absurd (grind (arith, other))
 name_follows root before (extra range) other is = absurd (grind (arith, is))
 name_follows root before (unwanted kind range kinds) other is = absurd (grind (arith, other))
-name_follows root before (bound_twice range) other is = absurd (grind (arith, other))
-name_follows root before ended other is = absurd (grind (arith, other))
-name_follows root before (ended_before kinds) other is = absurd (grind (arith, other))
-name_follows root before (named_twice range name) other is = refl
+name_follows root before (double_bind range) other is = absurd (grind (arith, other))
+name_follows root before unexpected_eof other is = absurd (grind (arith, other))
+name_follows root before (unexpected_eof_wanted kinds) other is = absurd (grind (arith, other))
+name_follows root before (duplicated_args range name) other is = refl
 name_follows root before too_deep other is = absurd (grind (arith, other))
 
 -- whether a place is known is whether there is an error
@@ -206,13 +206,13 @@ not_empty (y ∷ front) back x is = absurd (grind (arith, is))
 
 -- the first error follows from nothing
 none_follow : (root : Located) (fault : Fault) → must_follow root [] fault ≡ false
-none_follow root (untold range) = refl
+none_follow root (unexpected_at range) = refl
 none_follow root (extra range) = refl
 none_follow root (unwanted kind range kinds) = refl
-none_follow root (bound_twice range) = refl
-none_follow root ended = refl
-none_follow root (ended_before kinds) = refl
-none_follow root (named_twice range name) = refl
+none_follow root (double_bind range) = refl
+none_follow root unexpected_eof = refl
+none_follow root (unexpected_eof_wanted kinds) = refl
+none_follow root (duplicated_args range name) = refl
 none_follow root too_deep = refl
 
 -- nor may it

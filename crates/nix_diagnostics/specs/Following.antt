@@ -12,7 +12,7 @@ use Rattle.rnix_green.specs.declared.range.TextRange.{TextRange}
 use Rattle.rnix_green.specs.Range.{Extent, bounds_of}
 use Rattle.rnix_green.specs.Tree.{Located, item_of, extent_of, text_at, IsTokenAt}
 use Rattle.rnix_green.specs.Relatives.{parent_of}
-use Rattle.rnix_grammar.specs.Fault.{Fault, extra, named_twice, ended, ended_before}
+use Rattle.rnix_grammar.specs.Fault.{Fault, extra, duplicated_args, unexpected_eof, unexpected_eof_wanted}
 use Rattle.rnix_grammar.specs.Ranges.{range_in, is_error_node}
 use Rattle.nix_diagnostics.specs.Places.{end_of_items, place_of}
 
@@ -53,7 +53,7 @@ is_group kind = false
 -- the error is about an unexpected or a missing token: not about a duplicate argument, nor about tokens after the expression
 abbrev pub is_slip : Fault → Bool
 is_slip (extra range) = false
-is_slip (named_twice range name) = false
+is_slip (duplicated_args range name) = false
 is_slip fault = true
 
 -- the error is about tokens after the expression
@@ -72,8 +72,8 @@ last_slip faults = last_from None faults
 
 -- the error is at the end of the text
 abbrev pub is_at_end : Fault → Bool
-is_at_end ended = true
-is_at_end (ended_before kinds) = true
+is_at_end unexpected_eof = true
+is_at_end (unexpected_eof_wanted kinds) = true
 is_at_end fault = false
 
 -- white space
@@ -101,7 +101,7 @@ is_near root (Some last) fault = are_close (text_at root) (place_of root last).e
 -- an error has to follow from earlier ones: it is about tokens after the expression, in which there is an error; or it is near the last error
 abbrev pub must_follow : Located → List Fault → Fault → Bool
 must_follow root before (extra range) = is_some (last_slip before)
-must_follow root before (named_twice range name) = false
+must_follow root before (duplicated_args range name) = false
 must_follow root before fault = is_near root (last_slip before) fault
 
 -- the error node of an error

@@ -3,7 +3,7 @@
 ghost use Rattle.std.specs.Prelude.{◌≡◌, ◌+◌, ◌^◌, ◌<◌, length, option_map, IfOk, OnOk, string_bytes};
 ghost use Rattle.rnix_green.specs.Range.{bounds_of};
 ghost use Rattle.rnix_grammar.specs.Fault.{fault_of};
-ghost use Rattle.rnix.specs.Reading.{root_of};
+ghost use Rattle.rnix.specs.ParseResult.{root_of};
 ghost use Rattle.nix_diagnostics.specs.Places.{end_of_items, error_range, own_range, place_of};
 ghost use Rattle.nix_diagnostics.specs.Shown.{IsFolded, AreShown};
 

@@ -8,7 +8,7 @@ pub const BEFORE_TITLE: &str = "<!DOCTYPE html>
 <meta name='color-scheme' content='light dark'>
 <title>";
 
-/// What stands between the title and the heading.
+/// What comes between the title and the heading.
 pub const AFTER_TITLE: &str = "</title>
 <style>
 :root {
@@ -35,7 +35,8 @@ main, nav { overflow: auto; padding: 1em }
 nav { border-left: 1px solid var(--line); background: var(--side) }
 pre { margin: 0; font: inherit; white-space: pre-wrap; overflow-wrap: anywhere; position: relative; padding: 0 0 1.5em 4.5em; counter-reset: line }
 pre b { counter-increment: line }
-pre b::before { content: counter(line); position: absolute; left: 0; width: 3.5em; text-align: right; color: var(--dim); font-weight: normal; font-style: normal }
+pre b::before { content: counter(line); position: absolute; left: 0; width: 3.5em; text-align: right; \
+    color: var(--dim); font-weight: normal; font-style: normal }
 details { padding-left: 1em }
 details > div { padding-left: 2em; overflow-wrap: anywhere }
 .plain nav .trivia { display: none }
@@ -70,7 +71,7 @@ dt { font-weight: bold }
 <header>
 <h1>";
 
-/// What stands between the heading and the source.
+/// What comes between the heading and the source.
 pub const AFTER_HEADING: &str = "</h1>
 <input id='search' type='search' placeholder='Search ( / )' aria-label='Search the tree' size='14'>
 <span id='count' aria-live='polite'></span>
@@ -81,7 +82,7 @@ pub const AFTER_HEADING: &str = "</h1>
 </header>
 ";
 
-/// What stands between the tree and the script.
+/// What comes between the tree and the script.
 pub const AFTER_TREE: &str = "<footer id='place'></footer>
 <dialog id='keys'>
 <dl>

@@ -9,7 +9,7 @@ use Rattle.nix_scopes.specs.{Alike.IsResolution, Occurrences.{IsNameAt, binding_
 use Rattle.nix_rename.specs.declared.{refusal.Refusal.Refusal, rename.Renaming.Renaming}
 use Rattle.nix_rename.specs.declared.refusal.Refusal.TheVariants as refusal
 use Rattle.nix_rename.specs.declared.rename.Renaming.TheVariants as renaming
-use Rattle.rnix.specs.Reading.{Reading, root_of}
+use Rattle.rnix.specs.ParseResult.{Reading, root_of}
 use Rattle.nix_rename.specs.Renamed.{IsRead, IsNameIn, IsNoName, AreThese, ResolvesLike, ResolvesUnlike, IsName, IsNamed, IsReason, IsMeant, IsRenamed, IsHindered, IsCause, IfRenamed, IfRefused}
 
 -- a list is empty if its length is 0

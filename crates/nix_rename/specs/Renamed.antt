@@ -8,7 +8,7 @@ use Rattle.rnix_green.specs.Tree.{Located, item_of, extent_of, text_at}
 use Rattle.rnix_base.specs.Select.{child_of}
 use Rattle.rnix_grammar.specs.Parsed.{IsParsed}
 use Rattle.rnix.specs.NodeKinds.{is_expr}
-use Rattle.rnix.specs.Reading.{Reading, root_of}
+use Rattle.rnix.specs.ParseResult.{Reading, root_of}
 use Rattle.nix_scopes.specs.declared.resolution.Binding.{Binding}
 use Rattle.nix_scopes.specs.declared.resolution.Resolution.{Resolution}
 use Rattle.nix_scopes.specs.Occurrences.{IsNameAt, binding_at, occurrences_of}

@@ -77,7 +77,8 @@ pub number_kept : (bindings more : List Bound) (text : List ℕ) (scope : Locate
     number_in (bindings ++ more) text scope ≡ number_in bindings text scope
 number_kept bindings more text scope all =
     position-append (binds scope text) 0 (length bindings) bindings more (omega arith)
-    ∙ ap (option_or (number_in bindings text scope)) (position_none (binds scope text) (length bindings) more (λ k d l. and_left _ _ (is_above _ _ (all k d l))))
+    ∙ ap (option_or (number_in bindings text scope))
+    (position_none (binds scope text) (length bindings) more (λ k d l. and_left _ _ (is_above _ _ (all k d l))))
     ∙ or_none (number_in bindings text scope)
 
 -- a binding of the scope is added
@@ -85,7 +86,8 @@ pub number_bound : (bindings : List Bound) (text : List ℕ) (scope : Located) (
     number_in (bindings ++ b ∷ []) text scope ≡ number_or (number_in bindings text scope) b.text text (length bindings)
 number_bound bindings text scope b same =
     position-append (binds scope text) 0 (length bindings) bindings (b ∷ []) (omega arith)
-    ∙ ap (λ test. option_or (number_in bindings text scope) (cond (test && bytes_eq b.text text) (Some (length bindings)) None)) (is_same b.scope.number scope.number same)
+    ∙ ap (λ test. option_or (number_in bindings text scope) (cond (test && bytes_eq b.text text) (Some (length bindings)) None))
+    (is_same b.scope.number scope.number same)
     ∙ ap (option_or (number_in bindings text scope)) (chosen (bytes_eq b.text text))
   where
     chosen : (b : Bool) → cond b (Some (length bindings)) None ≡ (if b then Some (length bindings) else None)

@@ -7,7 +7,7 @@ use Rattle.rnix_green.proofs.{PartLemmas.{IsPart, IsOne, one_leaf, one_node, par
 use Rattle.rnix_kinds.specs.declared.kinds.SyntaxKind.{SyntaxKind}
 use Rattle.rnix_green.{specs.{Tree.forest_of, Relatives.{parent_of, located}}, proofs.InsideLemmas.elements_in_all}
 use Rattle.{nix_scopes.specs.Scopes.around, rnix_tree.specs.Around.ancestors_if}
-use Rattle.rnix_tree.proofs.{AncestorLemmas.ancestors_step, StandingItems.{Stands, first_item, front_stands, back_stands}}
+use Rattle.rnix_tree.proofs.{AncestorLemmas.ancestors_step, ItemsAt.{HasItemsAt, first_item, front_items, back_items}}
 use Rattle.nix_scopes.proofs.WalkLemmas.{node_events-append, absent_part}
 
 -- the nodes that are left later and are not entered before: those that are open, the innermost first
@@ -24,7 +24,8 @@ IsBelow e (parent ∷ nodes) = parent_of e ≡ Some parent
 -- each node is entered where those around it are open, at higher and higher numbers
 abbrev pub Placed : Located → ℕ → List NodeEvent → Type 0
 Placed root n [] = Unit {0}
-Placed root n ((true, e) ∷ es) = (n ≤ e.number) × (open_nodes es ≡ around root e) × (around root e ≡ e ∷ drop 1 (open_nodes es)) × IsBelow e (drop 1 (open_nodes es))
+Placed root n ((true, e) ∷ es) =
+    (n ≤ e.number) × (open_nodes es ≡ around root e) × (around root e ≡ e ∷ drop 1 (open_nodes es)) × IsBelow e (drop 1 (open_nodes es))
     × Placed root (e.number + 1) es
 Placed root n ((false, e) ∷ es) = Placed root n es
 
@@ -66,16 +67,17 @@ around_child : (root : Located) (t : Tree) (n p : ℕ) → n < length (items_of 
     around root (record { tree = t; number = n }) ≡ record { tree = t; number = n } ∷ around root (record { tree = t; number = p })
 around_child root t n p l e inside =
     ap (filter (within root)) (ancestors_step t n l)
-    ∙ cond-true (within root (record { tree = t; number = n })) (record { tree = t; number = n } ∷ filter (within root) (ancestors_if t (item t n).parent)) _ (le-leb root.number n inside)
+    ∙ cond-true (within root (record { tree = t; number = n })) (record { tree = t; number = n } ∷ filter (within root) (ancestors_if t (item t n).parent)) _
+    (le-leb root.number n inside)
     ∙ ap (λ parent. record { tree = t; number = n } ∷ filter (within root) (ancestors_if t parent)) e
 
 -- the first item of a row that stands in the tree is there
-there : (t : Tree) (n : ℕ) (i : Item) (is : List Item) → Stands t n (i ∷ is) → n < length (items_of t)
+there : (t : Tree) (n : ℕ) (i : Item) (is : List Item) → HasItemsAt t n (i ∷ is) → n < length (items_of t)
 there t n i is h = omega (arith, ap length h.split, length-append h.before ((i ∷ is) ++ h.after), h.counted)
 
 -- a part of the tree stands in it
-part_stands : (t : Tree) (n : ℕ) (part : Forest) (h : IsPart 0 n part (items_of t)) → Stands t n (items_from n h.start h.parent part)
-part_stands t n part h = record { before = h.before; after = h.after; split = h.split; counted = omega (arith, h.counted) }
+part_items : (t : Tree) (n : ℕ) (part : Forest) (h : IsPart 0 n part (items_of t)) → HasItemsAt t n (items_from n h.start h.parent part)
+part_items t n part h = record { before = h.before; after = h.after; split = h.split; counted = omega (arith, h.counted) }
 
 -- the parent of an element is the next node around it
 parent_around : (root : Located) (t : Tree) (n : ℕ) → n < length (items_of t) → root.number ≤ n →
@@ -83,7 +85,8 @@ parent_around : (root : Located) (t : Tree) (n : ℕ) → n < length (items_of t
 parent_around root t n l inside =
     let all : around root (record { tree = t; number = n }) ≡ record { tree = t; number = n } ∷ filter (within root) (ancestors_if t (item t n).parent) =
     ap (filter (within root)) (ancestors_step t n l)
-    ∙ cond-true (within root (record { tree = t; number = n })) (record { tree = t; number = n } ∷ filter (within root) (ancestors_if t (item t n).parent)) _ (le-leb root.number n inside) in
+    ∙ cond-true (within root (record { tree = t; number = n })) (record { tree = t; number = n } ∷ filter (within root) (ancestors_if t (item t n).parent)) _
+    (le-leb root.number n inside) in
     subst (λ nodes. IsBelow (record { tree = t; number = n }) (drop 1 nodes)) (sym all) (outwards (item t n).parent refl)
   where
     outwards : (parent : Option ℕ) → (item t n).parent ≡ parent → IsBelow (record { tree = t; number = n }) (filter (within root) (ancestors_if t parent))
@@ -93,9 +96,11 @@ parent_around root t n l inside =
           subst (IsBelow (record { tree = t; number = n })) (sym (none_held root t p (p + 1) (omega (arith, out)))) tt
       | inr more ↦
           let there = parent_is_before t n p l e in
-          let first : filter (within root) (ancestors_of record { tree = t; number = p }) ≡ record { tree = t; number = p } ∷ filter (within root) (ancestors_if t (item t p).parent) =
+          let first : filter (within root) (ancestors_of record { tree = t; number = p }) ≡ record { tree = t; number = p } ∷ filter (within root)
+          (ancestors_if t (item t p).parent) =
           ap (filter (within root)) (ancestors_step t p (omega (arith, l, there)))
-          ∙ cond-true (within root (record { tree = t; number = p })) (record { tree = t; number = p } ∷ filter (within root) (ancestors_if t (item t p).parent)) _ (le-leb root.number p more) in
+          ∙ cond-true (within root (record { tree = t; number = p }))
+          (record { tree = t; number = p } ∷ filter (within root) (ancestors_if t (item t p).parent)) _ (le-leb root.number p more) in
           subst (IsBelow (record { tree = t; number = n })) (sym first) (ap (located t) e)
     ]
 
@@ -131,35 +136,37 @@ node_row t n k c f later is_node =
     ∙ ap (λ b. (true, here) ∷ (node_events (map (event_at t) (steps_from (n + 1) c)) ++ ((if b then (false, here) ∷ outer else outer) ++ later))) is_node
 
 -- each node of a row is entered where those around it are open
-walked_row : (root : Located) (t : Tree) (n s p : ℕ) (f : Forest) (later : List NodeEvent) → Stands t n (items_from n s (Some p) f) →
+walked_row : (root : Located) (t : Tree) (n s p : ℕ) (f : Forest) (later : List NodeEvent) → HasItemsAt t n (items_from n s (Some p) f) →
     root.number ≤ n → open_nodes later ≡ around root (record { tree = t; number = p }) → Placed root (n + element_count f) later →
     IsWalked root n (row t n f later) later
-walked_row root t n s p empty later stands inside are_open placed = record { placed = placed_lower root n (n + 0) later (omega arith) placed; opened = refl }
-walked_row root t n s p (leaf k x f) later stands inside are_open placed =
-    let own = first_item t n _ _ stands in
-    let more = walked_row root t (n + 1) (s + length x) p f later (back_stands t n (n + 1) (_ ∷ []) _ (omega arith) stands) (omega (arith, inside)) are_open
+walked_row root t n s p empty later has_items inside are_open placed = record { placed = placed_lower root n (n + 0) later (omega arith) placed; opened = refl }
+walked_row root t n s p (leaf k x f) later has_items inside are_open placed =
+    let own = first_item t n _ _ has_items in
+    let more = walked_row root t (n + 1) (s + length x) p f later (back_items t n (n + 1) (_ ∷ []) _ (omega arith) has_items) (omega (arith, inside)) are_open
     (placed_lower root (n + 1 + element_count f) (n + suc (element_count f)) later (omega arith) placed) in
     subst (λ es. IsWalked root n es later) (sym (token_row t n k x f later (ap (λ (i : Item). i.is_node) own)))
     (record { placed = placed_lower root n (n + 1) (row t (n + 1) f later) (omega arith) more.placed; opened = more.opened })
-walked_row root t n s p (node k c f) later stands inside are_open placed =
+walked_row root t n s p (node k c f) later has_items inside are_open placed =
     let here : Located = record { tree = t; number = n } in
-    let own = first_item t n _ _ stands in
-    let behind = back_stands t n (n + 1) (_ ∷ []) _ (omega arith) stands in
+    let own = first_item t n _ _ has_items in
+    let behind = back_items t n (n + 1) (_ ∷ []) _ (omega arith) has_items in
     let count = length-items_from (n + 1) s (Some n) c in
-    let around_here = around_child root t n p (there t n _ _ stands) (ap (λ (i : Item). i.parent) own) inside in
+    let around_here = around_child root t n p (there t n _ _ has_items) (ap (λ (i : Item). i.parent) own) inside in
     let after = walked_row root t (n + 1 + element_count c) (s + length (text_of c)) p f later
-    (back_stands t (n + 1) (n + 1 + element_count c) (items_from (n + 1) s (Some n) c) _ (omega (arith, count)) behind)
-    (omega (arith, inside)) are_open (placed_lower root (n + 1 + element_count c + element_count f) (n + suc (element_count c + element_count f)) later (omega arith) placed) in
+    (back_items t (n + 1) (n + 1 + element_count c) (items_from (n + 1) s (Some n) c) _ (omega (arith, count)) behind)
+    (omega (arith, inside)) are_open
+    (placed_lower root (n + 1 + element_count c + element_count f) (n + suc (element_count c + element_count f)) later (omega arith) placed) in
     let left : List NodeEvent = (false, here) ∷ row t (n + 1 + element_count c) f later in
     let left_open : open_nodes left ≡ around root here = ap (λ es. here ∷ es) (after.opened ∙ are_open) ∙ sym around_here in
-    let inner = walked_row root t (n + 1) s n c left (front_stands t (n + 1) (items_from (n + 1) s (Some n) c) _ behind) (omega (arith, inside)) left_open after.placed in
+    let inner =
+    walked_row root t (n + 1) s n c left (front_items t (n + 1) (items_from (n + 1) s (Some n) c) _ behind) (omega (arith, inside)) left_open after.placed in
     subst (λ es. IsWalked root n es later) (sym (node_row t n k c f later (ap (λ (i : Item). i.is_node) own)))
     (record {
       placed = (
         omega arith,
         inner.opened ∙ left_open,
         sym left_open ∙ ap (λ es. here ∷ drop 1 es) (sym inner.opened),
-        subst (λ es. IsBelow here (drop 1 es)) (sym (inner.opened ∙ left_open)) (parent_around root t n (there t n _ _ stands) inside),
+        subst (λ es. IsBelow here (drop 1 es)) (sym (inner.opened ∙ left_open)) (parent_around root t n (there t n _ _ has_items) inside),
         inner.placed,
       );
       opened = ap (drop 1) inner.opened ∙ after.opened;
@@ -171,23 +178,25 @@ walk_placed root = elim (cases_lt root.number (length (items_of root.tree))) [
   | inl there ↦ walked (part_at root) (part_there root.tree root.number there) (one_there root.tree root.number there) there
   | inr absent ↦
       let none : part_at root ≡ empty = absent_part root.number 0 (forest_of root.tree) (omega (arith, elements_in_all root.tree)) in
-      subst (λ f. IsWalked root root.number (node_events (map (event_at root.tree) (steps_from root.number f))) []) (sym none) (record { placed = tt; opened = refl })
+      subst (λ f. IsWalked root root.number (node_events (map (event_at root.tree) (steps_from root.number f))) []) (sym none)
+      (record { placed = tt; opened = refl })
 ]
   where
     walked : (part : Forest) → IsPart 0 root.number part (items_of root.tree) → IsOne part → root.number < length (items_of root.tree) →
         IsWalked root root.number (node_events (map (event_at root.tree) (steps_from root.number part))) []
     walked _ h (one_leaf k x) l =
-        let own = first_item root.tree root.number _ _ (part_stands root.tree root.number _ h) in
+        let own = first_item root.tree root.number _ _ (part_items root.tree root.number _ h) in
         let none : row root.tree root.number (leaf k x empty) [] ≡ [] = token_row root.tree root.number k x empty [] (ap (λ (i : Item). i.is_node) own) in
-        subst (λ es. IsWalked root root.number es []) (sym (sym (append-nil (node_events (map (event_at root.tree) (steps_from root.number (leaf k x empty))))) ∙ none)) (record { placed = tt; opened = refl })
+        subst (λ es. IsWalked root root.number es []) (sym (sym (append-nil (node_events (map (event_at root.tree) (steps_from root.number (leaf k x empty)))))
+        ∙ none)) (record { placed = tt; opened = refl })
     walked _ h (one_node k c) l =
-        let stands = part_stands root.tree root.number _ h in
-        let own = first_item root.tree root.number _ _ stands in
-        let behind = back_stands root.tree root.number (root.number + 1) (_ ∷ []) _ (omega arith) stands in
+        let has_items = part_items root.tree root.number _ h in
+        let own = first_item root.tree root.number _ _ has_items in
+        let behind = back_items root.tree root.number (root.number + 1) (_ ∷ []) _ (omega arith) has_items in
         let left : List NodeEvent = (false, root) ∷ [] in
         let left_open : open_nodes left ≡ around root root = sym (around_root root l) in
         let inner = walked_row root root.tree (root.number + 1) h.start root.number c left
-        (front_stands root.tree (root.number + 1) (items_from (root.number + 1) h.start (Some root.number) c) _ behind) (omega arith) left_open tt in
+        (front_items root.tree (root.number + 1) (items_from (root.number + 1) h.start (Some root.number) c) _ behind) (omega arith) left_open tt in
         subst (λ es. IsWalked root root.number es [])
         (sym (sym (append-nil (node_events (map (event_at root.tree) (steps_from root.number (node k c empty)))))
         ∙ node_row root.tree root.number k c empty [] (ap (λ (i : Item). i.is_node) own)))

@@ -45,7 +45,8 @@ module _ {S : Type 0} (bindings more all : List Bound) (n : ℕ) (maps : List (N
   -- or in those outside of the parent, if that is a scope
   found_outside : (b : Bool) (parent : Located) (outer : List Located) → AreOpen bindings n maps (cond b (parent ∷ outer) outer) →
       found_in (take (if b then length maps - 1 else length maps) maps) text ≡ innermost all text outer
-  found_outside true parent outer h = found_in_all bindings more all n (take (length maps - 1) maps) outer text is later (outer_open bindings n maps parent outer h)
+  found_outside true parent outer h =
+      found_in_all bindings more all n (take (length maps - 1) maps) outer text is later (outer_open bindings n maps parent outer h)
   found_outside false parent outer h = found_in_scopes outer h
 
   -- an `inherit` looks outside of its set
@@ -56,13 +57,15 @@ module _ {S : Type 0} (bindings more all : List Bound) (n : ℕ) (maps : List (N
       take_none : (count : ℕ) → take {A = Numbers S} count [] ≡ []
       take_none count = take_all count [] (omega arith)
   found_inherited (parent ∷ outer) below h =
-      ap (λ o. found_in (take (if is_in_scope o then length maps - 1 else length maps) maps) text) below ∙ found_outside (is_scope parent) parent (filter is_scope outer) h
+      ap (λ o. found_in (take (if is_in_scope o then length maps - 1 else length maps) maps) text) below
+      ∙ found_outside (is_scope parent) parent (filter is_scope outer) h
 
   -- so it is of each node that is a name or an `inherit`
   found_at_node : (b : Bool) → (b ≡ true → is_scope e ≡ false) → IsBelow e nodes → AreOpen bindings n maps (filter is_scope (e ∷ nodes)) →
       found_in (take (if b then outer_count maps e else length maps) maps) text ≡ innermost all text (filter is_scope (drop (if b then 2 else 0) (e ∷ nodes)))
   found_at_node true no_scope below h =
-      found_inherited nodes below (subst (AreOpen bindings n maps) (cond-false (is_scope e) (e ∷ filter is_scope nodes) (filter is_scope nodes) (no_scope refl)) h)
+      found_inherited nodes below
+      (subst (AreOpen bindings n maps) (cond-false (is_scope e) (e ∷ filter is_scope nodes) (filter is_scope nodes) (no_scope refl)) h)
   found_at_node false no_scope below h = found_in_scopes (filter is_scope (e ∷ nodes)) h
 
 -- what a name refers to that a node is, or has as an `inherit`

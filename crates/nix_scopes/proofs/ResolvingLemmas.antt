@@ -8,7 +8,7 @@ use Rattle.rnix_base.specs.Select.{token_of}
 use Rattle.nix_scopes.specs.declared.{resolution.{Binding.Binding, Reference.Reference}, environment.Environment.Environment}
 use Rattle.nix_scopes.specs.{Names.Named, Binders.{is_binder, is_scope}, References.{references_at, references_in}, Bound.{bound_of, resolved_of, name_of, AreFirst}}
 use Rattle.nix_scopes.specs.Scopes.{Resolved, bindings_at, bindings_in, around, resolved_among, resolved_at, resolved_in}
-use Rattle.nix_scopes.specs.Resolving.{Sees, seen_at}
+use Rattle.nix_scopes.specs.Resolving.{Sees, resolve_at}
 use Rattle.nix_scopes.proofs.{WalkLemmas.{entered, walk_entered}, OpenLemmas.{open_nodes, Placed, walk_placed}, ScopeLemmas.sees_begun, ResolvedLemmas.{bound_later, seen_resolved}}
 
 -- what is found of a text before some events of the walk
@@ -70,10 +70,12 @@ found_begun root bindings references env events is none no_references no_scopes 
     }
 
 -- a node is entered
-pub found_entered : (root : Located) (bindings more : List Binding) (references others : List Reference) (env inner : Environment) (events later : List NodeEvent)
+pub found_entered : (root : Located) (bindings more : List Binding) (references others : List Reference) (env inner : Environment)
+    (events later : List NodeEvent)
     (e : Located) → IsFound root bindings references env events → events ≡ (true, e) ∷ later →
     ((n : ℕ) → (nodes : List Located) → n ≤ e.number → Sees bindings env n nodes → Sees more inner (e.number + 1) (e ∷ nodes)) →
-    map bound_of more ≡ map bound_of bindings ++ bindings_at e → map resolved_of others ≡ map resolved_of references ++ map (seen_at inner e) (references_at e) →
+    map bound_of more ≡ map bound_of bindings ++ bindings_at e →
+    map resolved_of others ≡ map resolved_of references ++ map (resolve_at inner e) (references_at e) →
     IsFound root more others inner later
 found_entered root bindings more references others env inner events later e found is sees bound referred =
     go (subst (IsFound root bindings references env) is found)
@@ -86,10 +88,11 @@ found_entered root bindings more references others env inner events later e foun
         let inside = sees h.number nodes h.placed.0 h.sees in
         let bound_is : map bound_of more ++ flat_map bindings_at (entered later) ≡ bindings_in root =
         more_listed bindings_at (map bound_of bindings) (map bound_of more) (bindings_in root) e (entered later) h.bound bound in
-        let same : map (seen_at inner e) (references_at e) ≡ resolved_at root e =
-        map_alike (seen_at inner e) (resolved_among (bindings_in root) (around root e) e)
+        let same : map (resolve_at inner e) (references_at e) ≡ resolved_at root e =
+        map_alike (resolve_at inner e) (resolved_among (bindings_in root) (around root e) e)
         (λ name. seen_resolved (map bound_of more) (flat_map bindings_at (entered later)) (bindings_in root) (e.number + 1) inner.scopes.items
-        inner.with_bodies.items e nodes name (sym bound_is) (bound_later root (e.number + 1) later h.placed.4) (inherit_no_scope e) h.placed.3 inside.scopes.around inside.bodies
+        inner.with_bodies.items e nodes name (sym bound_is) (bound_later root (e.number + 1) later h.placed.4) (inherit_no_scope e) h.placed.3
+        inside.scopes.around inside.bodies
         ∙ ap (λ around. resolved_among (bindings_in root) around e name) (sym around_is))
         (references_at e) in
         record {
@@ -103,7 +106,8 @@ found_entered root bindings more references others env inner events later e foun
         }
 
 -- the names of what is resolved in a text are its references
-pub names_resolved : (root : Located) (references : List Reference) → map resolved_of references ≡ resolved_in root → map name_of references ≡ references_in root
+pub names_resolved : (root : Located) (references : List Reference) → map resolved_of references ≡ resolved_in root →
+    map name_of references ≡ references_in root
 names_resolved root references is =
     names_again references ∙ ap (map name_in) is ∙ names_of_all (nodes_in (elements_of root))
   where
@@ -121,5 +125,6 @@ names_resolved root references is =
     names_of_all : (es : List Located) → map name_in (flat_map (resolved_at root) es) ≡ flat_map references_at es
     names_of_all [] = refl
     names_of_all (e ∷ es) =
-        map-append name_in (resolved_at root e) (flat_map (resolved_at root) es) ∙ ap (λ ns. ns ++ map name_in (flat_map (resolved_at root) es)) (names_at e (references_at e))
+        map-append name_in (resolved_at root e) (flat_map (resolved_at root) es)
+        ∙ ap (λ ns. ns ++ map name_in (flat_map (resolved_at root) es)) (names_at e (references_at e))
         ∙ ap (λ ns. references_at e ++ ns) (names_of_all es)

@@ -20,7 +20,8 @@ abbrev ident : ℕ → Forest → Forest
 ident c f = node k.NODE_IDENT (leaf k.TOKEN_IDENT (c ∷ []) empty) f
 
 abbrev entry : ℕ → Forest → Forest → Forest
-entry c value f = node k.NODE_ATTRPATH_VALUE (node k.NODE_ATTRPATH (ident c empty) (leaf k.TOKEN_ASSIGN (codes "=") (join value (leaf k.TOKEN_SEMICOLON (codes ";") empty)))) f
+entry c value f = node k.NODE_ATTRPATH_VALUE
+    (node k.NODE_ATTRPATH (ident c empty) (leaf k.TOKEN_ASSIGN (codes "=") (join value (leaf k.TOKEN_SEMICOLON (codes ";") empty)))) f
 
 abbrev number : Forest
 number = node k.NODE_LITERAL (leaf k.TOKEN_INTEGER (codes "1") empty) empty
@@ -40,7 +41,8 @@ later_entry = refl
 
 -- x: let inherit x; in x
 inherited : referred (node k.NODE_LAMBDA (node k.NODE_IDENT_PARAM (ident 120 empty) (leaf k.TOKEN_COLON (codes ":")
-    (let_in (node k.NODE_INHERIT (leaf k.TOKEN_INHERIT (codes "inherit") (leaf k.TOKEN_WHITESPACE (codes " ") (ident 120 (leaf k.TOKEN_SEMICOLON (codes ";") empty)))) empty) (ident 120 empty)))) empty)
+    (let_in (node k.NODE_INHERIT (leaf k.TOKEN_INHERIT (codes "inherit")
+    (leaf k.TOKEN_WHITESPACE (codes " ") (ident 120 (leaf k.TOKEN_SEMICOLON (codes ";") empty)))) empty) (ident 120 empty)))) empty)
     ≡ Some 0 ∷ Some 1 ∷ []
 inherited = refl
 

@@ -59,7 +59,8 @@ module _ {S : Type 0} where
   pub found_in_all : (bindings more all : List Bound) (n : ℕ) (maps : List (Numbers S)) (scopes : List Located) (text : List ℕ) → all ≡ bindings ++ more →
       All (λ (b : Bound). n ≤ b.scope.number) more → AreOpen bindings n maps scopes → found_in maps text ≡ innermost all text scopes
   found_in_all bindings more all n maps scopes text is later h =
-      found_open (bindings ++ more) n maps scopes text (open_kept bindings more n n maps scopes (omega arith) later h) ∙ ap (λ bs. innermost bs text scopes) (sym is)
+      found_open (bindings ++ more) n maps scopes text (open_kept bindings more n n maps scopes (omega arith) later h)
+      ∙ ap (λ bs. innermost bs text scopes) (sym is)
 
   -- all but the last
   but_last : (xs ys : List (Numbers S)) (x : Numbers S) → xs ≡ ys ++ x ∷ [] → take (length xs - 1) xs ≡ ys
@@ -73,22 +74,26 @@ module _ {S : Type 0} where
       take_front (u ∷ us) vs = ap (λ ws. u ∷ ws) (take_front us vs)
 
   -- the scopes outside of the innermost one
-  pub outer_open : (bindings : List Bound) (n : ℕ) (maps : List (Numbers S)) (scope : Located) (outer : List Located) → AreOpen bindings n maps (scope ∷ outer) →
+  pub outer_open : (bindings : List Bound) (n : ℕ) (maps : List (Numbers S)) (scope : Located) (outer : List Located) →
+      AreOpen bindings n maps (scope ∷ outer) →
       AreOpen bindings n (take (length maps - 1) maps) outer
   outer_open bindings n maps scope outer h = subst (λ ms. AreOpen bindings n ms outer) (sym (but_last maps h.1 h.0 h.2)) h.5
 
   -- nothing is seen at the beginning
   pub sees_begun : (bindings : List Bound) (maps : List (Numbers S)) (n : ℕ) → bindings ≡ [] → maps ≡ [] → IsAround bindings maps n []
-  sees_begun bindings maps n none no_maps = record { behind = subst (All (λ (b : Bound). b.scope.number < n)) (sym none) (λ k d l. absurd (omega (arith, l))); are_open = no_maps }
+  sees_begun bindings maps n none no_maps =
+      record { behind = subst (All (λ (b : Bound). b.scope.number < n)) (sym none) (λ k d l. absurd (omega (arith, l))); are_open = no_maps }
 
   -- a scope is entered
-  pub sees_scope : (bindings new more : List Bound) (maps wider : List (Numbers S)) (numbers : Numbers S) (n : ℕ) (e : Located) (nodes : List Located) → is_scope e ≡ true →
+  pub sees_scope : (bindings new more : List Bound) (maps wider : List (Numbers S)) (numbers : Numbers S) (n : ℕ) (e : Located) (nodes : List Located) →
+      is_scope e ≡ true →
       n ≤ e.number → more ≡ bindings ++ new → wider ≡ maps ++ numbers ∷ [] → All (λ (b : Bound). b.scope.number ≡ e.number) new → AreNumbers more e numbers →
       IsAround bindings maps n nodes → IsAround more wider (e.number + 1) (e ∷ nodes)
   sees_scope bindings new more maps wider numbers n e nodes scope l is pushed own known h = record {
     behind =
         subst (All (λ (b : Bound). b.scope.number < e.number + 1)) (sym is)
-        (All-append (λ (b : Bound). b.scope.number < e.number + 1) bindings new (λ k d i. omega (arith, h.behind k d i, l)) (λ k d i. omega (arith, own k d i)));
+        (All-append (λ (b : Bound). b.scope.number < e.number + 1) bindings new (λ k d i. omega (arith, h.behind k d i, l))
+        (λ k d i. omega (arith, own k d i)));
     are_open =
         subst (AreOpen more (e.number + 1) wider) (sym (cond-true (is_scope e) (e ∷ filter is_scope nodes) (filter is_scope nodes) scope)) (
           numbers,
@@ -174,7 +179,8 @@ module _ {S : Type 0} where
   -- another node is entered
   pub node_entered : (bindings : List Binding) (maps : List (Numbers S)) (e : Located) → is_scope e ≡ false → (n : ℕ) (nodes : List Located) → n ≤ e.number →
       SeesScopes bindings maps n nodes → SeesScopes bindings maps (e.number + 1) (e ∷ nodes)
-  node_entered bindings maps e no_scope n nodes l h = record { around = sees_node (map bound_of bindings) maps n e nodes no_scope l h.around; firsts = h.firsts }
+  node_entered bindings maps e no_scope n nodes l h =
+      record { around = sees_node (map bound_of bindings) maps n e nodes no_scope l h.around; firsts = h.firsts }
 
   -- a scope is left
   pub scope_left : (bindings : List Binding) (maps narrower : List (Numbers S)) (e : Located) → is_scope e ≡ true → narrower ≡ take (length maps - 1) maps →

@@ -17,7 +17,8 @@ entered (e ∷ es) = if e.0 then e.1 ∷ entered es else entered es
 pub node_events-append : (xs ys : List Event) → node_events (xs ++ ys) ≡ node_events xs ++ node_events ys
 node_events-append [] ys = refl
 node_events-append (x ∷ xs) ys =
-    elim x.1.0 as (λ b. (if b then (x.0, x.1.1) ∷ node_events (xs ++ ys) else node_events (xs ++ ys)) ≡ (if b then (x.0, x.1.1) ∷ node_events xs else node_events xs) ++ node_events ys) [
+    elim x.1.0 as (λ b. (if b then (x.0, x.1.1) ∷ node_events (xs ++ ys) else node_events (xs ++ ys)) ≡
+    (if b then (x.0, x.1.1) ∷ node_events xs else node_events xs) ++ node_events ys) [
       | true ↦ ap (λ es. (x.0, x.1.1) ∷ es) (node_events-append xs ys)
       | false ↦ node_events-append xs ys
     ]
@@ -59,7 +60,8 @@ leaves true e es = refl
 leaves false e es = refl
 
 -- the nodes of a row are entered in their order
-row_entered : (t : Tree) (n : ℕ) (f : Forest) → entered (node_events (map (event_at t) (steps_from n f))) ≡ nodes_in (map (spot_at t) (counted n (element_count f)))
+row_entered : (t : Tree) (n : ℕ) (f : Forest) →
+    entered (node_events (map (event_at t) (steps_from n f))) ≡ nodes_in (map (spot_at t) (counted n (element_count f)))
 row_entered t n empty = refl
 row_entered t n (leaf k x f) =
     let later : List Event = map (event_at t) (steps_from (n + 1) f) in

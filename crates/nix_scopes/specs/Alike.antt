@@ -5,7 +5,7 @@ use Rattle.rnix_green.specs.Tree.{Located, extent_of}
 use Rattle.nix_scopes.specs.declared.resolution.Binding.{Binding}
 use Rattle.nix_scopes.specs.declared.resolution.Reference.{Reference}
 use Rattle.nix_scopes.specs.declared.resolution.Resolution.{Resolution}
-use Rattle.nix_scopes.specs.declared.alike.NewName.{NewName}
+use Rattle.nix_scopes.specs.declared.renaming.NewName.{NewName}
 use Rattle.nix_scopes.specs.Scopes.{bindings_in, resolved_in}
 use Rattle.nix_scopes.specs.Bound.{bindings_of, references_of, bound_of, resolved_of, AreFirst}
 use Rattle.nix_scopes.specs.Occurrences.{is_number, occurrences_of}

@@ -6,7 +6,7 @@ use Rattle.rnix_kinds.specs.declared.kinds.SyntaxKind.TheVariants as k
 use Rattle.rnix_green.specs.Tree.{Located, item_of, text_at}
 use Rattle.rnix_base.specs.declared.parts.InterpolPart.{InterpolPart}
 use Rattle.rnix_base.specs.declared.parts.InterpolPart.TheVariants.{Literal}
-use Rattle.rnix.specs.Strings.{string_parts}
+use Rattle.rnix.specs.StringParts.{string_parts}
 
 -- a name, without quotes, and the node that writes it
 pub record Named : Type 0 where

@@ -23,22 +23,22 @@ is_behind_node e = has_two (nodes_in (siblings_of Prev e))
 
 -- whether an identifier whose parent has the kind is an expression: names are selected, inherited and bound too; behind the name of an entry
 -- of a pattern comes its default
-abbrev pub stands_for_value : SyntaxKind → Located → Bool
-stands_for_value k.NODE_ATTRPATH e = false
-stands_for_value k.NODE_INHERIT e = false
-stands_for_value k.NODE_IDENT_PARAM e = false
-stands_for_value k.NODE_PAT_BIND e = false
-stands_for_value k.NODE_PAT_ENTRY e = is_behind_node e
-stands_for_value _ e = true
+abbrev pub is_value_below : SyntaxKind → Located → Bool
+is_value_below k.NODE_ATTRPATH e = false
+is_value_below k.NODE_INHERIT e = false
+is_value_below k.NODE_IDENT_PARAM e = false
+is_value_below k.NODE_PAT_BIND e = false
+is_value_below k.NODE_PAT_ENTRY e = is_behind_node e
+is_value_below _ e = true
 
 -- the same, where there is a parent
-abbrev pub stands_in : Option Located → Located → Bool
-stands_in None e = false
-stands_in (Some parent) e = stands_for_value (item_of parent).kind e
+abbrev pub is_value_in : Option Located → Located → Bool
+is_value_in None e = false
+is_value_in (Some parent) e = is_value_below (item_of parent).kind e
 
 -- whether a node is a name at the place of an expression
 abbrev pub is_expression : Located → Bool
-is_expression e = same_kind (item_of e).kind k.NODE_IDENT && stands_in (parent_of e) e
+is_expression e = same_kind (item_of e).kind k.NODE_IDENT && is_value_in (parent_of e) e
 
 -- the names of an `inherit`, where they come from no expression of its own
 abbrev pub inherited_from : Option Located → Located → List Named
@@ -51,7 +51,8 @@ inherited_at e = inherited_from (child_of (same_kind k.NODE_INHERIT_FROM) 0 e) e
 
 -- the references that a node is, or has as an `inherit`
 abbrev pub references_at : Located → List Named
-references_at e = if is_expression e then record { text = text_at e; node = e } ∷ [] else (if same_kind k.NODE_INHERIT (item_of e).kind then inherited_at e else [])
+references_at e =
+    if is_expression e then record { text = text_at e; node = e } ∷ [] else (if same_kind k.NODE_INHERIT (item_of e).kind then inherited_at e else [])
 
 -- the references inside a node, in the order of the nodes that are or have them
 abbrev pub references_in : Located → List Named

@@ -77,8 +77,8 @@ abbrev pub outer_count : {S : Type 0} → List (Numbers S) → Located → ℕ
 outer_count maps inherit = if is_in_scope (parent_of inherit) then length maps - 1 else length maps
 
 -- what a name refers to in the outermost scopes, so many
-abbrev pub seen : Environment → ℕ → Bool → Named → Resolved
-seen around depth is_inherited name =
+abbrev pub resolve_name : Environment → ℕ → Bool → Named → Resolved
+resolve_name around depth is_inherited name =
     resolved is_inherited (not (length around.with_bodies.items == 0)) (found_in (take depth around.scopes.items) name.text) name
 
 -- in how many of the scopes a name is looked for that a node is, or has as an `inherit`
@@ -86,5 +86,5 @@ abbrev pub depth_at : {S : Type 0} → List (Numbers S) → Located → ℕ
 depth_at maps e = if same_kind k.NODE_INHERIT (item_of e).kind then outer_count maps e else length maps
 
 -- what the names refer to that a node is, or has as an `inherit`
-abbrev pub seen_at : Environment → Located → Named → Resolved
-seen_at around e name = seen around (depth_at around.scopes.items e) (same_kind k.NODE_INHERIT (item_of e).kind) name
+abbrev pub resolve_at : Environment → Located → Named → Resolved
+resolve_at around e name = resolve_name around (depth_at around.scopes.items e) (same_kind k.NODE_INHERIT (item_of e).kind) name

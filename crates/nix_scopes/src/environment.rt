@@ -1,4 +1,4 @@
-//! The scopes around the place where a walk stands, and the bodies of `with` around it.
+//! The scopes around the current node of a walk, and the bodies of `with` around it.
 
 ghost use Rattle.std.specs.Prelude.{◌≡◌, ◌==◌, ◌<◌, ◌≤◌, ◌++◌, ◌+◌, [], ◌∷◌, ℕ, List, length, map, take, not, IfOk, OnOk, Some};
 ghost use Rattle.std.specs.List.{All};
@@ -50,7 +50,8 @@ fn bind<'t>(
     ensures bindings { OnOk result (map bound_of bindings.new.items ≡ map bound_of bindings.old.items ++ bound_in scope.now (named name.now) ∷ []) }
     ensures numbers { OnOk result (AreNumbers (map bound_of bindings.old.items) scope.now numbers.old →
         AreNumbers (map bound_of bindings.new.items) scope.now numbers.new) }
-    ensures firsts { OnOk result (AreNumbers (map bound_of bindings.old.items) scope.now numbers.old → AreFirst bindings.old.items → AreFirst bindings.new.items) }
+    ensures firsts { OnOk result (AreNumbers (map bound_of bindings.old.items) scope.now numbers.old →
+        AreFirst bindings.old.items → AreFirst bindings.new.items) }
 {
     let first = number_or(numbers, name.text, bindings.len())?;
     bindings.push(Binding {

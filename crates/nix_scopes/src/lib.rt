@@ -1,11 +1,11 @@
 //! The names that a text binds, and the binding that each name in it refers to.
 #![tactic(auto)]
 
-mod alike;
 mod environment;
 mod names;
 mod occurrences;
 mod places;
+mod renaming;
 mod resolution;
 mod resolving;
 mod scopes;

@@ -5,7 +5,7 @@ ghost use Rattle.rnix_kinds.specs.declared.kinds.SyntaxKind.TheVariants as k;
 ghost use Rattle.rnix_green.specs.Equality.{same_kind};
 ghost use Rattle.rnix_base.specs.Select.{child_of};
 ghost use Rattle.rnix.specs.NodeKinds.{is_param};
-ghost use Rattle.rnix.specs.Strings.{string_parts};
+ghost use Rattle.rnix.specs.StringParts.{string_parts};
 ghost use Rattle.nix_scopes.specs.Names.{has_escape, plain_text, attr_text, named_if};
 ghost use Rattle.nix_scopes.specs.Binders.{named, ident_name, path_name, inherit_names, entry_names, entries_names};
 ghost use Rattle.nix_scopes.specs.Binders.{bind_name, pattern_names, param_names, lambda_names, names_bound};

@@ -1,7 +1,7 @@
-//! What stands at the place of an expression, and what stands in the body of a `with`.
+//! Which names are expressions, and which nodes are in the body of a `with`.
 
 ghost use Rattle.std.specs.Prelude.{◌≡◌};
-ghost use Rattle.nix_scopes.specs.References.{is_behind_node, stands_for_value, is_expression};
+ghost use Rattle.nix_scopes.specs.References.{is_behind_node, is_value_below, is_expression};
 ghost use Rattle.nix_scopes.specs.Scopes.{is_with_body};
 
 use rnix::{Direction, SyntaxKind, SyntaxNode};
@@ -15,9 +15,9 @@ fn is_behind_node(node: &SyntaxNode<'_>) -> bool
     nodes.next().is_some()
 }
 
-// Whether a name in a parent of a kind stands for a value: it is neither bound, nor inherited, nor a part of an attribute path.
-fn stands_for_value(parent: SyntaxKind, node: &SyntaxNode<'_>) -> bool
-    ensures { result ≡ stands_for_value parent node.now }
+// Returns whether a name in a parent of a kind is an expression: it is neither bound, nor inherited, nor a part of an attribute path.
+fn is_value_below(parent: SyntaxKind, node: &SyntaxNode<'_>) -> bool
+    ensures { result ≡ is_value_below parent node.now }
 {
     match parent {
         SyntaxKind::NODE_ATTRPATH
@@ -29,14 +29,14 @@ fn stands_for_value(parent: SyntaxKind, node: &SyntaxNode<'_>) -> bool
     }
 }
 
-/// Whether a node is a name that stands for a value.
+/// Returns whether a node is a name that is an expression.
 pub fn is_expression(node: &SyntaxNode<'_>) -> bool
     ensures { result ≡ is_expression node.now }
 {
     let Some(parent) = node.parent() else {
         return false;
     };
-    node.kind() == SyntaxKind::NODE_IDENT && stands_for_value(parent.kind(), node)
+    node.kind() == SyntaxKind::NODE_IDENT && is_value_below(parent.kind(), node)
 }
 
 /// Whether a node is the body of a `with`.

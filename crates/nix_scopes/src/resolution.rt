@@ -21,7 +21,7 @@ pub struct Binding<'t> {
     pub first: usize,
 }
 
-/// A name that stands for a value, or that is inherited from what is around its set or `let`.
+/// A name whose value is used, or that is inherited from what is around its set or `let`.
 #[derive(Drop)]
 pub struct Reference<'t> {
     /// The name, without quotes.
@@ -32,7 +32,7 @@ pub struct Reference<'t> {
     pub is_inherited: bool,
     /// The number of its binding, in the innermost scope around it that binds the name.
     pub binding: Option<usize>,
-    /// Whether it has no binding and stands in the body of a `with`, which may bring the name into sight. A name that has no binding and is
+    /// Whether it has no binding and is in the body of a `with`, which may bring the name into sight. A name that has no binding and is
     /// not open comes from outside of the text.
     pub is_open: bool,
 }
@@ -60,7 +60,7 @@ impl<'t> Resolution<'t> {
     }
 
     /// The binding that a node writes, or that it refers to; its first part, where it has several. What is bound by an `inherit` is both,
-    /// and answers what it binds.
+    /// and returns what it binds.
     pub fn binding_at(&self, node: &SyntaxNode<'_>) -> Option<&Binding<'t>>
         ensures { option_map (λ binding. binding.now) result ≡ binding_at self.now (extent_of node.now) }
     {

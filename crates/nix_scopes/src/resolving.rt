@@ -6,7 +6,7 @@ ghost use Rattle.nix_scopes.specs.Names.{attr_text, named_if};
 ghost use Rattle.nix_scopes.specs.Binders.{named};
 ghost use Rattle.nix_scopes.specs.References.{inherited_at, references_at, references_in};
 ghost use Rattle.nix_scopes.specs.Scopes.{bindings_in, resolved_in};
-ghost use Rattle.nix_scopes.specs.Resolving.{outer_count, seen, seen_at};
+ghost use Rattle.nix_scopes.specs.Resolving.{outer_count, resolve_name, resolve_at};
 
 use crate::environment::Environment;
 use crate::names::{Name, attr_text};
@@ -27,7 +27,7 @@ fn add_reference<'t>(
 ) -> Result<(), AllocError>
     requires { depth ≤ length around.now.scopes.items }
     ensures { OnOk result (map resolved_of references.new.items ≡ map resolved_of references.old.items
-        ++ seen around.now depth is_inherited (named name.entry) ∷ []) }
+        ++ resolve_name around.now depth is_inherited (named name.entry) ∷ []) }
 {
     let binding = around.binding(depth, name.text);
     references.push(Reference {
@@ -49,7 +49,7 @@ fn add_inherited<'t>(
 ) -> Result<(), AllocError>
     requires { depth ≤ length around.now.scopes.items }
     ensures { OnOk result (map resolved_of references.new.items ≡ map resolved_of references.old.items
-        ++ map (seen around.now depth true) (named_if node.now (attr_text node.now))) }
+        ++ map (resolve_name around.now depth true) (named_if node.now (attr_text node.now))) }
 {
     match attr_text(node) {
         Some(text) => {
@@ -60,7 +60,7 @@ fn add_inherited<'t>(
     }
 }
 
-// How many of the scopes around an `inherit` are around the `let` or the set that it stands in.
+// Returns how many of the scopes around an `inherit` are around its `let` or set.
 fn outer_depth(around: &Environment<'_>, inherit: &SyntaxNode<'_>) -> usize
     ensures count { result ≡ outer_count around.now.scopes.items inherit.now }
     ensures fits { result ≤ length around.now.scopes.items }
@@ -79,7 +79,7 @@ fn add_all_inherited<'t>(
     references: &mut Vec<Reference<'t>>,
 ) -> Result<(), AllocError>
     ensures { OnOk result (map resolved_of references.new.items ≡ map resolved_of references.old.items
-        ++ map (seen around.now (outer_count around.now.scopes.items inherit.now) true) (inherited_at inherit.now)) }
+        ++ map (resolve_name around.now (outer_count around.now.scopes.items inherit.now) true) (inherited_at inherit.now)) }
 {
     if inherit.from().is_some() {
         return Ok(());
@@ -98,7 +98,7 @@ fn add_references<'t>(
     references: &mut Vec<Reference<'t>>,
 ) -> Result<(), AllocError>
     ensures { OnOk result (map resolved_of references.new.items ≡ map resolved_of references.old.items
-        ++ map (seen_at around.now node.entry) (references_at node.entry)) }
+        ++ map (resolve_at around.now node.entry) (references_at node.entry)) }
 {
     if is_expression(&node) {
         let text = node.text();

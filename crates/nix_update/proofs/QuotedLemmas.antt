@@ -4,7 +4,7 @@ use Rattle.std.proofs.Common.{refl, sym, ap, ◌∙◌, codes, length, get_or, a
 use Rattle.std.proofs.lemmas.{Bool.{Decides.nat_tests, cases_lt}, List.{append-nil, nil_from_length}, Str.{encode_ascii, inside_one}}
 use Rattle.std.specs.Prelude.{encode_utf8}
 use Rattle.rnix_kinds.specs.Lexical.{Texts.begins, Strings.{content_len}}
-use Rattle.rnix_kinds.proofs.Lexical.StringsLemmas.{content_len-stop, content_len-piece}
+use Rattle.rnix_kinds.proofs.LexicalLemmas.StringsLemmas.{content_len-stop, content_len-piece}
 use Rattle.{rnix_base.specs.Escapes.{escaped, unescaped, values}, nix_update.specs.Quoted.{escape_of, IsQuoted}}
 use Rattle.rnix_base.proofs.EscapeLemmas.{unescaped_step}
 

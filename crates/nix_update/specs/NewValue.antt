@@ -7,7 +7,7 @@ use Rattle.rnix_green.specs.Tree.{Located, item_of, text_at}
 use Rattle.rnix_base.specs.Select.{child_of}
 use Rattle.rnix_grammar.specs.Parsed.{IsParsed}
 use Rattle.rnix.specs.NodeKinds.{is_expr}
-use Rattle.rnix.specs.Reading.{Reading, root_of}
+use Rattle.rnix.specs.ParseResult.{Reading, root_of}
 use Rattle.rnix_edit.specs.Edited.{IsReplaced}
 use Rattle.nix_update.specs.declared.value.Form.{Form}
 use Rattle.nix_update.specs.declared.value.Form.TheVariants as form

@@ -4,8 +4,8 @@ use Rattle.std.{proofs.lemmas.{Bool.{and_parts, cases_lt}, List.{get_or_past, Fo
 use Rattle.{rnix_kinds.specs.{declared.kinds.SyntaxKind.SyntaxKind, SyntaxKind.is_token, Lexical.Tokens.Lexeme}, rnix_green.specs.Equality.same_kind-decides}
 use Rattle.rnix_green.specs.{Forest.{Forest, empty, leaf, node, text_of, element_count}, Tree.{Item, Located, IsNodeAt, items_from, items_of, no_item, item_of}}
 use Rattle.{rnix_green.specs.Tree.forest_of, rnix_base.specs.Select.HasKind, rnix_grammar.specs.{Shape.item_kinds, Derivation.has_tokens_alone}}
-use Rattle.{rnix_grammar.specs.Parsed.IsParsed, rnix_lemmas.proofs.{SpelledLemmas.AreRuled, EntryNames.both_true}, rnix_rows.proofs.PartRows.HasRows}
-use Rattle.{rnix_rows.proofs.PartRows.{HasTokens, shaped_rows, parsed_tokens}, rnix.{specs.Whole.HasParts, proofs.{Seen.{node_in, sees}, KindParts.parts}}}
+use Rattle.{rnix_grammar.specs.Parsed.IsParsed, rnix_proof_lemmas.proofs.{SpelledLemmas.AreRuled, EntryNames.both_true}, rnix_proof_rows.proofs.PartRows.HasRows}
+use Rattle.{rnix_proof_rows.proofs.PartRows.{HasTokens, shaped_rows, parsed_tokens}, rnix.{specs.Whole.HasParts, proofs.{ChildKinds.{node_in, sees}, KindParts.parts}}}
 use Rattle.rnix_kinds.specs.declared.kinds.SyntaxKind.TheVariants as k
 
 -- a node of a tree whose nodes have their rows
@@ -36,7 +36,8 @@ token_parts _ n e = first_of (assumption, cc)
 absent_parts : (n : Located) → item_of n ≡ no_item → HasParts (item_of n).kind n
 absent_parts n e = subst (λ (i : Item). HasParts i.kind n) (sym e) tt
 
-present_parts : (n : Located) (b : Bool) → (item_of n).is_node ≡ b → HasRows (forest_of n.tree) → HasTokens (forest_of n.tree) → n.number < length (items_of n.tree) → is_sound (item_of n) ≡ true → HasParts (item_of n).kind n
+present_parts : (n : Located) (b : Bool) → (item_of n).is_node ≡ b → HasRows (forest_of n.tree) → HasTokens (forest_of n.tree) →
+    n.number < length (items_of n.tree) → is_sound (item_of n) ≡ true → HasParts (item_of n).kind n
 present_parts n true e r w there sound = node_parts n r w (record { is_there = there; is_node = e })
 present_parts n false e r w there sound = token_parts (item_of n).kind n (sym (ap (λ b. b || is_token (item_of n).kind) e) ∙ sound)
 
@@ -44,7 +45,8 @@ present_parts n false e r w there sound = token_parts (item_of n).kind n (sym (a
 any_parts : (n : Located) → HasRows (forest_of n.tree) → HasTokens (forest_of n.tree) → HasParts (item_of n).kind n
 any_parts n r w =
     elim (cases_lt n.number (length (items_of n.tree))) [
-      | inl there ↦ present_parts n (item_of n).is_node refl r w there (AllPass-from_list_all is_sound (items_of n.tree) (items_sound 0 0 None (forest_of n.tree) w) n.number no_item there)
+      | inl there ↦ present_parts n (item_of n).is_node refl r w there
+          (AllPass-from_list_all is_sound (items_of n.tree) (items_sound 0 0 None (forest_of n.tree) w) n.number no_item there)
       | inr past ↦ absent_parts n (get_or_past (items_of n.tree) n.number no_item past)
     ]
 

@@ -1,8 +1,8 @@
 mod AnyParts
-pub mod Chains
-pub mod Inside
+pub mod ChainLemmas
+pub mod RecursionLemmas
 mod KindParts
 pub mod SameParts
 mod SameTree
-mod Seen
+mod ChildKinds
 mod WholeLemmas

@@ -8,6 +8,7 @@ all_same (Literal t ∷ parts) = ap (λ p. Literal t ∷ p) (all_same parts)
 all_same (Interpolation i ∷ parts) = ap (λ p. Interpolation i ∷ p) (all_same parts)
 
 -- a vector of parts
-pub same_parts : {T I Z E : Type 0} (r : Result (Vec (InterpolPart T I) Z) E) (whole : List (InterpolPart T I)) → IfOk r (λ v. map (part_of (λ t. t) (λ i. i)) v.items ≡ whole) → IfOk r (λ v. v.items ≡ whole)
+pub same_parts : {T I Z E : Type 0} (r : Result (Vec (InterpolPart T I) Z) E) (whole : List (InterpolPart T I)) →
+    IfOk r (λ v. map (part_of (λ t. t) (λ i. i)) v.items ≡ whole) → IfOk r (λ v. v.items ≡ whole)
 same_parts (Ok v) whole h = sym (all_same v.items) ∙ h
 same_parts (Err e) whole h = h

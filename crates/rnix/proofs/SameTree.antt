@@ -11,7 +11,8 @@ IsIn t e = e.tree ≡ t
 nodes_stay : (t : Tree) (ns : List ℕ) → All (IsIn t) (nodes_in (map (spot_at t) ns))
 nodes_stay t [] = All-nil (IsIn t)
 nodes_stay t (n ∷ ns) = case_node (item t n).is_node (nodes_stay t ns) where
-  case_node : (b : Bool) → All (IsIn t) (nodes_in (map (spot_at t) ns)) → All (IsIn t) (if b then record { tree = t; number = n } ∷ nodes_in (map (spot_at t) ns) else nodes_in (map (spot_at t) ns))
+  case_node : (b : Bool) → All (IsIn t) (nodes_in (map (spot_at t) ns)) →
+      All (IsIn t) (if b then record { tree = t; number = n } ∷ nodes_in (map (spot_at t) ns) else nodes_in (map (spot_at t) ns))
   case_node true h = All-cons (IsIn t) _ _ refl h
   case_node false h = h
 
@@ -22,7 +23,8 @@ children_stay n kinds = All-filter (has_kind kinds) (IsIn n.tree) _ (nodes_stay 
 some_stays : (n : Located) (kinds : SyntaxKind → Bool) (number : ℕ) (c : Option Located) → child_of kinds number n ≡ c → IfSome c (λ c. c.tree ≡ n.tree)
 some_stays n kinds number None e = tt
 some_stays n kinds number (Some c) e =
-    subst (IsIn n.tree) (get_or_from_slice_get (nodes_of kinds n) number c c e) (children_stay n kinds number c (slice_get_within (nodes_of kinds n) number c e))
+    subst (IsIn n.tree) (get_or_from_slice_get (nodes_of kinds n) number c c e)
+    (children_stay n kinds number c (slice_get_within (nodes_of kinds n) number c e))
 
 -- the child of a number
 pub child_stays : (n : Located) (kinds : SyntaxKind → Bool) (number : ℕ) → IfSome (child_of kinds number n) (λ c. c.tree ≡ n.tree)

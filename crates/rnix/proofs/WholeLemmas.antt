@@ -3,10 +3,10 @@ use Rattle.std.proofs.{Common.{◌≡◌, ℕ, suc, Bool, true, false, cond, Lis
 use Rattle.std.specs.Prelude.{◌&&◌, ◌||◌, if◌then◌else◌, not, is_some, IsSome, slice_get, filter, find, option_map}
 use Rattle.rnix_kinds.{specs.{declared.kinds.SyntaxKind.SyntaxKind, SyntaxKind.{is_token, is_trivia}}, proofs.AllKinds.implied}
 use Rattle.{rnix_green.specs.{Equality.same_kind, Tree.{Located, item_of}, Walk.children_of}, rnix_base.specs.{Kinds.is_path_token, Select.has_kind}}
-use Rattle.rnix_base.specs.{Select.{tokens_in, child_of, token_of}, Operators.{or_else, first_operator, binary_operator, unary_operator}, Literal.first_literal}
-use Rattle.{rnix_grammar.specs.CompleteRows.is_row, rnix_lemmas.proofs.Basics.{true_is_not_false, not_if}, rnix_rows.proofs.RowCounts.{row_has, row_first, row_nth}}
-use Rattle.{rnix_rows.proofs.RowCounts.row_is, rnix.specs.{NodeKinds.{is_expr, is_param}, Presence.{HasToken, HasNode, HasExpr, AreTogether}}}
-use Rattle.rnix.proofs.Seen.{AreItems, AreNodes, exact_items, exact_nodes, Sees}
+use Rattle.rnix_base.specs.{Select.{tokens_in, child_of, token_of}, TokenOperators.{or_else, first_operator, binary_operator, unary_operator}, Literal.first_literal}
+use Rattle.{rnix_grammar.specs.CompleteRows.is_row, rnix_proof_lemmas.proofs.Basics.{true_is_not_false, not_if}, rnix_proof_rows.proofs.RowCounts.{row_has, row_first, row_nth}}
+use Rattle.{rnix_proof_rows.proofs.RowCounts.row_is, rnix.specs.{NodeKinds.{is_expr, is_param}, Presence.{HasToken, HasNode, HasExpr, AreTogether}}}
+use Rattle.rnix.proofs.ChildKinds.{AreItems, AreNodes, exact_items, exact_nodes, Sees}
 use Rattle.rnix_kinds.specs.declared.kinds.SyntaxKind.TheVariants as k
 use Rattle.rnix_base.specs.declared.literal.LiteralKind.TheVariants as literal
 
@@ -25,10 +25,14 @@ abbrev is_prefix : SyntaxKind → Bool
 is_prefix kind = is_some (unary_operator kind)
 
 infix_items : AreItems is_infix
-infix_items = record { token = implied is_infix is_token refl; item = λ j h. not_if (is_trivia j) (implied is_infix (λ j. if is_trivia j then false else true) refl j h) }
+infix_items =
+    record { token = implied is_infix is_token refl; item = λ j h. not_if (is_trivia j) (implied is_infix (λ j. if is_trivia j then false else true) refl j h) }
 
 prefix_items : AreItems is_prefix
-prefix_items = record { token = implied is_prefix is_token refl; item = λ j h. not_if (is_trivia j) (implied is_prefix (λ j. if is_trivia j then false else true) refl j h) }
+prefix_items = record {
+  token = implied is_prefix is_token refl;
+  item = λ j h. not_if (is_trivia j) (implied is_prefix (λ j. if is_trivia j then false else true) refl j h);
+}
 
 path_items : AreItems is_path_token
 path_items = record {
@@ -40,17 +44,18 @@ path_items = record {
 operator_found : {A : Type 0} (operator : SyntaxKind → Option A) (ts : List Located) → is_some (find (has_kind (λ kind. is_some (operator kind))) ts) ≡ true
     → is_some (first_operator operator ts) ≡ true
 operator_found operator [] h = absurd (true_is_not_false (sym h))
-operator_found {A = A} operator (t ∷ ts) h = by (operator (item_of t).kind) h (operator_found operator ts)
+operator_found {A = A} operator (t ∷ ts) h = operator_cases (operator (item_of t).kind) h (operator_found operator ts)
   where
-    by : (o : Option A) → is_some (cond (is_some o) (Some t) (find (has_kind (λ kind. is_some (operator kind))) ts)) ≡ true
+    operator_cases : (o : Option A) → is_some (cond (is_some o) (Some t) (find (has_kind (λ kind. is_some (operator kind))) ts)) ≡ true
         → (is_some (find (has_kind (λ kind. is_some (operator kind))) ts) ≡ true → is_some (first_operator operator ts) ≡ true)
         → is_some (or_else o (first_operator operator ts)) ≡ true
-    by (Some a) h ih = refl
-    by None h ih = ih h
+    operator_cases (Some a) h ih = refl
+    operator_cases None h ih = ih h
 
 -- a literal is found by one of its tokens
 literal_found : (a b c : Option Located)
-    → is_some (or_else (option_map literal.Float a) (or_else (option_map literal.Integer b) (option_map literal.Uri c))) ≡ (is_some a || (is_some b || is_some c))
+    → is_some (or_else (option_map literal.Float a) (or_else (option_map literal.Integer b) (option_map literal.Uri c))) ≡
+    (is_some a || (is_some b || is_some c))
 literal_found (Some a) b c = refl
 literal_found None (Some b) c = refl
 literal_found None None (Some c) = refl
@@ -106,10 +111,12 @@ pub lambda_param : {n : Located} → RowSeen k.NODE_LAMBDA n → IsSome (child_o
 lambda_param h = h.sees.nodes is_param param_nodes 0 ∙ row_nth k.NODE_LAMBDA h.kinds is_param 0 refl h.row
 
 pub bin_op_operator : {n : Located} → RowSeen k.NODE_BIN_OP n → IsSome (first_operator binary_operator (tokens_in (children_of n)))
-bin_op_operator {n} h = operator_found binary_operator (tokens_in (children_of n)) (h.sees.tokens is_infix infix_items ∙ row_first k.NODE_BIN_OP h.kinds is_infix refl h.row)
+bin_op_operator {n} h =
+    operator_found binary_operator (tokens_in (children_of n)) (h.sees.tokens is_infix infix_items ∙ row_first k.NODE_BIN_OP h.kinds is_infix refl h.row)
 
 pub unary_op_operator : {n : Located} → RowSeen k.NODE_UNARY_OP n → IsSome (first_operator unary_operator (tokens_in (children_of n)))
-unary_op_operator {n} h = operator_found unary_operator (tokens_in (children_of n)) (h.sees.tokens is_prefix prefix_items ∙ row_first k.NODE_UNARY_OP h.kinds is_prefix refl h.row)
+unary_op_operator {n} h =
+    operator_found unary_operator (tokens_in (children_of n)) (h.sees.tokens is_prefix prefix_items ∙ row_first k.NODE_UNARY_OP h.kinds is_prefix refl h.row)
 
 pub path_search_content : {n : Located} → RowSeen k.NODE_PATH_SEARCH n → IsSome (token_of is_path_token n)
 path_search_content h = h.sees.tokens is_path_token path_items ∙ row_first k.NODE_PATH_SEARCH h.kinds is_path_token refl h.row

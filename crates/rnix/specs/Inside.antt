@@ -5,7 +5,7 @@ use Rattle.rnix_green.specs.Equality.{same_kind}
 use Rattle.rnix_green.specs.Walk.{Spot}
 use Rattle.rnix_base.specs.Parts.{parts_of}
 use Rattle.rnix_base.specs.Interpolated.{parts_count}
-pub use Rattle.rnix_tree.specs.Inside.{inside_count, nodes_count, spots_count}
+pub use Rattle.rnix_tree.specs.InsideCounts.{inside_count, nodes_count, spots_count}
 pub use Rattle.rnix_base.specs.Select.{those_of}
 
 -- how many elements the interpolations of a string, among elements, are with what is inside them

@@ -1,8 +1,8 @@
 pub mod Inside
 pub mod NodeKinds
 pub mod Presence
-pub mod Reading
-pub mod Strings
+pub mod ParseResult
+pub mod StringParts
 pub mod Sums
 pub mod Whole
 pub mod WholeTree

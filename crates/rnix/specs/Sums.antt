@@ -62,6 +62,6 @@ abbrev pub entry_node : Entry → Located
 entry_node (entry.Inherit n) = n
 entry_node (entry.AttrpathValue n) = n
 
--- the answer is a value of which P holds, or a refusal, and then P holds of no value
+-- the result is a value of which P holds, or a refusal, and then P holds of no value
 abbrev pub IsCase : {T : Type 0} → Result T (Unit {0}) → (T → Type 0) → Type 0
 IsCase {T} answer P = MatchResult answer P (λ _. (value : T) → P value → ⊥)

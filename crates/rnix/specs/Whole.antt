@@ -7,7 +7,7 @@ use Rattle.rnix_green.specs.Equality.{same_kind}
 use Rattle.rnix_green.specs.Walk.{children_of}
 use Rattle.rnix_base.specs.Kinds.{is_path_token}
 use Rattle.rnix_base.specs.Select.{child_of, token_of, tokens_in}
-use Rattle.rnix_base.specs.Operators.{binary_operator, unary_operator, first_operator}
+use Rattle.rnix_base.specs.TokenOperators.{binary_operator, unary_operator, first_operator}
 use Rattle.rnix_base.specs.Literal.{first_literal}
 use Rattle.rnix.specs.NodeKinds.{is_expr, is_param}
 use Rattle.rnix.specs.Presence.{HasToken, HasNode, HasExpr, AreTogether}
@@ -17,7 +17,8 @@ abbrev pub HasParts : SyntaxKind → Located → Type 0
 HasParts k.NODE_IDENT n = HasToken k.TOKEN_IDENT n
 HasParts k.NODE_DYNAMIC n = HasToken k.TOKEN_INTERPOL_START n × HasToken k.TOKEN_INTERPOL_END n
 HasParts k.NODE_CUR_POS n = HasToken k.TOKEN_CUR_POS n
-HasParts k.NODE_SELECT n = HasExpr 0 n × HasToken k.TOKEN_DOT n × HasNode k.NODE_ATTRPATH n × AreTogether (token_of (same_kind k.TOKEN_OR) n) (child_of is_expr 1 n)
+HasParts k.NODE_SELECT n =
+    HasExpr 0 n × HasToken k.TOKEN_DOT n × HasNode k.NODE_ATTRPATH n × AreTogether (token_of (same_kind k.TOKEN_OR) n) (child_of is_expr 1 n)
 HasParts k.NODE_HAS_ATTR n = HasExpr 0 n × HasToken k.TOKEN_QUESTION n × HasNode k.NODE_ATTRPATH n
 HasParts k.NODE_APPLY n = HasExpr 0 n × HasExpr 1 n
 HasParts k.NODE_BIN_OP n = HasExpr 0 n × IsSome (first_operator binary_operator (tokens_in (children_of n))) × HasExpr 1 n

@@ -4,7 +4,7 @@ ghost use Rattle.std.specs.Prelude.{◌≡◌, map, slice_get, [], Some, IfOk, I
 ghost use Rattle.rnix_kinds.specs.Lexical.Tokens.{tokens_of};
 ghost use Rattle.rnix_grammar.specs.Fault.{fault_of};
 ghost use Rattle.rnix_grammar.specs.Parsed.{IsParsed};
-ghost use Rattle.rnix.specs.Reading.{root_of};
+ghost use Rattle.rnix.specs.ParseResult.{root_of};
 
 use crate::ast::Root;
 use rnix_grammar::ParseError;
@@ -28,7 +28,7 @@ impl Model for Parse {
     ghost use Rattle.rnix_kinds.specs.contracts.kinds.SyntaxKind as kinds;
     ghost use Rattle.rnix_kinds.specs.declared.kinds.SyntaxKind.TheVariants as k;
     ghost use Rattle.rnix_green.specs.Tree.{tree_code};
-    ghost use Rattle.rnix.specs.Reading.{Reading};
+    ghost use Rattle.rnix.specs.ParseResult.{Reading};
 
     ghost Value = { Reading };
 

@@ -1,7 +1,7 @@
 -- Selected children, with what is inside them, are no more than what is inside their parent.
 use Rattle.std.{proofs.Common.{◌≡◌, ℕ, zero, suc, ◌≤◌, ◌<◌, List, [], ◌∷◌, Bool, true, false, Option, Some, ap, arith}, specs.Prelude.{if◌then◌else◌, filter}}
 use Rattle.{std.specs.Prelude.slice_get, rnix_kinds.specs.declared.kinds.SyntaxKind.SyntaxKind, rnix_green.specs.{Tree.Located, Walk.{Spot, nodes_in}}}
-use Rattle.{rnix_green.specs.Walk.children_of, rnix_tree.{specs.Inside.{inside_count, nodes_count, spots_count, count_if}, proofs.CountsInside.children_fit}}
+use Rattle.{rnix_green.specs.Walk.children_of, rnix_tree.{specs.InsideCounts.{inside_count, nodes_count, spots_count, count_if}, proofs.CountsInside.children_fit}}
 use Rattle.{rnix_tree.proofs.CountsInside.child_nodes_fit, rnix_base.specs.{declared.parts.InterpolPart.TheVariants.{Literal, Interpolation}, Select.has_kind}}
 use Rattle.rnix_base.specs.{Select.{nodes_of, child_of}, Parts.parts_of, Interpolated.parts_count}
 

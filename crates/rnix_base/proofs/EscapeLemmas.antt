@@ -3,7 +3,7 @@ use Rattle.std.proofs.Common.{◌≡◌, ◌≢◌, ◌+◌, ◌-◌, ◌<◌, �
 use Rattle.std.proofs.{Common.{inl, inr, length, drop, get_or, codes, nat_lt, arith, length-append, add-one}, lemmas.Bool.{and_parts, cases_lt}}
 use Rattle.std.proofs.lemmas.{Bool.Decides.nat_tests, List.{drop_more, get_or_past, append-nil, nil_from_length}, Str.{inside_one, length-encode}}
 use Rattle.std.{proofs.lemmas.Str.{len_utf8_ascii, len_utf8_bounds}, specs.{Prelude.{encode_utf8, slice_index}, List.list_all, Char.len_utf8}}
-use Rattle.{std.specs.{Option.MatchOption, Str.Pattern.{StripsPrefix, FindsTextPrefix, LacksTextAt, HasPrefixMatch}}, rnix_kinds.specs.Lexical.Texts.stands_at}
+use Rattle.{std.specs.{Option.MatchOption, Str.Pattern.{StripsPrefix, FindsTextPrefix, LacksTextAt, HasPrefixMatch}}, rnix_kinds.specs.Lexical.Texts.occurs_at}
 use Rattle.{rnix_kinds.specs.Lexical.Texts.begins, rnix_base.specs.Escapes.{Piece, escaped, itself, first_piece, values, unescaped, Begins, Escapes}}
 use denote.Ref.{Bor}
 
@@ -79,10 +79,10 @@ unescaped_high m [] text h = refl
 unescaped_high m (b ∷ bytes) text h = unescaped_step m b (bytes ++ text) _ (high_piece m b (bytes ++ text) (h 0 (omega arith)))
     ∙ ap (λ t. b ∷ t) (unescaped_high m bytes text (λ k i. h (suc k) (omega arith)))
 
-first_stands : (m : Bool) (first : ℕ) (more rest : List ℕ) → ((k : ℕ) → k < length more → 128 ≤ get_or more k 0)
+first_unescaped : (m : Bool) (first : ℕ) (more rest : List ℕ) → ((k : ℕ) → k < length more → 128 ≤ get_or more k 0)
     → first_piece m (first ∷ (more ++ rest)) ≡ Some record { len = 1; value = first ∷ [] } → unescaped m (first ∷ (more ++ rest)) ≡ first
     ∷ (more ++ unescaped m rest)
-first_stands m first more rest high e = unescaped_step m first (more ++ rest) _ e ∙ ap (λ t. first ∷ t) (unescaped_high m more rest high)
+first_unescaped m first more rest high e = unescaped_step m first (more ++ rest) _ e ∙ ap (λ t. first ∷ t) (unescaped_high m more rest high)
 
 -- a character stands for itself where its first byte does
 pub character_begins : (m : Bool) (text value rest : List ℕ) → IsCharacter value → text ≡ value ++ rest → first_piece m text ≡ itself text
@@ -90,7 +90,7 @@ pub character_begins : (m : Bool) (text value rest : List ℕ) → IsCharacter v
 character_begins m text value rest one e free =
     let whole : text ≡ one.first ∷ (one.more ++ rest) = e ∙ ap (λ t. t ++ rest) one.split in
     record {
-      split = rw (whole, one.split) (first_stands m one.first one.more rest one.high (rw whole at free));
+      split = rw (whole, one.split) (first_unescaped m one.first one.more rest one.high (rw whole at free));
       shorter = omega (arith, ap length whole, length-append one.more rest);
     }
 
@@ -126,20 +126,20 @@ suc-both : (i n : ℕ) → suc i + suc n ≡ i + suc (suc n)
 suc-both i n = omega arith
 
 -- bytes that stand in a text are a part of it
-stands_splits : (bytes : List ℕ) (i : ℕ) (text : List ℕ) → list_all (nat_lt 0) bytes ≡ true → stands_at bytes i text ≡ true → drop i text ≡ bytes
+occurrence_splits : (bytes : List ℕ) (i : ℕ) (text : List ℕ) → list_all (nat_lt 0) bytes ≡ true → occurs_at bytes i text ≡ true → drop i text ≡ bytes
     ++ drop (i + length bytes) text
-stands_splits [] i text some e = ap (λ k. drop k text) (omega arith)
-stands_splits (b ∷ []) i text some e = at_byte b i text (grind (arith, nat_tests)) e
-stands_splits (b ∷ c ∷ bytes) i text some e =
+occurrence_splits [] i text some e = ap (λ k. drop k text) (omega arith)
+occurrence_splits (b ∷ []) i text some e = at_byte b i text (grind (arith, nat_tests)) e
+occurrence_splits (b ∷ c ∷ bytes) i text some e =
     at_byte b i text (grind (arith, nat_tests)) (and_parts _ _ e).0
-    ∙ ap (λ t. b ∷ t) (ap (λ k. drop k text) (add-one i) ∙ stands_splits (c ∷ bytes) (suc i) text (and_parts _ _ some).1 (and_parts _ _ e).1
+    ∙ ap (λ t. b ∷ t) (ap (λ k. drop k text) (add-one i) ∙ occurrence_splits (c ∷ bytes) (suc i) text (and_parts _ _ some).1 (and_parts _ _ e).1
     ∙ ap (λ k. (c ∷ bytes) ++ drop k text) (suc-both i (length bytes)))
 
 -- a text that does not begin with these bytes
 pub not_begun : (bytes text : List ℕ) → list_all (nat_lt 0) bytes ≡ true → ((rest : List ℕ) → text ≢ bytes ++ rest) → begins bytes text ≡ false
 not_begun bytes text some none =
     elim (begins bytes text) as (λ b. begins bytes text ≡ b → begins bytes text ≡ false) [
-      | true ↦ λ e. absurd (none (drop (0 + length bytes) text) (stands_splits bytes 0 text some e))
+      | true ↦ λ e. absurd (none (drop (0 + length bytes) text) (occurrence_splits bytes 0 text some e))
       | false ↦ λ e. e
     ] refl
 

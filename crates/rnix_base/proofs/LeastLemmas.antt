@@ -3,7 +3,7 @@ use Rattle.std.proofs.Common.{◌≡◌, ◌+◌, ◌≤◌, ◌++◌, ◌∙◌
 use Rattle.std.{proofs.{Common.{ap, map, arith}, lemmas.Bool.Decides.nat_tests}, specs.{Prelude.if◌then◌else◌, List.fold}}
 use Rattle.rnix_base.specs.{declared.{indent.Indent.Indent, parts.InterpolPart.TheVariants.{Literal, Interpolation}}, Normal.{Parts, Symbol, symbols, is_gap}}
 use Rattle.rnix_base.specs.{Normal.{is_feed, before_line, lines, indentation, has_text, least_indentation}, Indent.{indent_after, indent_behind, indent_of}}
-use Rattle.rnix_base.{specs.Indent.no_indent, proofs.LineLemmas.{lines_feed, lines_more}}
+use Rattle.rnix_base.{specs.Indent.no_indent, proofs.SymbolLineLemmas.{lines_feed, lines_more}}
 
 -- the least indentation of lines of which the first is read up to here: it has so many spaces, or text
 unfoldable pub least_from : Option ℕ → List (List Symbol) → ℕ

@@ -4,9 +4,9 @@ mod OperatorLemmas
 pub mod EscapeRows
 pub mod EscapeLemmas
 pub mod NormalRows
-pub mod KeptLemmas
+pub mod UnindentLemmas
 pub mod NormalLemmas
-pub mod LineLemmas
+pub mod SymbolLineLemmas
 pub mod LeastLemmas
-pub mod PartLemmas
-pub mod StepLemmas
+pub mod StringPartLemmas
+pub mod NextPartLemmas

@@ -2,7 +2,7 @@
 use Rattle.std.{specs.{Prelude.{◌≡◌, ℕ, Bool, false, Option, Some, None, find, nat_eq}, Option.unwrap_or}, proofs.Common.{ap, sym, refl, ◌∙◌}}
 use Rattle.rnix_kinds.{specs.declared.kinds.SyntaxKind.SyntaxKind, proofs.AllKinds.all_kinds}
 use Rattle.rnix_base.specs.{contracts.operators.{BinOpKind.the_type as binary_type, UnaryOpKind.the_type as unary_type}, declared.operators.BinOpKind.BinOpKind}
-use Rattle.rnix_base.specs.{declared.operators.UnaryOpKind.UnaryOpKind, Operators.{binary_operator, unary_operator, EachHasOneKind}}
+use Rattle.rnix_base.specs.{declared.operators.UnaryOpKind.UnaryOpKind, TokenOperators.{binary_operator, unary_operator, EachHasOneKind}}
 use Rattle.rnix_kinds.specs.declared.kinds.SyntaxKind.TheVariants as k
 use denote.Enum.Declared.{tag_of}
 

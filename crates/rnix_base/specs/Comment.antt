@@ -5,7 +5,7 @@ use Rattle.std.specs.Prelude.{◌≡◌, ◌⊎◌, ℕ, List, ◌++◌, codes}
 abbrev pub IsLine : List ℕ → List ℕ → Type 0
 IsLine text said = text ≡ codes "#" ++ said
 
--- what is said stands in the text between `/*` and `*/`
+-- the comment's text is that between `/*` and `*/`
 abbrev pub IsBlock : List ℕ → List ℕ → Type 0
 IsBlock text said = text ≡ codes "/*" ++ (said ++ codes "*/")
 

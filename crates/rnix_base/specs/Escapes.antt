@@ -1,17 +1,17 @@
--- What the text inside a string stands for: its pieces, each with its value, up to the first place where no piece fits.
+-- What the text inside a string means: its pieces, each with its value, up to the first place where no piece fits.
 use Rattle.std.specs.Prelude.{ℕ, zero, suc, ◌≡◌, ◌<◌, ◌+◌, ◌-◌, Bool, ◌==◌, if◌then◌else◌, nat_lt, List, [], ◌∷◌, ◌++◌, drop, length, codes, slice_index, encode_utf8, Option, Some, None}
 use Rattle.rnix_kinds.specs.Lexical.Texts.{begins}
 
--- a piece of a text: how many bytes it has, and what they stand for
+-- a piece of a text: how many bytes it has, and what they mean
 pub record Piece : Type 0 where
   pub len : ℕ
   pub value : List ℕ
 
--- what a byte behind a backslash stands for: `n`, `r` and `t` for a line feed, a carriage return and a tab, any other for itself
+-- what a byte after a backslash means: `n`, `r` and `t` for a line feed, a carriage return and a tab, any other for itself
 abbrev pub escaped : ℕ → ℕ
 escaped b = if b == 110 then 10 else (if b == 114 then 13 else (if b == 116 then 9 else b))
 
--- a byte that stands for itself, as each byte of a longer character does
+-- a byte that means itself, as each byte of a longer character does
 abbrev pub itself : List ℕ → Option Piece
 itself text = Some record { len = 1; value = slice_index text 0 ∷ [] }
 
@@ -42,14 +42,14 @@ indented_piece text =
 abbrev pub first_piece : Bool → List ℕ → Option Piece
 first_piece multiline text = if multiline then indented_piece text else quoted_piece text
 
--- what a text stands for behind its first `inside` bytes, which belong to a piece that was read
+-- what a text means after its first `inside` bytes, which belong to a piece that was read
 unfoldable pub values : Bool → ℕ → List ℕ → List ℕ
 values multiline inside [] = []
 values multiline (suc inside) (b ∷ text) = values multiline inside text
 values multiline zero (b ∷ text) =
     elim (first_piece multiline (b ∷ text)) [ None ↦ [] | Some piece ↦ piece.value ++ values multiline (piece.len - 1) text ]
 
--- what a text stands for
+-- what a text means
 abbrev pub unescaped : Bool → List ℕ → List ℕ
 unescaped multiline text = values multiline 0 text
 
@@ -57,12 +57,12 @@ unescaped multiline text = values multiline 0 text
 abbrev pub IsFirstChar : List ℕ → List ℕ → List ℕ → Type 0
 IsFirstChar text first rest = (c : ℕ) × (first ≡ encode_utf8 c) × (text ≡ first ++ rest)
 
--- a text stands for this value and then for what this shorter rest stands for
+-- a text means this value and then what this shorter rest means
 pub record Begins (multiline : Bool) (text value rest : List ℕ) : Type 0 where
   pub split : unescaped multiline text ≡ value ++ unescaped multiline rest
   pub shorter : length rest < length text
 
--- behind a backslash, a text stands for this value and then for what this shorter rest stands for
+-- after a backslash, a text means this value and then what this shorter rest means
 pub record Escapes (text value rest : List ℕ) : Type 0 where
   pub split : (multiline : Bool) → escaped (slice_index text 0) ∷ unescaped multiline (drop 1 text) ≡ value ++ unescaped multiline rest
   pub shorter : length rest < length text

@@ -1,7 +1,7 @@
 -- How many elements are inside the interpolations among parts.
 use Rattle.std.specs.Prelude.{ℕ, suc, ◌+◌, List, [], ◌∷◌}
 use Rattle.rnix_green.specs.Tree.{Located}
-use Rattle.rnix_tree.specs.Inside.{inside_count}
+use Rattle.rnix_tree.specs.InsideCounts.{inside_count}
 use Rattle.rnix_base.specs.declared.parts.InterpolPart.{InterpolPart}
 use Rattle.rnix_base.specs.declared.parts.InterpolPart.TheVariants.{Literal, Interpolation}
 

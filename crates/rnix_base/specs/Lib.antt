@@ -5,7 +5,7 @@ pub mod Interpolated
 pub mod Kinds
 pub mod Literal
 pub mod Normal
-pub mod Operators
+pub mod TokenOperators
 pub mod Parts
-pub mod Pointer
+pub mod TypedPointer
 pub mod Select

@@ -3,7 +3,7 @@ use Rattle.std.specs.Prelude.{Option, option_map}
 use Rattle.rnix_kinds.specs.declared.kinds.SyntaxKind.TheVariants as k
 use Rattle.rnix_green.specs.Equality.{same_kind}
 use Rattle.rnix_green.specs.Tree.{Located}
-use Rattle.rnix_base.specs.Operators.{or_else}
+use Rattle.rnix_base.specs.TokenOperators.{or_else}
 use Rattle.rnix_base.specs.Select.{token_of}
 use Rattle.rnix_base.specs.declared.literal.LiteralKind.{LiteralKind}
 use Rattle.rnix_base.specs.declared.literal.LiteralKind.TheVariants as literal

@@ -42,7 +42,7 @@ is_gap s = is_byte 32 s.byte
 abbrev pub is_feed : Symbol → Bool
 is_feed s = is_byte 10 s.byte
 
--- the parts as one row of symbols, where n parts stand before them
+-- the parts as one row of symbols, where n parts precede them
 unfoldable pub symbols : {I : Type 0} → ℕ → Parts I → List Symbol
 symbols n [] = []
 symbols n (Literal text ∷ parts) = map (λ b. record { part = n; byte = Some b }) text ++ symbols (suc n) parts
@@ -85,7 +85,7 @@ unfoldable pub text_of : ℕ → List Symbol → List ℕ
 text_of n [] = []
 text_of n (s ∷ row) = (if s.part == n then option_to_list s.byte else []) ++ text_of n row
 
--- the parts with the texts that a row has for them, where n parts stand before them
+-- the parts with the texts that a row has for them, where n parts precede them
 unfoldable pub with_texts : {I : Type 0} → List Symbol → ℕ → Parts I → Parts I
 with_texts row n [] = []
 with_texts row n (Literal text ∷ parts) = Literal (text_of n row) ∷ with_texts row (suc n) parts
@@ -99,11 +99,11 @@ spaces = prefix_len is_space
 abbrev pub opens_blank : List ℕ → Bool
 opens_blank text = slice_index text (spaces text) == 10
 
--- what stands behind the first line feed of a text, where nothing but spaces stands before it
+-- what follows the first line feed of a text, if only spaces precede it
 abbrev pub behind_blank : List ℕ → List ℕ
 behind_blank text = drop (suc (spaces text)) text
 
--- a text begins so, and this stands behind it
+-- a text begins so, and this follows
 abbrev pub IsBehindBlank : List ℕ → List ℕ → Type 0
 IsBehindBlank text rest = (opens_blank text ≡ true) × (rest ≡ behind_blank text)
 
@@ -123,11 +123,11 @@ opened (Interpolation i ∷ parts) = Interpolation i ∷ parts
 abbrev pub trimmed : List ℕ → List ℕ
 trimmed text = take (length text - suffix_len is_space text) text
 
--- a text without the spaces behind its last line feed, if nothing else stands there
+-- a text without the spaces behind its last line feed, if nothing else is there
 abbrev pub without_last_spaces : List ℕ → List ℕ
 without_last_spaces text = if slice_index (trimmed text) (length (trimmed text) - 1) == 10 then trimmed text else text
 
--- the parts; the last, if it is a literal, without the spaces behind its last line feed, if nothing else stands there
+-- the parts; the last, if it is a literal, without the spaces behind its last line feed, if nothing else is there
 unfoldable pub closed : {I : Type 0} → Parts I → Parts I
 closed [] = []
 closed (Literal text ∷ []) = Literal (without_last_spaces text) ∷ []

@@ -3,7 +3,7 @@
 ghost use Rattle.std.specs.Prelude.{◌≡◌};
 ghost use Rattle.rnix_green.specs.Walk.{children_of};
 ghost use Rattle.rnix_base.specs.Select.{tokens_in};
-ghost use Rattle.rnix_base.specs.Operators.{binary_operator, unary_operator, EachHasOneKind, first_operator};
+ghost use Rattle.rnix_base.specs.TokenOperators.{binary_operator, unary_operator, EachHasOneKind, first_operator};
 
 use rnix_kinds::SyntaxKind;
 use rnix_tree::{NodeOrToken, SyntaxNode};

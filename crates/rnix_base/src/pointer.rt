@@ -2,7 +2,7 @@
 
 ghost use Rattle.std.specs.Prelude.{◌≡◌, true, is_some, option_map, IfSome};
 ghost use Rattle.rnix_tree.specs.Pointer.{address_of, address_in};
-ghost use Rattle.rnix_base.specs.Pointer.{address_under, IsTypedIn, FindsTyped};
+ghost use Rattle.rnix_base.specs.TypedPointer.{address_under, IsTypedIn, FindsTyped};
 
 use crate::node::AstNode;
 use rnix_tree::{SyntaxNode, SyntaxNodePtr};

@@ -1,10 +1,10 @@
 //! Times parts of the library on a text: `rnix_bench FILE PART TURNS` prints what one turn counted, and the fewest microseconds that a turn took.
 #![tactic(auto)]
 
-mod parts;
+mod measured;
 mod walking;
 
-use parts::Part;
+use measured::Part;
 use std::{env, fs, io};
 
 fn main(rt: HostRuntime) -> io::Result<()> {
@@ -14,7 +14,7 @@ fn main(rt: HostRuntime) -> io::Result<()> {
         (Some(name), Some(part), Some(turns)) => {
             let text = fs::read_to_string(&rt, name.as_str())?;
             match Part::named(part.as_str()) {
-                Some(part) => parts::report(
+                Some(part) => measured::report(
                     &rt,
                     part,
                     text.as_str(),

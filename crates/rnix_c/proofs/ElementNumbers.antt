@@ -4,7 +4,7 @@ use Rattle.std.{specs.{List.{slice_get}, Prelude.{option_map, IfSome, IfNone, is
 use Rattle.rnix_kinds.specs.{declared.kinds.SyntaxKind.TheVariants.{NODE_STRING}}
 use Rattle.rnix_green.specs.{Equality.{same_kind, same_kind-decides}, Tree.{Tree, Located, items_of, item, item_of}, Walk.{Spot, spot_at, counted, elements_of}}
 use Rattle.rnix_green.proofs.InsideLemmas.{elements_in_all}
-use Rattle.{rnix_tree.proofs.CountLemmas.{counted-many}, rnix_c.specs.Strings.{located, IsString}}
+use Rattle.{rnix_tree.proofs.CountLemmas.{counted-many}, rnix_c.specs.StringCalls.{located, IsString}}
 
 get_counted : (a k i : ℕ) → i < k → slice_get (counted a k) i ≡ Some (a + i)
 get_counted a zero i l = absurd (omega arith)
@@ -23,7 +23,13 @@ element_there t n l =
 
 pub is_there : (t : Tree) (n : ℕ) (spot : Spot) → slice_get (elements_of (located t 0)) n ≡ Some spot → n < length (items_of t)
 is_there t n spot e =
-    omega (arith, slice_get_within (elements_of (located t 0)) n spot e, length-map (counted 0 (1 + (item t 0).below)) (spot_at t), counted-many 0 (1 + (item t 0).below), all_inside t)
+    omega (
+      arith,
+      slice_get_within (elements_of (located t 0)) n spot e,
+      length-map (counted 0 (1 + (item t 0).below)) (spot_at t),
+      counted-many 0 (1 + (item t 0).below),
+      all_inside t,
+    )
 
 -- a spot that is that of a number
 pub spot_is : (t : Tree) (n : ℕ) (spot : Spot) → slice_get (elements_of (located t 0)) n ≡ Some spot → spot ≡ spot_at t n
@@ -46,7 +52,8 @@ token_there t n token e string =
 
 -- a node is a string exactly if it casts to one
 pub cast_found : (t : Tree) (n : ℕ) (node : Located) (r : Option Located) → slice_get (elements_of (located t 0)) n ≡ Some (true, node)
-    → is_some r ≡ same_kind NODE_STRING (item_of node).kind → IfSome r (λ value. value ≡ node) → IfSome r (λ string. (string ≡ located t n) × IsString (located t n))
+    → is_some r ≡ same_kind NODE_STRING (item_of node).kind → IfSome r (λ value. value ≡ node) →
+    IfSome r (λ string. (string ≡ located t n) × IsString (located t n))
 cast_found t n node None e some same = tt
 cast_found t n node (Some value) e some same =
     let here : (true, node) ≡ spot_at t n = spot_is t n (true, node) e in

@@ -23,12 +23,15 @@ filled-suc zero (y ∷ things) (r ∷ room) x l m e = (λ i. e i ∷ room) ∙ a
 filled-suc (suc n) (y ∷ things) (r ∷ room) x l m e = ap (λ rest. y ∷ rest) (filled-suc n things room x (omega arith) (omega arith) e)
 
 -- the same, for the array as a loop has it
-pub filled-more : {A : Type 0} → (n : ℕ) (things room now : List A) (x : A) → n < length things → n < length room → now ≡ filled (take n things) room → x ≡ get_or things n x
+pub filled-more : {A : Type 0} → (n : ℕ) (things room now : List A) (x : A) → n < length things → n < length room → now ≡ filled (take n things) room →
+    x ≡ get_or things n x
     → set now n x ≡ filled (take (n + 1) things) room
-filled-more n things room now x l m is e = ap (λ array. set array n x) is ∙ filled-suc n things room x l m e ∙ ap (λ k. filled (take k things) room) (sym (add-one n))
+filled-more n things room now x l m is e =
+    ap (λ array. set array n x) is ∙ filled-suc n things room x l m e ∙ ap (λ k. filled (take k things) room) (sym (add-one n))
 
 -- where there is no more room, the array stays as it is
-pub filled-past : {A : Type 0} → (n : ℕ) (things room now : List A) → length room ≤ n → now ≡ filled (take n things) room → now ≡ filled (take (n + 1) things) room
+pub filled-past : {A : Type 0} → (n : ℕ) (things room now : List A) → length room ≤ n → now ≡ filled (take n things) room →
+    now ≡ filled (take (n + 1) things) room
 filled-past n things room now l is = is ∙ filled-beyond n things room l ∙ sym (filled-beyond (n + 1) things room (omega arith))
 
 -- the array is filled once all things are written, or all the room is

@@ -16,7 +16,8 @@ first_of t n zero spot spots is = cc is
 first_of t n (suc count) spot spots is = let same : spot ≡ spot_at t n = cc is in ap (λ (s : Spot). s.1.number) same
 
 pub has_number : (t : Tree) (n : ℕ) (spot : Spot) (spots all : List Spot) → all ≡ spot ∷ spots → AreFrom t n all → spot.1.number ≡ n
-has_number t n spot spots all is from = let here : spot ∷ spots ≡ map (spot_at t) (counted n from.count) = cc (is, from.are) in first_of t n from.count spot spots here
+has_number t n spot spots all is from =
+    let here : spot ∷ spots ≡ map (spot_at t) (counted n from.count) = cc (is, from.are) in first_of t n from.count spot spots here
 
 -- the others are those from the next number on
 others_of : (t : Tree) (n count : ℕ) (spot : Spot) (spots : List Spot) → spot ∷ spots ≡ map (spot_at t) (counted n count) → AreFrom t (n + 1) spots
@@ -24,4 +25,5 @@ others_of t n zero spot spots is = absurd (cc is)
 others_of t n (suc count) spot spots is = record { count = count; are = cc is }
 
 pub others_follow : (t : Tree) (n : ℕ) (spot : Spot) (spots all : List Spot) → all ≡ spot ∷ spots → AreFrom t n all → AreFrom t (n + 1) spots
-others_follow t n spot spots all is from = let here : spot ∷ spots ≡ map (spot_at t) (counted n from.count) = cc (is, from.are) in others_of t n from.count spot spots here
+others_follow t n spot spots all is from =
+    let here : spot ∷ spots ≡ map (spot_at t) (counted n from.count) = cc (is, from.are) in others_of t n from.count spot spots here

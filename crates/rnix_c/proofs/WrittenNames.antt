@@ -1,7 +1,7 @@
 -- Bindings that are written.
 use Rattle.std.proofs.Common.{◌≡◌, ℕ, suc, ◌<◌, List, [], ◌∷◌, length, map, get_or, Some, refl, sym, ap, ◌∙◌, arith}
 use Rattle.nix_scopes.specs.{Bound.{bound_of, AreFirst}, Scopes.{Bound, number_in}, declared.resolution.Binding.{Binding}}
-use Rattle.rnix_c.specs.{declared.names.RnixBinding.{RnixBinding}, Elements.{number_or_none}, Names.{binding_of, binding_among}}
+use Rattle.rnix_c.specs.{declared.names.RnixBinding.{RnixBinding}, Elements.{number_or_none}, NameCalls.{binding_of, binding_among}}
 
 -- what is written of a binding
 abbrev pub own_binding : Binding → RnixBinding
@@ -17,6 +17,7 @@ among all (binding ∷ bindings) known =
     ∙ ap (λ rest. binding_among all (bound_of binding) ∷ rest) (among all bindings (λ k d l. known (suc k) d (omega (arith, l))))
 
 -- what is written of bindings that name the first of their names
-pub all_among : (bindings : List Binding) (bounds : List Bound) → AreFirst bindings → map bound_of bindings ≡ bounds → map own_binding bindings ≡ map (binding_among bounds) bounds
+pub all_among : (bindings : List Binding) (bounds : List Bound) → AreFirst bindings → map bound_of bindings ≡ bounds →
+    map own_binding bindings ≡ map (binding_among bounds) bounds
 all_among bindings bounds firsts is =
     among (map bound_of bindings) bindings firsts ∙ ap (λ all. map (binding_among all) all) is

@@ -3,7 +3,7 @@ use Rattle.std.proofs.Common.{◌≡◌, ℕ, suc, ◌+◌, ◌<◌, List, [], �
 use Rattle.std.proofs.{Math.Seq.{drop-cons}}
 use Rattle.rnix_green.specs.Tree.{Located}
 use Rattle.rnix_base.specs.{declared.parts.InterpolPart.{InterpolPart}, Normal.{Parts}}
-use Rattle.rnix_c.specs.Strings.{end_after, part_at, parts_from}
+use Rattle.rnix_c.specs.StringCalls.{end_after, part_at, parts_from}
 
 pub length-parts_from : (before : ℕ) (parts : Parts Located) → length (parts_from before parts) ≡ length parts
 length-parts_from before [] = refl
@@ -14,7 +14,8 @@ module _ (n before : ℕ) (parts : Parts Located) (part : InterpolPart (List ℕ
   cut : drop n parts ≡ part ∷ drop (suc n) parts
   cut = drop-cons parts n part l ∙ ap (λ p. p ∷ drop (suc n) parts) (sym is)
 
-  both : get_or (parts_from 0 parts) n (part_at before part) ∷ drop (suc n) (parts_from 0 parts) ≡ part_at before part ∷ parts_from (end_after before part) (drop (suc n) parts)
+  both : get_or (parts_from 0 parts) n (part_at before part) ∷ drop (suc n) (parts_from 0 parts) ≡ part_at before part ∷ parts_from (end_after before part)
+      (drop (suc n) parts)
   both = sym (drop-cons (parts_from 0 parts) n (part_at before part) (omega (arith, length-parts_from 0 parts))) ∙ rest ∙ ap (parts_from before) cut
 
   -- what is written of the next part is what the list has there

@@ -1,8 +1,8 @@
 -- Tokens that are written one after another.
 use Rattle.std.proofs.Common.{◌≡◌, ℕ, suc, ◌+◌, ◌<◌, ◌≤◌, List, [], ◌∷◌, length, drop, get_or, IsUtf8, refl, sym, ap, ◌∙◌, arith, add-one, length-append}
 use Rattle.std.{proofs.{Math.Seq.{drop-cons}, lemmas.List.{Elements.{All-head, All-tail}}}, specs.List.{flat_map, All}}
-use Rattle.rnix_kinds.{specs.{declared.kinds.SyntaxKind.{SyntaxKind}, SyntaxKind.{place_of}, Lexical.Tokens.{Lexeme, text_of, tokens_of}}, proofs.Lexical.Laws.{AreSound-tokens_under}}
-use Rattle.rnix_c.specs.{declared.tokens.RnixToken.{RnixToken}, Tokens.{tokens_from, tokens_written}}
+use Rattle.rnix_kinds.{specs.{declared.kinds.SyntaxKind.{SyntaxKind}, SyntaxKind.{place_of}, Lexical.Tokens.{Lexeme, text_of, tokens_of}}, proofs.LexicalLemmas.Laws.{AreSound-tokens_under}}
+use Rattle.rnix_c.specs.{declared.tokens.RnixToken.{RnixToken}, TokenCalls.{tokens_from, tokens_written}}
 
 -- a token has text
 abbrev HasText : Lexeme → Type 0
@@ -24,7 +24,13 @@ length-tokens_from start ((kind, text) ∷ tokens) = ap suc (length-tokens_from 
 pub at_first : (text : List ℕ) → IsUtf8 text → IsAt text (tokens_of text) 0 0
 at_first text utf8 =
     let sound = AreSound-tokens_under [] text utf8 in
-    record { rest = refl; counted = omega (arith, length-tokens_from 0 (tokens_of text)); fits = omega (arith, ap length sound.joined); some = sound.some; ahead = omega arith }
+    record {
+      rest = refl;
+      counted = omega (arith, length-tokens_from 0 (tokens_of text));
+      fits = omega (arith, ap length sound.joined);
+      some = sound.some;
+      ahead = omega arith;
+    }
 
 -- what is written of a token that begins at an offset
 abbrev token_at : ℕ → SyntaxKind → List ℕ → RnixToken

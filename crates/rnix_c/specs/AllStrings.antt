@@ -6,9 +6,9 @@ use Rattle.rnix_green.specs.Tree.{Tree, Located, item_of}
 use Rattle.rnix_green.specs.Walk.{Spot, elements_of}
 use Rattle.rnix_base.specs.declared.parts.InterpolPart.{InterpolPart}
 use Rattle.rnix_base.specs.declared.parts.InterpolPart.TheVariants.{Literal, Interpolation}
-use Rattle.rnix.specs.Strings.{normalized_parts}
+use Rattle.rnix.specs.StringParts.{normalized_parts}
 use Rattle.rnix_c.specs.declared.all_strings.RnixStringPart.{RnixStringPart}
-use Rattle.rnix_c.specs.Strings.{located}
+use Rattle.rnix_c.specs.StringCalls.{located}
 
 -- the parts of some strings, and the joined texts of those that are literals
 pub record Found : Type 0 where
@@ -18,10 +18,12 @@ pub record Found : Type 0 where
 abbrev pub found : List RnixStringPart → List ℕ → Found
 found parts text = record { parts = parts; text = text }
 
--- a part more of the string that is the element of this number: of a literal its range in the joined text, of an interpolation its range in the text that was read
+-- a part more of the string that is the element of this number: of a literal its range in the joined text, of an interpolation its range in the text
+-- that was read
 abbrev pub with_part : ℕ → Found → InterpolPart (List ℕ) Located → Found
 with_part string before (Literal text) =
-    found (before.parts ++ record { string = string; start = length before.text; end = length (before.text ++ text); is_interpolation = 0 } ∷ []) (before.text ++ text)
+    found (before.parts ++ record { string = string; start = length before.text; end = length (before.text ++ text); is_interpolation = 0 } ∷ [])
+    (before.text ++ text)
 with_part string before (Interpolation node) =
     found (before.parts ++ record { string = string; start = (item_of node).start; end = (item_of node).end; is_interpolation = 1 } ∷ []) before.text
 

@@ -6,7 +6,7 @@ use Rattle.rnix_grammar.specs.Fault.{Fault}
 use Rattle.nix_diagnostics.specs.declared.diagnostic.Diagnostic.{Diagnostic}
 use Rattle.nix_diagnostics.specs.Shown.{AreShown}
 use Rattle.rnix_c.specs.declared.diagnostics.RnixDiagnostic.{RnixDiagnostic}
-use Rattle.rnix_c.specs.Strings.{located}
+use Rattle.rnix_c.specs.StringCalls.{located}
 
 -- some diagnostics as they are written for C, and their joined messages
 pub record Said : Type 0 where

@@ -3,7 +3,7 @@ use Rattle.std.specs.Prelude.{ℕ, ◌-◌, ◌^◌, List, map, replicate}
 use Rattle.rnix_kinds.specs.declared.kinds.SyntaxKind.{SyntaxKind}
 use Rattle.rnix_kinds.specs.SyntaxKind.{place_of}
 use Rattle.rnix_green.specs.Range.{Extent}
-use Rattle.rnix_grammar.specs.Fault.{Fault, untold, extra, unwanted, bound_twice, ended, ended_before, named_twice, too_deep}
+use Rattle.rnix_grammar.specs.Fault.{Fault, unexpected_at, extra, unwanted, double_bind, unexpected_eof, unexpected_eof_wanted, duplicated_args, too_deep}
 use Rattle.rnix_c.specs.declared.errors.RnixError.{RnixError}
 use Rattle.rnix_c.specs.Answers.{filled}
 
@@ -25,13 +25,13 @@ placed variant range = record { start = range.start; end = range.end; wanted = n
 
 -- what is written of an error
 abbrev pub error_of : Fault → RnixError
-error_of (untold range) = placed 0 range
+error_of (unexpected_at range) = placed 0 range
 error_of (extra range) = placed 1 range
 error_of (unwanted kind range kinds) = record { start = range.start; end = range.end; wanted = wanted_of kinds; variant = 2; found = place_of kind }
-error_of (bound_twice range) = placed 3 range
-error_of ended = unplaced 4
-error_of (ended_before kinds) = record { start = 2 ^ 64 - 1; end = 2 ^ 64 - 1; wanted = wanted_of kinds; variant = 5; found = 2 ^ 32 - 1 }
-error_of (named_twice range name) = placed 6 range
+error_of (double_bind range) = placed 3 range
+error_of unexpected_eof = unplaced 4
+error_of (unexpected_eof_wanted kinds) = record { start = 2 ^ 64 - 1; end = 2 ^ 64 - 1; wanted = wanted_of kinds; variant = 5; found = 2 ^ 32 - 1 }
+error_of (duplicated_args range name) = placed 6 range
 error_of too_deep = unplaced 7
 
 -- what is written of some errors

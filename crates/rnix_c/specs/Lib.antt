@@ -4,9 +4,9 @@ pub mod Diagnostics
 pub mod Elements
 pub mod Errors
 pub mod Formatting
-pub mod Kinds
+pub mod KindCalls
 pub mod Messages
-pub mod Names
-pub mod Positions
-pub mod Strings
-pub mod Tokens
+pub mod NameCalls
+pub mod PositionCalls
+pub mod StringCalls
+pub mod TokenCalls

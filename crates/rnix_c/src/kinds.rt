@@ -2,7 +2,7 @@
 
 ghost use Rattle.std.specs.Prelude.{◌≡◌, ◌≤◌, IfSome, IfNone};
 ghost use Rattle.rnix_kinds.specs.SyntaxKind.{place_of, kind_count};
-ghost use Rattle.rnix_c.specs.Kinds.{NamesKind, FindsKind};
+ghost use Rattle.rnix_c.specs.KindCalls.{NamesKind, FindsKind};
 
 use crate::answers::{NONE_SUCH, written};
 use rnix::SyntaxKind;

@@ -4,8 +4,8 @@ ghost use Rattle.std.specs.Prelude.{◌≡◌, length, map};
 ghost use Rattle.nix_scopes.specs.Bound.{bindings_of, references_of, bound_of, resolved_of, AreFirst};
 ghost use Rattle.nix_scopes.specs.Scopes.{bindings_in, resolved_in};
 ghost use Rattle.rnix_c.specs.Answers.{filled, IsWritten, Answers};
-ghost use Rattle.rnix_c.specs.Strings.{located};
-ghost use Rattle.rnix_c.specs.Names.{binding_of, reference_of, bindings_written, references_written};
+ghost use Rattle.rnix_c.specs.StringCalls.{located};
+ghost use Rattle.rnix_c.specs.NameCalls.{binding_of, reference_of, bindings_written, references_written};
 
 use crate::answers::{NO_MEMORY, parsed};
 use crate::elements::number_or_none;

@@ -2,7 +2,7 @@
 
 ghost use Rattle.std.specs.Prelude.{◌≡◌, ◌<◌, IfSome, IfNone};
 ghost use Rattle.rnix_c.specs.Answers.{filled};
-ghost use Rattle.rnix_c.specs.Positions.{IsUnit, position_of, positions_of, AnswersPositions};
+ghost use Rattle.rnix_c.specs.PositionCalls.{IsUnit, position_of, positions_of, AnswersPositions};
 
 use crate::answers::{NO_MEMORY, NO_NUMBER, NONE_SUCH, checked};
 use rnix::{ColumnUnit, LineIndex};

@@ -5,9 +5,9 @@ ghost use Rattle.std.specs.List.{flat_map};
 ghost use Rattle.rnix_green.specs.Walk.{elements_of};
 ghost use Rattle.rnix_tree.specs.Spots.{spot_of};
 ghost use Rattle.rnix_base.specs.Normal.{owned, with_text};
-ghost use Rattle.rnix.specs.Strings.{normalized_parts};
+ghost use Rattle.rnix.specs.StringParts.{normalized_parts};
 ghost use Rattle.rnix_c.specs.Answers.{filled, IsWritten, Answers};
-ghost use Rattle.rnix_c.specs.Strings.{located, IsString, literal_text, string_text, end_after, part_at, parts_from, parts_written, WritesString};
+ghost use Rattle.rnix_c.specs.StringCalls.{located, IsString, literal_text, string_text, end_after, part_at, parts_from, parts_written, WritesString};
 
 use crate::answers::{NO_MEMORY, NONE_SUCH, parsed, written};
 use rnix::ast::{AstNode, InterpolPart, Str};

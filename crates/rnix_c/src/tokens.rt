@@ -1,6 +1,6 @@
 //! The tokens of a text.
 
-ghost use Rattle.rnix_c.specs.Tokens.{AnswersTokens, WritesTokens};
+ghost use Rattle.rnix_c.specs.TokenCalls.{AnswersTokens, WritesTokens};
 
 use crate::answers::{NO_MEMORY, NOT_UTF8};
 use rnix::tokenize;

@@ -4,7 +4,7 @@ use Rattle.std.proofs.lemmas.{List.length-append, Bool.false≢true}
 use Rattle.rnix_kinds.specs.Lexical.Tokens.{tokens_of}
 use Rattle.rnix_green.specs.Tree.{Located}
 use Rattle.rnix_grammar.specs.Parsed.{IsParsed}
-use Rattle.rnix.specs.Reading.{Reading, root_of}
+use Rattle.rnix.specs.ParseResult.{Reading, root_of}
 use Rattle.rnix_text.specs.Changes.{Draft, IsInside, IsBetween, IsCause}
 use Rattle.rnix_text.specs.declared.edit_error.EditError.{EditError}
 use Rattle.rnix_text.specs.declared.edit_error.EditError.TheVariants as cause

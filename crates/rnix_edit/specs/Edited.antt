@@ -6,7 +6,7 @@ use Rattle.rnix_kinds.specs.Lexical.Tokens.{tokens_of}
 use Rattle.rnix_green.specs.Tree.{Tree, Located, item_of}
 use Rattle.rnix_grammar.specs.Fault.{Fault}
 use Rattle.rnix_grammar.specs.Parsed.{IsParsed}
-use Rattle.rnix.specs.Reading.{Reading, root_of}
+use Rattle.rnix.specs.ParseResult.{Reading, root_of}
 use Rattle.rnix_text.specs.Changes.{IsInside, IsBetween}
 use Rattle.rnix_edit.specs.declared.place.Place.{Place}
 use Rattle.rnix_edit.specs.declared.edited.Edited.{Edited}

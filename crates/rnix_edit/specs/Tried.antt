@@ -2,7 +2,7 @@
 use Rattle.std.specs.Prelude.{◌≡◌, ℕ, Bool, true, false, List, [], string_bytes}
 use Rattle.rnix_kinds.specs.Lexical.Tokens.{tokens_of}
 use Rattle.rnix_grammar.specs.Parsed.{IsParsed}
-use Rattle.rnix.specs.Reading.{Reading}
+use Rattle.rnix.specs.ParseResult.{Reading}
 use Rattle.rnix_text.specs.Changes.{IsInside, IsBetween}
 use Rattle.rnix_text.specs.declared.edit_error.EditError.{EditError}
 use Rattle.rnix_text.specs.declared.edit_error.EditError.TheVariants as cause

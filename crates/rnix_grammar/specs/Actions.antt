@@ -16,7 +16,7 @@ use Rattle.rnix_grammar.specs.declared.expected_set.ExpectedSet.TheVariants as u
 use Rattle.rnix_grammar.specs.declared.action.Action.{Action}
 use Rattle.rnix_grammar.specs.declared.action.Action.TheVariants as a
 use Rattle.rnix_grammar.specs.Levels.{has_attr_level, application_level, binding_power, right_of, max_bp_of}
-use Rattle.rnix_grammar.specs.SlotRows.{slot_at}
+use Rattle.rnix_grammar.specs.Slots.{slot_at}
 
 -- what an error says is wanted where a child of a kind is missing
 abbrev pub expected_set_of : SyntaxKind → ExpectedSet

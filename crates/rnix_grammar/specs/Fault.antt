@@ -12,24 +12,24 @@ use Rattle.rnix_grammar.specs.declared.error.ParseError.TheVariants.{Unexpected,
 
 -- an error without the memory that holds its lists and names
 pub data Fault : Type 0 where
-  untold : Extent → Fault
+  unexpected_at : Extent → Fault
   extra : Extent → Fault
   unwanted : SyntaxKind → Extent → List SyntaxKind → Fault
-  bound_twice : Extent → Fault
-  ended : Fault
-  ended_before : List SyntaxKind → Fault
-  named_twice : Extent → List ℕ → Fault
+  double_bind : Extent → Fault
+  unexpected_eof : Fault
+  unexpected_eof_wanted : List SyntaxKind → Fault
+  duplicated_args : Extent → List ℕ → Fault
   too_deep : Fault
 
 -- the fault that an error of the program stands for
 abbrev pub fault_of : ParseError → Fault
-fault_of (Unexpected range) = untold (bounds_of range)
+fault_of (Unexpected range) = unexpected_at (bounds_of range)
 fault_of (UnexpectedExtra range) = extra (bounds_of range)
 fault_of (UnexpectedWanted kind range wanted) = unwanted kind (bounds_of range) wanted.items
-fault_of (UnexpectedDoubleBind range) = bound_twice (bounds_of range)
-fault_of UnexpectedEOF = ended
-fault_of (UnexpectedEOFWanted wanted) = ended_before wanted.items
-fault_of (DuplicatedArgs range name) = named_twice (bounds_of range) (string_bytes name)
+fault_of (UnexpectedDoubleBind range) = double_bind (bounds_of range)
+fault_of UnexpectedEOF = unexpected_eof
+fault_of (UnexpectedEOFWanted wanted) = unexpected_eof_wanted wanted.items
+fault_of (DuplicatedArgs range name) = duplicated_args (bounds_of range) (string_bytes name)
 fault_of RecursionLimitExceeded = too_deep
 
 -- two ranges are one
@@ -38,13 +38,13 @@ same_extent a b = a.start == b.start && a.end == b.end
 
 -- two faults are of one variant with the same fields
 abbrev pub same_fault : Fault → Fault → Bool
-same_fault (untold a) (untold b) = same_extent a b
+same_fault (unexpected_at a) (unexpected_at b) = same_extent a b
 same_fault (extra a) (extra b) = same_extent a b
 same_fault (unwanted kind a wanted) (unwanted other b others) = pointwise same_kind wanted others && (same_kind kind other && same_extent a b)
-same_fault (bound_twice a) (bound_twice b) = same_extent a b
-same_fault ended ended = true
-same_fault (ended_before wanted) (ended_before others) = pointwise same_kind wanted others
-same_fault (named_twice a name) (named_twice b other) = same_extent a b && bytes_eq name other
+same_fault (double_bind a) (double_bind b) = same_extent a b
+same_fault unexpected_eof unexpected_eof = true
+same_fault (unexpected_eof_wanted wanted) (unexpected_eof_wanted others) = pointwise same_kind wanted others
+same_fault (duplicated_args a name) (duplicated_args b other) = same_extent a b && bytes_eq name other
 same_fault too_deep too_deep = true
 same_fault _ _ = false
 
@@ -71,11 +71,11 @@ again_text range = codes "` is duplicated in " ++ place_text range
 
 -- how an error is printed
 abbrev pub fault_text : Fault → List ℕ
-fault_text (untold range) = range_text (codes "error node") range
+fault_text (unexpected_at range) = range_text (codes "error node") range
 fault_text (extra range) = range_text (codes "unexpected token") range
 fault_text (unwanted kind range wanted) = codes "unexpected " ++ range_text (name_of kind) range ++ wanted_text wanted
-fault_text (bound_twice range) = range_text (codes "unexpected double bind") range
-fault_text ended = codes "unexpected end of file"
-fault_text (ended_before wanted) = codes "unexpected end of file" ++ wanted_text wanted
-fault_text (named_twice range name) = codes "argument `" ++ name ++ again_text range
+fault_text (double_bind range) = range_text (codes "unexpected double bind") range
+fault_text unexpected_eof = codes "unexpected end of file"
+fault_text (unexpected_eof_wanted wanted) = codes "unexpected end of file" ++ wanted_text wanted
+fault_text (duplicated_args range name) = codes "argument `" ++ name ++ again_text range
 fault_text too_deep = codes "recursion limit exceeded"

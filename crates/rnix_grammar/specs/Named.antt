@@ -1,27 +1,13 @@
 -- Rows whose names stand where they may, and which errors a text lacks.
-use Rattle.std.specs.Prelude.{◌≡◌, ℕ, Bool, true, false, List, [], ◌∷◌, if◌then◌else◌}
+use Rattle.std.specs.Prelude.{◌≡◌, Bool, true, false, List, [], ◌∷◌, if◌then◌else◌}
 use Rattle.rnix_kinds.specs.declared.kinds.SyntaxKind.{SyntaxKind}
-use Rattle.rnix_kinds.specs.SyntaxKind.{is_token}
-use Rattle.rnix_kinds.specs.declared.kinds.SyntaxKind.TheVariants.{TOKEN_IDENT, TOKEN_OR, TOKEN_CUR_POS, NODE_PAT_BIND}
-use Rattle.rnix_grammar.specs.Fault.{Fault, named_twice}
-use Rattle.rnix_grammar.specs.AnnotatedForest.{Token, AnnotatedForest, blank, token, branch, fault}
+use Rattle.rnix_kinds.specs.declared.kinds.SyntaxKind.TheVariants.{NODE_PAT_BIND}
+use Rattle.rnix_grammar.specs.Fault.{Fault, duplicated_args}
+use Rattle.rnix_grammar.specs.AnnotatedForest.{AnnotatedForest, blank, token, branch, fault}
 use Rattle.rnix_grammar.specs.declared.rules.Part.TheVariants.{EndOr}
 use Rattle.rnix_grammar.specs.Rules.{Row, ◌·◌, row, after}
 use Rattle.rnix_grammar.specs.AllowedNames.{is_named}
-use Rattle.rnix_grammar.specs.Tables.{is_or}
 use Rattle.rnix_grammar.specs.BehindErrors.{after_error}
-
--- a name is TOKEN_OR exactly if it is `or`; no token is TOKEN_CUR_POS, or has the kind of a node
-abbrev pub is_spelled : SyntaxKind → List ℕ → Bool
-is_spelled TOKEN_OR text = is_or text
-is_spelled TOKEN_IDENT text = if is_or text then false else true
-is_spelled TOKEN_CUR_POS text = false
-is_spelled kind text = is_token kind
-
--- each token is spelled as its kind says
-abbrev pub AreSpelled : List Token → Type 0
-AreSpelled [] = Unit {0}
-AreSpelled (t ∷ ts) = (is_spelled t.kind t.text ≡ true) × AreSpelled ts
 
 -- a row begins with a token
 abbrev pub begins_with_token : AnnotatedForest → Bool
@@ -47,7 +33,7 @@ AreNamed q (fault n c f) = AreNamed (after_error q n) f
 
 -- a name is repeated
 abbrev pub is_repeated : Fault → Bool
-is_repeated (named_twice range name) = true
+is_repeated (duplicated_args range name) = true
 is_repeated e = false
 
 -- no error meets the test

@@ -1,15 +1,12 @@
 -- How an operand of a level begins and where it ends: it begins as its first three items say, and no item follows that could go on with it.
-use Rattle.std.specs.Prelude.{◌≡◌, ℕ, ◌≤◌, Bool, false, ◌||◌, ◌&&◌, List, [], ◌∷◌, ◌++◌, Option, Some, None, if◌then◌else◌, nat_le}
+use Rattle.std.specs.Prelude.{ℕ, Bool, false, ◌||◌, ◌&&◌, List, [], ◌∷◌, if◌then◌else◌, nat_le}
 use Rattle.rnix_kinds.specs.declared.kinds.SyntaxKind.{SyntaxKind}
-use Rattle.rnix_kinds.specs.declared.kinds.SyntaxKind.TheVariants.{NODE_IDENT_PARAM, NODE_PATTERN, NODE_BIN_OP, NODE_HAS_ATTR, NODE_APPLY, NODE_SELECT, NODE_LEGACY_LET, NODE_LAMBDA, NODE_ERROR}
+use Rattle.rnix_kinds.specs.declared.kinds.SyntaxKind.TheVariants.{NODE_BIN_OP, NODE_HAS_ATTR, NODE_APPLY, NODE_SELECT, NODE_LAMBDA, NODE_ERROR}
 use Rattle.rnix_kinds.specs.SyntaxKind.{is_fn_arg}
-use Rattle.rnix_grammar.specs.declared.begin.Begin.{Begin}
-use Rattle.rnix_grammar.specs.declared.begin.Begin.TheVariants as b
 use Rattle.rnix_grammar.specs.Levels.{has_attr_level, application_level, binding_power, left_of}
-use Rattle.rnix_grammar.specs.AnnotatedForest.{Token, AnnotatedForest, branch, tokens_in, head_kind}
+use Rattle.rnix_grammar.specs.AnnotatedForest.{Token, AnnotatedForest, branch}
 use Rattle.rnix_grammar.specs.TokenKinds.{is_or, is_question, is_dot}
 use Rattle.rnix_grammar.specs.Rows.{is_infix}
-use Rattle.rnix_grammar.specs.Begins.{begin_of, second_kind}
 use Rattle.rnix_grammar.specs.TreeLevels.{row_level, is_atom_row}
 
 -- the kind of the first tree of an operand, down the first trees of operators, calls and selections; a function is known by its parameter
@@ -22,21 +19,6 @@ first_tree (branch NODE_LAMBDA (branch k c g) f) = k
 first_tree (branch k c f) = k
 first_tree f = NODE_ERROR
 
--- the kind of the first tree of what begins so
-abbrev pub kind_of : Begin → SyntaxKind
-kind_of (b.Leaf k) = k
-kind_of (b.Node k position max_bp) = k
-kind_of b.LegacyLet = NODE_LEGACY_LET
-kind_of b.NameLambda = NODE_IDENT_PARAM
-kind_of b.BoundLambda = NODE_PATTERN
-kind_of b.PatternLambda = NODE_PATTERN
-kind_of b.Stray = NODE_ERROR
-
--- an operand of a level begins as its first three items say
-abbrev pub IsBegun : ℕ → AnnotatedForest → List Token → Type 0
-IsBegun level x [] = ⊥
-IsBegun level x (t ∷ ts) = kind_of (begin_of level t.kind t.text (head_kind ts) (second_kind ts)) ≡ first_tree x
-
 -- an item of the kind may go on with the tree before it
 abbrev pub follows : SyntaxKind → AnnotatedForest → Bool
 follows kind x =
@@ -48,8 +30,3 @@ follows kind x =
 abbrev pub goes_on : ℕ → AnnotatedForest → List Token → Bool
 goes_on level x [] = false
 goes_on level x (t ∷ ts) = follows t.kind x && nat_le level (binding_power t.kind)
-
--- An operand of a level before some items binds as tightly as the level asks, begins as its items say, and the next item does not go on with it.
-abbrev pub IsOperand : Option ℕ → AnnotatedForest → List Token → Type 0
-IsOperand None x after = Unit {0}
-IsOperand (Some level) x after = (level ≤ row_level x) × IsBegun level x (tokens_in x ++ after) × (goes_on level x after ≡ false)

@@ -2,21 +2,8 @@
 use Rattle.std.specs.Prelude.{◌≡◌, ℕ, Bool, true, false, ◌&&◌, List, [], ◌∷◌, ◌++◌, if◌then◌else◌, nat_eq}
 use Rattle.rnix_kinds.specs.declared.kinds.SyntaxKind.{SyntaxKind}
 use Rattle.rnix_kinds.specs.declared.kinds.SyntaxKind.TheVariants.{NODE_PATH_ABS, NODE_PATH_HOME, NODE_PATH_REL}
-use Rattle.rnix_kinds.specs.SyntaxKind.{is_token}
 use Rattle.rnix_grammar.specs.AnnotatedForest.{Token, AnnotatedForest, blank, token, branch, fault, tokens_in, end_from, touches}
-use Rattle.rnix_grammar.specs.Yield.{kind_of_token}
 use Rattle.rnix_grammar.specs.TokenKinds.{is_piece_start}
-
--- the kinds of nodes
-abbrev pub is_node : SyntaxKind → Bool
-is_node kind = if is_token kind then false else true
-
--- the token of each leaf has the kind that the leaf's kind and text say, and no tree is an error node
-abbrev pub HaveTokenKinds : AnnotatedForest → Type 0
-HaveTokenKinds blank = Unit {0}
-HaveTokenKinds (token k t f) = (is_node k ≡ false) × (t.kind ≡ kind_of_token k t.text) × HaveTokenKinds f
-HaveTokenKinds (branch k c f) = HaveTokenKinds c × HaveTokenKinds f
-HaveTokenKinds (fault n c f) = ⊥
 
 -- the next item touches what ends here and would go on with the path
 abbrev pub goes_on_path : ℕ → List Token → Bool

@@ -7,15 +7,15 @@ use Rattle.rnix_green.specs.Range.{Extent}
 use Rattle.rnix_green.specs.Tree.{Tree, Located, forest_of, item, item_of, extent_of, text_at}
 use Rattle.rnix_green.specs.Walk.{Event, preorder_of}
 use Rattle.rnix_green.specs.Relatives.{IsNodeIn, IsTokenIn}
-use Rattle.rnix_grammar.specs.Fault.{Fault, untold, extra, unwanted, bound_twice, ended, ended_before, named_twice}
+use Rattle.rnix_grammar.specs.Fault.{Fault, unexpected_at, extra, unwanted, double_bind, unexpected_eof, unexpected_eof_wanted, duplicated_args}
 use Rattle.rnix_grammar.specs.Shape.{name_if, with_name}
 use Rattle.rnix_grammar.specs.Tables.{is_among}
 
 -- the error is that of an error node: not of the end of the text, and not of a repeated name
 abbrev pub is_of_node : Fault → Bool
-is_of_node ended = false
-is_of_node (ended_before kinds) = false
-is_of_node (named_twice range name) = false
+is_of_node unexpected_eof = false
+is_of_node (unexpected_eof_wanted kinds) = false
+is_of_node (duplicated_args range name) = false
 is_of_node e = true
 
 -- the errors that are those of error nodes
@@ -43,11 +43,11 @@ error_nodes tree = errors_left (preorder_of record { tree = tree; number = 0 })
 
 -- the range of an error, if it has one
 abbrev pub range_in : Fault → Option Extent
-range_in (untold range) = Some range
+range_in (unexpected_at range) = Some range
 range_in (extra range) = Some range
 range_in (unwanted kind range kinds) = Some range
-range_in (bound_twice range) = Some range
-range_in (named_twice range name) = Some range
+range_in (double_bind range) = Some range
+range_in (duplicated_args range name) = Some range
 range_in e = None
 
 -- a range, if there is one, is that of the element
@@ -99,7 +99,7 @@ IsKindOf tree e m = Unit {0}
 
 -- an error is that of the element: of an entry, for a repeated name, and else of an error node, with its range and the kind of its first token
 abbrev pub IsErrorOf : Tree → Fault → ℕ → Type 0
-IsErrorOf tree (named_twice range name) m = IsEntryName tree m range name
+IsErrorOf tree (duplicated_args range name) m = IsEntryName tree m range name
 IsErrorOf tree e m = ((item tree m).kind ≡ NODE_ERROR) × IsRangeOf (range_in e) record { tree = tree; number = m } × IsKindOf tree e m
 
 -- as many errors as elements, each of its element

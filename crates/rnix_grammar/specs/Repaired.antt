@@ -5,7 +5,7 @@ use Rattle.rnix_kinds.specs.declared.kinds.SyntaxKind.TheVariants.{TOKEN_INTEGER
 use Rattle.rnix_green.specs.Forest.{Forest, empty, leaf, node}
 use Rattle.rnix_grammar.specs.declared.expected_set.ExpectedSet.{ExpectedSet}
 use Rattle.rnix_grammar.specs.declared.expected_set.ExpectedSet.TheVariants.{End}
-use Rattle.rnix_grammar.specs.Fault.{Fault, extra, unwanted, ended, ended_before}
+use Rattle.rnix_grammar.specs.Fault.{Fault, extra, unwanted, unexpected_eof, unexpected_eof_wanted}
 use Rattle.rnix_grammar.specs.Tables.{wanted_kinds}
 use Rattle.rnix_grammar.specs.AnnotatedForest.{Note, Stray, TooDeep, AnnotatedForest, blank, token, branch, fault, tokens_in, is_some}
 use Rattle.rnix_grammar.specs.CompleteRows.{is_row, IsBeginning}
@@ -50,8 +50,8 @@ AreBegun (node k c f) = IsBeginning k (kinds_of c) × AreBegun c × AreBegun f
 
 -- the text ended too early
 abbrev pub is_ended : Fault → Bool
-is_ended ended = true
-is_ended (ended_before kinds) = true
+is_ended unexpected_eof = true
+is_ended (unexpected_eof_wanted kinds) = true
 is_ended e = false
 
 -- how many errors are of the end of the text
@@ -82,7 +82,7 @@ NoErrorAfterEnd (e ∷ es) = NoErrorAfterEnd es × ((is_ended e ≡ true) → No
 
 -- a list of wanted kinds is one of those that tokens are wanted by
 abbrev pub IsNamedList : Fault → Type 0
-IsNamedList (ended_before kinds) = (until : ExpectedSet) × ((until ≡ End) → ⊥) × (kinds ≡ wanted_kinds until)
+IsNamedList (unexpected_eof_wanted kinds) = (until : ExpectedSet) × ((until ≡ End) → ⊥) × (kinds ≡ wanted_kinds until)
 IsNamedList e = Unit {0}
 
 -- and so in each error

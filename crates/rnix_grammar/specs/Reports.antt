@@ -3,7 +3,7 @@ use Rattle.std.specs.Prelude.{Bool, true, false, List, [], ◌∷◌, Option, So
 use Rattle.std.specs.Str.{bytes_eq}
 use Rattle.rnix_kinds.specs.declared.kinds.SyntaxKind.{SyntaxKind}
 use Rattle.rnix_kinds.specs.declared.kinds.SyntaxKind.TheVariants.{NODE_ERROR, NODE_IDENT, NODE_PAT_ENTRY}
-use Rattle.rnix_grammar.specs.Fault.{Fault, extra, unwanted, bound_twice, named_twice, too_deep}
+use Rattle.rnix_grammar.specs.Fault.{Fault, extra, unwanted, double_bind, duplicated_args, too_deep}
 use Rattle.rnix_grammar.specs.Tables.{wanted_kinds, operand_kinds}
 use Rattle.rnix_grammar.specs.AnnotatedForest.{Token, Note, Stray, Unwanted, Extra, DoubleBind, TooDeep, AnnotatedForest, blank, token, branch, fault, extent_of}
 
@@ -17,7 +17,7 @@ abbrev pub report : Note → List Token → Fault
 report Stray ts = unwanted (first_kind ts) (extent_of ts) operand_kinds
 report (Unwanted until) ts = unwanted (first_kind ts) (extent_of ts) (wanted_kinds until)
 report Extra ts = extra (extent_of ts)
-report DoubleBind ts = bound_twice (extent_of ts)
+report DoubleBind ts = double_bind (extent_of ts)
 report TooDeep ts = too_deep
 
 -- the token that a row begins with, if it begins with one
@@ -46,7 +46,7 @@ has_entry name (fault n c f) = has_entry name f
 -- an entry with this name behind these siblings is reported, if it repeats one of theirs
 abbrev pub repeated_if : Option Token → AnnotatedForest → List Fault
 repeated_if None before = []
-repeated_if (Some t) before = if has_entry t.text before then named_twice (extent_of (t ∷ [])) t.text ∷ [] else []
+repeated_if (Some t) before = if has_entry t.text before then duplicated_args (extent_of (t ∷ [])) t.text ∷ [] else []
 
 -- the error of an entry that repeats a name of its siblings
 abbrev pub repeated : AnnotatedForest → AnnotatedForest → List Fault

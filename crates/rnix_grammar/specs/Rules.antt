@@ -8,7 +8,7 @@ use Rattle.rnix_green.specs.Equality.{same_kind}
 use Rattle.rnix_grammar.specs.declared.rules.Part.{Part}
 use Rattle.rnix_grammar.specs.declared.rules.Part.TheVariants.{Child, Atom, First, Suffix, Binary, Argument, Operand, Many, Entries, Wanted, Attr, Attrpath, MoreAttrs, Names, Pieces, PathPieces, Formals, FormalsAfterComma, Comma, Optional, EndOr, BoundAlready, TextEnd}
 use Rattle.rnix_grammar.specs.declared.rules.TheConstants.{ROWS, SECOND_NAME}
-use Rattle.rnix_grammar.specs.Fault.{Fault, ended, ended_before}
+use Rattle.rnix_grammar.specs.Fault.{Fault, unexpected_eof, unexpected_eof_wanted}
 use Rattle.rnix_grammar.specs.Levels.{selection_level, right_of}
 use Rattle.rnix_grammar.specs.AnnotatedForest.{Token, AnnotatedForest, one_branch}
 use Rattle.rnix_grammar.specs.TokenKinds.{is_or, is_path_piece, is_piece_start, is_inherit_token}
@@ -134,15 +134,15 @@ is_one_of kinds kind = list_any (λ k. same_kind k kind) kinds
 -- the error for a part that is missing, if kinds are wanted there, and what is after it
 abbrev pub missing_wanted : List SyntaxKind → Row → Option (Fault × Row)
 missing_wanted [] r = None
-missing_wanted kinds r = Some (ended_before kinds, r)
+missing_wanted kinds r = Some (unexpected_eof_wanted kinds, r)
 
 -- the error where the text ends before a row is complete, and what is left after the part that is missing
 abbrev pub missing : Row → Option (Fault × Row)
-missing (Operand n counted · r) = Some (ended, r)
-missing (Many n closer · r) = Some (ended, r)
-missing (Entries closer · r) = Some (ended, r)
-missing (Names · r) = Some (ended, r)
-missing (Formals · r) = Some (ended, r)
+missing (Operand n counted · r) = Some (unexpected_eof, r)
+missing (Many n closer · r) = Some (unexpected_eof, r)
+missing (Entries closer · r) = Some (unexpected_eof, r)
+missing (Names · r) = Some (unexpected_eof, r)
+missing (Formals · r) = Some (unexpected_eof, r)
 missing (Optional kind · r) = missing r
 missing (p · r) = missing_wanted (wanted_in p) r
 missing r = None

@@ -9,7 +9,7 @@ use Rattle.rnix_kinds.specs.declared.kinds.SyntaxKind.{SyntaxKind}
 use Rattle.rnix_green.specs.Equality.{same_kind, same_kind-decides, equivalence_from}
 use Rattle.rnix_green.specs.Range.{Extent}
 use Rattle.rnix_grammar.specs.declared.error.ParseError.{ParseError}
-use Rattle.rnix_grammar.specs.Fault.{Fault, untold, extra, unwanted, bound_twice, ended, ended_before, named_twice, too_deep, fault_of, same_extent, same_fault}
+use Rattle.rnix_grammar.specs.Fault.{Fault, unexpected_at, extra, unwanted, double_bind, unexpected_eof, unexpected_eof_wanted, duplicated_args, too_deep, fault_of, same_extent, same_fault}
 
 -- the test on lists of kinds
 same_kinds-decides : (a b : List SyntaxKind) → Decides (pointwise same_kind a b) (a ≡ b)
@@ -23,17 +23,17 @@ same_extent-decides a b =
 
 -- errors are the same where the test says so, and only there
 pub same_fault-decides : (a b : Fault) → Decides (same_fault a b) (a ≡ b)
-same_fault-decides (untold a) (untold b) = Decides-like (same_extent a b) (ap untold) (λ e. cc) (same_extent-decides a b)
+same_fault-decides (unexpected_at a) (unexpected_at b) = Decides-like (same_extent a b) (ap unexpected_at) (λ e. cc) (same_extent-decides a b)
 same_fault-decides (extra a) (extra b) = Decides-like (same_extent a b) (ap extra) (λ e. cc) (same_extent-decides a b)
-same_fault-decides (bound_twice a) (bound_twice b) = Decides-like (same_extent a b) (ap bound_twice) (λ e. cc) (same_extent-decides a b)
+same_fault-decides (double_bind a) (double_bind b) = Decides-like (same_extent a b) (ap double_bind) (λ e. cc) (same_extent-decides a b)
 same_fault-decides (unwanted kind a wanted) (unwanted other b others) =
     Decides-like (pointwise same_kind wanted others && (same_kind kind other && same_extent a b)) (λ e. cc) (λ e. (cc, (cc, cc)))
     (Decides-and (pointwise same_kind wanted others) (same_kind kind other && same_extent a b) (same_kinds-decides wanted others)
     (Decides-and (same_kind kind other) (same_extent a b) (same_kind-decides kind other) (same_extent-decides a b)))
-same_fault-decides ended ended = (λ e. refl, λ e. refl)
-same_fault-decides (ended_before wanted) (ended_before others) =
-    Decides-like (pointwise same_kind wanted others) (ap ended_before) (λ e. cc) (same_kinds-decides wanted others)
-same_fault-decides (named_twice a name) (named_twice b other) =
+same_fault-decides unexpected_eof unexpected_eof = (λ e. refl, λ e. refl)
+same_fault-decides (unexpected_eof_wanted wanted) (unexpected_eof_wanted others) =
+    Decides-like (pointwise same_kind wanted others) (ap unexpected_eof_wanted) (λ e. cc) (same_kinds-decides wanted others)
+same_fault-decides (duplicated_args a name) (duplicated_args b other) =
     Decides-like (same_extent a b && bytes_eq name other) (λ e. cc) (λ e. (cc, cc))
     (Decides-and (same_extent a b) (bytes_eq name other) (same_extent-decides a b) (bytes_eq-Decides name other))
 same_fault-decides too_deep too_deep = (λ e. refl, λ e. refl)

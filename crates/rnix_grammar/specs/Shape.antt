@@ -94,17 +94,6 @@ AreUnrepeated (node k c f) = AreNew [] (entry_names c) × AreUnrepeated c × Are
 abbrev pub IsUnrepeated : Tree → Type 0
 IsUnrepeated tree = AreUnrepeated (forest_of tree)
 
--- the errors of a row's error nodes and of its repeated entries, in the order in which the nodes close; some trees stand before the row
-abbrev pub reports_behind : AnnotatedForest → AnnotatedForest → List Fault
-reports_behind b blank = []
-reports_behind b (token k t f) = reports_behind (b ⊕ one_token k t) f
-reports_behind b (branch k c f) = reports_behind blank c ++ (repeats k b c ++ reports_behind (b ⊕ one_branch k c) f)
-reports_behind b (fault n c f) = reports_behind blank c ++ (report n (tokens_in c) ∷ reports_behind (b ⊕ one_fault n c) f)
-
--- the errors of a row before which no tree stands
-abbrev pub reports : AnnotatedForest → List Fault
-reports f = reports_behind blank f
-
 -- the same of a tree with trivia: a name is looked for in the trees without trivia, and an error node has all its tokens
 abbrev pub reports_within : AnnotatedForest → AnnotatedForest → List Fault
 reports_within b blank = []

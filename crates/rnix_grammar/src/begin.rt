@@ -1,6 +1,8 @@
 //! What an operand may begin with.
 
 ghost use Rattle.std.specs.Prelude.{◌≡◌};
+ghost use Rattle.rnix_grammar.specs.declared.begin.Begin.TheVariants.{Node};
+ghost use Rattle.rnix_grammar.specs.Levels.{selection_level};
 ghost use Rattle.rnix_grammar.specs.Tables.{is_cur_pos};
 ghost use Rattle.rnix_grammar.specs.Begins.{is_pattern, begin_name, begin_let, begin_keyword, begin_scope, begin_prefix, begin_of};
 
@@ -135,6 +137,14 @@ fn begin_prefix(level: u8, kind: SyntaxKind) -> Begin
     }
 }
 
+// An operand that is a node of its own, which `.` may follow.
+#[inline(always)]
+fn atom(kind: SyntaxKind, position: u8) -> Begin
+    ensures { result ≡ Node kind position selection_level }
+{
+    Begin::Node(kind, position, SELECTION_LEVEL)
+}
+
 /// Returns how an operand of a level begins, by the next three tokens that are not trivia.
 #[inline(always)]
 pub fn begin_of(
@@ -147,27 +157,13 @@ pub fn begin_of(
 {
     let (kind, text) = first;
     match kind {
-        SyntaxKind::TOKEN_L_PAREN => Begin::Node(SyntaxKind::NODE_PAREN, PAREN, SELECTION_LEVEL),
-        SyntaxKind::TOKEN_L_BRACK => Begin::Node(SyntaxKind::NODE_LIST, LIST, SELECTION_LEVEL),
-        SyntaxKind::TOKEN_REC => Begin::Node(SyntaxKind::NODE_ATTR_SET, REC_SET, SELECTION_LEVEL),
-        SyntaxKind::TOKEN_STRING_START => {
-            Begin::Node(SyntaxKind::NODE_STRING, STRING, SELECTION_LEVEL)
-        }
-        SyntaxKind::TOKEN_PATH_ABS => Begin::Node(
-            SyntaxKind::NODE_PATH_ABS,
-            PATH_ABS,
-            SELECTION_LEVEL,
-        ),
-        SyntaxKind::TOKEN_PATH_REL => Begin::Node(
-            SyntaxKind::NODE_PATH_REL,
-            PATH_REL,
-            SELECTION_LEVEL,
-        ),
-        SyntaxKind::TOKEN_PATH_HOME => Begin::Node(
-            SyntaxKind::NODE_PATH_HOME,
-            PATH_HOME,
-            SELECTION_LEVEL,
-        ),
+        SyntaxKind::TOKEN_L_PAREN => atom(SyntaxKind::NODE_PAREN, PAREN),
+        SyntaxKind::TOKEN_L_BRACK => atom(SyntaxKind::NODE_LIST, LIST),
+        SyntaxKind::TOKEN_REC => atom(SyntaxKind::NODE_ATTR_SET, REC_SET),
+        SyntaxKind::TOKEN_STRING_START => atom(SyntaxKind::NODE_STRING, STRING),
+        SyntaxKind::TOKEN_PATH_ABS => atom(SyntaxKind::NODE_PATH_ABS, PATH_ABS),
+        SyntaxKind::TOKEN_PATH_REL => atom(SyntaxKind::NODE_PATH_REL, PATH_REL),
+        SyntaxKind::TOKEN_PATH_HOME => atom(SyntaxKind::NODE_PATH_HOME, PATH_HOME),
         SyntaxKind::TOKEN_PATH_SEARCH => Begin::Leaf(SyntaxKind::NODE_PATH_SEARCH),
         SyntaxKind::TOKEN_FLOAT | SyntaxKind::TOKEN_INTEGER | SyntaxKind::TOKEN_URI => {
             Begin::Leaf(SyntaxKind::NODE_LITERAL)
@@ -178,7 +174,7 @@ pub fn begin_of(
             if is_pattern(second, third) {
                 Begin::PatternLambda
             } else {
-                Begin::Node(SyntaxKind::NODE_ATTR_SET, SET, SELECTION_LEVEL)
+                atom(SyntaxKind::NODE_ATTR_SET, SET)
             }
         }
         SyntaxKind::TOKEN_INVERT | SyntaxKind::TOKEN_SUB => begin_prefix(level, kind),

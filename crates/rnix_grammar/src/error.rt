@@ -7,7 +7,7 @@ ghost use Rattle.std.specs.Fmt.{DisplaysOnOk};
 ghost use Rattle.rnix_green.specs.Equality.{same_kind};
 ghost use Rattle.rnix_green.specs.Range.{bounds_of};
 ghost use Rattle.rnix_green.specs.Range.{place_text};
-ghost use Rattle.rnix_grammar.specs.Fault.{fault_of, more_kinds_text, kinds_text, wanted_text, again_text, range_text, fault_text, unwanted, named_twice, same_extent};
+ghost use Rattle.rnix_grammar.specs.Fault.{fault_of, more_kinds_text, kinds_text, wanted_text, again_text, range_text, fault_text, unwanted, duplicated_args, same_extent};
 ghost use Rattle.rnix_grammar.specs.Ranges.{range_in};
 
 use rnix_green::TextRange;
@@ -205,13 +205,13 @@ fn write_again<W: fmt::Write>(range: TextRange, f: &mut fmt::Formatter<W>) -> fm
 }
 
 // An argument that is named twice.
-fn write_named_twice<W: fmt::Write>(
+fn write_duplicate<W: fmt::Write>(
     range: TextRange,
     name: &str,
     f: &mut fmt::Formatter<W>,
 ) -> fmt::Result
     ensures { DisplaysOnOk W.write_str_gives f.old result
-        (Some (fault_text (named_twice (bounds_of range) name.now))) f.new }
+        (Some (fault_text (duplicated_args (bounds_of range) name.now))) f.new }
 {
     f.write_str("argument `")?;
     f.write_str(name)?;
@@ -239,7 +239,7 @@ impl fmt::Display for ParseError {
                 f.write_str("unexpected end of file")?;
                 write_wanted(wanted, f)
             }
-            ParseError::DuplicatedArgs(range, name) => write_named_twice(*range, name.as_str(), f),
+            ParseError::DuplicatedArgs(range, name) => write_duplicate(*range, name.as_str(), f),
             ParseError::RecursionLimitExceeded => f.write_str("recursion limit exceeded"),
         }
     }

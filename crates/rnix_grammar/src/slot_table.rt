@@ -1,7 +1,7 @@
 //! Positions: what is left of the row of an open node, as an index into one table.
 
 ghost use Rattle.std.specs.Prelude.{◌≡◌, ◌<◌, IfSome};
-ghost use Rattle.rnix_grammar.specs.SlotRows.{slot_at};
+ghost use Rattle.rnix_grammar.specs.Slots.{slot_at};
 
 use crate::level::{
     APPLICATION_LEVEL, CONCATENATION_LEVEL, EXPRESSION_LEVEL, HAS_ATTR_LEVEL, INVERSION_LEVEL,

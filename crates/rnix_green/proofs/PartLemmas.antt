@@ -3,8 +3,8 @@ use Rattle.std.proofs.Common.{◌≡◌, ℕ, suc, ◌+◌, ◌-◌, ◌≤◌, 
 use Rattle.std.proofs.{Common.{◌∙◌, subst, arith, inl, inr, append_assoc, length-append}, lemmas.{Bool.cases_lt, List.{drop_at, append-nil}}}
 use Rattle.std.{proofs.lemmas.List.{get_or_append_left, get_or-append_right}, specs.Prelude.{if◌then◌else◌, nat_lt, ◌==◌}}
 use Rattle.{rnix_kinds.specs.declared.kinds.SyntaxKind.SyntaxKind, rnix_green.specs.{Forest.{Forest, empty, leaf, node, text_of, element_count}, Tree.Tree}}
-use Rattle.rnix_green.specs.{Tree.{Item, items_from, items_of, forest_of, no_item, item, part_of, part_at, children_in}, Numbers.tree_numbers}
-use Rattle.rnix_green.{specs.Numbers.{siblings_between, passed_over}, proofs.NumberTests.{is_same, is_above, is_below, is_not_below, below_true, below_false}}
+use Rattle.rnix_green.specs.{Tree.{Item, items_from, items_of, forest_of, no_item, item, part_of, part_at, children_in}, PreorderNumbers.tree_numbers}
+use Rattle.rnix_green.{specs.PreorderNumbers.{siblings_between, passed_over}, proofs.NumberTests.{is_same, is_above, is_below, is_not_below, below_true, below_false}}
 use Rattle.rnix_green.proofs.{NumberTests.other, PieceLemmas.length-items_from, SiblingLemmas.{passed_trees, no_sibling}}
 
 -- the part of the element m, among the items of a row that is numbered from n

@@ -2,7 +2,7 @@
 use Rattle.std.proofs.Common.{◌≡◌, ℕ, zero, suc, ◌+◌, ◌-◌, ◌≤◌, ◌<◌, List, [], ◌∷◌, ◌++◌, length, drop, get_or, Option, Some, None, refl, ap, sym, ◌∙◌, arith}
 use Rattle.std.proofs.{Common.{inl, inr, append_assoc}, lemmas.{Bool.cases_lt, List.{drop_more, drop_at, drop-drop, get_or_append_left, get_or-append_right}}}
 use Rattle.rnix_green.specs.{Forest.{Forest, empty, leaf, node, text_of, element_count}, Tree.{Tree, Item, items_from, items_of, forest_of, no_item, item}}
-use Rattle.rnix_green.{specs.Numbers.{tree_numbers, passed_over, siblings_between}, proofs.PieceLemmas.length-items_from}
+use Rattle.rnix_green.{specs.PreorderNumbers.{tree_numbers, passed_over, siblings_between}, proofs.PieceLemmas.length-items_from}
 
 passed_nothing : (n k room : ℕ) → passed_over n k room [] ≡ []
 passed_nothing n zero zero = refl

@@ -7,7 +7,7 @@ use Rattle.rnix_kinds.specs.contracts.kinds.SyntaxKind.{the_row}
 use Rattle.rnix_green.specs.Forest.{Forest, empty, leaf, node, join, tree_count, first_trees, trees_after}
 use Rattle.rnix_green.specs.ForestCode.{forest_code, first_of_join, rest_of_join}
 
--- a node that is open: its kind, and how many finished trees stand before its first child
+-- a node that is open: its kind, and how many finished trees precede its first child
 abbrev pub OpenNode : Type 0
 OpenNode = SyntaxKind × ℕ
 

@@ -15,7 +15,7 @@ join empty g = g
 join (leaf k t f) g = leaf k t (join f g)
 join (node k c f) g = node k c (join f g)
 
--- how many trees stand in the row
+-- how many trees the row has
 abbrev pub tree_count : Forest → ℕ
 tree_count empty = 0
 tree_count (leaf k t f) = suc (tree_count f)

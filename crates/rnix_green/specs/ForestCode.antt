@@ -26,13 +26,13 @@ abbrev pub read_back : List Written → Forest
 read_back [] = empty
 read_back ((k, e) ∷ es) = read_before k e (read_back es)
 
--- the first of two rows that stand one behind the other
+-- the first of two rows, one after the other
 pub first_of_join : (f g : Forest) → first_trees (tree_count f) (join f g) ≡ f
 first_of_join empty g = refl
 first_of_join (leaf k t f) g = ap (leaf k t) (first_of_join f g)
 first_of_join (node k c f) g = ap (node k c) (first_of_join f g)
 
--- the second of two rows that stand one behind the other
+-- the second of two rows, one after the other
 pub rest_of_join : (f g : Forest) → trees_after (tree_count f) (join f g) ≡ g
 rest_of_join empty g = refl
 rest_of_join (leaf k t f) g = rest_of_join f g

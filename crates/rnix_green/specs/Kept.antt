@@ -73,7 +73,7 @@ abbrev pub as_tree : Forest → Tree
 as_tree (node k c f) = record { kind = k; children = c }
 as_tree f = record { kind = TOKEN_ERROR; children = empty }
 
--- the tree that the elements and the text stand for
+-- the tree that the elements and the text represent
 abbrev pub tree_from : List Packed → List ℕ → Tree
 tree_from es text = as_tree (forest_from text es)
 

@@ -4,7 +4,7 @@ pub mod Draft
 pub mod Range
 pub mod Packed
 pub mod Tree
-pub mod Numbers
+pub mod PreorderNumbers
 pub mod Walk
 pub mod Kept
 pub mod Postorder

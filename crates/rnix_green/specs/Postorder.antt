@@ -1,4 +1,4 @@
--- Trees as a list in which each node stands behind its children, and what is left to do when that list is read from its end.
+-- Trees as a list in which each node follows its children, and what is left to do when that list is read from its end.
 use Rattle.std.specs.Prelude.{◌≡◌, ◌≢◌, ℕ, zero, suc, ◌+◌, ◌-◌, List, [], ◌∷◌, ◌++◌, length, reverse, take, Option, Some, None, true}
 use Rattle.rnix_kinds.specs.declared.kinds.SyntaxKind.{SyntaxKind}
 use Rattle.rnix_green.specs.declared.packed.Packed.{Packed}
@@ -37,7 +37,7 @@ abbrev pub parent_number : List Frame → Option ℕ
 parent_number [] = None
 parent_number (fr ∷ frs) = Some fr.number
 
--- the entries of rows that stand side by side, the last one first
+-- the entries of rows side by side, the last one first
 abbrev pub entries_left : List Forest → List Entry
 entries_left [] = []
 entries_left (g ∷ gs) = entries_left gs ++ entries_of g
@@ -59,7 +59,7 @@ around (fr ∷ frs) (g ∷ gs) es =
     around frs gs
     (kept_from (child_number frs) (text_left gs) (parent_number frs) g ++ (frame_kept fr (text_left (g ∷ gs)) (parent_number frs) ∷ es))
 
--- each frame knows how many entries stand left of it, and its number
+-- each frame knows how many entries precede it, and its number
 abbrev pub IsAligned : List Frame → List Forest → Type 0
 IsAligned [] [] = Unit {0}
 IsAligned [] (g ∷ gs) = ⊥

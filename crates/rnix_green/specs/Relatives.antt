@@ -1,4 +1,4 @@
--- What stands around an element, beside it and inside it. Elements are known by their numbers in preorder.
+-- The elements around an element, beside it and inside it. Elements are known by their numbers in preorder.
 use Rattle.std.specs.Prelude.{◌≡◌, ◌<◌, ◌≤◌, ◌+◌, ℕ, length, Option, Some, None, true, false}
 use Rattle.rnix_green.specs.Tree.{Tree, items_of, item, Located, item_of}
 

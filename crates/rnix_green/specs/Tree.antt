@@ -44,7 +44,7 @@ items_from n s p (node k c f) =
 abbrev pub items_of : Tree → List Item
 items_of t = items_from 0 0 None (forest_of t)
 
--- what stands for an element that is absent
+-- the value for an element that is absent
 abbrev pub no_item : Item
 no_item = record { kind = TOKEN_ERROR; is_node = false; start = 0; end = 0; parent = None; below = 0 }
 

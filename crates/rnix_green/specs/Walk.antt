@@ -2,10 +2,10 @@
 use Rattle.std.specs.Prelude.{ℕ, zero, suc, ◌+◌, nat_lt, List, [], ◌∷◌, ◌++◌, map, Bool, true, false, if◌then◌else◌}
 use Rattle.std.specs.Coded.{Coded, coded_list, coded×, coded_bool}
 use Rattle.rnix_green.specs.Forest.{Forest, empty, leaf, node, element_count}
-use Rattle.rnix_green.specs.Numbers.{tree_numbers}
+use Rattle.rnix_green.specs.PreorderNumbers.{tree_numbers}
 use Rattle.rnix_green.specs.Tree.{Tree, item, item_of, Located, located_code, part_at, children_in}
 
--- an element as a walk gives it: whether it is a node, and where it stands
+-- an element as a walk yields it: whether it is a node, and its position in the tree
 abbrev pub Spot : Type 0
 Spot = Bool × Located
 

@@ -64,7 +64,7 @@ fn reached(frames: &[Frame], left: usize) -> Option<Frame>
     }
 }
 
-/// Puts each node before its children, by one pass from the last entry to the first. Entries that are left stand in front, placed
+/// Puts each node before its children, by one pass from the last entry to the first. The entries that are left come first, placed
 /// elements at the end, and between them is one free place for each frame. A node that has one token alone needs no frame.
 pub(crate) fn in_preorder(mut elements: Vec<Packed>, text: &str) -> Result<Vec<Packed>, AllocError>
     requires small { length elements.items < limit }

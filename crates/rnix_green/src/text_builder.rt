@@ -37,7 +37,10 @@ impl<'t> Model for TextBuilder<'t> {
 
     ghost use Rattle.rnix_green.specs.Entries.{made, IsTextBuilder, open_pairs};
 
-    ghost view = { λ b. record { draft = record { finished = made (take b.taken b.text.now) b.entries.items; open_nodes = open_pairs b.pending.items }; left = drop b.taken b.text.now } };
+    ghost view = { λ b. record {
+      draft = record { finished = made (take b.taken b.text.now) b.entries.items; open_nodes = open_pairs b.pending.items };
+      left = drop b.taken b.text.now;
+    } };
 
     ghost invariant = { λ b. IsTextBuilder b.text.now b.taken b.entries.items b.pending.items b.starts.items };
 }

@@ -1,3 +1,3 @@
 pub mod AllKinds
 pub mod KindSets
-pub mod Lexical
+pub mod LexicalLemmas

@@ -48,18 +48,18 @@ pub kind_cmp_total : IsTotalOrder kind_cmp
 unfolding kind_cmp
 kind_cmp_total = on_total place_of nat_cmp_total
 
--- kinds tie exactly if they stand in one place
+-- kinds tie exactly if they have one place
 pub tied_in_place : (a b : SyntaxKind) → eq_by_cmp kind_cmp a b ≡ (place_of a == place_of b)
 unfolding kind_cmp
 tied_in_place a b = unsigned_tied (place_of a) (place_of b)
 
 -- which kinds are in the set of some kinds
 pub contains-set_of : (kinds : List SyntaxKind) (kind : SyntaxKind) → set.contains (set_of kinds) kind ≡ list_any (λ k. place_of kind == place_of k) kinds
-contains-set_of kinds kind = contains-from_list kind_cmp_total kinds kind ∙ by kinds
+contains-set_of kinds kind = contains-from_list kind_cmp_total kinds kind ∙ same_any kinds
   where
-    by : (ks : List SyntaxKind) → list_any (eq_by_cmp kind_cmp kind) ks ≡ list_any (λ k. place_of kind == place_of k) ks
-    by [] = refl
-    by (k ∷ ks) = λ i. tied_in_place kind k i || by ks i
+    same_any : (ks : List SyntaxKind) → list_any (eq_by_cmp kind_cmp kind) ks ≡ list_any (λ k. place_of kind == place_of k) ks
+    same_any [] = refl
+    same_any (k ∷ ks) = λ i. tied_in_place kind k i || same_any ks i
 
 as_bit_back : (n : ℕ) → n < 2 → as_bit (n == 1) ≡ n
 as_bit_back zero low = refl
@@ -90,7 +90,7 @@ number_from-lt passes (k ∷ ks) =
     let power : 2 ^ suc (length ks) ≡ 2 * 2 ^ length ks = pow-succ' 2 (length ks) in
     omega (arith, power)
 
--- the kinds of a list stand in the places from n on
+-- the kinds of a list have the places from n on
 abbrev are_placed : ℕ → List SyntaxKind → Bool
 are_placed n [] = true
 are_placed n (k ∷ ks) = place_of k == n && are_placed (suc n) ks

@@ -207,106 +207,39 @@ pub(crate) const ALL: [SyntaxKind; 93] = [
     SyntaxKind::NODE_WITH,
 ];
 
+// The name of a kind, which is one of those listed.
+macro_rules! names {
+    ($kind:expr, $($name:ident)*) => {
+        match $kind {
+            $(SyntaxKind::$name => stringify!($name),)*
+        }
+    };
+}
+
 impl SyntaxKind {
     /// Returns the name of the kind, such as `TOKEN_ADD`.
     pub fn name(self) -> &'static str
         ensures { result.now ≡ name_of self }
     {
-        match self {
-            SyntaxKind::TOKEN_ADD => "TOKEN_ADD",
-            SyntaxKind::TOKEN_AND_AND => "TOKEN_AND_AND",
-            SyntaxKind::TOKEN_ASSIGN => "TOKEN_ASSIGN",
-            SyntaxKind::TOKEN_ASSERT => "TOKEN_ASSERT",
-            SyntaxKind::TOKEN_AT => "TOKEN_AT",
-            SyntaxKind::TOKEN_COLON => "TOKEN_COLON",
-            SyntaxKind::TOKEN_COMMA => "TOKEN_COMMA",
-            SyntaxKind::TOKEN_COMMENT => "TOKEN_COMMENT",
-            SyntaxKind::TOKEN_CONCAT => "TOKEN_CONCAT",
-            SyntaxKind::TOKEN_CUR_POS => "TOKEN_CUR_POS",
-            SyntaxKind::TOKEN_DIV => "TOKEN_DIV",
-            SyntaxKind::TOKEN_DOT => "TOKEN_DOT",
-            SyntaxKind::TOKEN_ELLIPSIS => "TOKEN_ELLIPSIS",
-            SyntaxKind::TOKEN_ELSE => "TOKEN_ELSE",
-            SyntaxKind::TOKEN_EQUAL => "TOKEN_EQUAL",
-            SyntaxKind::TOKEN_ERROR => "TOKEN_ERROR",
-            SyntaxKind::TOKEN_FLOAT => "TOKEN_FLOAT",
-            SyntaxKind::TOKEN_IDENT => "TOKEN_IDENT",
-            SyntaxKind::TOKEN_IF => "TOKEN_IF",
-            SyntaxKind::TOKEN_IMPLICATION => "TOKEN_IMPLICATION",
-            SyntaxKind::TOKEN_IN => "TOKEN_IN",
-            SyntaxKind::TOKEN_INHERIT => "TOKEN_INHERIT",
-            SyntaxKind::TOKEN_INTEGER => "TOKEN_INTEGER",
-            SyntaxKind::TOKEN_INTERPOL_END => "TOKEN_INTERPOL_END",
-            SyntaxKind::TOKEN_INTERPOL_START => "TOKEN_INTERPOL_START",
-            SyntaxKind::TOKEN_INVERT => "TOKEN_INVERT",
-            SyntaxKind::TOKEN_L_BRACE => "TOKEN_L_BRACE",
-            SyntaxKind::TOKEN_L_BRACK => "TOKEN_L_BRACK",
-            SyntaxKind::TOKEN_L_PAREN => "TOKEN_L_PAREN",
-            SyntaxKind::TOKEN_LESS => "TOKEN_LESS",
-            SyntaxKind::TOKEN_LESS_OR_EQ => "TOKEN_LESS_OR_EQ",
-            SyntaxKind::TOKEN_LET => "TOKEN_LET",
-            SyntaxKind::TOKEN_MORE => "TOKEN_MORE",
-            SyntaxKind::TOKEN_MORE_OR_EQ => "TOKEN_MORE_OR_EQ",
-            SyntaxKind::TOKEN_MUL => "TOKEN_MUL",
-            SyntaxKind::TOKEN_NOT_EQUAL => "TOKEN_NOT_EQUAL",
-            SyntaxKind::TOKEN_OR => "TOKEN_OR",
-            SyntaxKind::TOKEN_OR_OR => "TOKEN_OR_OR",
-            SyntaxKind::TOKEN_PATH_ABS => "TOKEN_PATH_ABS",
-            SyntaxKind::TOKEN_PATH_HOME => "TOKEN_PATH_HOME",
-            SyntaxKind::TOKEN_PATH_REL => "TOKEN_PATH_REL",
-            SyntaxKind::TOKEN_PATH_SEARCH => "TOKEN_PATH_SEARCH",
-            SyntaxKind::TOKEN_PIPE_LEFT => "TOKEN_PIPE_LEFT",
-            SyntaxKind::TOKEN_PIPE_RIGHT => "TOKEN_PIPE_RIGHT",
-            SyntaxKind::TOKEN_QUESTION => "TOKEN_QUESTION",
-            SyntaxKind::TOKEN_R_BRACE => "TOKEN_R_BRACE",
-            SyntaxKind::TOKEN_R_BRACK => "TOKEN_R_BRACK",
-            SyntaxKind::TOKEN_R_PAREN => "TOKEN_R_PAREN",
-            SyntaxKind::TOKEN_REC => "TOKEN_REC",
-            SyntaxKind::TOKEN_SEMICOLON => "TOKEN_SEMICOLON",
-            SyntaxKind::TOKEN_STRING_CONTENT => "TOKEN_STRING_CONTENT",
-            SyntaxKind::TOKEN_STRING_END => "TOKEN_STRING_END",
-            SyntaxKind::TOKEN_STRING_START => "TOKEN_STRING_START",
-            SyntaxKind::TOKEN_SUB => "TOKEN_SUB",
-            SyntaxKind::TOKEN_THEN => "TOKEN_THEN",
-            SyntaxKind::TOKEN_UPDATE => "TOKEN_UPDATE",
-            SyntaxKind::TOKEN_URI => "TOKEN_URI",
-            SyntaxKind::TOKEN_WHITESPACE => "TOKEN_WHITESPACE",
-            SyntaxKind::TOKEN_WITH => "TOKEN_WITH",
-            SyntaxKind::NODE_APPLY => "NODE_APPLY",
-            SyntaxKind::NODE_ASSERT => "NODE_ASSERT",
-            SyntaxKind::NODE_ATTR_SET => "NODE_ATTR_SET",
-            SyntaxKind::NODE_ATTRPATH => "NODE_ATTRPATH",
-            SyntaxKind::NODE_ATTRPATH_VALUE => "NODE_ATTRPATH_VALUE",
-            SyntaxKind::NODE_BIN_OP => "NODE_BIN_OP",
-            SyntaxKind::NODE_CUR_POS => "NODE_CUR_POS",
-            SyntaxKind::NODE_DYNAMIC => "NODE_DYNAMIC",
-            SyntaxKind::NODE_ERROR => "NODE_ERROR",
-            SyntaxKind::NODE_HAS_ATTR => "NODE_HAS_ATTR",
-            SyntaxKind::NODE_IDENT => "NODE_IDENT",
-            SyntaxKind::NODE_IDENT_PARAM => "NODE_IDENT_PARAM",
-            SyntaxKind::NODE_IF_ELSE => "NODE_IF_ELSE",
-            SyntaxKind::NODE_INHERIT => "NODE_INHERIT",
-            SyntaxKind::NODE_INHERIT_FROM => "NODE_INHERIT_FROM",
-            SyntaxKind::NODE_INTERPOL => "NODE_INTERPOL",
-            SyntaxKind::NODE_LAMBDA => "NODE_LAMBDA",
-            SyntaxKind::NODE_LEGACY_LET => "NODE_LEGACY_LET",
-            SyntaxKind::NODE_LET_IN => "NODE_LET_IN",
-            SyntaxKind::NODE_LIST => "NODE_LIST",
-            SyntaxKind::NODE_LITERAL => "NODE_LITERAL",
-            SyntaxKind::NODE_PAREN => "NODE_PAREN",
-            SyntaxKind::NODE_PAT_BIND => "NODE_PAT_BIND",
-            SyntaxKind::NODE_PAT_ENTRY => "NODE_PAT_ENTRY",
-            SyntaxKind::NODE_PATTERN => "NODE_PATTERN",
-            SyntaxKind::NODE_PATH_ABS => "NODE_PATH_ABS",
-            SyntaxKind::NODE_PATH_HOME => "NODE_PATH_HOME",
-            SyntaxKind::NODE_PATH_REL => "NODE_PATH_REL",
-            SyntaxKind::NODE_PATH_SEARCH => "NODE_PATH_SEARCH",
-            SyntaxKind::NODE_ROOT => "NODE_ROOT",
-            SyntaxKind::NODE_SELECT => "NODE_SELECT",
-            SyntaxKind::NODE_STRING => "NODE_STRING",
-            SyntaxKind::NODE_UNARY_OP => "NODE_UNARY_OP",
-            SyntaxKind::NODE_WITH => "NODE_WITH",
-        }
+        names!(
+            self,
+            TOKEN_ADD TOKEN_AND_AND TOKEN_ASSIGN TOKEN_ASSERT TOKEN_AT TOKEN_COLON TOKEN_COMMA
+            TOKEN_COMMENT TOKEN_CONCAT TOKEN_CUR_POS TOKEN_DIV TOKEN_DOT TOKEN_ELLIPSIS TOKEN_ELSE
+            TOKEN_EQUAL TOKEN_ERROR TOKEN_FLOAT TOKEN_IDENT TOKEN_IF TOKEN_IMPLICATION TOKEN_IN
+            TOKEN_INHERIT TOKEN_INTEGER TOKEN_INTERPOL_END TOKEN_INTERPOL_START TOKEN_INVERT
+            TOKEN_L_BRACE TOKEN_L_BRACK TOKEN_L_PAREN TOKEN_LESS TOKEN_LESS_OR_EQ TOKEN_LET
+            TOKEN_MORE TOKEN_MORE_OR_EQ TOKEN_MUL TOKEN_NOT_EQUAL TOKEN_OR TOKEN_OR_OR
+            TOKEN_PATH_ABS TOKEN_PATH_HOME TOKEN_PATH_REL TOKEN_PATH_SEARCH TOKEN_PIPE_LEFT
+            TOKEN_PIPE_RIGHT TOKEN_QUESTION TOKEN_R_BRACE TOKEN_R_BRACK TOKEN_R_PAREN TOKEN_REC
+            TOKEN_SEMICOLON TOKEN_STRING_CONTENT TOKEN_STRING_END TOKEN_STRING_START TOKEN_SUB
+            TOKEN_THEN TOKEN_UPDATE TOKEN_URI TOKEN_WHITESPACE TOKEN_WITH NODE_APPLY NODE_ASSERT
+            NODE_ATTR_SET NODE_ATTRPATH NODE_ATTRPATH_VALUE NODE_BIN_OP NODE_CUR_POS NODE_DYNAMIC
+            NODE_ERROR NODE_HAS_ATTR NODE_IDENT NODE_IDENT_PARAM NODE_IF_ELSE NODE_INHERIT
+            NODE_INHERIT_FROM NODE_INTERPOL NODE_LAMBDA NODE_LEGACY_LET NODE_LET_IN NODE_LIST
+            NODE_LITERAL NODE_PAREN NODE_PAT_BIND NODE_PAT_ENTRY NODE_PATTERN NODE_PATH_ABS
+            NODE_PATH_HOME NODE_PATH_REL NODE_PATH_SEARCH NODE_ROOT NODE_SELECT NODE_STRING
+            NODE_UNARY_OP NODE_WITH
+        )
     }
 
     /// Returns whether the token is a literal by itself: a number, a path or a URI.

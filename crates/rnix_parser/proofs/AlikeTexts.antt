@@ -3,7 +3,7 @@ use Rattle.std.proofs.Common.{◌≡◌, ℕ, List, None, ap, sym, ◌∙◌, su
 use Rattle.{rnix_kinds.specs.Lexical.Tokens.{Lexeme, tokens_of}, rnix_green.specs.Tree.Tree}
 use Rattle.rnix_grammar.specs.{Fault.Fault, AnnotatedForest.{Token, AnnotatedForest, forget, tokens_in, without_trivia, placed_from}, Layout.items}
 use Rattle.rnix_grammar.specs.{Reading.IsReading, Parsed.IsParsed}
-use Rattle.{rnix_lemmas.proofs.{ReportLemmas.without_trivia_tokens, SpelledLemmas.AreRuled}, rnix_uniqueness.proofs.AllReads.one_row}
+use Rattle.{rnix_proof_lemmas.proofs.{ReportLemmas.without_trivia_tokens, SpelledLemmas.AreRuled}, rnix_proof_uniqueness.proofs.AllReads.one_row}
 use Rattle.{rnix_proof_layout.specs.AlikeItems.{AreAlike, AreSameFaults}, rnix_proof_layout.proofs.AlikeReadings.alike_readings}
 use Rattle.rnix_parser.specs.ReadAlike.{items_of, AreReadAlike}
 use Rattle.rnix_parser.proofs.{ParsedLemmas.all_follows, SignificantTrees.significant_tree}
@@ -23,7 +23,8 @@ alike_texts x y a b alike t u ds es r s =
     let there : tokens_in g ≡ items_of y = own_items q.reading in
     let moved : AreAlike None 0 0 (tokens_in f) (tokens_in g) =
     subst (λ (z : List Token). AreAlike None 0 0 z (tokens_in g)) (sym here) (subst (AreAlike None 0 0 (items_of x)) (sym there) alike) in
-    let same : (forget f ≡ forget g) × AreSameFaults (tokens_in f) (tokens_in g) ds es = alike_readings one_row f g ds es p.reading.reads q.reading.reads moved in (
+    let same : (forget f ≡ forget g) × AreSameFaults (tokens_in f) (tokens_in g) ds es =
+    alike_readings one_row f g ds es p.reading.reads q.reading.reads moved in (
       significant_tree p ∙ same.0 ∙ sym (significant_tree q),
       subst (λ (z : List Token). AreSameFaults z (items_of y) ds es) here (subst (λ (z : List Token). AreSameFaults (tokens_in f) z ds es) there same.1),
     )

@@ -1,9 +1,9 @@
 -- Derivations are found, and found alone.
 use Rattle.{std.proofs.Common.{◌≡◌, List, [], ap, sym, subst, ◌∙◌}, rnix_green.specs.Forest.Forest}
 use Rattle.rnix_grammar.specs.{Fault.Fault, AnnotatedForest.{Token, AnnotatedForest, tokens_in, forget}, Reads.ReadsRoot}
-use Rattle.{rnix_grammar.specs.Derivation.{annotate, IsDerivation}, rnix_lemmas.proofs.AnnotateLemmas.{IsAnnotatedRoot, annotate_root}}
-use Rattle.{rnix_completeness.proofs.{GrammarReads.expression_reads, OverTokens.{Over, over_trees}}, rnix_uniqueness.proofs.AllReads.one_row}
-use Rattle.rnix_strict.proofs.GrammarLeaves.{expression_fine}
+use Rattle.{rnix_grammar.specs.Derivation.{annotate, IsDerivation}, rnix_proof_lemmas.proofs.AnnotateLemmas.{IsAnnotatedRoot, annotate_root}}
+use Rattle.{rnix_proof_completeness.proofs.{GrammarReads.expression_reads, OverTokens.{Over, over_trees}}, rnix_proof_uniqueness.proofs.AllReads.one_row}
+use Rattle.rnix_proof_strict.proofs.GrammarLeaves.{expression_fine}
 
 -- a derivation over its items
 annotate_derivation : (t : Forest) (ts : List Token) → IsDerivation t ts → IsAnnotatedRoot t ts
@@ -17,7 +17,8 @@ derivation_reads t ts d =
     expression_reads d.strict (annotate t ts) over d.joined d.shallow
 
 -- what the items of a derivation are read as is the derivation, without errors
-pub derivation_found : (f : AnnotatedForest) (ts : List Token) (es : List Fault) → ReadsRoot f es → tokens_in f ≡ ts → (t : Forest) → IsDerivation t ts → (es ≡ []) × (forget f ≡ t)
+pub derivation_found : (f : AnnotatedForest) (ts : List Token) (es : List Fault) → ReadsRoot f es → tokens_in f ≡ ts → (t : Forest) → IsDerivation t ts →
+    (es ≡ []) × (forget f ≡ t)
 derivation_found f ts es r e t d =
     let l = annotate_derivation t ts d in
     let same = one_row f (annotate t ts) es [] r (derivation_reads t ts d) (e ∙ sym l.tokens) in

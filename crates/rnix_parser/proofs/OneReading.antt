@@ -2,16 +2,20 @@
 use Rattle.std.{proofs.Common.{◌≡◌, ℕ, true, List, [], ◌∷◌, ◌++◌, refl, ap, sym, ◌∙◌, subst, append_assoc}, specs.Prelude.flat_map}
 use Rattle.rnix_kinds.specs.{declared.kinds.SyntaxKind.TheVariants.NODE_ROOT, Lexical.Tokens.{Lexeme, text_of as lexeme_text, AreSound, tokens_of}}
 use Rattle.{rnix_green.specs.{Forest.text_of, Tree.Tree}, rnix_grammar.specs.{Fault.Fault, AnnotatedForest.{Token, AnnotatedForest, blank, token, branch}}}
-use Rattle.rnix_grammar.specs.{AnnotatedForest.{fault, forget, tokens_in, without_trivia, placed_from}, Layout.{items, with_all_trivia}, Machine.with_leading}
-use Rattle.rnix_grammar.specs.{WithoutTrivia.{without_trivia_machine, without_trivia_frame, without_trivia_frames}, Reads.ReadsRoot, Reading.IsReading}
-use Rattle.{rnix_grammar.specs.{Parsed.IsParsed, Document.IsRead}, rnix_lemmas.proofs.{ReportLemmas.without_trivia_tokens, SpelledLemmas.AreRuled}}
-use Rattle.{rnix_lemmas.proofs.WithoutTriviaLemmas.{runs_without_trivia, with_leading_without_trivia}, rnix_rows.proofs.WithAllTrivia.with_all_trivia_tokens}
-use Rattle.{rnix_rows.proofs.WithAllTrivia.{with_trivia_same, read_with_trivia}, rnix_existence.proofs.StepsReadRoot.steps_read_root}
-use Rattle.{rnix_uniqueness.proofs.AllReads.one_row, rnix_reader.specs.Placed.texts_in}
+use Rattle.rnix_grammar.specs.{AnnotatedForest.{fault, forget, tokens_in, without_trivia, placed_from}, Layout.{items, with_all_trivia}}
+use Rattle.rnix_proof_lemmas.specs.Machine.{with_leading}
+use Rattle.rnix_grammar.specs.{Reads.ReadsRoot, Reading.IsReading}
+use Rattle.rnix_proof_lemmas.specs.WithoutTrivia.{without_trivia_machine, without_trivia_frame, without_trivia_frames}
+use Rattle.{rnix_grammar.specs.Parsed.IsParsed, rnix_proof_lemmas.proofs.{ReportLemmas.without_trivia_tokens, SpelledLemmas.AreRuled}}
+use Rattle.rnix_proof_lemmas.specs.Document.{IsRead}
+use Rattle.{rnix_proof_lemmas.proofs.WithoutTriviaLemmas.{runs_without_trivia, with_leading_without_trivia}, rnix_proof_rows.proofs.WithAllTrivia.with_all_trivia_tokens}
+use Rattle.{rnix_proof_rows.proofs.WithAllTrivia.{with_trivia_same, read_with_trivia}, rnix_proof_existence.proofs.StepsReadRoot.steps_read_root}
+use Rattle.{rnix_proof_uniqueness.proofs.AllReads.one_row, rnix_reader.specs.Placed.texts_in}
 use Rattle.{rnix_reader.proofs.{EachText.each_read, TextLeft.placed_text}, rnix_parser.proofs.ParsedLemmas.all_follows}
 
 -- the items of a reading are those of the tokens
-pub reading_items : {ls : List Lexeme} {tree : Tree} {faults : List Fault} (r : IsReading ls tree faults) → tokens_in (without_trivia r.annotated) ≡ items (placed_from 0 ls)
+pub reading_items : {ls : List Lexeme} {tree : Tree} {faults : List Fault} (r : IsReading ls tree faults) →
+    tokens_in (without_trivia r.annotated) ≡ items (placed_from 0 ls)
 reading_items r = without_trivia_tokens r.annotated ∙ ap items r.leaves
 
 -- two readings of some tokens are one
@@ -33,8 +37,10 @@ texts-++ (t ∷ ts) us = ap (λ z. t.text ++ z) (texts-++ ts us) ∙ sym (append
 annotated_text : (f : AnnotatedForest) → text_of (forget f) ≡ texts_in (tokens_in f)
 annotated_text blank = refl
 annotated_text (token k t f) = ap (λ z. t.text ++ z) (annotated_text f)
-annotated_text (branch k c f) = ap (λ z. z ++ text_of (forget f)) (annotated_text c) ∙ ap (λ z. texts_in (tokens_in c) ++ z) (annotated_text f) ∙ sym (texts-++ (tokens_in c) (tokens_in f))
-annotated_text (fault n c f) = ap (λ z. z ++ text_of (forget f)) (annotated_text c) ∙ ap (λ z. texts_in (tokens_in c) ++ z) (annotated_text f) ∙ sym (texts-++ (tokens_in c) (tokens_in f))
+annotated_text (branch k c f) =
+    ap (λ z. z ++ text_of (forget f)) (annotated_text c) ∙ ap (λ z. texts_in (tokens_in c) ++ z) (annotated_text f) ∙ sym (texts-++ (tokens_in c) (tokens_in f))
+annotated_text (fault n c f) =
+    ap (λ z. z ++ text_of (forget f)) (annotated_text c) ∙ ap (λ z. texts_in (tokens_in c) ++ z) (annotated_text f) ∙ sym (texts-++ (tokens_in c) (tokens_in f))
 
 -- the text of a reading is that of its tokens
 pub reading_text : (ls : List Lexeme) (tree : Tree) (faults : List Fault) → IsReading ls tree faults → text_of tree.children ≡ flat_map lexeme_text ls
@@ -42,7 +48,8 @@ reading_text ls tree faults r =
     ap (λ (t : Tree). text_of t.children) r.tree_is ∙ annotated_text r.annotated ∙ ap texts_in r.leaves ∙ placed_text 0 ls
 
 -- two texts of which one tree is read are one text, with the same errors
-pub one_text : (s t : List ℕ) (tree : Tree) (ds es : List Fault) → AreSound s (tokens_of s) → AreSound t (tokens_of t) → IsReading (tokens_of s) tree ds → IsReading (tokens_of t) tree es
+pub one_text : (s t : List ℕ) (tree : Tree) (ds es : List Fault) → AreSound s (tokens_of s) → AreSound t (tokens_of t) → IsReading (tokens_of s) tree ds →
+    IsReading (tokens_of t) tree es
     → (s ≡ t) × (ds ≡ es)
 one_text s t tree ds es x y r q =
     let same : s ≡ t = sym x.joined ∙ sym (reading_text (tokens_of s) tree ds r) ∙ reading_text (tokens_of t) tree es q ∙ y.joined in
@@ -55,7 +62,8 @@ read_reading ls tree faults r =
     let g : AnnotatedForest = with_leading true r.root.row r.last.left in
     let bare : without_trivia g ≡ without_trivia r.root.row = with_leading_without_trivia r.root.row r.last.left in
     let read : (items ts ≡ tokens_in (without_trivia r.root.row)) × ReadsRoot (without_trivia r.root.row) r.last.faults =
-    steps_read_root (items ts) (without_trivia_machine r.last) (without_trivia_frame r.root) (runs_without_trivia r.runs) (ap without_trivia_frames r.alone) r.head r.position r.nothing in
+    steps_read_root (items ts) (without_trivia_machine r.last) (without_trivia_frame r.root) (runs_without_trivia r.runs) (ap without_trivia_frames r.alone)
+    r.head r.position r.nothing in
     let placed : g ≡ with_all_trivia (without_trivia g) ts = read_with_trivia ls tree faults r in
     record {
       annotated = g;

@@ -2,16 +2,18 @@
 use Rattle.std.proofs.{Common.{◌≡◌, ◌↔◌, ◌≤◌, true, List, [], refl, ap, sym, ◌∙◌, subst}}
 use Rattle.{rnix_kinds.specs.{declared.kinds.SyntaxKind.TheVariants.NODE_ROOT, Lexical.Tokens.Lexeme}, rnix_green.specs.{Forest.Forest, Tree.Tree}}
 use Rattle.rnix_grammar.specs.{Tables.depth_limit, AnnotatedForest.{Token, AnnotatedForest, blank, forget, tokens_in, without_trivia, placed_from}}
-use Rattle.rnix_grammar.specs.{AnnotatedForest.HaveLeafKinds, Layout.items, Trim.{AreFaultsTrimmed, AreNodesTrimmed}, Shape.{IsShaped, IsUnrepeated, reports}}
-use Rattle.rnix_grammar.specs.{TriviaBetween.AreTriviaBetween, Named.{AreSpelled, is_repeated, Lacks}, Repaired.{repaired, ended_count}, Extensions.has_no_extension}
+use Rattle.rnix_grammar.specs.{AnnotatedForest.HaveLeafKinds, Layout.items, Trim.{AreFaultsTrimmed, AreNodesTrimmed}, Shape.{IsShaped, IsUnrepeated}}
+use Rattle.rnix_proof_lemmas.specs.RowReports.{reports}
+use Rattle.rnix_grammar.specs.{TriviaBetween.AreTriviaBetween, Named.{is_repeated, Lacks}, Repaired.{repaired, ended_count}, Extensions.has_no_extension}
+use Rattle.rnix_proof_lemmas.specs.Spelled.{AreSpelled}
 use Rattle.rnix_grammar.specs.{Fault.Fault, PathPieces.ArePaths, Nest.nest, Grammar.IsExpression}
 use Rattle.rnix_grammar.specs.{Derivation.IsDerivation, Reads.ReadsRoot, Reading.IsReading, Parsed.IsParsed}
-use Rattle.rnix_rows.proofs.{ReadsFaults.{Errors, reads_errors}, RootReadings.{root_few, root_end_errors, root_begun, root_last}, TreeShapes.root_shaped}
-use Rattle.rnix_rows.proofs.{TreeShapes.without_trivia_reports, TriviaBetweenLemmas.trivia_between, ReadsNest.reads_nested, NamedRows.are_named}
-use Rattle.rnix_rows.proofs.{WithAllTrivia.{without_trivia_items, placed_leaf_kinds, placed_faults_trimmed, placed_names, placed_nodes_trimmed}, ReadsLeafKinds.reads_leaf_kinds}
-use Rattle.{rnix_rows.proofs.{ReadsShapes.{AreErrorFreeRows, repaired_none, root_rows}, ErrorFreeDerivations.derived}, rnix_soundness.proofs.Converse.converse}
-use Rattle.rnix_lemmas.proofs.{ReachableRows.known_row, SpelledLemmas.{AreRuled, spelled_from, without_trivia_spelled}}
-use Rattle.rnix_strict.proofs.GrammarLeaves.{expression_fine}
+use Rattle.rnix_proof_rows.proofs.{ReadsFaults.{Errors, reads_errors}, RootReadings.{root_few, root_end_errors, root_begun, root_last}, TreeShapes.root_shaped}
+use Rattle.rnix_proof_rows.proofs.{TreeShapes.without_trivia_reports, TriviaBetweenLemmas.trivia_between, ReadsNest.reads_nested, NamedRows.are_named}
+use Rattle.rnix_proof_rows.proofs.{WithAllTrivia.{without_trivia_items, placed_leaf_kinds, placed_faults_trimmed, placed_names, placed_nodes_trimmed}, ReadsLeafKinds.reads_leaf_kinds}
+use Rattle.{rnix_proof_rows.proofs.{ReadsShapes.{AreErrorFreeRows, repaired_none, root_rows}, ErrorFreeDerivations.derived}, rnix_proof_soundness.proofs.Converse.converse}
+use Rattle.rnix_proof_lemmas.proofs.{ReachableRows.known_row, SpelledLemmas.{AreRuled, spelled_from, without_trivia_spelled}}
+use Rattle.rnix_proof_strict.proofs.GrammarLeaves.{expression_fine}
 use Rattle.rnix_parser.proofs.Found.{derivation_found}
 
 -- a tree without trivia, and its errors, as they must be to be a derivation
@@ -25,13 +27,17 @@ record IsFit (f : AnnotatedForest) (ts : List Token) (es : List Fault) : Type 0 
   pub found : (t : Forest) → IsDerivation t ts → (es ≡ []) × (forget f ≡ t)
 
 -- so it is one exactly if there is no error and no accepted extension
-exact : (f : AnnotatedForest) (ts : List Token) (es : List Fault) → IsFit f ts es → ArePaths f [] → ((es ≡ []) × (has_no_extension NODE_ROOT (forget f) ≡ true)) ↔ ((t : Forest) × IsDerivation t ts)
+exact : (f : AnnotatedForest) (ts : List Token) (es : List Fault) → IsFit f ts es → ArePaths f [] →
+    ((es ≡ []) × (has_no_extension NODE_ROOT (forget f) ≡ true)) ↔ ((t : Forest) × IsDerivation t ts)
 exact f ts es w paths = (there, back)
   where
     there : (es ≡ []) × (has_no_extension NODE_ROOT (forget f) ≡ true) → (t : Forest) × IsDerivation t ts
     there h =
-        let same : repaired f ≡ forget f = repaired_none f (w.bare h.0) in
-        (forget f, subst (IsDerivation (forget f)) w.tokens (derived f (w.bare h.0) w.leaf_kind w.spelled (subst IsExpression same (w.strict h.0 (ap (has_no_extension NODE_ROOT) same ∙ h.1))) (w.nested h.0) paths))
+        let same : repaired f ≡ forget f = repaired_none f (w.bare h.0) in (
+          forget f,
+          subst (IsDerivation (forget f)) w.tokens (derived f (w.bare h.0) w.leaf_kind w.spelled
+              (subst IsExpression same (w.strict h.0 (ap (has_no_extension NODE_ROOT) same ∙ h.1))) (w.nested h.0) paths),
+        )
 
     back : ((t : Forest) × IsDerivation t ts) → (es ≡ []) × (has_no_extension NODE_ROOT (forget f) ≡ true)
     back h =
@@ -50,10 +56,13 @@ all_follows ls tree faults ruled r =
     let trimmed : AreFaultsTrimmed g = placed_faults_trimmed (without_trivia g) g ts faults r.placed own reads in
     let nodes : faults ≡ [] → AreNodesTrimmed (forget g) = placed_nodes_trimmed (without_trivia g) g ts faults r.placed own reads in
     let spelled : AreSpelled (tokens_in (without_trivia g)) = without_trivia_spelled g (subst AreSpelled (sym r.leaves) (spelled_from 0 ls ruled)) in
-    let nested : faults ≡ [] → nest NODE_ROOT (forget (without_trivia g)) ≤ depth_limit = λ h. reads_nested (without_trivia g) faults reads ((root_rows reads).0 h) in
-    let strict : ended_count faults ≡ 0 → Lacks is_repeated faults → has_no_extension NODE_ROOT (repaired (without_trivia g)) ≡ true → IsExpression (repaired (without_trivia g)) = λ n r o.
+    let nested : faults ≡ [] → nest NODE_ROOT (forget (without_trivia g)) ≤ depth_limit =
+    λ h. reads_nested (without_trivia g) faults reads ((root_rows reads).0 h) in
+    let strict : ended_count faults ≡ 0 → Lacks is_repeated faults → has_no_extension NODE_ROOT (repaired (without_trivia g)) ≡ true →
+    IsExpression (repaired (without_trivia g)) = λ n r o.
     converse (without_trivia g) faults reads (are_named reads) spelled n r o in
-    let met : (t : Forest) → IsDerivation t (items ts) → (faults ≡ []) × (forget (without_trivia g) ≡ t) = derivation_found (without_trivia g) (items ts) faults r.reads (sym own) in
+    let met : (t : Forest) → IsDerivation t (items ts) → (faults ≡ []) × (forget (without_trivia g) ≡ t) =
+    derivation_found (without_trivia g) (items ts) faults r.reads (sym own) in
     record {
       reading = r;
       leaf_kind = leaf_kind;
@@ -61,7 +70,8 @@ all_follows ls tree faults ruled r =
       bare = placed_names (without_trivia g) g ts faults r.placed spelled reads;
       paired = errors.reports ∙ without_trivia_reports blank g trimmed;
       named = errors.named;
-      shaped = subst (λ (t : Tree). (faults ≡ []) ↔ (IsShaped t × IsUnrepeated t)) (sym r.tree_is) (root_shaped (without_trivia g) g faults reads refl leaf_kind nodes);
+      shaped = subst (λ (t : Tree). (faults ≡ []) ↔ (IsShaped t × IsUnrepeated t)) (sym r.tree_is)
+          (root_shaped (without_trivia g) g faults reads refl leaf_kind nodes);
       few_incomplete = root_few reads;
       no_incomplete = root_end_errors reads;
       begun = root_begun reads;

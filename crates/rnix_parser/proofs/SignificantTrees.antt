@@ -6,8 +6,8 @@ use Rattle.rnix_green.specs.{Forest.{Forest, node}, Tree.Tree}
 use Rattle.rnix_grammar.specs.AnnotatedForest.{Token, AnnotatedForest, blank, token, branch, fault, forget, without_trivia, token_if, placed_from, leaf_kind_as, HaveLeafKinds}
 use Rattle.rnix_grammar.specs.{Extensions.has_no_extension, Derivation.{annotate, IsDerivation}, Fault.Fault, Grammar.IsExpression, Layout.items, Nest.nest}
 use Rattle.rnix_grammar.specs.{Parsed.IsParsed, PathPieces.ArePaths, Repaired.{repaired, ended_count}, Named.{is_repeated, Lacks}, Tables.depth_limit}
-use Rattle.rnix_rows.proofs.{ErrorFreeDerivations.annotate_same, ReadsShapes.{AreErrorFreeRows, repaired_none, root_rows}, WithAllTrivia.without_trivia_items}
-use Rattle.rnix_strict.proofs.GrammarLeaves.{expression_fine}
+use Rattle.rnix_proof_rows.proofs.{ErrorFreeDerivations.annotate_same, ReadsShapes.{AreErrorFreeRows, repaired_none, root_rows}, WithAllTrivia.without_trivia_items}
+use Rattle.rnix_proof_strict.proofs.GrammarLeaves.{expression_fine}
 use Rattle.rnix_parser.specs.Significant.{leaf_unless, significant}
 
 -- a leaf is trivia exactly if its token is
@@ -31,7 +31,8 @@ significant_forget q (token k t f) h =
 significant_forget q (branch k c f) h =
     ap (λ z. node k z (significant (forget f))) (significant_forget k c h.0) ∙ ap (node k (forget (without_trivia c))) (significant_forget q f h.1)
 significant_forget q (fault n c f) h =
-    ap (λ z. node NODE_ERROR z (significant (forget f))) (significant_forget NODE_ERROR c h.0) ∙ ap (node NODE_ERROR (forget (without_trivia c))) (significant_forget q f h.1)
+    ap (λ z. node NODE_ERROR z (significant (forget f))) (significant_forget NODE_ERROR c h.0)
+    ∙ ap (node NODE_ERROR (forget (without_trivia c))) (significant_forget q f h.1)
 
 -- the tree of a text, without its trivia
 pub significant_tree : {ls : List Lexeme} {tree : Tree} {faults : List Fault} (p : IsParsed ls tree faults)
@@ -49,7 +50,8 @@ pub tree_nested : {ls : List Lexeme} {tree : Tree} {faults : List Fault} → IsP
 tree_nested p h = subst (λ f. nest NODE_ROOT f ≤ depth_limit) (sym (significant_tree p)) (p.nested h)
 
 -- without errors no node is an error node
-error_free : {ls : List Lexeme} {tree : Tree} {faults : List Fault} (p : IsParsed ls tree faults) → faults ≡ [] → AreErrorFreeRows (without_trivia p.reading.annotated)
+error_free : {ls : List Lexeme} {tree : Tree} {faults : List Fault} (p : IsParsed ls tree faults) → faults ≡ [] →
+    AreErrorFreeRows (without_trivia p.reading.annotated)
 error_free {faults = faults} p h =
     let f = without_trivia p.reading.annotated in
     ((root_rows p.reading.reads).0 h).nodes
@@ -71,11 +73,13 @@ annotate_tree {ls = ls} p h =
 
 -- and is a derivation exactly if there are no errors and no extensions and the pieces of its paths touch
 pub tree_exactly : {ls : List Lexeme} {tree : Tree} {faults : List Fault} → IsParsed ls tree faults
-    → ((faults ≡ []) × (has_no_extension NODE_ROOT (significant tree.children) ≡ true) × ArePaths (annotate (significant tree.children) (items (placed_from 0 ls))) [])
+    → ((faults ≡ []) × (has_no_extension NODE_ROOT (significant tree.children) ≡ true) ×
+    ArePaths (annotate (significant tree.children) (items (placed_from 0 ls))) [])
     ↔ IsDerivation (significant tree.children) (items (placed_from 0 ls))
 tree_exactly {ls = ls} {tree = tree} {faults = faults} p = (there, back)
   where
-    there : (faults ≡ []) × (has_no_extension NODE_ROOT (significant tree.children) ≡ true) × ArePaths (annotate (significant tree.children) (items (placed_from 0 ls))) []
+    there : (faults ≡ []) × (has_no_extension NODE_ROOT (significant tree.children) ≡ true) ×
+        ArePaths (annotate (significant tree.children) (items (placed_from 0 ls))) []
         → IsDerivation (significant tree.children) (items (placed_from 0 ls))
     there h =
         let paths = subst (λ f. ArePaths f []) (annotate_tree p h.0) h.2 in
@@ -83,7 +87,8 @@ tree_exactly {ls = ls} {tree = tree} {faults = faults} p = (there, back)
         subst (λ t. IsDerivation t (items (placed_from 0 ls))) (sym (tree_found p d.0 d.1).1) d.1
 
     back : IsDerivation (significant tree.children) (items (placed_from 0 ls))
-        → (faults ≡ []) × (has_no_extension NODE_ROOT (significant tree.children) ≡ true) × ArePaths (annotate (significant tree.children) (items (placed_from 0 ls))) []
+        → (faults ≡ []) × (has_no_extension NODE_ROOT (significant tree.children) ≡ true) ×
+        ArePaths (annotate (significant tree.children) (items (placed_from 0 ls))) []
     back d =
         let t = significant tree.children in
         ((tree_found p t d).0, (expression_fine d.strict).extension, d.joined)

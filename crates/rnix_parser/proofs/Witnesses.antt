@@ -3,10 +3,10 @@ use Rattle.std.{proofs.Common.{◌≡◌, true, false, Bool, List, ℕ, refl, ap
 use Rattle.rnix_kinds.specs.Lexical.{Tokens.{tokens_of, normal_cut, cut_at, tokens_behind}, Texts.{space_len, begins_space, char_len}}
 use Rattle.{rnix_green.specs.{Equality.same_kind, Forest.{Forest, empty, leaf, node}, Tree.Tree}, rnix_grammar.specs.{Fault.Fault, AnnotatedForest.Token}}
 use Rattle.rnix_grammar.specs.{AnnotatedForest.{AnnotatedForest, forget, tokens_in, without_trivia, placed_from}, Layout.{items, with_all_trivia}}
-use Rattle.{rnix_grammar.specs.{Reading.IsReading, Parsed.IsParsed}, rnix_lemmas.proofs.{Basics.true_is_not_false, ReportLemmas.without_trivia_tokens}}
-use Rattle.rnix_uniqueness.proofs.OnlyReading.{Case, Holds, IsMade, holds, trees_in, items_of}
+use Rattle.{rnix_grammar.specs.{Reading.IsReading, Parsed.IsParsed}, rnix_proof_lemmas.proofs.{Basics.true_is_not_false, ReportLemmas.without_trivia_tokens}}
+use Rattle.rnix_proof_uniqueness.proofs.OnlyReading.{Case, Holds, IsMade, holds, trees_in, items_of}
 use Rattle.rnix_kinds.specs.declared.kinds.SyntaxKind.TheVariants as k
-use Rattle.rnix_uniqueness.proofs.Examples as of
+use Rattle.rnix_proof_uniqueness.proofs.Examples as of
 
 -- two forests have the same kinds in the same nodes
 abbrev alike : Forest → Forest → Bool

@@ -4,7 +4,7 @@ use Rattle.std.{proofs.lemmas.Bool.Decides.nat_tests, specs.Prelude.{decimal, co
 use Rattle.rnix_kinds.specs.SyntaxKind.{name_of}
 use Rattle.rnix_green.specs.{Tree.{Located, item_of, extent_of}, Walk.{Event, preorder_of}}
 use Rattle.rnix_tree.{specs.{Lines.{indent, range_end, lines_of}, Walked.event_lines}, proofs.DumpLemmas.finished}
-use Rattle.rnix_print.specs.Lines.{margin, walk_lines, tree_lines}
+use Rattle.rnix_print.specs.OutputLines.{margin, walk_lines, tree_lines}
 
 -- each element that a walk enters is at level 100 or above
 abbrev pub IsIndented : ℕ → List Event → Type 0

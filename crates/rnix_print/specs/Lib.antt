@@ -1,4 +1,4 @@
 pub mod Outcome
-pub mod Lines
+pub mod OutputLines
 pub mod Moved
 pub mod Ran

@@ -2,6 +2,6 @@
 use Rattle.std.specs.Prelude.{◌≡◌, ℕ, List, ◌++◌, Option}
 use Rattle.std.specs.Io.KnownBytes.{Consumes}
 
--- the bytes that the reader gave stand behind the old ones
+-- the bytes that the reader returned follow the old ones
 abbrev pub HasMoved : Option (List ℕ) → Option (List ℕ) → List ℕ → List ℕ → Type 0
 HasMoved left rest old new = (more : List ℕ) × Consumes left rest more × (new ≡ old ++ more)

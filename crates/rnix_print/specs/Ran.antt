@@ -5,7 +5,7 @@ use Rattle.rnix_kinds.specs.Lexical.Tokens.{tokens_of}
 use Rattle.rnix_green.specs.Tree.{Tree}
 use Rattle.rnix_grammar.specs.Fault.{Fault}
 use Rattle.rnix_grammar.specs.Parsed.{IsParsed}
-use Rattle.rnix_print.specs.Lines.{output}
+use Rattle.rnix_print.specs.OutputLines.{output}
 
 -- the bytes that were left, where they are known, are not UTF-8
 abbrev pub IsNotUtf8 : Option (List ℕ) → Type 0

@@ -1,9 +1,9 @@
 //! What the program prints of a text, and how it ends.
 #![tactic(auto)]
 
+mod error_lines;
+mod input;
 mod outcome;
-mod printing;
-mod reading;
 mod running;
 mod tree_lines;
 

@@ -5,11 +5,11 @@ ghost use Rattle.std.specs.Io.KnownBytes.{Appends, IsAtEnd};
 ghost use Rattle.rnix_grammar.specs.Fault.{fault_of};
 ghost use Rattle.rnix_print.specs.declared.outcome.RunError.TheVariants as refused;
 ghost use Rattle.rnix_print.specs.Ran.{HasRun, IsNotUtf8};
-ghost use Rattle.rnix_print.specs.Lines.{output};
+ghost use Rattle.rnix_print.specs.OutputLines.{output};
 
+use crate::error_lines::write_errors;
+use crate::input::read_all;
 use crate::outcome::RunError;
-use crate::printing::write_errors;
-use crate::reading::read_all;
 use crate::tree_lines::write_tree;
 use rnix_grammar::ParseError;
 use rnix_kinds::tokenize;
@@ -28,7 +28,7 @@ fn print<W: Write>(tree: &GreenNode, errors: &[ParseError], out: &mut W) -> io::
 }
 
 /// Reads all of the input and prints its errors and its tree: true if there are no errors. A refusal other than `Write` leaves the writer
-/// as it was. An answer other than `Read` and `Memory` comes only once all of the input is read.
+/// as it was. An error other than `Read` and `Memory` is returned only once all of the input is read.
 pub fn run<R: Read, W: Write>(alloc: Global, input: &mut R, out: &mut W) -> Result<bool, RunError>
     ensures ran { IfOk result (λ good. HasRun (R.remaining input.old) good (W.contents out.old) (W.contents out.new)) }
     ensures read { result ≡ Err refused.Read → out.new ≡ out.old }

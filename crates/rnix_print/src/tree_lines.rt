@@ -5,7 +5,7 @@ ghost use Rattle.std.specs.Io.KnownBytes.{Appends};
 ghost use Rattle.rnix_green.specs.Range.{bounds_of};
 ghost use Rattle.rnix_tree.specs.Lines.{range_end};
 ghost use Rattle.rnix_tree.specs.Spots.{place_of};
-ghost use Rattle.rnix_print.specs.Lines.{margin, element_line, tree_lines};
+ghost use Rattle.rnix_print.specs.OutputLines.{margin, element_line, tree_lines};
 
 use rnix_green::TextRange;
 use rnix_tree::{SyntaxElement, SyntaxNode, WalkEvent};

@@ -3,7 +3,7 @@ use Rattle.std.{proofs.Common.{◌≡◌, ℕ, List, [], ◌∷◌, ◌++◌, Op
 use Rattle.rnix_kinds.specs.declared.kinds.SyntaxKind.{SyntaxKind, TheVariants.NODE_ROOT}
 use Rattle.{rnix_green.specs.Range.Extent, rnix_grammar.specs.{Fault.Fault, AnnotatedForest.{Token, AnnotatedForest, blank, tokens_in, forget}}}
 use Rattle.rnix_grammar.specs.{declared.rules.Part.TheVariants.TextEnd, Rules.{done, ◌·◌, row}, Reads.ReadsRoot}
-use Rattle.{rnix_lemmas.proofs.ReachableRows.known_row, rnix_proof_layout.specs.AlikeItems.{AreAlike, AreSameFaults}}
+use Rattle.{rnix_proof_lemmas.proofs.ReachableRows.known_row, rnix_proof_layout.specs.AlikeItems.{AreAlike, AreSameFaults}}
 use Rattle.rnix_proof_layout.proofs.{MovedItems.{at, moved, moved_trees, tokens_moved, forget_moved}, Touch.Touching, JoinedRows.row_joins}
 use Rattle.rnix_proof_layout.proofs.MovedReadings.{moves, IsMoved}
 

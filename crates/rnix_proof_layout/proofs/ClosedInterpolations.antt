@@ -5,8 +5,8 @@ use Rattle.rnix_grammar.specs.{declared.rules.Part.TheVariants.{Child, Operand, 
 use Rattle.rnix_grammar.specs.AnnotatedForest.{Token, Note, Stray, Unwanted, Extra, DoubleBind, TooDeep, AnnotatedForest, tokens_in, leaf_kind, row_of}
 use Rattle.rnix_grammar.specs.Rules.{Row, done, ◌·◌, after, may_end}
 use Rattle.rnix_grammar.specs.Reads.{Reads, IsWrong, end, leaf, inner, missing_part, wrong, second}
-use Rattle.rnix_lemmas.proofs.{Basics.{true_is_not_false, none_right, some_same, Where, where_one}, EachKind.each_kind, RowKinds.has_row, ReachableRows.is_viable}
-use Rattle.rnix_lemmas.proofs.ViableRows.{reads_viable, end_viable, reads_row, past_ends}
+use Rattle.rnix_proof_lemmas.proofs.{Basics.{true_is_not_false, none_right, some_same, Where, where_one}, EachKind.each_kind, RowKinds.has_row, ReachableRows.is_viable}
+use Rattle.rnix_proof_lemmas.proofs.ViableRows.{reads_viable, end_viable, reads_row, past_ends}
 use Rattle.rnix_proof_layout.proofs.Touch.{last_kind, last_two}
 
 -- what is left of the row of an interpolation until it is closed

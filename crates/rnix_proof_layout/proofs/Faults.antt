@@ -3,11 +3,11 @@ use Rattle.std.proofs.Common.{◌≡◌, ℕ, Bool, true, false, List, [], ◌�
 use Rattle.std.proofs.Common.{if◌then◌else◌}
 use Rattle.rnix_kinds.specs.declared.kinds.SyntaxKind.{SyntaxKind, TheVariants.{NODE_IDENT, NODE_PAT_ENTRY}}
 use Rattle.rnix_green.specs.Range.{Extent}
-use Rattle.rnix_grammar.specs.{Fault.{Fault, ended, ended_before, named_twice}, Repaired.is_ended}
+use Rattle.rnix_grammar.specs.{Fault.{Fault, unexpected_eof, unexpected_eof_wanted, duplicated_args}, Repaired.is_ended}
 use Rattle.rnix_grammar.specs.Reports.{first_kind, report, repeats, entry_name, is_same_name, has_entry}
 use Rattle.rnix_grammar.specs.AnnotatedForest.{Token, Note, Stray, Unwanted, Extra, DoubleBind, TooDeep, AnnotatedForest, blank, token, branch, fault, tokens_in}
 use Rattle.rnix_grammar.specs.AnnotatedForest.{extent_of}
-use Rattle.rnix_lemmas.proofs.Basics.{true_is_not_false}
+use Rattle.rnix_proof_lemmas.proofs.Basics.{true_is_not_false}
 use Rattle.rnix_proof_layout.specs.AlikeItems.{AreOfSameItems, IsSameFault, AreSameFaults}
 use Rattle.rnix_proof_layout.proofs.{MovedItems.{at, moved, past, later, moved_trees}, Unplaced.{unplaced, alike}}
 
@@ -47,8 +47,8 @@ report_same xs ys TooDeep ts ps h = tt
 
 -- the errors of the end of the text
 pub ended_same : (xs ys : List Token) (e : Fault) → is_ended e ≡ true → IsSameFault xs ys e e
-ended_same xs ys ended h = tt
-ended_same xs ys (ended_before kinds) h = refl
+ended_same xs ys unexpected_eof h = tt
+ended_same xs ys (unexpected_eof_wanted kinds) h = refl
 ended_same xs ys _ h = absurd (true_is_not_false (sym h))
 
 -- errors one after another
@@ -90,8 +90,8 @@ one_if xs ys false true d e h g = absurd (true_is_not_false (sym h))
 repeated_same : (ws a us : List Token) (qs : List Extent) (b b' c : AnnotatedForest) → unplaced b ≡ unplaced b' → ws ≡ a ++ (tokens_in c ++ us)
     → AreSameFaults ws (moved ws qs) (repeats NODE_PAT_ENTRY b c) (repeats NODE_PAT_ENTRY b' (moved_trees c (past a qs)))
 repeated_same ws a us qs b b' (branch NODE_IDENT (token k t g) f) e h =
-    one_if ws (moved ws qs) (has_entry t.text b) (has_entry t.text b') (named_twice (extent_of (t ∷ [])) t.text)
-    (named_twice (extent_of (at t (past a qs) ∷ [])) t.text)
+    one_if ws (moved ws qs) (has_entry t.text b) (has_entry t.text b') (duplicated_args (extent_of (t ∷ [])) t.text)
+    (duplicated_args (extent_of (at t (past a qs) ∷ [])) t.text)
     (alike (has_entry t.text) (entry_same t.text) b b' e)
     (same_here ws a (t ∷ []) ((tokens_in g ++ tokens_in f) ++ us) qs h, refl)
 repeated_same ws a us qs b b' (branch NODE_IDENT blank f) e h = tt

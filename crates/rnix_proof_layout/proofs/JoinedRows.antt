@@ -7,7 +7,7 @@ use Rattle.{rnix_kinds.proofs.AllKinds.{every, implied}, rnix_green.specs.Equali
 use Rattle.rnix_grammar.specs.{declared.rules.Part.TheVariants.{EndOr, PathPieces}, Fault.Fault, TokenKinds.{is_path_piece, is_piece_start}}
 use Rattle.rnix_grammar.specs.AnnotatedForest.{Token, Note, Stray, Unwanted, Extra, DoubleBind, TooDeep, AnnotatedForest, tokens_in, leaf_kind, leaf_kind_as}
 use Rattle.rnix_grammar.specs.{Rules.{Row, ◌·◌, row, after, may_end, run_at, opening, IsExpected}, Reads.{Reads, IsWrong}}
-use Rattle.rnix_lemmas.proofs.{Basics.{true_is_not_false, not_if}, RowKinds.has_row, ReachableRows.{IsKnown, every_known}, ViableRows.reads_row}
+use Rattle.rnix_proof_lemmas.proofs.{Basics.{true_is_not_false, not_if}, RowKinds.has_row, ReachableRows.{IsKnown, every_known}, ViableRows.reads_row}
 use Rattle.rnix_proof_layout.specs.AlikeItems.{is_in_path}
 use Rattle.rnix_proof_layout.proofs.{Touch.{asks_touch, Joins, last_kind}, Moves.joined, ClosedInterpolations.{IsInside, at_start, Closes, closes}}
 

@@ -6,8 +6,8 @@ use Rattle.rnix_grammar.specs.AnnotatedForest.{Token, Note, DoubleBind, Annotate
 use Rattle.rnix_grammar.specs.AnnotatedForest.{tokens_in, leaf_kind, head_kind, end_from}
 use Rattle.rnix_grammar.specs.Rules.{Row, done, row, second_name, after, IsExpected, is_first_expected, level_at, IsFollowed}
 use Rattle.rnix_grammar.specs.{Beginnings.IsOperandOf, Reads.{Reads, IsOver, IsWrong, deeper, end, leaf, inner, missing_part, wrong, second}}
-use Rattle.rnix_lemmas.proofs.{AnnotatedForestLemmas.tokens_in-row_of}
-use Rattle.rnix_lemmas.proofs.{ReachableRows.{IsKnown, known_row, known_second, known_after, known_missing, known_past, known_wrong}, MissingFacts.missing_ended}
+use Rattle.rnix_proof_lemmas.proofs.{AnnotatedForestLemmas.tokens_in-row_of}
+use Rattle.rnix_proof_lemmas.proofs.{ReachableRows.{IsKnown, known_row, known_second, known_after, known_missing, known_past, known_wrong}, MissingFacts.missing_ended}
 use Rattle.rnix_proof_layout.specs.AlikeItems.{AreSameFaults, IsSameFault}
 use Rattle.rnix_proof_layout.proofs.MovedItems.{at, moved, past, later, moved_trees, moved_two, past_two, tokens_moved, tokens_after, row_moved, head_moved}
 use Rattle.rnix_proof_layout.proofs.Unplaced.{unplaced, unplaced-⊕, unplaced_moved, alike, first_expected_same, followed_same}

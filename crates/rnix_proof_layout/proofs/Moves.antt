@@ -13,7 +13,7 @@ use Rattle.rnix_grammar.specs.{Begins.second_kind, Levels.binding_power}
 use Rattle.rnix_grammar.specs.Reads.{IsWrong}
 use Rattle.{std.specs.List.list_all, rnix_kinds.proofs.AllKinds.{all_kinds, every}, rnix_green.specs.Equality.same_kind}
 use Rattle.{rnix_grammar.specs.TokenKinds.is_path_piece}
-use Rattle.rnix_lemmas.proofs.{ReachableRows.{IsKnown, every_known}}
+use Rattle.rnix_proof_lemmas.proofs.{ReachableRows.{IsKnown, every_known}}
 use Rattle.rnix_proof_layout.proofs.MovedItems.{moved, past, later, moved_trees, moved_two, tokens_after, row_moved, head_moved, second_moved}
 use Rattle.rnix_proof_layout.proofs.MovedItems.{length_moved, some_moved, run_moved}
 use Rattle.rnix_proof_layout.proofs.Unplaced.{unplaced, unplaced_moved, alike, row_level_same, first_same, follows_same, asked_same}

@@ -9,7 +9,7 @@ use Rattle.rnix_grammar.specs.TreeLevels.{operator_in, prefix_in, is_or_leaf, is
 use Rattle.rnix_grammar.specs.Operands.{first_tree, follows}
 use Rattle.rnix_grammar.specs.{declared.rules.Part.TheVariants.{Suffix, Binary, Argument}, TokenKinds.is_or}
 use Rattle.rnix_grammar.specs.Rules.{Row, ◌·◌, is_first_expected, level_at, IsFollowed}
-use Rattle.{rnix_grammar.specs.Levels.binding_power, rnix_lemmas.proofs.EachKind.each_kind}
+use Rattle.{rnix_grammar.specs.Levels.binding_power, rnix_proof_lemmas.proofs.EachKind.each_kind}
 use Rattle.rnix_proof_layout.proofs.MovedItems.{moved_trees, later, past}
 
 -- a token at no place

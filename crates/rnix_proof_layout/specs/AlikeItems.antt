@@ -5,7 +5,7 @@ use Rattle.rnix_kinds.specs.declared.kinds.SyntaxKind.TheVariants.{TOKEN_INTERPO
 use Rattle.rnix_green.specs.Range.{Extent}
 use Rattle.rnix_green.specs.Equality.{same_kind}
 use Rattle.rnix_grammar.specs.TokenKinds.{is_path_piece, is_piece_start}
-use Rattle.rnix_grammar.specs.Fault.{Fault, untold, extra, unwanted, bound_twice, ended, ended_before, named_twice, too_deep}
+use Rattle.rnix_grammar.specs.Fault.{Fault, unexpected_at, extra, unwanted, double_bind, unexpected_eof, unexpected_eof_wanted, duplicated_args, too_deep}
 use Rattle.rnix_grammar.specs.AnnotatedForest.{Token, extent_of}
 
 -- after an item of the kind a path goes on, if the next item touches it
@@ -39,13 +39,13 @@ pub record AreOfSameItems (xs ys : List Token) (a b : Extent) : Type 0 where
 
 -- two errors are the same but for their ranges, which are those of the same items
 abbrev pub IsSameFault : List Token → List Token → Fault → Fault → Type 0
-IsSameFault xs ys (untold a) (untold b) = AreOfSameItems xs ys a b
+IsSameFault xs ys (unexpected_at a) (unexpected_at b) = AreOfSameItems xs ys a b
 IsSameFault xs ys (extra a) (extra b) = AreOfSameItems xs ys a b
 IsSameFault xs ys (unwanted kind a wanted) (unwanted other b others) = (kind ≡ other) × AreOfSameItems xs ys a b × (wanted ≡ others)
-IsSameFault xs ys (bound_twice a) (bound_twice b) = AreOfSameItems xs ys a b
-IsSameFault xs ys ended ended = Unit {0}
-IsSameFault xs ys (ended_before wanted) (ended_before others) = wanted ≡ others
-IsSameFault xs ys (named_twice a name) (named_twice b other) = AreOfSameItems xs ys a b × (name ≡ other)
+IsSameFault xs ys (double_bind a) (double_bind b) = AreOfSameItems xs ys a b
+IsSameFault xs ys unexpected_eof unexpected_eof = Unit {0}
+IsSameFault xs ys (unexpected_eof_wanted wanted) (unexpected_eof_wanted others) = wanted ≡ others
+IsSameFault xs ys (duplicated_args a name) (duplicated_args b other) = AreOfSameItems xs ys a b × (name ≡ other)
 IsSameFault xs ys too_deep too_deep = Unit {0}
 IsSameFault xs ys d e = ⊥
 

@@ -2,9 +2,11 @@
 use Rattle.std.proofs.Common.{◌≡◌, ℕ, Bool, true, false, List, [], ◌∷◌, refl, sym, ◌∙◌, subst, ◌⊎◌, inl, inr, if◌then◌else◌}
 use Rattle.rnix_kinds.specs.declared.kinds.SyntaxKind.{SyntaxKind, TheVariants.{TOKEN_IDENT, TOKEN_R_BRACE, NODE_ATTR_SET}}
 use Rattle.rnix_grammar.specs.declared.{slot_table.TheConstants.SET, begin.Begin.Begin}
-use Rattle.rnix_grammar.specs.{Fault.Fault, AnnotatedForest.Token, Levels.selection_level, FrameKinds.AreStacked}
-use Rattle.rnix_grammar.specs.Machine.{Frame, Machine, begun, step, Runs, rest as here, then as further}
-use Rattle.rnix_lemmas.proofs.{Basics.not_nil, StackedFrames.step_stacked}
+use Rattle.rnix_grammar.specs.{Fault.Fault, AnnotatedForest.Token, Levels.selection_level}
+use Rattle.rnix_proof_lemmas.specs.FrameKinds.{AreStacked}
+use Rattle.rnix_proof_lemmas.specs.Machine.{Frame, Machine, begun, step, Runs}
+use Rattle.rnix_proof_lemmas.specs.Machine.{rest as here, then as further}
+use Rattle.rnix_proof_lemmas.proofs.{Basics.not_nil, StackedFrames.step_stacked}
 use Rattle.{rnix_proof_prefix.specs.Prefix.BeginAllFrom}
 use Rattle.rnix_proof_prefix.proofs.{Late.{AreFrom, AreLate, HasLate}, LateSteps.late_runs}
 use Rattle.rnix_grammar.specs.declared.begin.Begin.TheVariants as b

@@ -2,13 +2,15 @@
 use Rattle.std.proofs.Common.{◌≡◌, ℕ, suc, Bool, true, false, List, [], ◌∷◌, ◌++◌, Option, refl, ap, sym, ◌∙◌, subst, if◌then◌else◌, nat_le}
 use Rattle.rnix_kinds.specs.declared.kinds.SyntaxKind.{SyntaxKind, TheVariants.{NODE_APPLY, NODE_IDENT, NODE_PAT_ENTRY}}
 use Rattle.rnix_grammar.specs.declared.{slot_table.TheConstants.APPLIED, action.Action.Action, begin.Begin.Begin}
-use Rattle.rnix_grammar.specs.{Fault.{Fault, ended, ended_before, too_deep}, Tables.{depth_limit, wanted_kinds}, Actions.action_at, Begins.{begin_of, second_kind}}
+use Rattle.rnix_grammar.specs.{Fault.{Fault, unexpected_eof, unexpected_eof_wanted, too_deep}, Tables.{depth_limit, wanted_kinds}, Actions.action_at, Begins.{begin_of, second_kind}}
 use Rattle.rnix_grammar.specs.AnnotatedForest.{Token, Stray, Unwanted, Extra, DoubleBind, TooDeep, AnnotatedForest, blank, token, branch, fault, ◌⊕◌, one_branch, one_fault}
 use Rattle.rnix_grammar.specs.{AnnotatedForest.{row_of, tokens_in, head_kind, touches}, Reports.{report, repeated, repeated_if}, UnwantedRun.run_of}
-use Rattle.rnix_grammar.specs.Machine.{Head, Node, SecondBind, Operand, Frame, Machine, put, opened, leaf, kind_of, made, min_bp_of, machine, closed, entry_closed}
-use Rattle.rnix_grammar.specs.Machine.{begun, limited, operand_on, reading, perform, step_on, step, Runs, rest as here, then as further}
-use Rattle.rnix_grammar.specs.{FrameKinds.{FrameKind, Entry, SecondBindFrame, frame_kind, frame_kind_of_head, IsStackedOn, AreStacked}, Allowed.Allowed}
-use Rattle.rnix_lemmas.proofs.{AllowedLemmas.allowed, StackedFrames.step_stacked, Basics.{true_is_not_false, not_nil, none_left, none_right}}
+use Rattle.rnix_proof_lemmas.specs.Machine.{Head, Node, SecondBind, Operand, Frame, Machine, put, opened, leaf, kind_of, made, min_bp_of, machine, closed, entry_closed}
+use Rattle.rnix_proof_lemmas.specs.Machine.{begun, limited, operand_on, reading, perform, step_on, step, Runs}
+use Rattle.rnix_proof_lemmas.specs.Machine.{rest as here, then as further}
+use Rattle.rnix_proof_lemmas.specs.Allowed.{Allowed}
+use Rattle.rnix_proof_lemmas.specs.FrameKinds.{FrameKind, Entry, SecondBindFrame, frame_kind, frame_kind_of_head, IsStackedOn, AreStacked}
+use Rattle.rnix_proof_lemmas.proofs.{AllowedLemmas.allowed, StackedFrames.step_stacked, Basics.{true_is_not_false, not_nil, none_left, none_right}}
 use Rattle.rnix_proof_prefix.proofs.Late.{row_below, IsLate, AreLate, head_frame, head_entry}
 use Rattle.rnix_proof_prefix.specs.Prefix.{BeginAllFrom}
 use Rattle.rnix_grammar.specs.declared.position.Position.TheVariants as p
@@ -85,7 +87,7 @@ begun_clean b.Stray level d t f fs ts n es w = (w.0.1, no_error es (report Stray
 
 operand_clean : (level d : ℕ) (f : Frame) (fs : List Frame) (ts : List Token) (n : ℕ) (es : List Fault)
     → HasNone (operand_on false level d f fs ts ts n es) → HasNone (machine (f ∷ fs) ts n es)
-operand_clean level d f fs [] n es w = (w.0, no_error es ended w.1)
+operand_clean level d f fs [] n es w = (w.0, no_error es unexpected_eof w.1)
 operand_clean level d f fs (t ∷ us) n es w =
     begun_clean (begin_of level t.kind t.text (head_kind us) (second_kind us)) level d t f fs (t ∷ us) n es w
 
@@ -132,8 +134,8 @@ perform_clean action f fs ts n es al st w = by action al w
     by a.EndOperand al w = closed_clean f fs ts n es (quiet_at al refl) w
     by a.Extra al w = absurd (not_nil (none_right es (report Extra ts ∷ []) w.1))
     by (a.Take after) al w = (less (leaf false (kind_of f.head) ts) w.0, w.1)
-    by (a.Miss after) al w = (w.0, no_error es ended w.1)
-    by (a.MissWanted until after) al w = (w.0, no_error es (ended_before (wanted_kinds until)) w.1)
+    by (a.Miss after) al w = (w.0, no_error es unexpected_eof w.1)
+    by (a.MissWanted until after) al w = (w.0, no_error es (unexpected_eof_wanted (wanted_kinds until)) w.1)
     by (a.Run until after) al w = absurd (not_nil (none_right es (report (Unwanted until) (run_of until ts) ∷ []) w.1))
     by (a.Leaf k after) al w = (less (one_branch k (leaf false k ts)) w.0, w.1)
     by (a.Open k inside after) al w = (w.0.1, w.1)

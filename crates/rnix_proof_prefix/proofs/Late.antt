@@ -6,9 +6,10 @@ use Rattle.rnix_grammar.specs.{declared.{position.Position.Position, expected_se
 use Rattle.rnix_grammar.specs.AnnotatedForest.{Token, Note, Stray, Unwanted, Extra, DoubleBind, TooDeep, AnnotatedForest, blank, token, branch, fault, ◌⊕◌, one_branch}
 use Rattle.rnix_grammar.specs.AnnotatedForest.{tokens_in, head_kind}
 use Rattle.rnix_grammar.specs.Reports.{report, entry_name, has_entry, repeated_if, repeated}
-use Rattle.rnix_grammar.specs.Machine.{Head, Node, SecondBind, Operand, Frame, Machine, leaf, dropped}
-use Rattle.rnix_grammar.specs.{FrameKinds.{FrameKind, Entry, SecondBindFrame, NodeFrame, frame_kind, frame_kind_of_head, frame_kind_of_node, IsStackedOn}, Allowed.is_there}
-use Rattle.rnix_lemmas.proofs.{Basics.{true_is_not_false, choice}, AnnotatedForestLemmas.tokens_in-⊕, UnwantedRuns.run_begins}
+use Rattle.rnix_proof_lemmas.specs.Machine.{Head, Node, SecondBind, Operand, Frame, Machine, leaf, dropped}
+use Rattle.rnix_proof_lemmas.specs.Allowed.{is_there}
+use Rattle.rnix_proof_lemmas.specs.FrameKinds.{FrameKind, Entry, SecondBindFrame, NodeFrame, frame_kind, frame_kind_of_head, frame_kind_of_node, IsStackedOn}
+use Rattle.rnix_proof_lemmas.proofs.{Basics.{true_is_not_false, choice}, AnnotatedForestLemmas.tokens_in-⊕, UnwantedRuns.run_begins}
 use Rattle.rnix_proof_prefix.specs.Prefix.{BeginsFrom, BeginAllFrom}
 
 -- all tokens begin at a byte or behind it

@@ -2,13 +2,15 @@
 use Rattle.std.proofs.Common.{ℕ, suc, ◌≤◌, Bool, true, false, List, [], ◌∷◌, ◌++◌, Option, ap, ◌∙◌, if◌then◌else◌, nat_le}
 use Rattle.rnix_kinds.specs.declared.kinds.SyntaxKind.{SyntaxKind, TheVariants.{NODE_ERROR, NODE_APPLY}}
 use Rattle.rnix_grammar.specs.declared.{position.Position.Position, slot_table.TheConstants.APPLIED, action.Action.Action, begin.Begin.Begin}
-use Rattle.rnix_grammar.specs.{Fault.{Fault, ended, ended_before, too_deep}, Tables.{depth_limit, wanted_kinds}, Actions.action_at, Begins.{begin_of, second_kind}}
+use Rattle.rnix_grammar.specs.{Fault.{Fault, unexpected_eof, unexpected_eof_wanted, too_deep}, Tables.{depth_limit, wanted_kinds}, Actions.action_at, Begins.{begin_of, second_kind}}
 use Rattle.rnix_grammar.specs.AnnotatedForest.{Token, Stray, Unwanted, Extra, DoubleBind, TooDeep, AnnotatedForest, blank, ◌⊕◌, one_branch, one_fault, row_of}
 use Rattle.rnix_grammar.specs.{AnnotatedForest.{tokens_in, head_kind, touches}, Reports.{report, repeated}, UnwantedRun.run_of}
-use Rattle.rnix_grammar.specs.Machine.{Node, Operand, Frame, Machine, put, opened, leaf, kind_of, made, min_bp_of, closed, entry_closed}
-use Rattle.rnix_grammar.specs.Machine.{begun, limited, operand_on, reading, perform, step_on, step, Runs, rest as here, then as further}
-use Rattle.rnix_grammar.specs.{FrameKinds.{IsStackedOn, AreStacked}, Allowed.{Allowed, is_there}}
-use Rattle.rnix_lemmas.proofs.{AllowedLemmas.allowed, StackedFrames.{BeginsInner, begin_inner, step_stacked}}
+use Rattle.rnix_proof_lemmas.specs.Machine.{Node, Operand, Frame, Machine, put, opened, leaf, kind_of, made, min_bp_of, closed, entry_closed}
+use Rattle.rnix_proof_lemmas.specs.Machine.{begun, limited, operand_on, reading, perform, step_on, step, Runs}
+use Rattle.rnix_proof_lemmas.specs.Machine.{rest as here, then as further}
+use Rattle.rnix_proof_lemmas.specs.Allowed.{Allowed, is_there}
+use Rattle.rnix_proof_lemmas.specs.FrameKinds.{IsStackedOn, AreStacked}
+use Rattle.rnix_proof_lemmas.proofs.{AllowedLemmas.allowed, StackedFrames.{BeginsInner, begin_inner, step_stacked}}
 use Rattle.{rnix_proof_prefix.specs.Prefix.{BeginAllFrom}}
 use Rattle.rnix_proof_prefix.proofs.Late.{AreFrom, from_tail, from_dropped, starts_there, starts_run, report_from, more_from, row_below, AreLate}
 use Rattle.rnix_proof_prefix.proofs.Late.{HasLate, late_more, plain_late, entry_late, second_late, head_frame, entry_reports, second_reports}
@@ -49,7 +51,7 @@ begun_late m second b.Stray level d t f fs us n es i s l w e =
 -- an operand of a level, or the end of the text
 operand_late : (m level d : ℕ) (f : Frame) (fs : List Frame) (ts : List Token) (n : ℕ) (es : List Fault)
     → AreFrom m ts → AreLate m (f ∷ fs) → BeginAllFrom m es → HasLate m (operand_on false level d f fs ts ts n es)
-operand_late m level d f fs [] n es l w e = record { left = l; frames = w; faults = more_from m es (ended ∷ []) e (tt, tt) }
+operand_late m level d f fs [] n es l w e = record { left = l; frames = w; faults = more_from m es (unexpected_eof ∷ []) e (tt, tt) }
 operand_late m level d f fs (t ∷ us) n es l w e =
     let begin : Begin = begin_of level t.kind t.text (head_kind us) (second_kind us) in
     begun_late m (head_kind us) begin level d t f fs us n es (begin_inner level t.kind t.text (head_kind us) (second_kind us))
@@ -104,8 +106,8 @@ perform_late m action f fs ts n es al st l w e = by action al
       faults = more_from m es (report Extra ts ∷ []) e (report_from m Extra ts (starts_there m ts al.0 l), tt);
     }
     by (a.Take after) al = record { left = from_tail m ts l; frames = grown (leaf false (kind_of f.head) ts) (p.Left after); faults = e }
-    by (a.Miss after) al = record { left = l; frames = w; faults = more_from m es (ended ∷ []) e (tt, tt) }
-    by (a.MissWanted until after) al = record { left = l; frames = w; faults = more_from m es (ended_before (wanted_kinds until) ∷ []) e (tt, tt) }
+    by (a.Miss after) al = record { left = l; frames = w; faults = more_from m es (unexpected_eof ∷ []) e (tt, tt) }
+    by (a.MissWanted until after) al = record { left = l; frames = w; faults = more_from m es (unexpected_eof_wanted (wanted_kinds until) ∷ []) e (tt, tt) }
     by (a.Run until after) al =
         let run : List Token = run_of until ts in
         record {

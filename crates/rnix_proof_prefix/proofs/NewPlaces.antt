@@ -4,7 +4,7 @@ use Rattle.std.proofs.{lemmas.Bool.Decides.nat_tests}
 use Rattle.rnix_kinds.specs.declared.kinds.SyntaxKind.{SyntaxKind, TheVariants.NODE_ROOT}
 use Rattle.{rnix_green.specs.Range.Extent, rnix_grammar.specs.{Fault.Fault, AnnotatedForest.{Token, AnnotatedForest, blank, tokens_in}, Reads.ReadsRoot}}
 use Rattle.rnix_grammar.specs.{declared.rules.Part.TheVariants.TextEnd, Rules.{done, ◌·◌, row}}
-use Rattle.{rnix_lemmas.proofs.ReachableRows.known_row, rnix_proof_layout.specs.AlikeItems.{may_join, AreAlike, AreSameFaults}}
+use Rattle.{rnix_proof_lemmas.proofs.ReachableRows.known_row, rnix_proof_layout.specs.AlikeItems.{may_join, AreAlike, AreSameFaults}}
 use Rattle.rnix_proof_layout.proofs.{MovedItems.{at, moved, moved_trees, tokens_moved}, Touch.Touching, JoinedRows.row_joins, MovedReadings.{moves, IsMoved}}
 
 -- where an item is placed behind another: there or one byte on, as it touches that or not

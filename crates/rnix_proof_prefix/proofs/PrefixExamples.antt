@@ -1,7 +1,9 @@
 -- What is not so: the items `{` and `...` may have an error, and items that touch otherwise inside paths are not the same.
 use Rattle.std.{proofs.Common.{◌≡◌, ℕ, zero, suc, ◌≤◌, false, List, [], ◌∷◌, ◌++◌, refl, arith}, specs.Prelude.{codes, map, ◌+◌}}
 use Rattle.rnix_kinds.specs.declared.kinds.SyntaxKind.{SyntaxKind, TheVariants.{TOKEN_L_BRACE, TOKEN_ELLIPSIS, TOKEN_R_BRACE, TOKEN_COLON, TOKEN_IDENT, TOKEN_PATH_REL, TOKEN_INTERPOL_START, TOKEN_INTERPOL_END}}
-use Rattle.rnix_grammar.specs.{AnnotatedForest.{Token, lexeme_of, end_from}, Machine.{Machine, begins, step, Runs, rest as here, then as further}}
+use Rattle.rnix_grammar.specs.AnnotatedForest.{Token, lexeme_of, end_from}
+use Rattle.rnix_proof_lemmas.specs.Machine.{Machine, begins, step, Runs}
+use Rattle.rnix_proof_lemmas.specs.Machine.{rest as here, then as further}
 use Rattle.rnix_proof_prefix.{specs.Prefix.BeginAllFrom, proofs.{Late.AreFrom, CleanSteps.HasNone}}
 
 -- an item at a place
@@ -51,13 +53,13 @@ path n =
     ∷ item TOKEN_INTERPOL_END (codes "}") (n + 3) (n + 4) ∷ []
 
 -- so it is not: items with the same kinds and texts as others that are read without errors have no error
-abbrev AreTold : Type 0
-AreTold =
+abbrev DecidedByTexts : Type 0
+DecidedByTexts =
     (xs ys : List Token) (first second : Machine) → map lexeme_of xs ≡ map lexeme_of ys → Runs false (begins xs) first → Runs false (begins ys) second
     → first.left ≡ [] → second.left ≡ [] → HasNone second → BeginAllFrom (end_from 0 xs) first.faults
 
-pub untold : AreTold → ⊥
-untold claim =
+pub places_decide : DecidedByTexts → ⊥
+places_decide claim =
     let apart : Machine = begins (path 8) in
     let joined : Machine = begins (path 7) in
     let h = claim (path 8) (path 7) (steps 40 apart) (steps 40 joined) refl (run 40 apart) (run 40 joined) refl refl ((tt, tt), refl) in

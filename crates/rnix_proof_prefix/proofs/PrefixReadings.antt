@@ -1,6 +1,7 @@
 -- The errors of a reading whose items begin like those of a reading without errors.
 use Rattle.std.proofs.{Common.{◌≡◌, ℕ, false, List, [], ◌++◌, take, drop, None, sym, subst}, lemmas.List.take-append-drop}
-use Rattle.rnix_grammar.specs.{Fault.Fault, AnnotatedForest.{Token, AnnotatedForest, tokens_in, end_from}, Reads.ReadsRoot, Machine.{Machine, begins, Runs}}
+use Rattle.rnix_grammar.specs.{Fault.Fault, AnnotatedForest.{Token, AnnotatedForest, tokens_in, end_from}, Reads.ReadsRoot}
+use Rattle.rnix_proof_lemmas.specs.Machine.{Machine, begins, Runs}
 use Rattle.{rnix_proof_layout.specs.AlikeItems.AreAlike, rnix_proof_prefix.specs.Prefix.{BeginAllFrom, end_undecided}}
 use Rattle.rnix_proof_prefix.proofs.{CleanSteps.AreClean, SharedRuns.late_errors, Ordered.{AreOrdered, from_end}, NewPlaces.{ReadsOn, reads_on}}
 

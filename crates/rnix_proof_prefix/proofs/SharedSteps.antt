@@ -6,8 +6,8 @@ use Rattle.rnix_kinds.specs.declared.kinds.SyntaxKind.TheVariants.{TOKEN_ELLIPSI
 use Rattle.rnix_grammar.specs.declared.{slot_table.TheConstants.APPLIED, action.Action.Action, begin.Begin.Begin}
 use Rattle.rnix_grammar.specs.{Fault.{Fault, too_deep}, Tables.{is_cur_pos, depth_limit}, Begins.{is_pattern, begin_name, begin_let, begin_of, second_kind}}
 use Rattle.rnix_grammar.specs.{AnnotatedForest.{Token, Stray, Unwanted, Extra, blank, head_kind}, Reports.report, UnwantedRun.run_of, Layout.tail_of}
-use Rattle.rnix_grammar.specs.Machine.{Node, Operand, Frame, Machine, put, opened, min_bp_of, machine, closed, entry_closed, begun, limited, operand_on, reading, perform}
-use Rattle.rnix_lemmas.proofs.{Basics.{choice, true_is_not_false, not_nil, none_right}, StackedFrames.{BeginsInner, begin_inner}}
+use Rattle.rnix_proof_lemmas.specs.Machine.{Node, Operand, Frame, Machine, put, opened, min_bp_of, machine, closed, entry_closed, begun, limited, operand_on, reading, perform}
+use Rattle.rnix_proof_lemmas.proofs.{Basics.{choice, true_is_not_false, not_nil, none_right}, StackedFrames.{BeginsInner, begin_inner}}
 use Rattle.rnix_proof_prefix.specs.Prefix.{BeginAllFrom, are_undecided, end_undecided}
 use Rattle.rnix_proof_prefix.proofs.{Late.{AreFrom, AreLate}, LateSteps.begun_late, BraceSteps.{IsApart, late_apart, braces, opened_apart}}
 use Rattle.rnix_grammar.specs.declared.position.Position.TheVariants as p

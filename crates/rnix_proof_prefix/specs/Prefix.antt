@@ -2,16 +2,16 @@
 use Rattle.std.specs.Prelude.{◌≤◌, ℕ, Bool, true, false, List, [], ◌∷◌}
 use Rattle.rnix_kinds.specs.declared.kinds.SyntaxKind.{SyntaxKind}
 use Rattle.rnix_kinds.specs.declared.kinds.SyntaxKind.TheVariants.{TOKEN_L_BRACE, TOKEN_ELLIPSIS}
-use Rattle.rnix_grammar.specs.Fault.{Fault, untold, extra, unwanted, bound_twice, named_twice}
+use Rattle.rnix_grammar.specs.Fault.{Fault, unexpected_at, extra, unwanted, double_bind, duplicated_args}
 use Rattle.rnix_grammar.specs.AnnotatedForest.{Token}
 
 -- an error does not begin before a byte, if it has a range
 abbrev pub BeginsFrom : ℕ → Fault → Type 0
-BeginsFrom m (untold a) = m ≤ a.start
+BeginsFrom m (unexpected_at a) = m ≤ a.start
 BeginsFrom m (extra a) = m ≤ a.start
 BeginsFrom m (unwanted kind a wanted) = m ≤ a.start
-BeginsFrom m (bound_twice a) = m ≤ a.start
-BeginsFrom m (named_twice a name) = m ≤ a.start
+BeginsFrom m (double_bind a) = m ≤ a.start
+BeginsFrom m (duplicated_args a name) = m ≤ a.start
 BeginsFrom m d = Unit {0}
 
 -- so it is with all errors

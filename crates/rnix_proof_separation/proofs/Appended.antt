@@ -5,7 +5,7 @@ use Rattle.std.proofs.lemmas.{List.{get_or_append_left, get_or-append-add, drop-
 use Rattle.std.proofs.lemmas.{Bool.{cases_lt, and_parts, both_ways, not-true, or_left, cond-true, cond-false, agree_below_at}, Bool.Decides.nat_tests}
 use Rattle.std.specs.{Prelude.codes, List.{prefix_len, list_all}}
 use Rattle.rnix_kinds.specs.declared.tokenizer.text.Class.TheVariants.{Digit, Name, Path, Step, Scheme, Angle, Uri}
-use Rattle.rnix_kinds.specs.Lexical.{Texts.{stands_at, begins, run_end, is_blank}, Classes.class_test}
+use Rattle.rnix_kinds.specs.Lexical.{Texts.{occurs_at, begins, run_end, is_blank}, Classes.class_test}
 
 -- a choice of which the test is known
 pub if_true : {A : Type 0} (b : Bool) (x y z : A) → b ≡ true → x ≡ z → cond b x y ≡ z
@@ -26,7 +26,7 @@ pub next_byte_at : (t r : List ℕ) (i : ℕ) → i ≡ length t → get_or (t +
 next_byte_at t r i e = ap (λ k. get_or (t ++ r) k 0) e ∙ next_byte t r
 
 -- `${` after the token is `${` before the rest
-pub dollar_after : (t r : List ℕ) → stands_at (codes "${") (length t) (t ++ r) ≡ begins (codes "${") r
+pub dollar_after : (t r : List ℕ) → occurs_at (codes "${") (length t) (t ++ r) ≡ begins (codes "${") r
 dollar_after t r =
     let next : get_or (t ++ r) (suc (length t)) 0 ≡ get_or r 1 0 =
     ap (λ k. get_or (t ++ r) k 0) (sym (add-one (length t))) ∙ get_or-append-add t r 1 0 in
@@ -117,11 +117,11 @@ end_some p xs i out pass =
     ]
 
 -- a word that is inside the token is at the same place before all that follows
-pub stands_inside : (w : List ℕ) (i : ℕ) (t s r : List ℕ) → i + length w ≤ length t → stands_at w i (t ++ s) ≡ stands_at w i (t ++ r)
+pub stands_inside : (w : List ℕ) (i : ℕ) (t s r : List ℕ) → i + length w ≤ length t → occurs_at w i (t ++ s) ≡ occurs_at w i (t ++ r)
 stands_inside [] i t s r h = refl
 stands_inside (b ∷ []) i t s r h = ap (λ k. k == b) (same_byte t s r i (omega arith))
 stands_inside (b ∷ c ∷ w) i t s r h =
-    ap (λ k. (k == b) && stands_at (c ∷ w) (suc i) (t ++ s)) (same_byte t s r i (omega arith))
+    ap (λ k. (k == b) && occurs_at (c ∷ w) (suc i) (t ++ s)) (same_byte t s r i (omega arith))
     ∙ ap (λ k. (get_or (t ++ r) i 0 == b) && k) (stands_inside (c ∷ w) (suc i) t s r (omega arith))
 
 byte_inside : (t r : List ℕ) (i b : ℕ) → i ≤ length t → (get_or (t ++ r) i 0 == b) ≡ true → not (b == get_or r 0 0) ≡ true → i < length t
@@ -134,13 +134,13 @@ byte_inside t r i b h e other =
     ]
 
 -- a word without the next byte is inside the token
-pub stands_within : (w : List ℕ) (i : ℕ) (t r : List ℕ) → list_all (λ b. not (b == get_or r 0 0)) w ≡ true → i ≤ length t → stands_at w i (t ++ r) ≡ true
+pub stands_within : (w : List ℕ) (i : ℕ) (t r : List ℕ) → list_all (λ b. not (b == get_or r 0 0)) w ≡ true → i ≤ length t → occurs_at w i (t ++ r) ≡ true
     → i + length w ≤ length t
 stands_within [] i t r other h e = omega arith
 stands_within (b ∷ []) i t r other h e = omega (arith, byte_inside t r i b h e (and_parts (not (b == get_or r 0 0)) true other).0)
 stands_within (b ∷ c ∷ w) i t r other h e =
     let others = and_parts (not (b == get_or r 0 0)) (list_all (λ d. not (d == get_or r 0 0)) (c ∷ w)) other in
-    let parts = and_parts (get_or (t ++ r) i 0 == b) (stands_at (c ∷ w) (suc i) (t ++ r)) e in
+    let parts = and_parts (get_or (t ++ r) i 0 == b) (occurs_at (c ∷ w) (suc i) (t ++ r)) e in
     let here = byte_inside t r i b h parts.0 others.0 in
     omega (arith, stands_within (c ∷ w) (suc i) t r others.1 (omega arith) parts.1)
 

@@ -6,9 +6,9 @@ use Rattle.rnix_kinds.specs.declared.kinds.SyntaxKind.TheVariants.{TOKEN_COMMENT
 use Rattle.rnix_kinds.specs.declared.tokenizer.{rule.{Cut.Cut, Mode.Mode}, text.Class.TheVariants.Line}
 use Rattle.rnix_kinds.specs.Lexical.{Texts.{begins, run_end, space_len}, Classes.{class_test}, Plain.{plain, space, begins_word}}
 use Rattle.rnix_kinds.specs.Lexical.{Operators.{opening_brace, closing_brace, operator}, Paths.{slash, home}, Tokens.{first_that_fits, one_error, normal_cut}}
-use Rattle.rnix_kinds.proofs.Lexical.FirstBytes.{begins_opener, is_invisible, normal-named, normal-stepped, normal-opened, normal-symbol, normal-other}
-use Rattle.rnix_kinds.proofs.Lexical.FirstBytes.{normal-line_comment, normal-block_comment, normal-slash, normal-home, normal-angled}
-use Rattle.rnix_kinds.proofs.Lexical.FirstBytes.{normal-opening_brace, normal-closing_brace}
+use Rattle.rnix_kinds.proofs.LexicalLemmas.FirstBytes.{begins_opener, is_invisible, normal-named, normal-stepped, normal-opened, normal-symbol, normal-other}
+use Rattle.rnix_kinds.proofs.LexicalLemmas.FirstBytes.{normal-line_comment, normal-block_comment, normal-slash, normal-home, normal-angled}
+use Rattle.rnix_kinds.proofs.LexicalLemmas.FirstBytes.{normal-opening_brace, normal-closing_brace}
 use Rattle.rnix_proof_separation.proofs.Appended.{same_byte, next_byte_at, end_stopped, is_edge, apart_edge, edge_not}
 use Rattle.rnix_proof_separation.proofs.Kept.{Fits, Keeps, plain_keeps, keeps_then, fits_first}
 use Rattle.rnix_proof_separation.proofs.{KeptWords.{name_rules, name_keeps}, KeptSlashes.{angle_rules, angle_keeps, slash_some, slash_keeps, home_keeps}}

@@ -4,7 +4,7 @@ use Rattle.std.proofs.Common.{Some, None, refl, sym, ap, ◌∙◌, subst, inl, 
 use Rattle.std.proofs.lemmas.{Option.{same_Some, none-some}, Bool.{cases_lt, and_parts, both_ways, false_from_ne_true, not-true, eq-eqb}}
 use Rattle.std.specs.{Prelude.codes, List.list_all}
 use Rattle.rnix_kinds.specs.declared.{kinds.SyntaxKind.{SyntaxKind, TheVariants.TOKEN_ELLIPSIS}, tokenizer.rule.{Cut.Cut}}
-use Rattle.rnix_kinds.specs.Lexical.{Texts.{stands_at, begins}, Plain.plain, Operators.{operators, first_row, operator, ellipsis}}
+use Rattle.rnix_kinds.specs.Lexical.{Texts.{occurs_at, begins}, Plain.plain, Operators.{operators, first_row, operator, ellipsis}}
 use Rattle.rnix_proof_separation.proofs.Appended.{if_true, if_false, stands_inside, stands_within, is_edge, ink_other}
 use Rattle.rnix_proof_separation.proofs.KeptNumbers.{IsPlainCut}
 
@@ -30,13 +30,13 @@ slash_here : (b i k : ℕ) (x : List ℕ) → i ≡ k → (get_or x i 0 == b) �
 slash_here b i k x e f g is =
     both_ways _ (not-true _ g) (eq-eqb b 47 (sym (eqb-true (get_or x i 0) b f) ∙ (ap (λ j. get_or x j 0) e ∙ is)))
 
-stands_no_slash : (w : List ℕ) (i : ℕ) (x : List ℕ) → stands_at w i x ≡ true → has_no_slash w ≡ true → (k : ℕ) → i ≤ k → k < i + length w
+stands_no_slash : (w : List ℕ) (i : ℕ) (x : List ℕ) → occurs_at w i x ≡ true → has_no_slash w ≡ true → (k : ℕ) → i ≤ k → k < i + length w
     → get_or x k 0 ≡ 47 → ⊥
 stands_no_slash [] i x e f k low high is = absurd (omega arith)
 stands_no_slash (b ∷ []) i x e f k low high is =
     slash_here b i k x (omega arith) e (and_parts (not (b == 47)) true f).0 is
 stands_no_slash (b ∷ c ∷ w) i x e f k low high is =
-    let parts = and_parts (get_or x i 0 == b) (stands_at (c ∷ w) (suc i) x) e in
+    let parts = and_parts (get_or x i 0 == b) (occurs_at (c ∷ w) (suc i) x) e in
     let others = and_parts (not (b == 47)) (has_no_slash (c ∷ w)) f in
     elim (cases_lt i k) [
       | inl later ↦ stands_no_slash (c ∷ w) (suc i) x parts.1 others.1 k (omega arith) (omega arith) is
@@ -56,7 +56,7 @@ first_passes test w = test (get_or w 0 0) && nat_lt 0 (length w)
 word_first : (w x : List ℕ) → nat_lt 0 (length w) ≡ true → begins w x ≡ true → get_or x 0 0 ≡ get_or w 0 0
 word_first [] x some e = absurd (both_ways false refl some)
 word_first (b ∷ []) x some e = eqb-true (get_or x 0 0) b e
-word_first (b ∷ c ∷ w) x some e = eqb-true (get_or x 0 0) b (and_parts (get_or x 0 0 == b) (stands_at (c ∷ w) 1 x) e).0
+word_first (b ∷ c ∷ w) x some e = eqb-true (get_or x 0 0) b (and_parts (get_or x 0 0 == b) (occurs_at (c ∷ w) 1 x) e).0
 
 -- what an operator begins with
 pub operator_first : (x : List ℕ) (cut : Cut) (test : ℕ → Bool) → all_words (first_passes test) operators ≡ true → operator x ≡ Some cut

@@ -7,9 +7,9 @@ use Rattle.std.{proofs.lemmas.Bool.Decides.nat_tests, specs.{Prelude.codes, List
 use Rattle.rnix_kinds.specs.declared.{kinds.SyntaxKind.TheVariants.TOKEN_ERROR, tokenizer.text.Class.TheVariants.Step}
 use Rattle.rnix_kinds.specs.declared.tokenizer.rule.{Cut.Cut, PathStart.{PathStart, TheVariants.Relative}, Mode.TheVariants.Path}
 use Rattle.rnix_kinds.specs.declared.tokenizer.rule.Change.{Change, TheVariants.{Stay, Open}}
-use Rattle.rnix_kinds.specs.Lexical.{PathKinds.kind_of_path, Texts.{stands_at, begins, run_end, begins_space}, Classes.{class_test, is_path}}
+use Rattle.rnix_kinds.specs.Lexical.{PathKinds.kind_of_path, Texts.{occurs_at, begins, run_end, begins_space}, Classes.{class_test, is_path}}
 use Rattle.rnix_kinds.specs.Lexical.Paths.{is_broken, segment_to, segment, first_segment, goes_on_as_path, relative}
-use Rattle.rnix_kinds.{specs.Lexical.Tokens.IsPathBegun, proofs.Lexical.WordsLemmas.within_from_byte}
+use Rattle.rnix_kinds.{specs.Lexical.Tokens.IsPathBegun, proofs.LexicalLemmas.WordsLemmas.within_from_byte}
 use Rattle.rnix_proof_separation.proofs.Appended.{if_true, if_false, same_byte, next_byte_at, dollar_after, no_run, run_inside, run_stopped, end_stopped}
 use Rattle.rnix_proof_separation.proofs.Appended.{run_longer, is_edge, apart_edge, edge_path, edge_step, edge_not}
 use Rattle.rnix_proof_separation.{specs.Separated.is_error, proofs.{Kept.{Fits, IsQuiet, Keeps, no_error_if}, KeptNumbers.HasNoSlash}}
@@ -22,7 +22,7 @@ segment_cut start going ended n dollar bytes =
 
 pub segment_len : (start : PathStart) (going ended : Change) (from : ℕ) (x : List ℕ) → (segment start going ended from x).len ≡ run_end is_path from x
 segment_len start going ended from x =
-    cond_both (stands_at (codes "${") (run_end is_path from x) x) _ _ (λ (c : Cut). c.len ≡ run_end is_path from x) (λ e. refl) (λ e. refl)
+    cond_both (occurs_at (codes "${") (run_end is_path from x) x) _ _ (λ (c : Cut). c.len ≡ run_end is_path from x) (λ e. refl) (λ e. refl)
 
 dollar_first : (r : List ℕ) → begins (codes "${") r ≡ true → get_or r 0 0 ≡ 36
 dollar_first r e = eqb-true (get_or r 0 0) 36 (and_parts (get_or r 0 0 == 36) _ e).0

@@ -7,9 +7,9 @@ use Rattle.std.{proofs.lemmas.Bool.Decides.nat_tests, specs.{Prelude.codes, List
 use Rattle.rnix_kinds.specs.declared.kinds.SyntaxKind.{SyntaxKind, TheVariants.{TOKEN_DIV, TOKEN_ERROR, TOKEN_LESS, TOKEN_LESS_OR_EQ, TOKEN_PATH_SEARCH, TOKEN_PIPE_LEFT, TOKEN_UPDATE}}
 use Rattle.rnix_kinds.specs.declared.tokenizer.{text.Class.TheVariants.Angle, rule.{Cut.Cut, PathStart.TheVariants.{Root, Home}, Mode.TheVariants.Path}}
 use Rattle.rnix_kinds.specs.declared.tokenizer.rule.Change.{TheVariants.{Stay, Open}}
-use Rattle.rnix_kinds.specs.Lexical.{Texts.{stands_at, begins, run_end}, Classes.{class_test, is_path}, Plain.plain, Paths.{first_segment, slash, home}}
+use Rattle.rnix_kinds.specs.Lexical.{Texts.{occurs_at, begins, run_end}, Classes.{class_test, is_path}, Plain.plain, Paths.{first_segment, slash, home}}
 use Rattle.rnix_kinds.specs.Lexical.{Paths.{search_to, search_path}, Operators.operator, Tokens.{first_that_fits, one_error, IsPathBegun}}
-use Rattle.rnix_kinds.proofs.Lexical.WordsLemmas.{within_from_byte}
+use Rattle.rnix_kinds.proofs.LexicalLemmas.WordsLemmas.{within_from_byte}
 use Rattle.rnix_proof_separation.proofs.Appended.{if_true, if_false, same_byte, next_byte_at, dollar_after, no_run, end_stopped, end_some, is_edge, apart_edge}
 use Rattle.rnix_proof_separation.proofs.Appended.{edge_path, edge_angle, edge_not, ink_other}
 use Rattle.rnix_proof_separation.proofs.{Kept.{Fits, Keeps, plain_keeps, fits_first, fits_later}, KeptOperators.{word_kept, word_none, operator_kept, operator_plain}}
@@ -60,7 +60,7 @@ module _ (t s : List ℕ) (some : 0 < length t) where
         elim (cases_lt 1 (length t)) [
           | inl more ↦ root_more r more
           | inr short ↦ (let one : length t ≡ 1 = omega arith in
-              or_left _ _ (and_from _ _ (root_begins r) (ap (λ k. stands_at (codes "${") k (t ++ r)) (sym one) ∙ (dollar_after t r ∙ d))))
+              or_left _ _ (and_from _ _ (root_begins r) (ap (λ k. occurs_at (codes "${") k (t ++ r)) (sym one) ∙ (dollar_after t r ∙ d))))
         ]
 
     -- a path that is whole is more than the slash

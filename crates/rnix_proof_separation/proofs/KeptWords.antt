@@ -7,7 +7,7 @@ use Rattle.rnix_kinds.specs.declared.{kinds.SyntaxKind.TheVariants.TOKEN_URI, to
 use Rattle.rnix_kinds.specs.declared.tokenizer.rule.{Cut.Cut, PathStart.TheVariants.Relative}
 use Rattle.rnix_kinds.specs.Lexical.{Texts.run_end, Classes.{class_test, is_uri}, Plain.{plain, uri, word, kind_of_word, begins_word, goes_past_name}}
 use Rattle.rnix_kinds.specs.Lexical.{Paths.{first_segment, relative}, Tokens.{first_that_fits, one_error}}
-use Rattle.rnix_kinds.proofs.Lexical.FirstBytes.{relative-None-named, uri-None-named}
+use Rattle.rnix_kinds.proofs.LexicalLemmas.FirstBytes.{relative-None-named, uri-None-named}
 use Rattle.rnix_proof_separation.proofs.Appended.{if_true, same_byte, next_byte_at, no_run, run_inside, end_stopped, run_stops, run_longer, run_more}
 use Rattle.rnix_proof_separation.proofs.Appended.{is_edge, apart_edge, edge_name, edge_uri}
 use Rattle.rnix_proof_separation.proofs.{Kept.{Fits, Keeps, plain_keeps, keeps_then, fits_first, fits_later}, KeptPaths.{is_relative, relative_keeps, relative_not}}

@@ -8,8 +8,8 @@ use Rattle.rnix_kinds.specs.declared.tokenizer.{text.Class.TheVariants.Line, rul
 use Rattle.rnix_kinds.specs.declared.tokenizer.rule.{Mode.{Mode, TheVariants.{Quoted, Interpolation, Path}}, Change.{Change, TheVariants.{Stay, Open, Close, Count}}}
 use Rattle.rnix_kinds.specs.Lexical.{Texts.{begins, is_blank}, Classes.{class_test, is_path}, Plain.plain, Strings.{piece_len}, Paths.{segment, path_goes_on, path_cut}}
 use Rattle.rnix_kinds.specs.Lexical.Tokens.{cut_at, normal_cut, top, without_ended_paths, changed, tokens_under, tokens_of, IsCutOf, IsPathGoingOn}
-use Rattle.rnix_kinds.proofs.Lexical.{CutLemmas.cut_good, TokensLemmas.{tokens_under-nil, tokens_under-cut, tokens_under-settled, IsPathGoingOn-settled}}
-use Rattle.rnix_kinds.proofs.Lexical.TokensLemmas.{settled_stays}
+use Rattle.rnix_kinds.proofs.LexicalLemmas.{CutLemmas.cut_good, TokensLemmas.{tokens_under-nil, tokens_under-cut, tokens_under-settled, IsPathGoingOn-settled}}
+use Rattle.rnix_kinds.proofs.LexicalLemmas.TokensLemmas.{settled_stays}
 use Rattle.rnix_proof_separation.specs.Separated.{is_white_space, is_error, solids, have_no_error, is_inside, ends_token, IsGap, AreSeparated, none, space, token}
 use Rattle.rnix_proof_separation.specs.Separated.{IsSeparated}
 use Rattle.rnix_proof_separation.proofs.{Appended.{apart_edge, is_edge, same_byte, no_run, if_true, if_false, edge_path}, Kept.{Fits, IsBehind, Keeps}}

@@ -7,10 +7,10 @@ use Rattle.rnix_kinds.specs.declared.kinds.SyntaxKind.{TheVariants.{TOKEN_ERROR,
 use Rattle.rnix_kinds.specs.declared.tokenizer.rule.{Cut.Cut, PathStart.{PathStart, TheVariants.{Root, Relative, Home as FromHome}}}
 use Rattle.rnix_kinds.specs.declared.tokenizer.rule.Mode.{Mode, TheVariants.{Quoted, Interpolation, Path}}
 use Rattle.rnix_kinds.specs.declared.tokenizer.rule.Change.{Change, TheVariants.{Stay, Open, Close, Count}}
-use Rattle.rnix_kinds.specs.Lexical.{PathKinds.kind_of_path, Texts.{begins, is_blank, space_len, stands_at, run_end}, Classes.is_path, Plain.{plain, space}}
+use Rattle.rnix_kinds.specs.Lexical.{PathKinds.kind_of_path, Texts.{begins, is_blank, space_len, occurs_at, run_end}, Classes.is_path, Plain.{plain, space}}
 use Rattle.rnix_kinds.specs.Lexical.{Strings.{string_cut, content_len}, Paths.{is_broken, path_goes_on, path_cut}, Tokens.{top, without_ended_paths, changed}}
 use Rattle.rnix_kinds.specs.Lexical.Tokens.{cut_at, normal_cut, tokens_under}
-use Rattle.rnix_kinds.proofs.Lexical.{FirstBytes.normal-blank, WordsLemmas.{space_len-stop, space_len-step}, TokensLemmas.{tokens_under-cut}}
+use Rattle.rnix_kinds.proofs.LexicalLemmas.{FirstBytes.normal-blank, WordsLemmas.{space_len-stop, space_len-step}, TokensLemmas.{tokens_under-cut}}
 use Rattle.rnix_proof_separation.specs.Separated.{is_white_space, solids, is_inside}
 
 -- normal rules apply directly around each string and each path
@@ -34,7 +34,7 @@ string_inner m x =
 path_inner : (start : PathStart) (x : List ℕ) → IsInner (path_cut start x).change
 path_inner start x =
     cond_both (begins (codes "${") x) _ _ (λ (c : Cut). IsInner c.change) (λ e. refl)
-    (λ e. cond_both (stands_at (codes "${") (run_end is_path 0 x) x) _ _ (λ (c : Cut). IsInner c.change) (λ f. tt) (λ f. tt))
+    (λ e. cond_both (occurs_at (codes "${") (run_end is_path 0 x) x) _ _ (λ (c : Cut). IsInner c.change) (λ f. tt) (λ f. tt))
 
 -- no white space is cut there
 pub string_solid : (m : Bool) (x : List ℕ) → is_white_space (string_cut m x).kind ≡ false
@@ -51,7 +51,7 @@ path_kind_solid FromHome = refl
 pub path_solid : (start : PathStart) (x : List ℕ) → is_white_space (path_cut start x).kind ≡ false
 path_solid start x =
     cond_both (begins (codes "${") x) _ _ (λ (c : Cut). is_white_space c.kind ≡ false) (λ e. refl)
-    (λ e. cond_both (stands_at (codes "${") (run_end is_path 0 x) x) _ _ (λ (c : Cut). is_white_space c.kind ≡ false) (λ f. path_kind_solid start)
+    (λ e. cond_both (occurs_at (codes "${") (run_end is_path 0 x) x) _ _ (λ (c : Cut). is_white_space c.kind ≡ false) (λ f. path_kind_solid start)
     (λ f. broken (is_broken (take (run_end is_path 0 x) x))))
   where
     broken : (b : Bool) → is_white_space (cond b TOKEN_ERROR (kind_of_path start)) ≡ false

@@ -7,7 +7,7 @@ use Rattle.rnix_green.specs.Equality.{same_kind}
 use Rattle.rnix_grammar.specs.{declared.rules.Part.Part, Rules.{Row, never, done, ◌·◌, ◌or◌, may_end}, Tables.depth_limit}
 use Rattle.rnix_grammar.specs.declared.rules.Part.TheVariants.{Child, Atom, First, Suffix, Binary, Argument, Operand, Many, Entries, Wanted, Attr, Attrpath}
 use Rattle.rnix_grammar.specs.declared.rules.Part.TheVariants.{Names, Pieces, PathPieces, Formals, FormalsAfterComma, Comma, Optional, EndOr}
-use Rattle.{rnix_lemmas.proofs.Basics.true_is_not_false, rnix_rows.proofs.RowsWithoutAttrpath.begins_with_child}
+use Rattle.{rnix_proof_lemmas.proofs.Basics.true_is_not_false, rnix_proof_rows.proofs.RowsWithoutAttrpath.begins_with_child}
 
 -- no operand that counts may stand inside so many counted places
 abbrev pub is_full : ℕ → Bool

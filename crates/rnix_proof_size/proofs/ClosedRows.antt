@@ -6,9 +6,9 @@ use Rattle.rnix_grammar.specs.Fault.{Fault}
 use Rattle.rnix_grammar.specs.AnnotatedForest.{Token, Note, Stray, Unwanted, Extra, DoubleBind, TooDeep, AnnotatedForest}
 use Rattle.rnix_grammar.specs.{AnnotatedForest.{is_some, row_of, tokens_in, leaf_kind}, Rules.{Row, row, after, may_end}}
 use Rattle.rnix_grammar.specs.Reads.{Reads, end, leaf, missing_part, wrong, second, inner, IsWrong}
-use Rattle.rnix_lemmas.proofs.{AnnotatedForestLemmas.tokens_in-row_of, Basics.true_is_not_false}
-use Rattle.rnix_lemmas.proofs.{ReachableRows.{IsKnown, is_viable, known_row, known_second, known_after, known_past, known_wrong}}
-use Rattle.rnix_lemmas.proofs.ViableRows.{end_viable, reads_viable, reads_row}
+use Rattle.rnix_proof_lemmas.proofs.{AnnotatedForestLemmas.tokens_in-row_of, Basics.true_is_not_false}
+use Rattle.rnix_proof_lemmas.proofs.{ReachableRows.{IsKnown, is_viable, known_row, known_second, known_after, known_past, known_wrong}}
+use Rattle.rnix_proof_lemmas.proofs.ViableRows.{end_viable, reads_viable, reads_row}
 use Rattle.rnix_proof_size.proofs.{Counts.{nodes, nodes_row}, Bounds.{surplus, ended_surplus}, NodeBounds.{leaf_kept, node_kept, run_kept}}
 
 -- some items behind others are some

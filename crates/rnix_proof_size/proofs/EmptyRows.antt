@@ -5,10 +5,10 @@ use Rattle.rnix_grammar.specs.{declared.rules.Part.TheVariants.{Operand, Many}, 
 use Rattle.rnix_grammar.specs.AnnotatedForest.{Token, Note, Stray, Unwanted, Extra, DoubleBind, TooDeep, AnnotatedForest, row_of, tokens_in}
 use Rattle.rnix_grammar.specs.Rules.{Row, ◌·◌, row, after, may_end, counts, expects_end, IsExpected}
 use Rattle.rnix_grammar.specs.Reads.{Reads, end, leaf, missing_part, wrong, second, inner, deeper, IsWrong}
-use Rattle.rnix_lemmas.proofs.{AnnotatedForestLemmas.tokens_in-row_of, Basics.{true_is_not_false, not_nil, none_left, none_right}, RowKinds.has_row}
-use Rattle.rnix_lemmas.proofs.{ReachableRows.{IsKnown, is_viable, known_row, known_second, known_after, known_missing, known_wrong}}
-use Rattle.rnix_lemmas.proofs.ViableRows.{end_viable, reads_viable, reads_row}
-use Rattle.rnix_rows.proofs.RowsWithoutAttrpath.{has_no_attrpath, HasNoNode, no_attrpath_row, row_some}
+use Rattle.rnix_proof_lemmas.proofs.{AnnotatedForestLemmas.tokens_in-row_of, Basics.{true_is_not_false, not_nil, none_left, none_right}, RowKinds.has_row}
+use Rattle.rnix_proof_lemmas.proofs.{ReachableRows.{IsKnown, is_viable, known_row, known_second, known_after, known_missing, known_wrong}}
+use Rattle.rnix_proof_lemmas.proofs.ViableRows.{end_viable, reads_viable, reads_row}
+use Rattle.rnix_proof_rows.proofs.RowsWithoutAttrpath.{has_no_attrpath, HasNoNode, no_attrpath_row, row_some}
 use Rattle.rnix_proof_size.proofs.{Counts.{nodes, nodes_row}, Bounds.{is_full, spare}, NodeBounds.{missing_spare, deep_spare, path_spare}, ClosedRows.nothing}
 
 -- an error node without items

@@ -5,8 +5,8 @@ use Rattle.rnix_kinds.specs.declared.kinds.SyntaxKind.{SyntaxKind, TheVariants.N
 use Rattle.rnix_kinds.proofs.AllKinds.{implied}
 use Rattle.rnix_grammar.specs.{declared.rules.Part.TheVariants.{BoundAlready, TextEnd}, Tables.depth_limit}
 use Rattle.rnix_grammar.specs.Rules.{Row, done, ◌·◌, row, second_name, after, run_at, counts}
-use Rattle.rnix_lemmas.proofs.{Basics.true_is_not_false, RowKinds.has_row, ReachableRows.{IsKnown, is_viable, every_known}}
-use Rattle.rnix_rows.proofs.RowsWithoutAttrpath.{begins_with_child, is_same, same_true}
+use Rattle.rnix_proof_lemmas.proofs.{Basics.true_is_not_false, RowKinds.has_row, ReachableRows.{IsKnown, is_viable, every_known}}
+use Rattle.rnix_proof_rows.proofs.RowsWithoutAttrpath.{begins_with_child, is_same, same_true}
 use Rattle.rnix_proof_size.proofs.{Bounds.{surplus, spare, excess, is_full}, NodeBounds.{at_most, is_false, both_answers, each_child, each_node, behind}}
 
 -- unless a test holds

@@ -6,8 +6,8 @@ use Rattle.rnix_kinds.specs.declared.kinds.SyntaxKind.{SyntaxKind, TheVariants.{
 use Rattle.rnix_kinds.proofs.AllKinds.{all_kinds, implied}
 use Rattle.rnix_grammar.specs.{Fault.Fault}
 use Rattle.rnix_grammar.specs.Rules.{Row, row, after, missing, run_at, counts, expects_end}
-use Rattle.rnix_lemmas.proofs.{RowKinds.has_row, ReachableRows.{IsKnown, is_viable, every_known}}
-use Rattle.rnix_rows.proofs.RowsWithoutAttrpath.{has_no_attrpath}
+use Rattle.rnix_proof_lemmas.proofs.{RowKinds.has_row, ReachableRows.{IsKnown, is_viable, every_known}}
+use Rattle.rnix_proof_rows.proofs.RowsWithoutAttrpath.{has_no_attrpath}
 use Rattle.rnix_proof_size.proofs.Bounds.{surplus, spare}
 
 -- a test fails

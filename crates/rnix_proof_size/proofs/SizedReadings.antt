@@ -4,8 +4,8 @@ use Rattle.rnix_kinds.specs.{declared.kinds.SyntaxKind.TheVariants.NODE_ROOT, Le
 use Rattle.rnix_green.specs.{Forest.{element_count}, Tree.{Tree, forest_of}}
 use Rattle.rnix_grammar.specs.{Fault.Fault, AnnotatedForest.{Token, AnnotatedForest, forget, tokens_in, is_some, without_trivia, placed_from}, Layout.items}
 use Rattle.rnix_grammar.specs.{Reads.ReadsRoot, Reading.IsReading}
-use Rattle.rnix_lemmas.proofs.{ReachableRows.known_row, ReportLemmas.without_trivia_tokens}
-use Rattle.rnix_rows.proofs.RowsWithoutAttrpath.{no_attrpath_row}
+use Rattle.rnix_proof_lemmas.proofs.{ReachableRows.known_row, ReportLemmas.without_trivia_tokens}
+use Rattle.rnix_proof_rows.proofs.RowsWithoutAttrpath.{no_attrpath_row}
 use Rattle.rnix_proof_size.proofs.{Counts.{nodes, elements, nodes_without_trivia, length_placed, length_items}, EmptyRows.empty, LastRows.last}
 
 -- the nodes below the root are at most twice the items, and two more

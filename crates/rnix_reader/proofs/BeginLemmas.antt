@@ -1,7 +1,7 @@
 -- How operands begin.
 use Rattle.{std.proofs.Common.{◌≡◌, ℕ, List, Option, None, refl, ap, if◌then◌else◌}, rnix_kinds.specs.declared.kinds.SyntaxKind.SyntaxKind}
 use Rattle.{rnix_kinds.specs.declared.kinds.SyntaxKind.TheVariants.TOKEN_IDENT, rnix_grammar.specs.Begins.begin_of, rnix_reader.specs.State.{State, eaten}}
-use Rattle.rnix_reader.specs.{State.{started_at, ended}, Steps.{leaf_node_made, looks_behind, is_brace}}
+use Rattle.rnix_reader.specs.{State.{started_at, ended}, FrameSteps.{leaf_node_made, looks_behind, is_brace}}
 
 -- a leaf's node leaves what is open
 pub leaf_nodes : (k : SyntaxKind) (s s' : State) → s' ≡ leaf_node_made k s → s'.open_nodes ≡ s.open_nodes

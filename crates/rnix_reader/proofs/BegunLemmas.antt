@@ -4,9 +4,9 @@ use Rattle.std.proofs.Common.{◌≡◌, ◌+◌, ℕ, Bool, suc, true, false, i
 use Rattle.rnix_kinds.specs.declared.kinds.SyntaxKind.{SyntaxKind, TheVariants.{NODE_ERROR, NODE_IDENT, NODE_LAMBDA, NODE_IDENT_PARAM, NODE_PATTERN, NODE_PAT_BIND, NODE_LEGACY_LET}}
 use Rattle.rnix_grammar.specs.{declared.{position.Position.Position, begin.Begin.Begin, expected_set.ExpectedSet.TheVariants.End}, Tables.depth_limit, Fault.{Fault, too_deep}, Layout.{items, from_item, tail_of}, Reports.report}
 use Rattle.rnix_grammar.specs.AnnotatedForest.{Token, Stray, TooDeep, AnnotatedForest, head_of, end_from, blank, ◌⊕◌, one_branch, one_fault}
-use Rattle.rnix_grammar.specs.Machine.{Node, Operand, Frame, put, opened, with_leading, leaf, behind, item_end, machine, begun, operand_on, reading, limited, run_row, run_rest}
+use Rattle.rnix_proof_lemmas.specs.Machine.{Node, Operand, Frame, put, opened, with_leading, leaf, after_item, item_end, machine, begun, operand_on, reading, limited, run_row, run_rest}
 use Rattle.rnix_reader.specs.{declared.mark.Mark.Mark, State.{State, eaten, bumped, started_here, started, ended, failed}, Erase.{erase, erase_with}}
-use Rattle.rnix_reader.specs.Steps.{node_here, node_started, node_begun, operand_here, operand_begun, lambda_begun, leaf_node_made, parameter_read, binding_read, begins_with}
+use Rattle.rnix_reader.specs.FrameSteps.{node_here, node_started, node_begun, operand_here, operand_begun, lambda_begun, leaf_node_made, parameter_read, binding_read, begins_with}
 use Rattle.rnix_reader.{specs.{Performed.{begun_as, operand_with, operand_read, expression_read}, Reported.limit_reported}}
 use Rattle.rnix_reader.proofs.SkippedRuns.{run_all}
 use Rattle.rnix_reader.proofs.EraseLemmas.{erase-eaten, erase-settled, erase-over, erase-bumped, erase-next, erase-started, erase-first, erase-closed, erase-node_started, erase-operand}
@@ -67,13 +67,13 @@ module _ (f : Frame) (fs : List Frame) (ts : List Token) (n : ℕ) (es : List Fa
   begins_as b.LegacyLet level d t =
       ap (bumped NODE_LEGACY_LET) (nodes NODE_LEGACY_LET LEGACY_LET 0 level d t)
       ∙ erase-bumped _ NODE_LEGACY_LET (opened (Node NODE_LEGACY_LET) (p.Left LEGACY_LET) d (leaf true NODE_LEGACY_LET ts)) (on (p.AfterOperand level 0) d)
-      (behind true ts) (item_end true n ts) es
+      (after_item true ts) (item_end true n ts) es
   begins_as b.NameLambda level d t =
       let gs : List Frame = function level d in
       ap parameter_read (lambda level d) ∙ ap (λ x. ended (leaf_node_made NODE_IDENT x)) (inner _ NODE_IDENT_PARAM d gs)
       ∙ ap ended (erase-first _ NODE_IDENT (opened (Node NODE_IDENT_PARAM) (p.Left APPLIED) d blank) gs ts n es)
       ∙ erase-closed _ (Node NODE_IDENT_PARAM) (p.Left APPLIED) d (one_branch NODE_IDENT (leaf true NODE_IDENT ts))
-      (opened (Node NODE_LAMBDA) (p.Left LAMBDA) d blank) (on (p.AfterOperand level 16) d) (behind true ts) (item_end true n ts) es refl
+      (opened (Node NODE_LAMBDA) (p.Left LAMBDA) d blank) (on (p.AfterOperand level 16) d) (after_item true ts) (item_end true n ts) es refl
   begins_as b.BoundLambda level d t =
       let pattern : Frame = opened (Node NODE_PATTERN) (p.Left BOUND_PATTERN) d blank in
       let gs : List Frame = function level d in
@@ -82,9 +82,10 @@ module _ (f : Frame) (fs : List Frame) (ts : List Token) (n : ℕ) (es : List Fa
       ∙ ap binding_read (node NODE_PATTERN (p.Left BOUND_PATTERN) d gs)
       ∙ ap (λ x. ended (bumped NODE_PAT_BIND (leaf_node_made NODE_IDENT x))) (inner _ NODE_PAT_BIND d (pattern ∷ gs))
       ∙ ap (λ x. ended (bumped NODE_PAT_BIND x)) (erase-first _ NODE_IDENT (opened (Node NODE_PAT_BIND) (p.Left APPLIED) d blank) (pattern ∷ gs) ts n es)
-      ∙ ap ended (erase-bumped _ NODE_PAT_BIND (opened (Node NODE_PAT_BIND) (p.Left APPLIED) d name) (pattern ∷ gs) (behind true ts) (item_end true n ts) es)
-      ∙ erase-closed _ (Node NODE_PAT_BIND) (p.Left APPLIED) d (with_leading true name (behind true ts) ⊕ leaf true NODE_PAT_BIND (behind true ts))
-      pattern gs (behind true (behind true ts)) (item_end true (item_end true n ts) (behind true ts)) es refl
+      ∙ ap ended
+      (erase-bumped _ NODE_PAT_BIND (opened (Node NODE_PAT_BIND) (p.Left APPLIED) d name) (pattern ∷ gs) (after_item true ts) (item_end true n ts) es)
+      ∙ erase-closed _ (Node NODE_PAT_BIND) (p.Left APPLIED) d (with_leading true name (after_item true ts) ⊕ leaf true NODE_PAT_BIND (after_item true ts))
+      pattern gs (after_item true (after_item true ts)) (item_end true (item_end true n ts) (after_item true ts)) es refl
   begins_as b.PatternLambda level d t =
       let pattern : Frame = opened (Node NODE_PATTERN) (p.Left PATTERN) d blank in
       ap (node_begun NODE_PATTERN (p.Left PATTERN) d) (lambda level d)

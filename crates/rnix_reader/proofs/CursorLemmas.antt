@@ -5,7 +5,7 @@ use Rattle.std.proofs.{Math.Seq.drop-append_seam, lemmas.{List.{drop_all, Concat
 use Rattle.std.{proofs.lemmas.Str.{IsUtf8-append, IsCharBoundary-start, IsCharBoundary-from_drop}, specs.{List.{flat_map, All}, Str.IsCharBoundary}}
 use Rattle.rnix_kinds.specs.{declared.kinds.SyntaxKind.SyntaxKind, SyntaxKind.is_trivia, Lexical.Tokens.{Lexeme, AreSound, text_of}}
 use Rattle.rnix_grammar.specs.{AnnotatedForest.{Token, head_of, kind_in, head_kind, placed_from}, Layout.{from_item, from_item_if, items, tail_of}}
-use Rattle.{rnix_lemmas.proofs.LayoutLemmas.{items-view, items_head}, rnix_reader.specs.{declared.cursor.TokenEnd.TokenEnd, Placed.{ends_from, token_cut}}}
+use Rattle.{rnix_proof_lemmas.proofs.LayoutLemmas.{items-view, items_head}, rnix_reader.specs.{declared.cursor.TokenEnd.TokenEnd, Placed.{ends_from, token_cut}}}
 use Rattle.rnix_reader.specs.Placed.{tokens_cut, start_of, AreEnds, AreInOrder}
 
 -- the tokens are as many as their ends

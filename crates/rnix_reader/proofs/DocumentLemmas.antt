@@ -2,9 +2,13 @@
 use Rattle.std.proofs.Common.{◌≡◌, ℕ, true, List, [], ◌∷◌, ◌++◌, map, refl, ap, sym, ◌∙◌, subst}
 use Rattle.{rnix_kinds.specs.{declared.kinds.SyntaxKind.TheVariants.NODE_ROOT, Lexical.Tokens.Lexeme}, rnix_green.specs.Forest.{Forest, empty, node}}
 use Rattle.rnix_green.specs.{Forest.tree_count, Draft.{Draft, blank, node_opened}, Tree.{Tree, forest_of}}
-use Rattle.rnix_grammar.specs.{declared.{error.ParseError.ParseError, slot_table.TheConstants.ROOT}, Fault.{Fault, fault_of}, Layout.items, Document.IsRead}
-use Rattle.rnix_grammar.specs.{AnnotatedForest.{Token, placed_from, forget, head_kind}, Machine.{Frame, Machine, machine, begins, with_leading, Runs}, FrameKinds.{frame_kind, IsStackedOn}, Allowed.Allowed}
-use Rattle.{rnix_lemmas.proofs.StackedFrames.{head_root, root_alone}, rnix_reader.specs.{declared.mark.Mark.Mark, State.{State, pushed}, Erase.{erase, mark_at}, Holds.{IsReadTo, IsThrough}}}
+use Rattle.rnix_grammar.specs.{declared.{error.ParseError.ParseError, slot_table.TheConstants.ROOT}, Fault.{Fault, fault_of}, Layout.items}
+use Rattle.rnix_proof_lemmas.specs.Document.{IsRead}
+use Rattle.rnix_grammar.specs.AnnotatedForest.{Token, placed_from, forget, head_kind}
+use Rattle.rnix_proof_lemmas.specs.Allowed.{Allowed}
+use Rattle.rnix_proof_lemmas.specs.FrameKinds.{frame_kind, IsStackedOn}
+use Rattle.rnix_proof_lemmas.specs.Machine.{Frame, Machine, machine, begins, with_leading, Runs}
+use Rattle.{rnix_proof_lemmas.proofs.StackedFrames.{head_root, root_alone}, rnix_reader.specs.{declared.mark.Mark.Mark, State.{State, pushed}, Erase.{erase, mark_at}, Holds.{IsReadTo, IsThrough}}}
 use Rattle.rnix_reader.proofs.{FrameKindLemmas.head_sort, StateLemmas.state_is, SkippedRuns.no_items}
 use Rattle.rnix_grammar.specs.declared.position.Position.TheVariants as p
 use Rattle.rnix_grammar.specs.declared.action.Action.TheVariants as a

@@ -2,9 +2,15 @@
 use Rattle.std.proofs.Common.{◌≡◌, ◌<◌, ℕ, zero, suc, Bool, true, false, List, [], ◌∷◌, refl, sym, subst, arith}
 use Rattle.{rnix_kinds.specs.{declared.kinds.SyntaxKind.TheVariants.NODE_ROOT, Lexical.Tokens.Lexeme}, rnix_green.specs.Tree.Tree}
 use Rattle.rnix_grammar.specs.{declared.action.Action.Action, Fault.Fault, AnnotatedForest.{Token, placed_from, forget, head_kind, touches}, Layout.items}
-use Rattle.rnix_grammar.specs.{Actions.action_at, FrameKinds.AreStacked, Machine.{Frame, Machine, machine, begins, with_leading, perform, rest as here}}
-use Rattle.{rnix_grammar.specs.{Machine.then as further, Document.IsRead, Allowed.Allowed}, rnix_lemmas.proofs.Basics.true_is_not_false}
-use Rattle.rnix_lemmas.proofs.{StackedFrames.{step_stacked, begins_stacked}, AllowedLemmas.allowed}
+use Rattle.rnix_grammar.specs.Actions.{action_at}
+use Rattle.rnix_proof_lemmas.specs.FrameKinds.{AreStacked}
+use Rattle.rnix_proof_lemmas.specs.Machine.{Frame, Machine, machine, begins, with_leading, perform}
+use Rattle.rnix_proof_lemmas.specs.Machine.{rest as here}
+use Rattle.rnix_proof_lemmas.proofs.Basics.{true_is_not_false}
+use Rattle.rnix_proof_lemmas.specs.Allowed.{Allowed}
+use Rattle.rnix_proof_lemmas.specs.Document.{IsRead}
+use Rattle.rnix_proof_lemmas.specs.Machine.{then as further}
+use Rattle.rnix_proof_lemmas.proofs.{StackedFrames.{step_stacked, begins_stacked}, AllowedLemmas.allowed}
 use Rattle.rnix_reader.{specs.{Performed.is_finish, Holds.IsThrough}, proofs.{DocumentLemmas.{root_through, read_of}, WorkLemmas.{cost_of, perform_less}}}
 use Rattle.rnix_grammar.specs.declared.action.Action.TheVariants as a
 

@@ -1,9 +1,11 @@
 -- The end of a pattern's entry: it is reported if an earlier entry has its name.
 use Rattle.std.proofs.Common.{◌≡◌, ℕ, Bool, true, false, List, [], ◌∷◌, ◌++◌, Option, Some, None, refl, ap, sym, ◌∙◌, subst, append-nil, if◌then◌else◌}
-use Rattle.{rnix_kinds.specs.declared.kinds.SyntaxKind.TheVariants.{NODE_PATTERN, NODE_PAT_ENTRY}, rnix_grammar.specs.Fault.{Fault, named_twice}}
-use Rattle.rnix_grammar.specs.{AnnotatedForest.{Token, AnnotatedForest, without_trivia, extent_of}, Reports.{entry_name, has_entry, repeated_if}, Machine.Head}
-use Rattle.rnix_grammar.specs.{Machine.{Node, Frame, machine, closed, perform}, FrameKinds.{Pattern, Entry, frame_kind, may_hold, IsStackedOn}}
-use Rattle.{rnix_lemmas.proofs.Basics.true_is_not_false, rnix_reader.specs.{declared.names.{NameSet.NameSet, Names.Names}, PatternNames.{has_name, entries_in}}}
+use Rattle.{rnix_kinds.specs.declared.kinds.SyntaxKind.TheVariants.{NODE_PATTERN, NODE_PAT_ENTRY}, rnix_grammar.specs.Fault.{Fault, duplicated_args}}
+use Rattle.rnix_grammar.specs.{AnnotatedForest.{Token, AnnotatedForest, without_trivia, extent_of}, Reports.{entry_name, has_entry, repeated_if}}
+use Rattle.rnix_proof_lemmas.specs.Machine.{Head}
+use Rattle.rnix_proof_lemmas.specs.FrameKinds.{Pattern, Entry, frame_kind, may_hold, IsStackedOn}
+use Rattle.rnix_proof_lemmas.specs.Machine.{Node, Frame, machine, closed, perform}
+use Rattle.{rnix_proof_lemmas.proofs.Basics.true_is_not_false, rnix_reader.specs.{declared.pattern_names.{NameSet.NameSet, Names.Names}, PatternNames.{has_name, entries_in}}}
 use Rattle.rnix_reader.specs.{PatternNames.{entry_at, EntryClosed, Entered}, State.{State, ended, failed}, Erase.{erase, popped}, Performed.{EntryReported, reported_if}}
 use Rattle.rnix_reader.{specs.Holds.{IsBegun, AreNamed, named_by, name_of, entries_of, TopSet, AreOpenSets, AreOpenSetsOn}, proofs.{EraseLemmas.closes, FrameKindLemmas.is_operand_frame}}
 use Rattle.rnix_reader.proofs.FrameKindLemmas.{is_root, head_sort, head_entry, head_pattern, holds_entry}
@@ -23,7 +25,7 @@ pub record IsEntry (f g : Frame) (fs : List Frame) (names names' : Names) (again
   pub top_set : TopSet names.sets.items g.row (AreOpenSets fs)
   pub entered : Entered name.text top_set.below top_set.set names'
   pub entries : entries_in names' ≡ entries_of (g ∷ fs)
-  pub told : again ≡ (if has_name name.text top_set.set then Some (named_twice (extent_of (name ∷ [])) name.text) else None)
+  pub fault_is : again ≡ (if has_name name.text top_set.set then Some (duplicated_args (extent_of (name ∷ [])) name.text) else None)
 
 -- so it is at an entry's place
 pub entry_there : (f g : Frame) (fs : List Frame) (names names' : Names) (again : Option Fault) → IsStackedOn f.head f.position (g ∷ fs)
@@ -41,7 +43,7 @@ entry_there f g fs names names' again st e w c =
     let named : name_of f.head f.row ≡ Some t = ap (λ x. name_of x f.row) entry ∙ begun.1 in
     let all : entries_in names ≡ entries_of (g ∷ fs) ++ entry_at t ∷ [] = w.entries ∙ ap (λ x. entries_of (g ∷ fs) ++ named_by x) named in
     let done = c.entered (entries_of (g ∷ fs)) t.text (extent_of (t ∷ [])) top_set.below top_set.set all top_set.all in
-    record { entry = entry; pattern = pattern; name = t; named = begun.1; top_set = top_set; entered = done.0; entries = done.1; told = done.2 }
+    record { entry = entry; pattern = pattern; name = t; named = begun.1; top_set = top_set; entered = done.0; entries = done.1; fault_is = done.2 }
 
 -- what is reported
 reported_once : (b : Bool) (e : Fault) (f g : Frame) (fs : List Frame) (ts : List Token) (n : ℕ) (es : List Fault)
@@ -57,10 +59,10 @@ pub done_entry : (f : Frame) (fs : List Frame) (ts : List Token) (n : ℕ) (es :
 done_entry f [] ts n es names names' s' st w e d = absurd (true_is_not_false (sym (ap is_root st.1) ∙ ap is_root e))
 done_entry f (g ∷ fs) ts n es names names' s' st w e d =
     let q = entry_there f g fs names names' d.again st e w d.closed in
-    let fault : Fault = named_twice (extent_of (q.name ∷ [])) q.name.text in
+    let fault : Fault = duplicated_args (extent_of (q.name ∷ [])) q.name.text in
     let old : AnnotatedForest = without_trivia g.row in
     d.state ∙ ap (λ x. reported_if x (ended (popped (machine (f ∷ (g ∷ fs)) ts n es))))
-    (q.told ∙ ap (λ x. if x then Some fault else None) (q.top_set.is q.name.text))
+    (q.fault_is ∙ ap (λ x. if x then Some fault else None) (q.top_set.is q.name.text))
     ∙ ap (reported_if (if has_entry q.name.text old then Some fault else None)) (closes f (g ∷ fs) ts n es st (ap is_operand_frame e) (ap is_root e))
     ∙ reported_once (has_entry q.name.text old) fault f g fs ts n es
     ∙ ap (λ x. erase (closed f (g ∷ fs) ts n (es ++ repeated_if x old))) (sym q.named)

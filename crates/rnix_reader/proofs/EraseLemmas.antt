@@ -3,10 +3,11 @@ use Rattle.{std.proofs.Common.{◌≡◌, ℕ, true, false, List, [], ◌∷◌,
 use Rattle.rnix_green.{specs.{Forest.{Forest, join, tree_count}, Draft.wrapped-join, ForestCode.join_empty}, proofs.ForestLemmas.join_assoc}
 use Rattle.rnix_grammar.specs.{declared.{position.Position.Position, expected_set.ExpectedSet.ExpectedSet}, Fault.Fault, UnwantedRun.run_of, Layout.{items, from_item, trivia_before, tail_of, with_trivia}}
 use Rattle.rnix_grammar.specs.AnnotatedForest.{Token, Note, AnnotatedForest, blank, ◌⊕◌, one_branch, one_fault, row_of, forget, end_from}
-use Rattle.rnix_grammar.specs.Machine.{Head, Node, SecondBind, Operand, Frame, put, opened, with_leading, leaf, leaf_in, behind, item_end, end_of, made, run_row, run_rest, machine, closed}
-use Rattle.{rnix_grammar.specs.FrameKinds.{OperandFrame, frame_kind, frame_kind_of_head, IsStackedOn}, rnix_lemmas.proofs.{Basics.true_is_not_false, LayoutLemmas.{from_item-from_item, items-from_item}, AnnotatedForestLemmas.forget-⊕}}
+use Rattle.rnix_proof_lemmas.specs.Machine.{Head, Node, SecondBind, Operand, Frame, put, opened, with_leading, leaf, leaf_in, after_item, item_end, end_of, made, run_row, run_rest, machine, closed}
+use Rattle.rnix_proof_lemmas.proofs.{Basics.true_is_not_false, LayoutLemmas.{from_item-from_item, items-from_item}, AnnotatedForestLemmas.forget-⊕}
+use Rattle.rnix_proof_lemmas.specs.FrameKinds.{OperandFrame, frame_kind, frame_kind_of_head, IsStackedOn}
 use Rattle.rnix_reader.specs.{declared.mark.Mark.Mark, State.{State, eaten, taken, bumped, skipped, started_here, started, started_at, ended, failed, pushed}}
-use Rattle.rnix_reader.{specs.{Erase.{trees_of, marks_of, mark_at, erase, erase_with, popped}, Steps.{node_here, operand_here, leaf_node_made}, Reported.error_over}, proofs.FrameKindLemmas.{is_operand_frame, is_root, node_not_operand, head_operand}}
+use Rattle.rnix_reader.{specs.{Erase.{trees_of, marks_of, mark_at, erase, erase_with, popped}, FrameSteps.{node_here, operand_here, leaf_node_made}, Reported.error_over}, proofs.FrameKindLemmas.{is_operand_frame, is_root, node_not_operand, head_operand}}
 use Rattle.rnix_reader.proofs.StateLemmas.{state_is, eaten-settled}
 
 -- more in a row
@@ -32,7 +33,7 @@ erase-taken ms k f fs us n es = state_is refl (grown (trees_of fs) f.row (leaf_i
 -- and so does the next item
 pub erase-bumped : (ms : List Mark) (k : SyntaxKind) (f : Frame) (fs : List Frame) (ts : List Token) (n : ℕ) (es : List Fault)
     → bumped k (erase_with ms (machine (f ∷ fs) ts n es)) ≡ erase_with ms
-    (machine (put f.position (with_leading true f.row ts ⊕ leaf true k ts) f ∷ fs) (behind true ts) (item_end true n ts) es)
+    (machine (put f.position (with_leading true f.row ts ⊕ leaf true k ts) f ∷ fs) (after_item true ts) (item_end true n ts) es)
 unfolding bumped
 erase-bumped ms k f fs ts n es = ap (taken k) (erase-eaten ms f fs ts n es)
     ∙ erase-taken ms k (put f.position (with_leading true f.row ts) f) fs (from_item ts) n es
@@ -40,7 +41,7 @@ erase-bumped ms k f fs ts n es = ap (taken k) (erase-eaten ms f fs ts n es)
 -- behind the trivia it goes there alone
 pub erase-next : (ms : List Mark) (k : SyntaxKind) (f : Frame) (fs : List Frame) (ts : List Token) (n : ℕ) (es : List Fault)
     → bumped k (erase_with ms (machine (f ∷ fs) (from_item ts) n es)) ≡ erase_with ms
-    (machine (put f.position (f.row ⊕ leaf true k ts) f ∷ fs) (behind true ts) (item_end true n ts) es)
+    (machine (put f.position (f.row ⊕ leaf true k ts) f ∷ fs) (after_item true ts) (item_end true n ts) es)
 unfolding bumped
 erase-next ms k f fs ts n es = ap (taken k) (erase-settled ms (f ∷ fs) ts n es) ∙ erase-taken ms k f fs (from_item ts) n es
 
@@ -106,7 +107,7 @@ leaf_here ms k f fs us n es =
 -- a node over the next item
 pub erase-leaf_node_made : (ms : List Mark) (k : SyntaxKind) (f : Frame) (fs : List Frame) (ts : List Token) (n : ℕ) (es : List Fault)
     → leaf_node_made k (erase_with ms (machine (f ∷ fs) ts n es))
-    ≡ erase_with ms (machine (put f.position (with_leading true f.row ts ⊕ one_branch k (leaf true k ts)) f ∷ fs) (behind true ts) (item_end true n ts) es)
+    ≡ erase_with ms (machine (put f.position (with_leading true f.row ts ⊕ one_branch k (leaf true k ts)) f ∷ fs) (after_item true ts) (item_end true n ts) es)
 erase-leaf_node_made ms k f fs ts n es =
     ap (λ x. ended (taken k (started_here k x))) (erase-eaten ms f fs ts n es)
     ∙ leaf_here ms k (put f.position (with_leading true f.row ts) f) fs (from_item ts) n es
@@ -114,7 +115,7 @@ erase-leaf_node_made ms k f fs ts n es =
 -- behind the trivia it stands there alone
 pub erase-first : (ms : List Mark) (k : SyntaxKind) (f : Frame) (fs : List Frame) (ts : List Token) (n : ℕ) (es : List Fault)
     → leaf_node_made k (erase_with ms (machine (f ∷ fs) (from_item ts) n es))
-    ≡ erase_with ms (machine (put f.position (f.row ⊕ one_branch k (leaf true k ts)) f ∷ fs) (behind true ts) (item_end true n ts) es)
+    ≡ erase_with ms (machine (put f.position (f.row ⊕ one_branch k (leaf true k ts)) f ∷ fs) (after_item true ts) (item_end true n ts) es)
 erase-first ms k f fs ts n es = ap (λ x. ended (taken k (started_here k x))) (erase-settled ms (f ∷ fs) ts n es) ∙ leaf_here ms k f fs (from_item ts) n es
 
 -- an error node over a run

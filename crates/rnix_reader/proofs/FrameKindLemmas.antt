@@ -1,9 +1,12 @@
 -- Heads by the frame kinds of their positions.
 use Rattle.{std.proofs.Common.{◌≡◌, Bool, true, false, List, [], ◌∷◌, refl, ap, sym, ◌∙◌}, rnix_kinds.specs.declared.kinds.SyntaxKind.SyntaxKind}
 use Rattle.rnix_kinds.specs.declared.kinds.SyntaxKind.TheVariants.{NODE_ROOT, NODE_IDENT, NODE_CUR_POS, NODE_PATTERN, NODE_PAT_ENTRY}
-use Rattle.rnix_grammar.specs.{declared.position.Position.Position, AnnotatedForest.{Token, one_token, leaf_kind_as}, Machine.{Head, Node, SecondBind, Operand, Frame}}
-use Rattle.rnix_grammar.specs.{Machine.{kind_of, leaf_in}, FrameKinds.{FrameKind, Root, Pattern, Entry, SecondBindFrame, OperandFrame, Name, frame_kind, frame_kind_in, frame_kind_of_head, frame_kind_of_node}}
-use Rattle.{rnix_grammar.specs.FrameKinds.{may_hold, IsStackedOn}, rnix_lemmas.proofs.{Basics.true_is_not_false, EachIndex.each_index}}
+use Rattle.rnix_grammar.specs.{declared.position.Position.Position, AnnotatedForest.{Token, one_token, leaf_kind_as}}
+use Rattle.rnix_proof_lemmas.specs.Machine.{Head, Node, SecondBind, Operand, Frame}
+use Rattle.rnix_proof_lemmas.specs.FrameKinds.{FrameKind, Root, Pattern, Entry, SecondBindFrame, OperandFrame, Name, frame_kind, frame_kind_in, frame_kind_of_head, frame_kind_of_node}
+use Rattle.rnix_proof_lemmas.specs.Machine.{kind_of, leaf_in}
+use Rattle.rnix_proof_lemmas.proofs.{Basics.true_is_not_false, EachIndex.each_index}
+use Rattle.rnix_proof_lemmas.specs.FrameKinds.{may_hold, IsStackedOn}
 use Rattle.rnix_grammar.specs.declared.position.Position.TheVariants as p
 
 -- the root's places

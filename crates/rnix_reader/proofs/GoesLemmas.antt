@@ -5,9 +5,10 @@ use Rattle.rnix_kinds.specs.declared.kinds.SyntaxKind.{SyntaxKind, TheVariants.{
 use Rattle.{rnix_kinds.specs.declared.kinds.SyntaxKind.TheVariants.{NODE_IDENT_PARAM, NODE_LEGACY_LET}, rnix_grammar.specs.declared.{begin.Begin.Begin}}
 use Rattle.rnix_grammar.specs.{Fault.{Fault}, Tables.depth_limit, Begins.{begin_of, second_kind}, AnnotatedForest.{Token, Stray, TooDeep}}
 use Rattle.rnix_grammar.specs.{AnnotatedForest.{AnnotatedForest, blank, ◌⊕◌, one_branch, one_fault, head_kind, end_from}, Layout.{items}}
-use Rattle.rnix_grammar.specs.Machine.{Head, Node, SecondBind, Operand, Frame, Machine, put, opened, with_leading, leaf, behind, item_end, run_row, run_rest, machine}
-use Rattle.rnix_grammar.specs.{Machine.{limited, begun, operand_on, reading}, FrameKinds.{FrameKind, SecondBindFrame, frame_kind, frame_kind_of_head, may_hold, is_open, IsStackedOn}}
-use Rattle.{rnix_lemmas.proofs.{Basics.true_is_not_false, StackedFrames.{BeginsInner, begin_inner}}, rnix_reader.specs.declared.names.Names.Names}
+use Rattle.rnix_proof_lemmas.specs.Machine.{Head, Node, SecondBind, Operand, Frame, Machine, put, opened, with_leading, leaf, after_item, item_end, run_row, run_rest, machine}
+use Rattle.rnix_proof_lemmas.specs.FrameKinds.{FrameKind, SecondBindFrame, frame_kind, frame_kind_of_head, may_hold, is_open, IsStackedOn}
+use Rattle.rnix_proof_lemmas.specs.Machine.{limited, begun, operand_on, reading}
+use Rattle.{rnix_proof_lemmas.proofs.{Basics.true_is_not_false, StackedFrames.{BeginsInner, begin_inner}}, rnix_reader.specs.declared.pattern_names.Names.Names}
 use Rattle.rnix_reader.{specs.{Placed.AreInOrder, Holds.{HasRange, AreNamed}, Performed.{NamesFor, opens_pattern, opens_on}}, proofs.FrameKindLemmas.head_sort}
 use Rattle.rnix_reader.proofs.{OrderLemmas.{order_from, order_behind, order_all}, RowLemmas.{no_entry_leaf, no_entry_fault}, OpenNames.{grow_trivia, grow_behind, push_node, push_operand, push_pattern}}
 use Rattle.rnix_grammar.specs.declared.position.Position.TheVariants as p
@@ -66,8 +67,8 @@ module _ (level d : ℕ) (f : Frame) (fs : List Frame) (ts : List Token) (n : �
   function : AreNamed (opened (Node NODE_LAMBDA) (p.Left LAMBDA) d blank) (opened Operand (p.AfterOperand level 16) d blank ∷ waiting) names
   function = push_node NODE_LAMBDA (p.Left LAMBDA) d blank refl (operand 16 blank)
 
-  behind_double_bind : AreInOrder (item_end true (item_end true n ts) (behind true ts)) (behind true (behind true ts))
-  behind_double_bind = order_behind (item_end true n ts) (behind true ts) (order_behind n ts o)
+  behind_double_bind : AreInOrder (item_end true (item_end true n ts) (after_item true ts)) (after_item true (after_item true ts))
+  behind_double_bind = order_behind (item_end true n ts) (after_item true ts) (order_behind n ts o)
 
   begun_goes : (t : Token) (second : Option SyntaxKind) (begin : Begin) (names' : Names) → BeginsInner second begin
       → NamesFor (opens_pattern begin) names names'
@@ -76,14 +77,14 @@ module _ (level d : ℕ) (f : Frame) (fs : List Frame) (ts : List Token) (n : �
   begun_goes t second (b.Node k left max_bp) names' fit e =
       stays e (goes_open (ap is_open fit.0) (push_node k (p.Left left) d (leaf true k ts) fit.0 (operand max_bp blank)) (order_behind n ts o))
   begun_goes t second b.LegacyLet names' fit e =
-      let row : AnnotatedForest = with_leading true (leaf true NODE_LEGACY_LET ts) (behind true ts) ⊕ leaf true NODE_LEGACY_LET (behind true ts) in
+      let row : AnnotatedForest = with_leading true (leaf true NODE_LEGACY_LET ts) (after_item true ts) ⊕ leaf true NODE_LEGACY_LET (after_item true ts) in
       stays e (goes_open refl (push_node NODE_LEGACY_LET (p.Left LEGACY_LET) d row refl (operand 0 blank)) behind_double_bind)
   begun_goes t second b.NameLambda names' fit e =
       let row : AnnotatedForest = one_branch NODE_IDENT_PARAM (one_branch NODE_IDENT (leaf true NODE_IDENT ts)) in
       stays e (goes_open refl (push_node NODE_LAMBDA (p.Left LAMBDA) d row refl (operand 16 blank)) (order_behind n ts o))
   begun_goes t second b.BoundLambda names' fit e =
       let name : AnnotatedForest = one_branch NODE_IDENT (leaf true NODE_IDENT ts) in
-      let row : AnnotatedForest = one_branch NODE_PAT_BIND (with_leading true name (behind true ts) ⊕ leaf true NODE_PAT_BIND (behind true ts)) in
+      let row : AnnotatedForest = one_branch NODE_PAT_BIND (with_leading true name (after_item true ts) ⊕ leaf true NODE_PAT_BIND (after_item true ts)) in
       goes_open refl (push_pattern (p.Left BOUND_PATTERN) d row (λ name. refl) e function) behind_double_bind
   begun_goes t second b.PatternLambda names' fit e =
       goes_open refl (push_pattern (p.Left PATTERN) d (leaf true NODE_PATTERN ts) (no_entry_leaf NODE_PATTERN ts) e function) (order_behind n ts o)

@@ -2,10 +2,13 @@
 use Rattle.std.proofs.{Common.{◌≡◌, ◌<◌, ℕ, Bool, true, false, List, [], ◌∷◌, ◌++◌, length, refl, ap, sym, ◌∙◌, subst, arith}, lemmas.List.same_from_push}
 use Rattle.{rnix_kinds.specs.declared.kinds.SyntaxKind.TheVariants.NODE_ROOT, rnix_green.specs.{Forest.{empty, node}, Draft.wrapped-join}}
 use Rattle.rnix_grammar.specs.{declared.{slot_table.TheConstants.ROOT, action.Action.Action, position.Position.Position}, AnnotatedForest.{Token, AnnotatedForest, blank}}
-use Rattle.rnix_grammar.specs.{AnnotatedForest.{forget, head_kind, touches}, Layout.{items, from_item}, Fault.Fault, Allowed.Allowed, FrameKinds.AreStacked}
-use Rattle.rnix_grammar.specs.Machine.{Head, Node, Machine, opened, with_leading, machine, begins, step, Runs, rest as here, then as further}
-use Rattle.{rnix_lemmas.proofs.{StackedFrames.step_stacked, AllowedLemmas.allowed}, rnix_reader.specs.declared.mark.Mark.Mark}
-use Rattle.rnix_reader.specs.{declared.names.Names.Names, Placed.AreInOrder, PatternNames.entries_in, State.{State, with_marks, eaten, ended}, Erase.marks_of}
+use Rattle.rnix_grammar.specs.{AnnotatedForest.{forget, head_kind, touches}, Layout.{items, from_item}, Fault.Fault}
+use Rattle.rnix_proof_lemmas.specs.Allowed.{Allowed}
+use Rattle.rnix_proof_lemmas.specs.FrameKinds.{AreStacked}
+use Rattle.rnix_proof_lemmas.specs.Machine.{Head, Node, Machine, opened, with_leading, machine, begins, step, Runs}
+use Rattle.rnix_proof_lemmas.specs.Machine.{rest as here, then as further}
+use Rattle.{rnix_proof_lemmas.proofs.{StackedFrames.step_stacked, AllowedLemmas.allowed}, rnix_reader.specs.declared.mark.Mark.Mark}
+use Rattle.rnix_reader.specs.{declared.pattern_names.Names.Names, Placed.AreInOrder, PatternNames.entries_in, State.{State, with_marks, eaten, ended}, Erase.marks_of}
 use Rattle.rnix_reader.specs.{Erase.{mark_of, erase, erase_with, popped}, Holds.{IsGoing, IsThrough, IsReadTo, work}, Performed.{Performed, NamesAfter, IsReady}}
 use Rattle.rnix_reader.{specs.Performed.{action_of, is_finish}, proofs.{StateLemmas.state_is, DocumentLemmas.root_through, EraseLemmas.erase-eaten}}
 use Rattle.rnix_reader.proofs.{StepsOfReader.{ready, performs}, GoesLemmas.Goes, PerformLemmas.perform_goes, WorkLemmas.{work_is, perform_less}}
@@ -13,9 +16,9 @@ use Rattle.rnix_grammar.specs.declared.position.Position.TheVariants as p
 use Rattle.rnix_grammar.specs.declared.action.Action.TheVariants as a
 
 -- one more step
-runs_on : (raw : Bool) (a m : Machine) → Runs raw a m → Runs raw a (step raw m)
-runs_on raw a m here = further here
-runs_on raw a m (further r) = further (runs_on raw (step raw a) m r)
+runs_on : (trivia : Bool) (a m : Machine) → Runs trivia a m → Runs trivia a (step trivia m)
+runs_on trivia a m here = further here
+runs_on trivia a m (further r) = further (runs_on trivia (step trivia a) m r)
 
 -- the text is about to be read
 pub starts : (s : State) (names : Names) → s ≡ erase (begins s.rest) → AreInOrder 0 s.rest → names.sets.items ≡ [] → entries_in names ≡ []

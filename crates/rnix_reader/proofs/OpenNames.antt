@@ -2,9 +2,11 @@
 use Rattle.std.proofs.Common.{◌≡◌, ℕ, Bool, true, false, List, [], ◌∷◌, ◌++◌, Option, Some, None, refl, ap, sym, ◌∙◌, subst, append-nil, if◌then◌else◌}
 use Rattle.{std.specs.Str.bytes_eq, rnix_kinds.specs.declared.kinds.SyntaxKind.{SyntaxKind, TheVariants.{NODE_PATTERN, NODE_PAT_ENTRY}}}
 use Rattle.rnix_grammar.specs.{declared.{slot_table.TheConstants.{PAT_ENTRY, SECOND_BIND}, position.Position.Position}, Fault.Fault, AnnotatedForest.{Token, AnnotatedForest}}
-use Rattle.rnix_grammar.specs.{AnnotatedForest.{◌⊕◌, without_trivia}, Layout.trivia_before, Reports.entry_name, Machine.{Head, Node, SecondBind, Operand, Frame}}
-use Rattle.rnix_grammar.specs.{Machine.{put, opened, with_leading, made}, FrameKinds.{FrameKind, Pattern, Entry, NodeFrame, frame_kind, frame_kind_of_head, frame_kind_of_node, may_hold, IsStackedOn}}
-use Rattle.{rnix_lemmas.proofs.Basics.true_is_not_false, rnix_reader.specs.{declared.names.{NameSet.NameSet, Names.Names}, PatternNames.{entries_in, entry_at}}}
+use Rattle.rnix_grammar.specs.{AnnotatedForest.{◌⊕◌, without_trivia}, Layout.trivia_before, Reports.entry_name}
+use Rattle.rnix_proof_lemmas.specs.Machine.{Head, Node, SecondBind, Operand, Frame}
+use Rattle.rnix_proof_lemmas.specs.FrameKinds.{FrameKind, Pattern, Entry, NodeFrame, frame_kind, frame_kind_of_head, frame_kind_of_node, may_hold, IsStackedOn}
+use Rattle.rnix_proof_lemmas.specs.Machine.{put, opened, with_leading, made}
+use Rattle.{rnix_proof_lemmas.proofs.Basics.true_is_not_false, rnix_reader.specs.{declared.pattern_names.{NameSet.NameSet, Names.Names}, PatternNames.{entries_in, entry_at}}}
 use Rattle.rnix_reader.specs.{PatternNames.{PatternOpened, PatternClosed, EntryOpened}, Holds.{AreNamed, IsBegun, named_by, name_of, entries_of, TopSet, AreOpenSets, AreOpenSetsOn}}
 use Rattle.rnix_reader.proofs.{EntryLemmas.{known_pattern, IsEntry}, FrameKindLemmas.{is_pattern, head_sort}, RowLemmas.{HasNoEntry, no_entry_trivia, begun_more}}
 use Rattle.rnix_reader.proofs.RowLemmas.{name_more, known_more, known_entry}

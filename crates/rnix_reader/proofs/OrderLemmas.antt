@@ -1,8 +1,9 @@
 -- Tokens that are left stay in order.
 use Rattle.{std.proofs.Common.{◌≡◌, ◌≤◌, ℕ, List, [], ◌∷◌, ◌++◌, true, false, ap, ◌∙◌, subst, arith}, rnix_kinds.specs.SyntaxKind.is_trivia}
 use Rattle.rnix_grammar.specs.{declared.expected_set.ExpectedSet.{ExpectedSet, TheVariants.End}, AnnotatedForest.{Token, row_of, end_from}, Layout.{items, from_item, from_item_if, tail_of}}
-use Rattle.rnix_grammar.specs.{Layout.left_after, Machine.{behind, item_end, end_of, run_rest, dropped}, UnwantedRun.run_of}
-use Rattle.rnix_lemmas.proofs.{WithoutTriviaLemmas.run_prefix, LayoutLemmas.{IsFirst, first_item, items-from_item}}
+use Rattle.rnix_grammar.specs.{Layout.left_after, UnwantedRun.run_of}
+use Rattle.rnix_proof_lemmas.specs.Machine.{after_item, item_end, end_of, run_rest, dropped}
+use Rattle.rnix_proof_lemmas.proofs.{WithoutTriviaLemmas.run_prefix, LayoutLemmas.{IsFirst, first_item, items-from_item}}
 use Rattle.rnix_reader.{specs.Placed.AreInOrder, proofs.{CursorLemmas.in_order_from, SkippedRuns.run_all}}
 
 -- from the first item on tokens are in order
@@ -21,7 +22,7 @@ end_least n [] o = omega arith
 end_least n (t ∷ ts) o = omega (arith, o.0, o.1)
 
 -- behind the next item
-pub order_behind : (n : ℕ) (ts : List Token) → AreInOrder n ts → AreInOrder (item_end true n ts) (behind true ts)
+pub order_behind : (n : ℕ) (ts : List Token) → AreInOrder n ts → AreInOrder (item_end true n ts) (after_item true ts)
 order_behind n ts o = order_tail n (from_item ts) (order_from n ts o)
 
 -- the next item ends no earlier than the last
@@ -38,7 +39,7 @@ passed n [] us ts e o = record { order = o; least = omega arith }
 passed n (t ∷ run) us ts e o =
     let first : IsFirst t (run ++ us) ts = first_item t (run ++ us) ts e in
     let ends : item_end true n ts ≡ t.end = ap (end_of n) first.here in
-    let ih = passed t.end run us (tail_of (from_item ts)) first.left (subst (λ x. AreInOrder x (behind true ts)) ends (order_behind n ts o)) in
+    let ih = passed t.end run us (tail_of (from_item ts)) first.left (subst (λ x. AreInOrder x (after_item true ts)) ends (order_behind n ts o)) in
     record { order = ih.order; least = omega (arith, ih.least, reach_least n ts o, ends) }
 
 -- behind a run tokens are in order

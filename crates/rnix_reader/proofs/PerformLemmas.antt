@@ -4,11 +4,15 @@ use Rattle.{rnix_kinds.specs.declared.kinds.SyntaxKind.{SyntaxKind, TheVariants.
 use Rattle.rnix_grammar.specs.{declared.{slot_table.TheConstants.APPLIED, position.Position.Position, action.Action.Action}, Fault.Fault, AnnotatedForest.{Token, Note}}
 use Rattle.rnix_grammar.specs.AnnotatedForest.{Unwanted, Extra, AnnotatedForest, blank, ◌⊕◌, one_branch, one_fault, tokens_in, without_trivia, head_of}
 use Rattle.rnix_grammar.specs.{AnnotatedForest.{head_kind, end_from, extent_of}, Layout.{items, from_item, trivia_before, tail_of}, Reports.only_token}
-use Rattle.rnix_grammar.specs.Machine.{Node, Operand, Frame, put, opened, with_leading, leaf, leaf_in, kind_of, min_bp_of, behind, item_end, end_of, run_row, run_rest}
-use Rattle.rnix_grammar.specs.{Machine.{dropped, machine, closed, entry_closed, perform}, UnwantedRun.run_of, FrameKinds.{Pattern, Entry, OperandFrame, frame_kind, is_open, IsStackedOn}, Allowed.Allowed}
-use Rattle.{rnix_grammar.specs.Allowed.is_there, rnix_lemmas.proofs.{Basics.true_is_not_false, AnnotatedForestLemmas.tokens_in-row_of}}
-use Rattle.rnix_lemmas.proofs.{WithoutTriviaLemmas.{leaf_without_trivia, item_end_items, run_prefix, all_prefix, run_bared}, LayoutLemmas.first_item}
-use Rattle.{rnix_lemmas.proofs.LayoutLemmas.without_trivia-trivia, rnix_reader.specs.{declared.names.Names.Names, PatternNames.{PatternClosed, EntryClosed, EntryNamed}}}
+use Rattle.rnix_proof_lemmas.specs.Machine.{Node, Operand, Frame, put, opened, with_leading, leaf, leaf_in, kind_of, min_bp_of, after_item, item_end, end_of, run_row, run_rest}
+use Rattle.rnix_grammar.specs.UnwantedRun.{run_of}
+use Rattle.rnix_proof_lemmas.specs.Allowed.{Allowed}
+use Rattle.rnix_proof_lemmas.specs.FrameKinds.{Pattern, Entry, OperandFrame, frame_kind, is_open, IsStackedOn}
+use Rattle.rnix_proof_lemmas.specs.Machine.{dropped, machine, closed, entry_closed, perform}
+use Rattle.rnix_proof_lemmas.proofs.{Basics.true_is_not_false, AnnotatedForestLemmas.tokens_in-row_of}
+use Rattle.rnix_proof_lemmas.specs.Allowed.{is_there}
+use Rattle.rnix_proof_lemmas.proofs.{WithoutTriviaLemmas.{leaf_without_trivia, item_end_items, run_prefix, all_prefix, run_bared}, LayoutLemmas.first_item}
+use Rattle.{rnix_proof_lemmas.proofs.LayoutLemmas.without_trivia-trivia, rnix_reader.specs.{declared.pattern_names.Names.Names, PatternNames.{PatternClosed, EntryClosed, EntryNamed}}}
 use Rattle.rnix_reader.specs.{Placed.AreInOrder, Erase.{mark_of, popped}, State.{pushed, started_at}, Holds.{IsBegun, AreNamed, IsWell}, Performed.NamesAfter}
 use Rattle.rnix_reader.{specs.Performed.{DoubleBindOpened, is_finish}, proofs.{FrameKindLemmas.{head_operand, is_root, head_sort, head_pattern}, EntryLemmas.entry_there}}
 use Rattle.rnix_reader.proofs.{OrderLemmas.{order_from, order_behind, reach_least, order_run, order_all}, RowLemmas.{HasNoEntry, no_entry_leaf, no_entry_fault}}
@@ -112,7 +116,7 @@ module _ (f : Frame) (fs : List Frame) (ts : List Token) (n : ℕ) (names : Name
       (run_tokens Extra (items ts) (dropped (items ts) (items ts)) ts (all_prefix (items ts))) refl all.1 all.0)
   perform_goes (a.Take after) es names' al g k =
       let row : AnnotatedForest = leaf true (kind_of f.head) ts in
-      stays k (grows (p.Left after) row (firsts (items ts)) (behind true ts) (item_end true n ts) es (no_entry_leaf (kind_of f.head) ts)
+      stays k (grows (p.Left after) row (firsts (items ts)) (after_item true ts) (item_end true n ts) es (no_entry_leaf (kind_of f.head) ts)
       (leaf_tokens (kind_of f.head) ts) (leaf_end n ts) (reach_least n ts v.order) (order_behind n ts v.order))
   perform_goes (a.Miss after) es names' al g k = stays k (goes (moved_on (p.Left after) w) v.range v.order)
   perform_goes (a.MissWanted until after) es names' al g k = stays k (goes (moved_on (p.Left after) w) v.range v.order)
@@ -124,7 +128,7 @@ module _ (f : Frame) (fs : List Frame) (ts : List Token) (n : ℕ) (names : Name
       (run_tokens (Unwanted until) run (dropped run (items ts)) ts (run_prefix until (items ts))) refl all.1 all.0)
   perform_goes (a.Leaf j after) es names' al g k =
       let row : AnnotatedForest = one_branch j (leaf true j ts) in
-      stays k (grows (p.Left after) row (firsts (items ts)) (behind true ts) (item_end true n ts) es
+      stays k (grows (p.Left after) row (firsts (items ts)) (after_item true ts) (item_end true n ts) es
       (subst (λ x. HasNoEntry (one_branch x (leaf true x ts))) (sym al.2) (λ name. refl))
       (append-nil (tokens_in (without_trivia (leaf true j ts))) ∙ leaf_tokens j ts) (leaf_end n ts) (reach_least n ts v.order) (order_behind n ts v.order))
   perform_goes (a.Open j inside after) es names' al g k =

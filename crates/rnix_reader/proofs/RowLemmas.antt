@@ -4,9 +4,11 @@ use Rattle.{std.{proofs.lemmas.Cmp.nat_list_eq_equiv, specs.Str.bytes_eq}, rnix_
 use Rattle.{rnix_kinds.specs.declared.kinds.SyntaxKind.TheVariants.{NODE_PATTERN, NODE_PAT_ENTRY}, rnix_green.specs.Range.Extent}
 use Rattle.rnix_grammar.specs.AnnotatedForest.{Token, Note, AnnotatedForest, blank, token, branch, fault, ◌⊕◌, one_branch, one_fault, tokens_in, without_trivia}
 use Rattle.rnix_grammar.specs.{AnnotatedForest.{end_from, extent_of}, Layout.{items, trivia_before}, Reports.{entry_name, is_same_name, has_entry}}
-use Rattle.{rnix_grammar.specs.{Machine.{Head, Node, SecondBind, Operand, leaf, leaf_in}, FrameKinds.frame_kind_of_head}, rnix_lemmas.proofs.Basics.true_is_not_false}
-use Rattle.rnix_lemmas.proofs.{AnnotatedForestLemmas.tokens_in-⊕, WithoutTriviaLemmas.leaf_without_trivia, LayoutLemmas.without_trivia-⊕}
-use Rattle.{rnix_lemmas.proofs.{LayoutLemmas.without_trivia-trivia, TokenEnds.end_behind}, rnix_reader.specs.{declared.names.NameSet.NameSet, PatternNames.has_name}}
+use Rattle.rnix_proof_lemmas.proofs.Basics.{true_is_not_false}
+use Rattle.rnix_proof_lemmas.specs.FrameKinds.{frame_kind_of_head}
+use Rattle.rnix_proof_lemmas.specs.Machine.{Head, Node, SecondBind, Operand, leaf, leaf_in}
+use Rattle.rnix_proof_lemmas.proofs.{AnnotatedForestLemmas.tokens_in-⊕, WithoutTriviaLemmas.leaf_without_trivia, LayoutLemmas.without_trivia-⊕}
+use Rattle.{rnix_proof_lemmas.proofs.{LayoutLemmas.without_trivia-trivia, TokenEnds.end_behind}, rnix_reader.specs.{declared.pattern_names.NameSet.NameSet, PatternNames.has_name}}
 use Rattle.rnix_reader.{specs.Holds.{IsBegun, HasRange, name_of, AreOpenSetsOn}, proofs.FrameKindLemmas.is_pattern}
 
 -- a row has no entry of a pattern

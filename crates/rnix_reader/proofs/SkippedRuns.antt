@@ -4,9 +4,10 @@ use Rattle.{rnix_kinds.specs.{declared.kinds.SyntaxKind.{SyntaxKind, TheVariants
 use Rattle.rnix_green.{specs.{Forest.join, Range.Extent, ForestCode.join_empty}, proofs.ForestLemmas.join_assoc}
 use Rattle.rnix_grammar.specs.{declared.{expected_set.ExpectedSet.{ExpectedSet, TheVariants.End}, position.Position.Position}, Fault.unwanted, Tables.{is_wanted, stops, operand_kinds}}
 use Rattle.rnix_grammar.specs.{AnnotatedForest.{Token, token, row_of, forget, head_of, head_kind, end_from, extent_of, Stray as StrayNote}, Layout.items}
-use Rattle.rnix_grammar.specs.{Layout.{from_item, trivia_before, tail_of, with_trivia, item_if}, Machine.{leaf_in, end_of}, UnwantedRun.run_of, Reports.report}
-use Rattle.rnix_lemmas.proofs.{LayoutLemmas.{first_item, items-from_item}, AnnotatedForestLemmas.forget-⊕, UnwantedRuns.run_begins}
-use Rattle.rnix_reader.specs.{Steps.operand_begun, Reported.{error_over, next_run}, Placed.AreInOrder, State.{State, items_left, eaten, bumped, skipped}}
+use Rattle.rnix_grammar.specs.{Layout.{from_item, trivia_before, tail_of, with_trivia, item_if}, UnwantedRun.run_of, Reports.report}
+use Rattle.rnix_proof_lemmas.specs.Machine.{leaf_in, end_of}
+use Rattle.rnix_proof_lemmas.proofs.{LayoutLemmas.{first_item, items-from_item}, AnnotatedForestLemmas.forget-⊕, UnwantedRuns.run_begins}
+use Rattle.rnix_reader.specs.{FrameSteps.operand_begun, Reported.{error_over, next_run}, Placed.AreInOrder, State.{State, items_left, eaten, bumped, skipped}}
 use Rattle.rnix_reader.{specs.State.{started, started_at, ended, pushed}, proofs.{CursorLemmas.in_order_from, StateLemmas.{state_is, first_of, none_left}}}
 
 -- nothing is skipped

@@ -3,9 +3,10 @@ use Rattle.std.{proofs.Common.{◌≡◌, ℕ, ◌<◌, true, List, [], ◌∷�
 use Rattle.{rnix_kinds.specs.{declared.kinds.SyntaxKind.SyntaxKind, SyntaxKind.is_trivia}, rnix_green.specs.Forest.{Forest, empty, leaf, join, tree_count}}
 use Rattle.rnix_green.{specs.{Draft.{Draft, OpenNode, leaf_added, node_opened, node_closed, wrapped}, ForestCode.join_empty}, proofs.ForestLemmas.join_assoc}
 use Rattle.rnix_grammar.specs.{Fault.Fault, AnnotatedForest.{Token, forget, head_of, leaf_kind}, Layout.{from_item, from_item_if, trivia_before}}
-use Rattle.{rnix_grammar.specs.{Layout.{trivia_if, tail_of}, Machine.{leaf_in, end_of}}}
-use Rattle.{rnix_lemmas.proofs.LayoutLemmas.trivia-from_item, rnix_reader.specs.{declared.{cursor.PlacedToken.PlacedToken, mark.Mark.Mark}, Placed.token_of}}
-use Rattle.rnix_reader.specs.{Placed.BeginsWithTrivia, State.{State, eaten, taken, bumped, started_here, started_at, ended}, Steps.leaf_node_made}
+use Rattle.rnix_grammar.specs.Layout.{trivia_if, tail_of}
+use Rattle.rnix_proof_lemmas.specs.Machine.{leaf_in, end_of}
+use Rattle.{rnix_proof_lemmas.proofs.LayoutLemmas.trivia-from_item, rnix_reader.specs.{declared.{cursor.PlacedToken.PlacedToken, mark.Mark.Mark}, Placed.token_of}}
+use Rattle.rnix_reader.specs.{Placed.BeginsWithTrivia, State.{State, eaten, taken, bumped, started_here, started_at, ended}, FrameSteps.leaf_node_made}
 use Rattle.rnix_reader.proofs.CursorLemmas.{before_item}
 
 -- states with the same parts are one

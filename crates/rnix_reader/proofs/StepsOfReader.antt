@@ -3,11 +3,13 @@ use Rattle.rnix_grammar.specs.declared.slot_table.TheConstants.{APPLIED, PAT_ENT
 use Rattle.std.proofs.{Common.{◌≡◌, ◌≤◌, ◌<◌, nat_le, length, arith, ℕ, true, false, List, [], ◌∷◌, refl, ap, ◌∙◌, subst}, lemmas.Bool.le-leb}
 use Rattle.rnix_kinds.specs.declared.kinds.SyntaxKind.{SyntaxKind, TheVariants.{NODE_ERROR, NODE_ROOT, NODE_IDENT, NODE_PAT_ENTRY, NODE_APPLY}}
 use Rattle.rnix_green.{specs.{Forest.tree_count, Draft.{OpenNode, is_inside}, ForestCode.join_empty}, proofs.ForestLemmas.tree_count-join}
-use Rattle.rnix_grammar.specs.{declared.{position.Position.Position, action.Action.Action, expected_set.ExpectedSet.TheVariants.End}, Fault.{Fault, bound_twice}, Layout.{items, from_item}, UnwantedRun.run_of, Reports.report}
+use Rattle.rnix_grammar.specs.{declared.{position.Position.Position, action.Action.Action, expected_set.ExpectedSet.TheVariants.End}, Fault.{Fault, double_bind}, Layout.{items, from_item}, UnwantedRun.run_of, Reports.report}
 use Rattle.rnix_grammar.specs.AnnotatedForest.{Token, Unwanted, Extra, DoubleBind, AnnotatedForest, forget, without_trivia, tokens_in, blank, ◌⊕◌, one_branch, head_kind}
-use Rattle.rnix_grammar.specs.Machine.{Head, Node, SecondBind, Operand, Frame, put, opened, with_leading, leaf, behind, item_end, machine, perform, min_bp_of}
-use Rattle.{rnix_grammar.specs.{FrameKinds.{SecondBindFrame, OperandFrame, frame_kind, frame_kind_of_head}, Allowed.Allowed}, rnix_lemmas.proofs.Basics.true_is_not_false}
-use Rattle.rnix_reader.specs.{declared.names.Names.Names, State.{State, bumped, started_at, ended, failed, pushed}, Reported.error_over, Steps.{node_started, node_here, node_wrapped, leaf_node_made}, Holds.{HasRange, IsWell, AreNamed}}
+use Rattle.rnix_proof_lemmas.specs.Machine.{Head, Node, SecondBind, Operand, Frame, put, opened, with_leading, leaf, after_item, item_end, machine, perform, min_bp_of}
+use Rattle.rnix_proof_lemmas.proofs.Basics.{true_is_not_false}
+use Rattle.rnix_proof_lemmas.specs.Allowed.{Allowed}
+use Rattle.rnix_proof_lemmas.specs.FrameKinds.{SecondBindFrame, OperandFrame, frame_kind, frame_kind_of_head}
+use Rattle.rnix_reader.specs.{declared.pattern_names.Names.Names, State.{State, bumped, started_at, ended, failed, pushed}, Reported.error_over, FrameSteps.{node_started, node_here, node_wrapped, leaf_node_made}, Holds.{HasRange, IsWell, AreNamed}}
 use Rattle.rnix_reader.specs.{Erase.{trees_of, nodes_of, mark_of, opened_on, erase, popped}, Performed.{Performed, IsReady, IsCheckpoint, expression_read, is_finish}}
 use Rattle.rnix_reader.proofs.{FrameKindLemmas.{is_operand_frame, is_root, is_name, head_operand, head_second_bind, head_sort, place_named, own_leaf}, BegunLemmas.expression_is, SkippedRuns.run_all, EntryLemmas.done_entry}
 use Rattle.rnix_reader.proofs.EraseLemmas.{erase-eaten, erase-bumped, erase-next, erase-node_started, erase-leaf_node_made, erase-first, erase-over, erase-wrapped, erase-closed, closes, settles, closed_failed}
@@ -88,7 +90,7 @@ module _ (f : Frame) (fs : List Frame) (ts : List Token) (n : ℕ) (es : List Fa
   performs a.CloseEntry s' names' k al g d = done_entry f fs ts n es names names' s' w.fit k al d
   performs a.CloseDoubleBind s' names' k al g d =
       let tokens : List Token = tokens_in (without_trivia f.row) in
-      d ∙ ap (λ x. failed (bound_twice x) (ended repaired_nonempty)) (again al).0
+      d ∙ ap (λ x. failed (double_bind x) (ended repaired_nonempty)) (again al).0
       ∙ ap (failed (report DoubleBind tokens)) (closes f fs ts n es w.fit (ap is_operand_frame al) (ap is_root al))
       ∙ closed_failed (report DoubleBind tokens) f fs ts n es
   performs a.Finish s' names' k al g d = absurd (true_is_not_false g)
@@ -99,7 +101,7 @@ module _ (f : Frame) (fs : List Frame) (ts : List Token) (n : ℕ) (es : List Fa
       ∙ ap (failed (report Extra run)) (erase-over _ Extra End run f fs ts n es (run_all run))
   performs (a.Take after) s' names' k al g d =
       d ∙ erase-bumped _ NODE_ROOT (put (p.Left after) f.row f) fs ts n es
-      ∙ ap (λ x. erase (machine (put (p.Left after) (with_leading true f.row ts ⊕ x) f ∷ fs) (behind true ts) (item_end true n ts) es))
+      ∙ ap (λ x. erase (machine (put (p.Left after) (with_leading true f.row ts ⊕ x) f ∷ fs) (after_item true ts) (item_end true n ts) es))
       (own_leaf f.head (from_item ts) (ap is_name sort ∙ place_named f.position))
   performs (a.Miss after) s' names' k al g d = d
   performs (a.MissWanted until after) s' names' k al g d = d
@@ -132,4 +134,4 @@ module _ (f : Frame) (fs : List Frame) (ts : List Token) (n : ℕ) (es : List Fa
       let gs : List Frame = opened Operand over f.depth blank ∷ fs in
       d ∙ ap (λ x. ended (leaf_node_made NODE_IDENT x)) (erase-wrapped _ NODE_APPLY (p.Left APPLIED) over f fs ts n es (head_operand f.head (sort ∙ al.1)))
       ∙ ap ended (erase-leaf_node_made _ NODE_IDENT (opened (Node NODE_APPLY) (p.Left APPLIED) f.depth f.row) gs ts n es)
-      ∙ erase-closed _ (Node NODE_APPLY) (p.Left APPLIED) f.depth row (opened Operand over f.depth blank) fs (behind true ts) (item_end true n ts) es refl
+      ∙ erase-closed _ (Node NODE_APPLY) (p.Left APPLIED) f.depth row (opened Operand over f.depth blank) fs (after_item true ts) (item_end true n ts) es refl

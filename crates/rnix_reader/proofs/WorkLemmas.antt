@@ -2,12 +2,17 @@
 use Rattle.std.proofs.Common.{◌≡◌, ◌≤◌, ◌<◌, ◌+◌, ◌*◌, ℕ, suc, length, true, false, Bool, List, [], ◌∷◌, ◌++◌, map, Option, Some, None, refl, ap, sym, ◌∙◌, subst, arith, nat_le}
 use Rattle.{std.proofs.{Common.if◌then◌else◌, lemmas.Bool.leb-true}, rnix_kinds.specs.declared.kinds.SyntaxKind.TheVariants.{NODE_APPLY}}
 use Rattle.rnix_grammar.specs.{declared.{position.Position.Position, expected_set.ExpectedSet.ExpectedSet, action.Action.Action, begin.Begin.Begin, slot_table.{Slot.{Slot, TheVariants.Next}, TheConstants.{APPLIED, LAMBDA, LEGACY_LET, PATTERN, BOUND_PATTERN, PAT_ENTRY, SECOND_BIND}}}, Fault.Fault}
-use Rattle.rnix_grammar.specs.{Tables.{stops, depth_limit}, SlotRows.slot_at, Begins.{begin_of, second_kind}, AnnotatedForest.{Token, blank, head_kind}}
-use Rattle.rnix_grammar.specs.{Layout.{items, from_item, tail_of}, Machine.{Node, Operand, Frame, Machine, put, opened, behind, closed, limited, min_bp_of}}
-use Rattle.rnix_grammar.specs.{Machine.{run_rest, dropped, begun, operand_on, reading, machine, perform, entry_closed}, UnwantedRun.run_of, FrameKinds.{FrameKind, NodeFrame, Entry, frame_kind}}
-use Rattle.rnix_grammar.specs.{FrameKinds.IsStackedOn, Measures.{measure, begin_measure_in, begin_measure}, Allowed.{Allowed, IsNext, is_there}}
-use Rattle.rnix_lemmas.proofs.{Basics.true_is_not_false, LayoutLemmas.items-from_item, WithoutTriviaLemmas.{items_behind, run_prefix, all_prefix, run_bared}}
-use Rattle.rnix_lemmas.proofs.{UnwantedRuns.{dropped_all, run_begins}, AllowedLemmas.{sort_by, sort_there, measure_there}}
+use Rattle.rnix_grammar.specs.{Tables.{stops, depth_limit}, Slots.slot_at, Begins.{begin_of, second_kind}, AnnotatedForest.{Token, blank, head_kind}}
+use Rattle.rnix_grammar.specs.Layout.{items, from_item, tail_of}
+use Rattle.rnix_proof_lemmas.specs.Machine.{Node, Operand, Frame, Machine, put, opened, after_item, closed, limited, min_bp_of}
+use Rattle.rnix_grammar.specs.UnwantedRun.{run_of}
+use Rattle.rnix_proof_lemmas.specs.FrameKinds.{FrameKind, NodeFrame, Entry, frame_kind}
+use Rattle.rnix_proof_lemmas.specs.Machine.{run_rest, dropped, begun, operand_on, reading, machine, perform, entry_closed}
+use Rattle.rnix_proof_lemmas.specs.Allowed.{Allowed, IsNext, is_there}
+use Rattle.rnix_proof_lemmas.specs.FrameKinds.{IsStackedOn}
+use Rattle.rnix_proof_lemmas.specs.Measures.{measure, begin_measure_in, begin_measure}
+use Rattle.rnix_proof_lemmas.proofs.{Basics.true_is_not_false, LayoutLemmas.items-from_item, WithoutTriviaLemmas.{items_behind, run_prefix, all_prefix, run_bared}}
+use Rattle.rnix_proof_lemmas.proofs.{UnwantedRuns.{dropped_all, run_begins}, AllowedLemmas.{sort_by, sort_there, measure_there}}
 use Rattle.rnix_reader.{specs.{declared.mark.Mark.Mark, Erase.{marks_of, mark_of, erase}, Performed.is_finish, Holds.{places_on, measures, begin_measure_at, cost, work}}, proofs.FrameKindLemmas.is_root}
 use Rattle.rnix_grammar.specs.declared.position.Position.TheVariants as p
 use Rattle.rnix_grammar.specs.declared.action.Action.TheVariants as a
@@ -83,11 +88,11 @@ tail_less : (us : List Token) → length (tail_of us) ≤ length us
 tail_less [] = omega arith
 tail_less (t ∷ us) = omega arith
 
-left_behind : (ts : List Token) → length (items (behind true ts)) ≡ length (tail_of (items ts))
+left_behind : (ts : List Token) → length (items (after_item true ts)) ≡ length (tail_of (items ts))
 left_behind ts = ap length (items_behind ts)
 
-left_after_two : (ts : List Token) → length (items (behind true (behind true ts))) ≤ length (tail_of (items ts))
-left_after_two ts = omega (arith, left_behind (behind true ts), tail_less (items (behind true ts)), left_behind ts)
+left_after_two : (ts : List Token) → length (items (after_item true (after_item true ts))) ≤ length (tail_of (items ts))
+left_after_two ts = omega (arith, left_behind (after_item true ts), tail_less (items (after_item true ts)), left_behind ts)
 
 -- a run is skipped
 dropped_less : (run us : List Token) → length (dropped run us) ≤ length us
@@ -107,7 +112,8 @@ left_none ts = (run_bared (items ts) ts (dropped (items ts) (items ts)) (all_pre
 
 -- the sums
 close_less : (us : List Token) (position below : Position) (z : ℕ) → begin_measure position ≡ 30
-    → 100 * length us + (measure below + z) + begin_measure_at us below < 100 * length us + (measure position + (measure below + z)) + begin_measure_at us position
+    → 100 * length us + (measure below + z) + begin_measure_at us below < 100 * length us + (measure position + (measure below + z)) + begin_measure_at us
+    position
 close_less [] position below z e = omega (arith, measure_some position)
 close_less (t ∷ us) position below z e = omega (arith, e, measure_some position, begin_measure_most below)
 
@@ -141,14 +147,15 @@ module _ (f : Frame) (fs : List Frame) (ts : List Token) (n : ℕ) (es : List Fa
   -- an operand begins
   begun_less : (begin : Begin) (level d : ℕ) (t : Token) → cost_of (begun true begin level d t f fs ts n es) ≤ 100 * length
       (tail_of (items ts)) + 51 + measure_of (f ∷ fs)
-  begun_less (b.Leaf k) level d t = omega (arith, left_behind ts, begin_measure_small (items (behind true ts)) (p.AfterOperand level 16))
+  begun_less (b.Leaf k) level d t = omega (arith, left_behind ts, begin_measure_small (items (after_item true ts)) (p.AfterOperand level 16))
   begun_less (b.Node k left max_bp) level d t =
-      omega (arith, left_behind ts, begin_measure_small (items (behind true ts)) (p.Left left), measure_most (p.Left left))
-  begun_less b.LegacyLet level d t = omega (arith, left_after_two ts, begin_measure_small (items (behind true (behind true ts))) (p.Left LEGACY_LET))
-  begun_less b.NameLambda level d t = omega (arith, left_behind ts, begin_measure_small (items (behind true ts)) (p.Left LAMBDA))
-  begun_less b.BoundLambda level d t = omega (arith, left_after_two ts, begin_measure_small (items (behind true (behind true ts))) (p.Left BOUND_PATTERN))
-  begun_less b.PatternLambda level d t = omega (arith, left_behind ts, begin_measure_small (items (behind true ts)) (p.Left PATTERN))
-  begun_less b.Stray level d t = omega (arith, left_behind ts, begin_measure_small (items (behind true ts)) (p.AfterOperand level 16))
+      omega (arith, left_behind ts, begin_measure_small (items (after_item true ts)) (p.Left left), measure_most (p.Left left))
+  begun_less b.LegacyLet level d t = omega (arith, left_after_two ts, begin_measure_small (items (after_item true (after_item true ts))) (p.Left LEGACY_LET))
+  begun_less b.NameLambda level d t = omega (arith, left_behind ts, begin_measure_small (items (after_item true ts)) (p.Left LAMBDA))
+  begun_less b.BoundLambda level d t =
+      omega (arith, left_after_two ts, begin_measure_small (items (after_item true (after_item true ts))) (p.Left BOUND_PATTERN))
+  begun_less b.PatternLambda level d t = omega (arith, left_behind ts, begin_measure_small (items (after_item true ts)) (p.Left PATTERN))
+  begun_less b.Stray level d t = omega (arith, left_behind ts, begin_measure_small (items (after_item true ts)) (p.AfterOperand level 16))
 
   operand_less : (level d : ℕ) (us : List Token) (c : ℕ) → items ts ≡ us → Below f fs us c → cost_of (operand_on true level d f fs ts us n es) < c
   operand_less level d [] c e h = omega (arith, h.none refl, ap length e, ap (λ x. begin_measure_at x f.position) e)
@@ -171,7 +178,8 @@ module _ (f : Frame) (fs : List Frame) (ts : List Token) (n : ℕ) (es : List Fa
 begin_less : (us : List Token) (position inside after : Position) (z : ℕ) → begin_measure inside ≡ 0
     → measure inside + measure after < measure position + begin_measure position
     → ((head_kind us ≡ None) → measure inside + measure after < measure position)
-    → 100 * length us + (measure inside + (measure after + z)) + begin_measure_at us inside < 100 * length us + (measure position + z) + begin_measure_at us position
+    → 100 * length us + (measure inside + (measure after + z)) + begin_measure_at us inside < 100 * length us + (measure position + z) + begin_measure_at us
+    position
 begin_less [] position inside after z e h k = omega (arith, k refl)
 begin_less (t ∷ us) position inside after z e h k = omega (arith, h, e)
 
@@ -197,16 +205,16 @@ module _ (f : Frame) (fs : List Frame) (ts : List Token) (n : ℕ) (es : List Fa
   perform_less a.EndOperand al g = closed_less f fs ts n es w (ap is_root al) (begin_measure_full f.position (ap is_plain al))
   perform_less a.Extra al g = omega (arith, ap length (left_none ts), ap (λ x. begin_measure_at x f.position) (left_none ts), there (items ts) al.0)
   perform_less (a.Take after) al g =
-      omega (arith, there (items ts) al.0, left_behind ts, measure_most (p.Left after), begin_measure_small (items (behind true ts)) (p.Left after))
+      omega (arith, there (items ts) al.0, left_behind ts, measure_most (p.Left after), begin_measure_small (items (after_item true ts)) (p.Left after))
   perform_less (a.Miss after) al g = ended_less (items ts) f.position after (measure_of fs) al.0 al.1
   perform_less (a.MissWanted until after) al g = ended_less (items ts) f.position after (measure_of fs) al.0 al.1
   perform_less (a.Run until after) al g =
       let us : List Token = items (run_rest true (run_of until (items ts)) ts) in
       omega (arith, run_less until (items ts) al.0, ap length (left_run until ts), measure_most (p.Left after), begin_measure_small us (p.Left after))
   perform_less (a.Leaf k after) al g =
-      omega (arith, there (items ts) al.0, left_behind ts, measure_most (p.Left after), begin_measure_small (items (behind true ts)) (p.Left after))
+      omega (arith, there (items ts) al.0, left_behind ts, measure_most (p.Left after), begin_measure_small (items (after_item true ts)) (p.Left after))
   perform_less (a.Open k inside after) al g =
-      let us : List Token = items (behind true ts) in
+      let us : List Token = items (after_item true ts) in
       omega (arith, there (items ts) al.0, left_behind ts, measure_most (p.Left after), measure_most (p.Left inside), begin_measure_small us (p.Left inside))
   perform_less (a.Begin k inside after) al g =
       subst (λ us. 100 * length us + (measure (p.Left inside) + (measure (p.Left after) + measure_of fs)) + begin_measure_at us (p.Left inside) < before)
@@ -217,17 +225,17 @@ module _ (f : Frame) (fs : List Frame) (ts : List Token) (n : ℕ) (es : List Fa
         there (items ts) (ap is_there al.0),
         left_behind ts,
         measure_most (p.Left after),
-        begin_measure_small (items (behind true ts))
+        begin_measure_small (items (after_item true ts))
             (p.Left PAT_ENTRY),
       )
   perform_less (a.DoubleBind after) al g =
-      omega (arith, there (items ts) al.0, left_behind ts, measure_most (p.Left after), begin_measure_small (items (behind true ts)) (p.Left SECOND_BIND))
+      omega (arith, there (items ts) al.0, left_behind ts, measure_most (p.Left after), begin_measure_small (items (after_item true ts)) (p.Left SECOND_BIND))
   perform_less (a.Read level counted after) al g = reading_less (put (p.Left after) f.row f) fs ts n es level counted before record {
     none = λ e. omega (arith, next_less (items ts) f.position after al.0 e);
     some = λ e. omega (arith, there (items ts) e, measure_most (p.Left after));
   }
   perform_less (a.Wrap k inside max_bp) al g =
-      omega (arith, there (items ts) al.0, left_behind ts, measure_most inside, begin_measure_small (items (behind true ts)) inside)
+      omega (arith, there (items ts) al.0, left_behind ts, measure_most inside, begin_measure_small (items (after_item true ts)) inside)
   perform_less a.Apply al g =
       let over : Frame = opened Operand (p.AfterOperand (min_bp_of f.position) 15) f.depth blank in
       reading_less (opened (Node NODE_APPLY) (p.Left APPLIED) f.depth f.row) (over ∷ fs) ts n es 16 false before record {
@@ -238,6 +246,6 @@ module _ (f : Frame) (fs : List Frame) (ts : List Token) (n : ℕ) (es : List Fa
     arith,
     there (items ts) al.0,
     left_behind ts,
-    begin_measure_small (items (behind true ts))
+    begin_measure_small (items (after_item true ts))
         (p.AfterOperand (min_bp_of f.position) 15),
   )

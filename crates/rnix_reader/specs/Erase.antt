@@ -5,7 +5,7 @@ use Rattle.rnix_green.specs.Forest.{Forest, empty, join, tree_count}
 use Rattle.rnix_green.specs.Draft.{OpenNode}
 use Rattle.rnix_grammar.specs.declared.position.Position.{Position}
 use Rattle.rnix_grammar.specs.AnnotatedForest.{forget}
-use Rattle.rnix_grammar.specs.Machine.{Head, Node, SecondBind, Operand, Frame, Machine}
+use Rattle.rnix_proof_lemmas.specs.Machine.{Head, Node, SecondBind, Operand, Frame, Machine}
 use Rattle.rnix_reader.specs.declared.mark.Mark.{Mark}
 use Rattle.rnix_reader.specs.State.{State}
 

@@ -8,14 +8,14 @@ use Rattle.rnix_grammar.specs.declared.position.Position.{Position}
 use Rattle.rnix_grammar.specs.declared.position.Position.TheVariants as p
 use Rattle.rnix_grammar.specs.AnnotatedForest.{Token, AnnotatedForest, tokens_in, without_trivia, forget, extent_of}
 use Rattle.rnix_grammar.specs.Layout.{items}
-use Rattle.rnix_grammar.specs.Machine.{Head, Node, SecondBind, Frame, Machine, machine, begins, with_leading, Runs}
+use Rattle.rnix_proof_lemmas.specs.Machine.{Head, Node, SecondBind, Frame, Machine, machine, begins, with_leading, Runs}
 use Rattle.rnix_grammar.specs.Reports.{entry_name, has_entry}
 use Rattle.rnix_grammar.specs.Fault.{Fault}
-use Rattle.rnix_grammar.specs.FrameKinds.{IsStackedOn}
-use Rattle.rnix_grammar.specs.Measures.{measure, begin_measure}
+use Rattle.rnix_proof_lemmas.specs.FrameKinds.{IsStackedOn}
+use Rattle.rnix_proof_lemmas.specs.Measures.{measure, begin_measure}
 use Rattle.rnix_reader.specs.declared.mark.Mark.{Mark}
-use Rattle.rnix_reader.specs.declared.names.NameSet.{NameSet}
-use Rattle.rnix_reader.specs.declared.names.Names.{Names}
+use Rattle.rnix_reader.specs.declared.pattern_names.NameSet.{NameSet}
+use Rattle.rnix_reader.specs.declared.pattern_names.Names.{Names}
 use Rattle.rnix_reader.specs.Placed.{AreInOrder}
 use Rattle.rnix_reader.specs.PatternNames.{has_name, entries_in, entry_at}
 use Rattle.rnix_reader.specs.State.{State, items_left}

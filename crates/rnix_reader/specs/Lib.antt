@@ -2,7 +2,7 @@ pub mod Placed
 pub mod State
 pub mod PatternNames
 pub mod Erase
-pub mod Steps
+pub mod FrameSteps
 pub mod Reported
 pub mod Performed
 pub mod Holds

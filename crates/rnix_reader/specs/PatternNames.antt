@@ -5,10 +5,10 @@ use Rattle.std.specs.Cmp.Lexicographic.{slice_cmp}
 use Rattle.std.specs.Ordering.{nat_cmp}
 use Rattle.std.specs.Str.{bytes_eq}
 use Rattle.rnix_green.specs.Range.{Extent, bounds_of}
-use Rattle.rnix_grammar.specs.Fault.{Fault, named_twice}
+use Rattle.rnix_grammar.specs.Fault.{Fault, duplicated_args}
 use Rattle.rnix_grammar.specs.AnnotatedForest.{Token}
-use Rattle.rnix_reader.specs.declared.names.NameSet.{NameSet}
-use Rattle.rnix_reader.specs.declared.names.Names.{Names}
+use Rattle.rnix_reader.specs.declared.pattern_names.NameSet.{NameSet}
+use Rattle.rnix_reader.specs.declared.pattern_names.Names.{Names}
 
 -- a set has the name
 abbrev pub has_name : List ℕ → NameSet → Bool
@@ -60,5 +60,5 @@ pub record Entered (text : List ℕ) (below : List NameSet) (s : NameSet) (n' : 
 pub record EntryClosed (again : Option Fault) (n n' : Names) : Type 0 where
   pub entered : (entries : List (List ℕ × Extent)) (text : List ℕ) (range : Extent) (below : List NameSet) (s : NameSet)
       → entries_in n ≡ entries ++ (text, range) ∷ [] → n.sets.items ≡ below ++ s ∷ []
-      → Entered text below s n' × (entries_in n' ≡ entries) × (again ≡ (if has_name text s then Some (named_twice range text) else None))
+      → Entered text below s n' × (entries_in n' ≡ entries) × (again ≡ (if has_name text s then Some (duplicated_args range text) else None))
   pub second : n'.second ≡ n.second

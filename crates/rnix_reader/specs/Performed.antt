@@ -1,7 +1,6 @@
 -- What the reader's steps make of what it holds.
-use Rattle.rnix_grammar.specs.declared.slot_table.TheConstants.{APPLIED, BOUND_PATTERN, LEGACY_LET, PATTERN}
 use Rattle.std.specs.Prelude.{◌≡◌, ◌≤◌, ◌<◌, ◌+◌, ℕ, Bool, true, false, List, [], ◌∷◌, Option, Some, None, length, ◌&&◌, nat_le, IsTrue, if◌then◌else◌}
-use Rattle.rnix_kinds.specs.declared.kinds.SyntaxKind.TheVariants.{NODE_APPLY, NODE_LEGACY_LET, NODE_PATTERN, NODE_ROOT}
+use Rattle.rnix_kinds.specs.declared.kinds.SyntaxKind.TheVariants.{NODE_ROOT}
 use Rattle.rnix_green.specs.Draft.{is_checkpoint_of}
 use Rattle.rnix_grammar.specs.declared.action.Action.{Action}
 use Rattle.rnix_grammar.specs.declared.action.Action.TheVariants as a
@@ -10,28 +9,28 @@ use Rattle.rnix_grammar.specs.declared.begin.Begin.TheVariants as b
 use Rattle.rnix_grammar.specs.declared.position.Position.{Position}
 use Rattle.rnix_grammar.specs.declared.position.Position.TheVariants as p
 use Rattle.rnix_grammar.specs.Actions.{action_at}
-use Rattle.rnix_grammar.specs.Allowed.{is_there}
+use Rattle.rnix_proof_lemmas.specs.Allowed.{is_there}
 use Rattle.rnix_grammar.specs.AnnotatedForest.{Token, head_of, head_kind, touches}
-use Rattle.rnix_grammar.specs.Fault.{Fault, ended as ended_fault}
+use Rattle.rnix_grammar.specs.Fault.{Fault, unexpected_eof as ended_fault}
 use Rattle.rnix_grammar.specs.Layout.{tail_of}
 use Rattle.rnix_grammar.specs.Levels.{no_level, application_level, selection_level}
-use Rattle.rnix_grammar.specs.Machine.{min_bp_of}
+use Rattle.rnix_proof_lemmas.specs.Machine.{min_bp_of}
 use Rattle.rnix_grammar.specs.Tables.{depth_limit, stops}
 use Rattle.rnix_reader.specs.declared.mark.Mark.{Mark}
-use Rattle.rnix_reader.specs.declared.names.Names.{Names}
+use Rattle.rnix_reader.specs.declared.pattern_names.Names.{Names}
 use Rattle.rnix_reader.specs.PatternNames.{entries_in, PatternOpened, PatternClosed, EntryNamed, EntryClosed}
 use Rattle.rnix_reader.specs.State.{State, items_left, IsNextItem, bumped, ended, failed}
-use Rattle.rnix_reader.specs.Steps.{moved_to, node_started, node_begun, leaf_node_made, entry_begun, second_begun, node_wrapped, or_applied, parameter_read, binding_read, operand_begun, node_operand_begun, lambda_begun, begins_with}
+use Rattle.rnix_reader.specs.FrameSteps.{moved_to, node_started, node_begun, leaf_node_made, entry_begun, second_begun, node_wrapped, application_begun, or_applied, parameter_read, operand_begun, node_operand_begun, legacy_let_begun, lambda_begun, bound_lambda_begun, pattern_lambda_begun, begins_with}
 use Rattle.rnix_reader.specs.Reported.{unwanted_reported, extra_reported, stray_reported, limit_reported, end_reported, second_reported}
 
 -- an operand of a level begins with this token, inside so many counted positions
 abbrev pub begun_as : Begin → ℕ → ℕ → Token → State → State
 begun_as (b.Leaf k) level d t s = leaf_node_made k (operand_begun (p.AfterOperand level selection_level) d s)
 begun_as (b.Node k left max_bp) level d t s = node_operand_begun k (p.Left left) (p.AfterOperand level max_bp) d s
-begun_as b.LegacyLet level d t s = bumped NODE_LEGACY_LET (node_operand_begun NODE_LEGACY_LET (p.Left LEGACY_LET) (p.AfterOperand level no_level) d s)
+begun_as b.LegacyLet level d t s = legacy_let_begun (p.AfterOperand level no_level) d s
 begun_as b.NameLambda level d t s = parameter_read (lambda_begun (p.AfterOperand level selection_level) d s)
-begun_as b.BoundLambda level d t s = binding_read (node_started NODE_PATTERN (p.Left BOUND_PATTERN) d (lambda_begun (p.AfterOperand level selection_level) d s))
-begun_as b.PatternLambda level d t s = node_begun NODE_PATTERN (p.Left PATTERN) d (lambda_begun (p.AfterOperand level selection_level) d s)
+begun_as b.BoundLambda level d t s = bound_lambda_begun (p.AfterOperand level selection_level) d s
+begun_as b.PatternLambda level d t s = pattern_lambda_begun (p.AfterOperand level selection_level) d s
 begun_as b.Stray level d t s = stray_reported t (operand_begun (p.AfterOperand level selection_level) d s)
 
 -- an operand of a level is read, by the next item and those behind it
@@ -68,8 +67,7 @@ performed (a.Entry after) m second s = entry_begun (p.Left after) m s
 performed (a.DoubleBind after) m second s = second_begun (p.Left after) m s
 performed (a.Read level counted after) m second s = expression_read level counted m.depth (moved_to (p.Left after) m s)
 performed (a.Wrap k inside max_bp) m second s = bumped k (node_wrapped k inside (p.AfterOperand (min_bp_of m.position) max_bp) m s)
-performed a.Apply m second s =
-    expression_read selection_level false m.depth (node_wrapped NODE_APPLY (p.Left APPLIED) (p.AfterOperand (min_bp_of m.position) application_level) m s)
+performed a.Apply m second s = expression_read selection_level false m.depth (application_begun (min_bp_of m.position) m s)
 performed a.ApplyOr m second s = or_applied (p.AfterOperand (min_bp_of m.position) application_level) m s
 
 -- an error is reported, if there is one
@@ -148,7 +146,5 @@ NamesAfter a.CloseEntry m s n n' = (again : Option Fault) × EntryClosed again n
 NamesAfter (a.Entry after) m s n n' = (t : Token) → IsNextItem t s → EntryNamed t n n'
 NamesAfter (a.DoubleBind after) m s n n' = (t : Token) → IsNextItem t s → DoubleBindOpened t.start n n'
 NamesAfter (a.Read level counted after) m s n n' = NamesFor (opens_in m.depth counted level (moved_to (p.Left after) m s)) n n'
-NamesAfter a.Apply m s n n' =
-    NamesFor (opens_in m.depth false selection_level (node_wrapped NODE_APPLY (p.Left APPLIED)
-    (p.AfterOperand (min_bp_of m.position) application_level) m s)) n n'
+NamesAfter a.Apply m s n n' = NamesFor (opens_in m.depth false selection_level (application_begun (min_bp_of m.position) m s)) n n'
 NamesAfter action m s n n' = n' ≡ n

@@ -3,13 +3,13 @@ use Rattle.std.specs.Prelude.{ℕ, List, [], ◌∷◌}
 use Rattle.rnix_kinds.specs.declared.kinds.SyntaxKind.TheVariants.{NODE_ERROR}
 use Rattle.rnix_grammar.specs.declared.expected_set.ExpectedSet.{ExpectedSet}
 use Rattle.rnix_grammar.specs.declared.expected_set.ExpectedSet.TheVariants.{End}
-use Rattle.rnix_grammar.specs.Fault.{ended_before, bound_twice, too_deep}
+use Rattle.rnix_grammar.specs.Fault.{unexpected_eof_wanted, double_bind, too_deep}
 use Rattle.rnix_grammar.specs.Tables.{wanted_kinds}
 use Rattle.rnix_grammar.specs.AnnotatedForest.{Token, Stray, Unwanted, Extra}
 use Rattle.rnix_grammar.specs.UnwantedRun.{run_of}
 use Rattle.rnix_grammar.specs.Reports.{report}
 use Rattle.rnix_reader.specs.State.{State, items_left, eaten, skipped, started, ended, failed}
-use Rattle.rnix_reader.specs.Steps.{leaf_node_made}
+use Rattle.rnix_reader.specs.FrameSteps.{leaf_node_made}
 
 -- the items that come next, up to one that stops a run
 abbrev pub next_run : ExpectedSet → State → List Token
@@ -37,8 +37,8 @@ limit_reported s = failed too_deep (eaten (error_over End s))
 
 -- the text ends where some kinds are wanted
 abbrev pub end_reported : ExpectedSet → State → State
-end_reported until s = failed (ended_before (wanted_kinds until)) s
+end_reported until s = failed (unexpected_eof_wanted (wanted_kinds until)) s
 
 -- the second name of a pattern, which begins at a byte, is complete and is reported
 abbrev pub second_reported : ℕ → State → State
-second_reported start s = failed (bound_twice record { start = start; end = s.prev_end }) (ended s)
+second_reported start s = failed (double_bind record { start = start; end = s.prev_end }) (ended s)

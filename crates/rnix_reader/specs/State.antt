@@ -7,7 +7,7 @@ use Rattle.rnix_green.specs.Draft.{Draft, OpenNode, node_closed}
 use Rattle.rnix_grammar.specs.Fault.{Fault, fault_of}
 use Rattle.rnix_grammar.specs.AnnotatedForest.{Token, row_of, forget, end_from, head_of}
 use Rattle.rnix_grammar.specs.Layout.{items, from_item, trivia_before, tail_of, left_after, with_trivia}
-use Rattle.rnix_grammar.specs.Machine.{leaf_in, end_of}
+use Rattle.rnix_proof_lemmas.specs.Machine.{leaf_in, end_of}
 use Rattle.rnix_reader.specs.declared.mark.Mark.{Mark}
 use Rattle.rnix_reader.specs.declared.parser.Parser.{Parser}
 

@@ -2,11 +2,11 @@
 
 ghost use Rattle.std.specs.Prelude.{map, IfOk};
 ghost use Rattle.rnix_grammar.specs.Fault.{fault_of};
-ghost use Rattle.rnix_grammar.specs.Document.{IsRead};
+ghost use Rattle.rnix_proof_lemmas.specs.Document.{IsRead};
 
 use crate::cursor::Cursor;
-use crate::names::Names;
 use crate::parser::Parser;
+use crate::pattern_names::Names;
 use crate::reading::read_all;
 use rnix_grammar::{ParseError, Position, ROOT};
 use rnix_green::{GreenNode, TextBuilder};

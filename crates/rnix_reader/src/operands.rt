@@ -6,7 +6,7 @@ ghost use Rattle.rnix_grammar.specs.AnnotatedForest.{head_kind};
 ghost use Rattle.rnix_grammar.specs.Layout.{tail_of};
 ghost use Rattle.rnix_reader.specs.Placed.{token_of};
 ghost use Rattle.rnix_reader.specs.State.{state, items_left, IsNextItem};
-ghost use Rattle.rnix_reader.specs.Steps.{operand_begun, looks_behind, is_brace, begins_with, binding_read, lambda_begun, leaf_node_made, node_operand_begun, parameter_read};
+ghost use Rattle.rnix_reader.specs.FrameSteps.{operand_begun, looks_behind, is_brace, begins_with, binding_read, lambda_begun, leaf_node_made, node_operand_begun, parameter_read};
 
 use crate::cursor::PlacedToken;
 use crate::parser::Parser;

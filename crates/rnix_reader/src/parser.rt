@@ -27,7 +27,7 @@ impl<'t> Parser<'t> {
     ghost use Rattle.std.specs.Prelude.{◌<◌, length, IfOk, OnOk, IsTrue, option_map};
     ghost use Rattle.rnix_green.specs.Forest.{tree_count};
     ghost use Rattle.rnix_green.specs.Draft.{is_checkpoint_of};
-    ghost use Rattle.rnix_grammar.specs.Fault.{fault_of, ended as ended_fault};
+    ghost use Rattle.rnix_grammar.specs.Fault.{fault_of, unexpected_eof as ended_fault};
     ghost use Rattle.rnix_grammar.specs.AnnotatedForest.{head_of, head_kind, touches};
     ghost use Rattle.rnix_reader.specs.Placed.{token_of, AreInOrder};
     ghost use Rattle.rnix_reader.specs.State.{State, state, items_left, eaten, bumped, started, started_at, ended, failed, pushed};

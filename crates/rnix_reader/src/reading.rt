@@ -1,25 +1,28 @@
 //! Reading by the grammar's table: one step after another, until the root is complete.
 
-ghost use Rattle.std.specs.Prelude.{◌≡◌, ◌≤◌, ◌<◌, [], Bool, List, Option, length, OnOk, true};
+ghost use Rattle.std.specs.Prelude.{◌≡◌, ◌≤◌, ◌<◌, [], Bool, List, Option, length, IsTrue, OnOk, false, true};
 ghost use Rattle.rnix_kinds.specs.declared.kinds.SyntaxKind.{SyntaxKind};
+ghost use Rattle.rnix_green.specs.Draft.{is_checkpoint_of};
 ghost use Rattle.rnix_grammar.specs.declared.action.Action.TheVariants.{EndOperand};
 ghost use Rattle.rnix_grammar.specs.declared.begin.Begin.TheVariants.{Leaf};
+ghost use Rattle.rnix_grammar.specs.declared.position.Position.TheVariants.{Left};
 ghost use Rattle.rnix_grammar.specs.Actions.{action_at};
 ghost use Rattle.rnix_grammar.specs.AnnotatedForest.{Token};
-ghost use Rattle.rnix_grammar.specs.Machine.{begins, min_bp_of};
+ghost use Rattle.rnix_grammar.specs.Levels.{selection_level};
+ghost use Rattle.rnix_proof_lemmas.specs.Machine.{begins, min_bp_of};
 ghost use Rattle.rnix_reader.specs.Erase.{erase};
 ghost use Rattle.rnix_reader.specs.Holds.{IsReadTo};
-ghost use Rattle.rnix_reader.specs.PatternNames.{entries_in, EntryNamed};
+ghost use Rattle.rnix_reader.specs.PatternNames.{entries_in, EntryNamed, PatternOpened};
 ghost use Rattle.rnix_reader.specs.Performed.{EntryReported, IsReady, NamesAfter, NamesFor, Performed, DoubleBindOpened, action_of, begun_as, expression_read, is_finish, opens_in, opens_on, opens_pattern, operand_read};
 ghost use Rattle.rnix_reader.specs.Placed.{token_of, AreInOrder};
 ghost use Rattle.rnix_reader.specs.Reported.{second_reported};
 ghost use Rattle.rnix_reader.specs.State.{state, items_left, IsNextItem};
-ghost use Rattle.rnix_reader.specs.Steps.{entry_begun, second_begun};
+ghost use Rattle.rnix_reader.specs.FrameSteps.{application_begun, bound_lambda_begun, entry_begun, legacy_let_begun, moved_to, pattern_lambda_begun, second_begun};
 
 use crate::cursor::PlacedToken;
 use crate::mark::Mark;
-use crate::names::Names;
 use crate::parser::Parser;
+use crate::pattern_names::Names;
 use rnix_grammar::{
     APPLICATION_LEVEL, APPLIED, Action, BOUND_PATTERN, Begin, EXPRESSION_LEVEL, ExpectedSet,
     LEGACY_LET, NO_LEVEL, PATTERN, ParseError, Position, SECOND_BIND, SELECTION_LEVEL, action_at,
@@ -44,6 +47,57 @@ fn begin_leaf<'t>(
     ensures { OnOk result (state p.new ≡ begun_as (Leaf kind) level depth (token_of first.entry) (state p.old)) }
 {
     p.leaf_operand(kind, Position::AfterOperand(level, SELECTION_LEVEL), depth)?;
+    Ok(())
+}
+
+// Begins an operand that is `let {`, with `let`.
+#[inline(always)]
+fn begin_legacy_let(p: &mut Parser<'_>, over: Position, depth: usize) -> Result<(), AllocError>
+    ensures { OnOk result (state p.new ≡ legacy_let_begun over depth (state p.old)) }
+{
+    let kind = SyntaxKind::NODE_LEGACY_LET;
+    p.node_operand(kind, Position::Left(LEGACY_LET), over, depth)?;
+    p.bump(kind)?;
+    Ok(())
+}
+
+// Begins a function whose parameter is a pattern, with the name that is bound to the pattern.
+#[inline(always)]
+fn begin_bound_lambda<'t>(
+    p: &mut Parser<'t>,
+    names: &mut Names<'t>,
+    over: Position,
+    depth: usize,
+) -> Result<(), AllocError>
+    ensures state { OnOk result (state p.new ≡ bound_lambda_begun over depth (state p.old)) }
+    ensures names { OnOk result (PatternOpened names.old names.new) }
+{
+    p.lambda(over, depth)?;
+    p.open_node(
+        SyntaxKind::NODE_PATTERN,
+        Position::Left(BOUND_PATTERN),
+        depth,
+    )?;
+    p.binding()?;
+    names.open_pattern()?;
+    Ok(())
+}
+
+// Begins a function whose parameter is a pattern, with `{`.
+#[inline(always)]
+fn begin_pattern_lambda<'t>(
+    p: &mut Parser<'t>,
+    names: &mut Names<'t>,
+    over: Position,
+    depth: usize,
+) -> Result<(), AllocError>
+    ensures state { OnOk result (state p.new ≡ pattern_lambda_begun over depth (state p.old)) }
+    ensures names { OnOk result (PatternOpened names.old names.new) }
+{
+    p.lambda(over, depth)?;
+    p.open_node(SyntaxKind::NODE_PATTERN, Position::Left(PATTERN), depth)?;
+    p.bump(SyntaxKind::NODE_PATTERN)?;
+    names.open_pattern()?;
     Ok(())
 }
 
@@ -72,36 +126,13 @@ fn begin<'t>(
                 depth,
             )?;
         }
-        Begin::LegacyLet => {
-            let kind = SyntaxKind::NODE_LEGACY_LET;
-            p.node_operand(
-                kind,
-                Position::Left(LEGACY_LET),
-                Position::AfterOperand(level, NO_LEVEL),
-                depth,
-            )?;
-            p.bump(kind)?;
-        }
+        Begin::LegacyLet => begin_legacy_let(p, Position::AfterOperand(level, NO_LEVEL), depth)?,
         Begin::NameLambda => {
             p.lambda(over, depth)?;
             p.parameter()?;
         }
-        Begin::BoundLambda => {
-            p.lambda(over, depth)?;
-            p.open_node(
-                SyntaxKind::NODE_PATTERN,
-                Position::Left(BOUND_PATTERN),
-                depth,
-            )?;
-            p.binding()?;
-            names.open_pattern()?;
-        }
-        Begin::PatternLambda => {
-            p.lambda(over, depth)?;
-            p.open_node(SyntaxKind::NODE_PATTERN, Position::Left(PATTERN), depth)?;
-            p.bump(SyntaxKind::NODE_PATTERN)?;
-            names.open_pattern()?;
-        }
+        Begin::BoundLambda => begin_bound_lambda(p, names, over, depth)?,
+        Begin::PatternLambda => begin_pattern_lambda(p, names, over, depth)?,
         Begin::Stray => {
             p.open_operand(over, depth)?;
             p.stray(first)?;
@@ -183,9 +214,9 @@ fn open_entry<'t>(
     p: &mut Parser<'t>,
     names: &mut Names<'t>,
     mark: Mark,
-    after: Position,
+    after: u8,
 ) -> Result<(), AllocError>
-    ensures state { OnOk result (state p.new ≡ entry_begun after mark (state p.old)) }
+    ensures state { OnOk result (state p.new ≡ entry_begun (Left after) mark (state p.old)) }
     ensures names { (t : Token) → IsNextItem t (state p.old) → OnOk result (EntryNamed t names.old names.new) }
 {
     if let Some(name) = p.item() {
@@ -201,20 +232,15 @@ fn open_double_bind<'t>(
     p: &mut Parser<'t>,
     names: &mut Names<'t>,
     mark: Mark,
-    after: Position,
+    after: u8,
 ) -> Result<(), AllocError>
-    ensures state { OnOk result (state p.new ≡ second_begun after mark (state p.old)) }
+    ensures state { OnOk result (state p.new ≡ second_begun (Left after) mark (state p.old)) }
     ensures names { (t : Token) → IsNextItem t (state p.old) → OnOk result (DoubleBindOpened t.start names.old names.new) }
 {
     if let Some(first) = p.item() {
         names.second = first.start;
     }
-    p.open(
-        mark,
-        SyntaxKind::NODE_ERROR,
-        Position::Left(SECOND_BIND),
-        after,
-    )?;
+    p.open(mark, SyntaxKind::NODE_ERROR, SECOND_BIND, after)?;
     Ok(())
 }
 
@@ -226,6 +252,44 @@ fn min_bp_of(position: Position) -> u8
         Position::AfterOperand(min_bp, _) => min_bp,
         _ => EXPRESSION_LEVEL,
     }
+}
+
+// Moves a node's row on, and reads an operand of the row.
+#[inline(always)]
+fn read_part<'t>(
+    p: &mut Parser<'t>,
+    names: &mut Names<'t>,
+    mark: Mark,
+    level: u8,
+    counted: bool,
+    after: u8,
+) -> Result<(), AllocError>
+    ensures state { OnOk result (state p.new ≡ expression_read level counted mark.depth (moved_to (Left after) mark (state p.old))) }
+    ensures names { OnOk result (NamesFor (opens_in mark.depth counted level (moved_to (Left after) mark (state p.old))) names.old names.new) }
+{
+    let depth = mark.depth;
+    p.go_on(mark, Position::Left(after))?;
+    read(p, names, level, counted, depth)?;
+    Ok(())
+}
+
+// Applies the operand before it to the next operand.
+#[inline(always)]
+fn apply<'t>(
+    p: &mut Parser<'t>,
+    names: &mut Names<'t>,
+    mark: Mark,
+    min_bp: u8,
+) -> Result<(), AllocError>
+    requires { IsTrue (is_checkpoint_of p.old.builder.draft mark.at) }
+    ensures state { OnOk result (state p.new ≡ expression_read selection_level false mark.depth (application_begun min_bp mark (state p.old))) }
+    ensures names { OnOk result (NamesFor (opens_in mark.depth false selection_level (application_begun min_bp mark (state p.old))) names.old names.new) }
+{
+    let depth = mark.depth;
+    let over = Position::AfterOperand(min_bp, APPLICATION_LEVEL);
+    p.wrap(mark, over, SyntaxKind::NODE_APPLY, Position::Left(APPLIED))?;
+    read(p, names, SELECTION_LEVEL, false, depth)?;
+    Ok(())
 }
 
 // Takes one step in the innermost node or operand.
@@ -251,51 +315,21 @@ fn step<'t>(
         Action::CloseDoubleBind => close_double_bind(p, names.second)?,
         Action::Finish => {}
         Action::EndOperand => {}
-        Action::Extra => {
-            p.go_on(mark, mark.position)?;
-            p.extra()?;
-        }
-        Action::Take(after) => p.take(mark, Position::Left(after))?,
-        Action::Miss(after) => p.miss(mark, Position::Left(after))?,
-        Action::MissWanted(until, after) => p.miss_wanted(mark, until, Position::Left(after))?,
-        Action::Run(until, after) => {
-            p.go_on(mark, Position::Left(after))?;
-            p.unwanted(until)?;
-        }
-        Action::Leaf(kind, after) => p.leaf(mark, kind, Position::Left(after))?,
-        Action::Open(kind, inside, after) => p.open(
-            mark,
-            kind,
-            Position::Left(inside),
-            Position::Left(after),
-        )?,
-        Action::Begin(kind, inside, after) => p.begin(
-            mark,
-            kind,
-            Position::Left(inside),
-            Position::Left(after),
-        )?,
-        Action::Entry(after) => open_entry(p, names, mark, Position::Left(after))?,
-        Action::DoubleBind(after) => open_double_bind(p, names, mark, Position::Left(after))?,
-        Action::Read(level, counted, after) => {
-            let depth = mark.depth;
-            p.go_on(mark, Position::Left(after))?;
-            read(p, names, level, counted, depth)?;
-        }
+        Action::Extra => p.extra_run(mark)?,
+        Action::Take(after) => p.take(mark, after)?,
+        Action::Miss(after) => p.miss(mark, after)?,
+        Action::MissWanted(until, after) => p.miss_wanted(mark, until, after)?,
+        Action::Run(until, after) => p.unwanted_run(mark, until, after)?,
+        Action::Leaf(kind, after) => p.leaf(mark, kind, after)?,
+        Action::Open(kind, inside, after) => p.open(mark, kind, inside, after)?,
+        Action::Begin(kind, inside, after) => p.begin(mark, kind, inside, after)?,
+        Action::Entry(after) => open_entry(p, names, mark, after)?,
+        Action::DoubleBind(after) => open_double_bind(p, names, mark, after)?,
+        Action::Read(level, counted, after) => read_part(p, names, mark, level, counted, after)?,
         Action::Wrap(kind, inside, max_bp) => {
-            p.wrap(mark, Position::AfterOperand(min_bp, max_bp), kind, inside)?;
-            p.bump(kind)?;
+            p.wrap_and_bump(mark, Position::AfterOperand(min_bp, max_bp), kind, inside)?;
         }
-        Action::Apply => {
-            let depth = mark.depth;
-            p.wrap(
-                mark,
-                Position::AfterOperand(min_bp, APPLICATION_LEVEL),
-                SyntaxKind::NODE_APPLY,
-                Position::Left(APPLIED),
-            )?;
-            read(p, names, SELECTION_LEVEL, false, depth)?;
-        }
+        Action::Apply => apply(p, names, mark, min_bp)?,
         Action::ApplyOr => p.apply_or(mark, Position::AfterOperand(min_bp, APPLICATION_LEVEL))?,
     }
     Ok(())

@@ -3,12 +3,12 @@
 ghost use Rattle.std.specs.Prelude.{◌≡◌, IfOk, OnOk, false, true, Some};
 ghost use Rattle.rnix_green.specs.Range.{bounds_of};
 ghost use Rattle.rnix_grammar.specs.Tables.{stops};
-ghost use Rattle.rnix_grammar.specs.Allowed.{is_there};
+ghost use Rattle.rnix_proof_lemmas.specs.Allowed.{is_there};
 ghost use Rattle.rnix_grammar.specs.AnnotatedForest.{extent_of, head_kind};
 ghost use Rattle.rnix_reader.specs.Placed.{token_of};
 ghost use Rattle.rnix_reader.specs.State.{state, items_left, skipped, IsNextItem};
 ghost use Rattle.rnix_reader.specs.Reported.{end_reported, error_over, extra_reported, limit_reported, next_run, stray_reported, unwanted_reported};
-ghost use Rattle.rnix_reader.specs.Steps.{leaf_node_made};
+ghost use Rattle.rnix_reader.specs.FrameSteps.{leaf_node_made};
 
 use crate::cursor::PlacedToken;
 use crate::leaf_kind::leaf_kind_as;

@@ -1,12 +1,16 @@
 //! The reader's steps inside a node's row. Each continues the innermost node or operand, whose mark was popped from the stack.
 
-ghost use Rattle.std.specs.Prelude.{◌≡◌, ◌<◌, length, OnOk, IsTrue};
+ghost use Rattle.std.specs.Prelude.{◌≡◌, ◌<◌, length, false, true, OnOk, IsTrue};
 ghost use Rattle.rnix_kinds.specs.declared.kinds.SyntaxKind.TheVariants.{NODE_ROOT};
 ghost use Rattle.rnix_green.specs.Draft.{is_checkpoint_of};
-ghost use Rattle.rnix_grammar.specs.Fault.{ended as ended_fault};
-ghost use Rattle.rnix_reader.specs.State.{state, bumped, failed};
-ghost use Rattle.rnix_reader.specs.Steps.{moved_to, node_started, operand_begun, entry_begun, leaf_node_made, node_begun, or_applied, node_wrapped};
-ghost use Rattle.rnix_reader.specs.Reported.{end_reported};
+ghost use Rattle.rnix_grammar.specs.declared.position.Position.TheVariants.{Left};
+ghost use Rattle.rnix_proof_lemmas.specs.Allowed.{is_there};
+ghost use Rattle.rnix_grammar.specs.AnnotatedForest.{head_kind};
+ghost use Rattle.rnix_grammar.specs.Fault.{unexpected_eof as ended_fault};
+ghost use Rattle.rnix_grammar.specs.Tables.{stops};
+ghost use Rattle.rnix_reader.specs.State.{state, items_left, bumped, failed};
+ghost use Rattle.rnix_reader.specs.FrameSteps.{moved_to, node_started, operand_begun, entry_begun, leaf_node_made, node_begun, or_applied, node_wrapped};
+ghost use Rattle.rnix_reader.specs.Reported.{end_reported, extra_reported, unwanted_reported};
 
 use crate::cursor::PlacedToken;
 use crate::mark::Mark;
@@ -54,19 +58,19 @@ impl<'t> Parser<'t> {
 
     /// Takes the next item as a leaf.
     #[inline(always)]
-    pub(crate) fn take(&mut self, mark: Mark, after: Position) -> Result<(), AllocError>
-        ensures { OnOk result (state self.new ≡ bumped NODE_ROOT (moved_to after mark (state self.old))) }
+    pub(crate) fn take(&mut self, mark: Mark, after: u8) -> Result<(), AllocError>
+        ensures { OnOk result (state self.new ≡ bumped NODE_ROOT (moved_to (Left after) mark (state self.old))) }
     {
-        self.go_on(mark, after)?;
+        self.go_on(mark, Position::Left(after))?;
         self.bump(SyntaxKind::NODE_ROOT)?;
         Ok(())
     }
 
     /// Reports that the text ends where more is expected.
-    pub(crate) fn miss(&mut self, mark: Mark, after: Position) -> Result<(), AllocError>
-        ensures { OnOk result (state self.new ≡ failed ended_fault (moved_to after mark (state self.old))) }
+    pub(crate) fn miss(&mut self, mark: Mark, after: u8) -> Result<(), AllocError>
+        ensures { OnOk result (state self.new ≡ failed ended_fault (moved_to (Left after) mark (state self.old))) }
     {
-        self.go_on(mark, after)?;
+        self.go_on(mark, Position::Left(after))?;
         self.fail_at_end()?;
         Ok(())
     }
@@ -76,26 +80,46 @@ impl<'t> Parser<'t> {
         &mut self,
         mark: Mark,
         until: ExpectedSet,
-        after: Position,
+        after: u8,
     ) -> Result<(), AllocError>
-        ensures { OnOk result (state self.new ≡ end_reported until (moved_to after mark (state self.old))) }
+        ensures { OnOk result (state self.new ≡ end_reported until (moved_to (Left after) mark (state self.old))) }
     {
-        self.go_on(mark, after)?;
+        self.go_on(mark, Position::Left(after))?;
         self.missing(until)?;
+        Ok(())
+    }
+
+    /// Reports a run of items where certain kinds are expected.
+    pub(crate) fn unwanted_run(
+        &mut self,
+        mark: Mark,
+        until: ExpectedSet,
+        after: u8,
+    ) -> Result<(), AllocError>
+        requires { stops until (head_kind (items_left (moved_to (Left after) mark (state self.old)))) ≡ false }
+        ensures { OnOk result (state self.new ≡ unwanted_reported until (moved_to (Left after) mark (state self.old))) }
+    {
+        self.go_on(mark, Position::Left(after))?;
+        self.unwanted(until)?;
+        Ok(())
+    }
+
+    /// Reports what is left of the text after the root's expression.
+    pub(crate) fn extra_run(&mut self, mark: Mark) -> Result<(), AllocError>
+        requires { is_there (head_kind (items_left (moved_to mark.position mark (state self.old)))) ≡ true }
+        ensures { OnOk result (state self.new ≡ extra_reported (moved_to mark.position mark (state self.old))) }
+    {
+        self.go_on(mark, mark.position)?;
+        self.extra()?;
         Ok(())
     }
 
     /// Makes a node of the next item.
     #[inline(always)]
-    pub(crate) fn leaf(
-        &mut self,
-        mark: Mark,
-        kind: SyntaxKind,
-        after: Position,
-    ) -> Result<(), AllocError>
-        ensures { OnOk result (state self.new ≡ leaf_node_made kind (moved_to after mark (state self.old))) }
+    pub(crate) fn leaf(&mut self, mark: Mark, kind: SyntaxKind, after: u8) -> Result<(), AllocError>
+        ensures { OnOk result (state self.new ≡ leaf_node_made kind (moved_to (Left after) mark (state self.old))) }
     {
-        self.go_on(mark, after)?;
+        self.go_on(mark, Position::Left(after))?;
         self.leaf_node(kind)?;
         Ok(())
     }
@@ -106,14 +130,14 @@ impl<'t> Parser<'t> {
         &mut self,
         mark: Mark,
         kind: SyntaxKind,
-        inside: Position,
-        after: Position,
+        inside: u8,
+        after: u8,
     ) -> Result<(), AllocError>
-        ensures { OnOk result (state self.new ≡ node_started kind inside mark.depth (moved_to after mark (state self.old))) }
+        ensures { OnOk result (state self.new ≡ node_started kind (Left inside) mark.depth (moved_to (Left after) mark (state self.old))) }
     {
         let depth = mark.depth;
-        self.go_on(mark, after)?;
-        self.open_node(kind, inside, depth)?;
+        self.go_on(mark, Position::Left(after))?;
+        self.open_node(kind, Position::Left(inside), depth)?;
         Ok(())
     }
 
@@ -123,10 +147,10 @@ impl<'t> Parser<'t> {
         &mut self,
         mark: Mark,
         kind: SyntaxKind,
-        inside: Position,
-        after: Position,
+        inside: u8,
+        after: u8,
     ) -> Result<(), AllocError>
-        ensures { OnOk result (state self.new ≡ node_begun kind inside mark.depth (moved_to after mark (state self.old))) }
+        ensures { OnOk result (state self.new ≡ node_begun kind (Left inside) mark.depth (moved_to (Left after) mark (state self.old))) }
     {
         self.begin(mark, kind, inside, after)?;
         self.bump(kind)?;
@@ -134,15 +158,10 @@ impl<'t> Parser<'t> {
     }
 
     /// Opens an entry of a pattern, with its name.
-    pub(crate) fn entry(&mut self, mark: Mark, after: Position) -> Result<(), AllocError>
-        ensures { OnOk result (state self.new ≡ entry_begun after mark (state self.old)) }
+    pub(crate) fn entry(&mut self, mark: Mark, after: u8) -> Result<(), AllocError>
+        ensures { OnOk result (state self.new ≡ entry_begun (Left after) mark (state self.old)) }
     {
-        self.begin(
-            mark,
-            SyntaxKind::NODE_PAT_ENTRY,
-            Position::Left(PAT_ENTRY),
-            after,
-        )?;
+        self.begin(mark, SyntaxKind::NODE_PAT_ENTRY, PAT_ENTRY, after)?;
         self.leaf_node(SyntaxKind::NODE_IDENT)?;
         Ok(())
     }
@@ -164,6 +183,23 @@ impl<'t> Parser<'t> {
         self.go_on(mark, over)?;
         self.start_node_at(at, kind)?;
         self.mark(inside, depth, at)?;
+        Ok(())
+    }
+
+    /// Opens a node that begins where the operand before it began, and takes the next item as its leaf.
+    #[inline(always)]
+    pub(crate) fn wrap_and_bump(
+        &mut self,
+        mark: Mark,
+        over: Position,
+        kind: SyntaxKind,
+        inside: Position,
+    ) -> Result<(), AllocError>
+        requires { IsTrue (is_checkpoint_of self.old.builder.draft mark.at) }
+        ensures { OnOk result (state self.new ≡ bumped kind (node_wrapped kind inside over mark (state self.old))) }
+    {
+        self.wrap(mark, over, kind, inside)?;
+        self.bump(kind)?;
         Ok(())
     }
 

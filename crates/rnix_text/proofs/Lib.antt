@@ -1,6 +1,6 @@
-pub mod StepLemmas
+pub mod ByteSteps
 pub mod MarkLemmas
 pub mod PositionLemmas
-pub mod OffsetLemmas
+pub mod MarkOffsets
 pub mod ChangeLemmas
 pub mod TextRows

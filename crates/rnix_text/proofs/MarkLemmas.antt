@@ -1,7 +1,7 @@
 -- Marks that pass a test which, where it passes behind a byte, passes in front of it.
 use Rattle.std.proofs.Common.{◌≡◌, ℕ, zero, suc, ◌-◌, ◌≤◌, ◌<◌, ◌⊎◌, inl, inr, List, [], ◌∷◌, length, get_or, Bool, true, false, refl, ap, sym, ◌∙◌, subst}
 use Rattle.std.{proofs.{Common.arith, lemmas.Bool.{false_from_ne_true, both_ways}}, specs.{Prelude.if◌then◌else◌, List.Sorted.IsPartitionedBy}}
-use Rattle.{std.specs.List.Sorted.IsPartitionPoint, rnix_text.specs.{declared.mark.{ColumnUnit.ColumnUnit, Mark.Mark}, Marks.{is_plain, first_mark}}}
+use Rattle.{std.specs.List.Sorted.IsPartitionPoint, rnix_text.specs.{declared.line_column.{ColumnUnit.ColumnUnit, Mark.Mark}, Marks.{is_plain, first_mark}}}
 use Rattle.rnix_text.specs.Marks.{mark_behind, marks_behind, marks_of, last_of}
 
 found : (test : Mark → Bool) (xs : List Mark) (m : Mark) (r : ℕ) (d : Mark) → test m ≡ true → r ≤ length (m ∷ xs)
@@ -56,7 +56,7 @@ module _ (unit : ColumnUnit) (test : Mark → Bool) (back : (m : Mark) (b : ℕ)
       → test m ≡ true
   at_first bs m zero d l h = h
   at_first [] m (suc j) d l h = absurd (omega (arith, l))
-  at_first (b ∷ bs) m (suc j) d l h = by (is_plain unit b) (at_first bs (mark_behind unit m b)) l h
+  at_first (b ∷ bs) m (suc j) d l h = plain_cases (is_plain unit b) (at_first bs (mark_behind unit m b)) l h
     where
       next : Mark
       next = mark_behind unit m b
@@ -64,17 +64,17 @@ module _ (unit : ColumnUnit) (test : Mark → Bool) (back : (m : Mark) (b : ℕ)
       rest : List Mark
       rest = marks_behind unit next bs
 
-      by : (w : Bool) → ((i : ℕ) (d : Mark) → i < length (next ∷ rest) → test (get_or (next ∷ rest) i d) ≡ true → test next ≡ true)
+      plain_cases : (w : Bool) → ((i : ℕ) (d : Mark) → i < length (next ∷ rest) → test (get_or (next ∷ rest) i d) ≡ true → test next ≡ true)
           → suc j < length (m ∷ (if w then rest else next ∷ rest)) → test (get_or (m ∷ (if w then rest else next ∷ rest)) (suc j) d) ≡ true → test m ≡ true
-      by true more l h = back m b (more (suc j) d l h)
-      by false more l h = back m b (more j d (omega (arith, l)) h)
+      plain_cases true more l h = back m b (more (suc j) d l h)
+      plain_cases false more l h = back m b (more j d (omega (arith, l)) h)
 
   -- the marks are parted by the test
   pub parted : (bs : List ℕ) (m : Mark) → IsPartitionedBy test (m ∷ marks_behind unit m bs)
   parted bs m zero j d le l h = at_first bs m j d l h
   parted bs m (suc i) zero d le l h = absurd (omega (arith, le))
   parted [] m (suc i) (suc j) d le l h = absurd (omega (arith, l))
-  parted (b ∷ bs) m (suc i) (suc j) d le l h = by (is_plain unit b) (parted bs (mark_behind unit m b)) l h
+  parted (b ∷ bs) m (suc i) (suc j) d le l h = plain_cases (is_plain unit b) (parted bs (mark_behind unit m b)) l h
     where
       next : Mark
       next = mark_behind unit m b
@@ -82,11 +82,11 @@ module _ (unit : ColumnUnit) (test : Mark → Bool) (back : (m : Mark) (b : ℕ)
       rest : List Mark
       rest = marks_behind unit next bs
 
-      by : (w : Bool) → IsPartitionedBy test (next ∷ rest)
+      plain_cases : (w : Bool) → IsPartitionedBy test (next ∷ rest)
           → suc j < length (m ∷ (if w then rest else next ∷ rest)) → test (get_or (m ∷ (if w then rest else next ∷ rest)) (suc j) d) ≡ true
           → test (get_or (m ∷ (if w then rest else next ∷ rest)) (suc i) d) ≡ true
-      by true more l h = more (suc i) (suc j) d le l h
-      by false more l h = more i j d (omega (arith, le)) (omega (arith, l)) h
+      plain_cases true more l h = more (suc i) (suc j) d le l h
+      plain_cases false more l h = more i j d (omega (arith, le)) (omega (arith, l)) h
 
   -- the last of a text's marks that pass is found where they are parted
   pub last_in : (text : List ℕ) (items : List Mark) (r : ℕ) → items ≡ marks_of unit text → test first_mark ≡ true → r ≤ length items
@@ -95,6 +95,6 @@ module _ (unit : ColumnUnit) (test : Mark → Bool) (back : (m : Mark) (b : ℕ)
   last_in text items r e h bound point d =
       let rest = marks_behind unit first_mark text in
       let parting = point (subst (IsPartitionedBy test) (sym e) (parted text first_mark)) in
-      let told = found test rest first_mark r d h (subst (λ xs. r ≤ length xs) e bound)
+      let rest_found = found test rest first_mark r d h (subst (λ xs. r ≤ length xs) e bound)
       (subst (λ xs. IsPartitionPoint (λ y. test y ≡ true) (λ y. test y ≡ false) xs r) e parting) in
-      (told.0, ap (λ xs. get_or xs (r - 1) d) e ∙ told.1)
+      (rest_found.0, ap (λ xs. get_or xs (r - 1) d) e ∙ rest_found.1)

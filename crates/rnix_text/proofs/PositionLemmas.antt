@@ -1,9 +1,9 @@
 -- The position of an offset, counted from the last mark in front of it.
 use Rattle.std.proofs.Common.{◌≡◌, ℕ, zero, suc, ◌+◌, ◌-◌, ◌≤◌, ◌<◌, ◌^◌, inl, inr, length-take-le, List, [], ◌∷◌, length, take, fold, Bool, true, false, refl}
 use Rattle.std.{proofs.{Common.{ap, sym, ◌∙◌, subst, arith}, lemmas.Bool.Decides.nat_tests}, specs.{Prelude.if◌then◌else◌, Str.IsCharBoundary}}
-use Rattle.rnix_text.specs.{declared.mark.{ColumnUnit.ColumnUnit, Position.Position, Mark.Mark}, Positions.{origin, step, position_at}, Texts.Counted}
-use Rattle.rnix_text.specs.{Texts.last_mark, Marks.{is_plain, is_before, first_mark, mark_behind, marks_behind, last_of, position_behind}}
-use Rattle.rnix_text.proofs.{StepLemmas.{plain_step, column_bound}, MarkLemmas.{last_here, last_alike}}
+use Rattle.rnix_text.specs.{declared.line_column.{ColumnUnit.ColumnUnit, Position.Position, Mark.Mark}, Positions.{origin, step, position_at}, TextColumns.Counted}
+use Rattle.rnix_text.specs.{TextColumns.last_mark, Marks.{is_plain, is_before, first_mark, mark_behind, marks_behind, last_of, position_behind}}
+use Rattle.rnix_text.proofs.{ByteSteps.{plain_step, column_bound}, MarkLemmas.{last_here, last_alike}}
 
 -- a mark in front of an offset stands behind others in front of it
 pub before_back : (unit : ColumnUnit) (o : ℕ) (m : Mark) (b : ℕ) → is_before o (mark_behind unit m b) ≡ true → is_before o m ≡ true
@@ -38,7 +38,7 @@ counted unit o (b ∷ bs) m zero l e =
     subst (Counts o m.position) (sym (last_here unit (is_before o) (before_back unit o) bs b m (before_false o (mark_behind unit m b) (omega (arith, e)))))
     (at_mark o m (omega (arith, e)))
 counted unit o [] m (suc n) l e = absurd (omega (arith, l))
-counted unit o (b ∷ bs) m (suc n) l e = by (is_plain unit b) refl (counted unit o bs (mark_behind unit m b) n (omega (arith, l)) (omega (arith, e)))
+counted unit o (b ∷ bs) m (suc n) l e = plain_cases (is_plain unit b) refl (counted unit o bs (mark_behind unit m b) n (omega (arith, l)) (omega (arith, e)))
   where
     next : Mark
     next = mark_behind unit m b
@@ -54,13 +54,14 @@ counted unit o (b ∷ bs) m (suc n) l e = by (is_plain unit b) refl (counted uni
         ap (λ q. let r : Position = record { line = q.line; column = q.column + (o - (m.offset + 1)) } in r) (plain_step unit m.position b h)
         ∙ ap (λ c. let r : Position = record { line = m.position.line; column = c } in r) (omega (arith, l))
 
-    by : (w : Bool) → is_plain unit b ≡ w → Counts o p (last_of (is_before o) next rest)
+    plain_cases : (w : Bool) → is_plain unit b ≡ w → Counts o p (last_of (is_before o) next rest)
         → Counts o p (last_of (is_before o) m (if w then rest else next ∷ rest))
-    by false h told = subst (Counts o p) (sym (ap (λ w. if w then last_of (is_before o) next rest else m) (before_true o next (omega (arith, e))))) told
-    by true h told = elim (last_alike (is_before o) m next rest) [
-      | inr one ↦ subst (Counts o p) (sym one) told
+    plain_cases false h rest_counts =
+        subst (Counts o p) (sym (ap (λ w. if w then last_of (is_before o) next rest else m) (before_true o next (omega (arith, e))))) rest_counts
+    plain_cases true h rest_counts = elim (last_alike (is_before o) m next rest) [
+      | inr one ↦ subst (Counts o p) (sym one) rest_counts
       | inl both ↦ (
-          let t = subst (Counts o p) both.1 told in
+          let t = subst (Counts o p) both.1 rest_counts in
           let c : Counts o p m = record { order = omega (arith, e); position = sym (same h t.order) ∙ t.position } in
           subst (Counts o p) (sym both.0) c
           )

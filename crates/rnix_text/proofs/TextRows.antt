@@ -1,5 +1,5 @@
 -- What the definitions say of certain texts.
-use Rattle.{std.proofs.Common.{◌≡◌, ℕ, List, [], ◌∷◌, codes, refl}, rnix_text.specs.declared.mark.ColumnUnit.TheVariants.{Bytes, Chars, Utf16}}
+use Rattle.{std.proofs.Common.{◌≡◌, ℕ, List, [], ◌∷◌, codes, refl}, rnix_text.specs.declared.line_column.ColumnUnit.TheVariants.{Bytes, Chars, Utf16}}
 use Rattle.rnix_text.specs.{Positions.position_at, Marks.{marks_of, first_mark}, Changes.changed_from}
 
 -- U+00E9, a newline, U+1F600 and an x

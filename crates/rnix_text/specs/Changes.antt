@@ -47,7 +47,7 @@ abbrev pub AreInOrder : List ℕ → ℕ → List Change → Type 0
 AreInOrder text n [] = n ≤ length text
 AreInOrder text n (c ∷ cs) = (n ≤ c.start) × (c.start ≤ c.end) × IsBetween text c.start c.end × AreInOrder text c.end cs
 
--- the change stands among the others: behind those that end where it begins or before, and in front of those that begin where it ends or later
+-- the change is in its place among the others: after those that end where it begins or before, and before those that begin where it ends or later
 pub record IsAdded (c : Change) (old new : List Change) : Type 0 where
   pub front : List Change
   pub back : List Change

@@ -1,6 +1,6 @@
 pub mod Positions
 pub mod Marks
-pub mod Texts
+pub mod TextColumns
 pub mod Changes
 pub mod Edit
 pub mod Causes

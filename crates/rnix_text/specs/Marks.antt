@@ -1,8 +1,8 @@
 -- Marks: the offsets behind bytes that move the column otherwise than the offset.
 use Rattle.std.specs.Prelude.{ℕ, ◌+◌, ◌-◌, ◌==◌, ◌&&◌, ◌||◌, not, nat_lt, nat_le, Bool, List, [], ◌∷◌, if◌then◌else◌}
-use Rattle.rnix_text.specs.declared.mark.ColumnUnit.{ColumnUnit}
-use Rattle.rnix_text.specs.declared.mark.Position.{Position}
-use Rattle.rnix_text.specs.declared.mark.Mark.{Mark}
+use Rattle.rnix_text.specs.declared.line_column.ColumnUnit.{ColumnUnit}
+use Rattle.rnix_text.specs.declared.line_column.Position.{Position}
+use Rattle.rnix_text.specs.declared.line_column.Mark.{Mark}
 use Rattle.rnix_text.specs.Positions.{newline, weight, origin, step}
 
 -- the byte moves the column as far as the offset

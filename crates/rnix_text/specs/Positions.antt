@@ -1,15 +1,15 @@
 -- Lines and columns.
 use Rattle.std.specs.Prelude.{◌≡◌, ℕ, ◌+◌, ◌==◌, nat_lt, List, take, fold, if◌then◌else◌}
 use Rattle.std.specs.Str.{IsCharBoundary}
-use Rattle.rnix_text.specs.declared.mark.ColumnUnit.{ColumnUnit}
-use Rattle.rnix_text.specs.declared.mark.ColumnUnit.TheVariants.{Bytes, Chars, Utf16}
-use Rattle.rnix_text.specs.declared.mark.Position.{Position}
+use Rattle.rnix_text.specs.declared.line_column.ColumnUnit.{ColumnUnit}
+use Rattle.rnix_text.specs.declared.line_column.ColumnUnit.TheVariants.{Bytes, Chars, Utf16}
+use Rattle.rnix_text.specs.declared.line_column.Position.{Position}
 
 -- the byte that ends a line
 abbrev pub newline : ℕ
 newline = 10
 
--- what a byte adds to a column: a character counts where its first byte stands, and bytes from 128 to 191 begin none; in UTF-16 a character that begins
+-- what a byte adds to a column: a character counts at its first byte, and bytes from 128 to 191 begin none; in UTF-16 a character that begins
 -- with 240 or more has two units
 abbrev pub weight : ColumnUnit → ℕ → ℕ
 weight Bytes b = 1

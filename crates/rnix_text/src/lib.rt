@@ -3,10 +3,10 @@
 
 mod edit_error;
 mod edits;
+mod line_column;
 mod line_index;
-mod mark;
 
 pub use edit_error::EditError;
 pub use edits::Edits;
+pub use line_column::{ColumnUnit, Position};
 pub use line_index::LineIndex;
-pub use mark::{ColumnUnit, Position};

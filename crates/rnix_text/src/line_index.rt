@@ -3,10 +3,10 @@
 ghost use Rattle.std.specs.Prelude.{◌≡◌, ◌<◌, ◌^◌, ◌↔◌, length, Some, SomeIff, IfSome, IfOk, IsTrue, ℕ};
 ghost use Rattle.std.specs.Str.{IsCharBoundary};
 ghost use Rattle.rnix_text.specs.Positions.{position_at, IsAt};
-ghost use Rattle.rnix_text.specs.Texts.{last_mark};
+ghost use Rattle.rnix_text.specs.TextColumns.{last_mark};
 ghost use Rattle.rnix_text.specs.Marks.{marks_of, is_before, is_up_to};
 
-use crate::mark::{ColumnUnit, Mark, Position, moves_alike};
+use crate::line_column::{ColumnUnit, Mark, Position, moves_alike};
 use std::alloc::{AllocError, Global};
 use std::marker::Model;
 
@@ -21,7 +21,7 @@ pub struct LineIndex<'t> {
 
 impl<'t> Model for LineIndex<'t> {
     ghost use Rattle.std.specs.Prelude.{◌≡◌};
-    ghost use Rattle.rnix_text.specs.Texts.{Counted};
+    ghost use Rattle.rnix_text.specs.TextColumns.{Counted};
     ghost use Rattle.rnix_text.specs.Marks.{marks_of};
 
     ghost Value = { Counted };

@@ -4,7 +4,7 @@ use Rattle.std.proofs.{Common.{◌≡◌, ℕ, ◌≤◌, ◌<◌, length, Optio
 use Rattle.rnix_green.specs.{Tree.{Located, items_of, item_of, no_item}, Relatives.{located, parent_of, IsFirst, IsLast, IsThat, IsTokenIn, IsChild}}
 use Rattle.rnix_green.specs.Relatives.{IsChildNode, IsSibling, IsSiblingNode, IsNextSibling, IsPrevSibling, IsNextSiblingNode, IsPrevSiblingNode, IsNextToken}
 use Rattle.rnix_green.{specs.Relatives.{IsPrevToken, IsFirstChild, IsFirstChildNode, IsLastChild, IsLastChildNode}, proofs.ParentLemmas.parent_is_before}
-use Rattle.rnix_tree.specs.Chains.{behind_count, before_count, behind_if, before_if}
+use Rattle.rnix_tree.specs.ChainMeasures.{behind_count, before_count, behind_if, before_if}
 
 -- the first element behind e of which P holds, where P holds of elements of the tree
 first_falls : (P : ℕ → Type 0) (e : Located) (r : Option Located) → ((m : ℕ) → P m → m < length (items_of e.tree))

@@ -1,7 +1,7 @@
 -- The children of an element are inside it.
 use Rattle.std.proofs.Common.{◌≡◌, ℕ, ◌+◌, ◌≤◌, ◌<◌, List, [], ◌∷◌, length, map, Bool, true, false, Some, refl, ap, sym, subst, ◌∙◌, arith, ◌⊎◌, inl, inr}
 use Rattle.{std.{proofs.lemmas.Option.same_Some, specs.Prelude.{cond, find}}, rnix_green.specs.{Forest.{Forest, empty, leaf, node, element_count}, Tree.Tree}}
-use Rattle.rnix_green.specs.{Tree.{Located, items_of, item, item_of, children_in}, Walk.{Spot, spot_at, children_of}, Numbers.tree_numbers}
+use Rattle.rnix_green.specs.{Tree.{Located, items_of, item, item_of, children_in}, Walk.{Spot, spot_at, children_of}, PreorderNumbers.tree_numbers}
 use Rattle.rnix_green.proofs.{SiblingLemmas.{no_sibling, next_inside}, PartLemmas.{IsPart, IsOne, one_leaf, one_node, below_of_part, part_there, one_there}}
 use Rattle.rnix_green.proofs.{PartLemmas.children_between, InsideLemmas.{ends_inside, leaf_holds_nothing}}
 

@@ -2,7 +2,7 @@
 use Rattle.std.proofs.Common.{◌≡◌, ℕ, zero, suc, ◌+◌, ◌≤◌, ◌<◌, nat_lt, List, [], ◌∷◌, length, map, true, false, refl, ap, arith, length-append}
 use Rattle.{std.{proofs.lemmas.List.length-map, specs.Prelude.if◌then◌else◌}, rnix_green.specs.{Forest.{Forest, empty, leaf, node, element_count}, Tree.Tree}}
 use Rattle.rnix_green.specs.{Tree.{Located, items_of, item, part_at, children_in}, Walk.{Spot, Event, spot_at, event_at, children_of, steps_from, preorder_of}}
-use Rattle.rnix_green.{specs.{Walk.{counted, nodes_in, node_events, holders, ancestors_of}, Numbers.tree_numbers}, proofs.PartLemmas.{IsPart, IsOne, one_leaf}}
+use Rattle.rnix_green.{specs.{Walk.{counted, nodes_in, node_events, holders, ancestors_of}, PreorderNumbers.tree_numbers}, proofs.PartLemmas.{IsPart, IsOne, one_leaf}}
 use Rattle.rnix_green.proofs.PartLemmas.{one_node, below_of_part, part_there, one_there}
 
 tree_numbers-few : (n : ℕ) (f : Forest) → length (tree_numbers n f) ≤ element_count f

@@ -2,9 +2,9 @@
 use Rattle.std.proofs.Common.{◌≡◌, ℕ, zero, suc, ◌+◌, ◌-◌, ◌≤◌, ◌<◌, List, [], ◌∷◌, length, map, true, false, Option, Some, refl, ap, ◌∙◌, arith, inl, inr}
 use Rattle.{std.{proofs.lemmas.Bool.cases_lt, specs.Prelude.{if◌then◌else◌, nat_lt}}, rnix_green.specs.Forest.{Forest, empty, leaf, node, text_of}}
 use Rattle.rnix_green.specs.{Forest.element_count, Tree.{Tree, Located, Item, items_of, forest_of, item, part_of, children_in}, Walk.{Spot, spot_at, nodes_in}}
-use Rattle.rnix_green.{specs.{Walk.children_of, Numbers.tree_numbers}, proofs.{NumberTests.{is_above, is_not_below}, PartLemmas.{IsPart, IsOne, one_leaf}}}
+use Rattle.rnix_green.{specs.{Walk.children_of, PreorderNumbers.tree_numbers}, proofs.{NumberTests.{is_above, is_not_below}, PartLemmas.{IsPart, IsOne, one_leaf}}}
 use Rattle.rnix_green.proofs.{PartLemmas.{one_node, item_of_part, below_of_part, part_there, one_there}, NestLemmas.{at, inside, beyond, behind}}
-use Rattle.{rnix_green.proofs.InsideLemmas.elements_in_all, rnix_tree.specs.Inside.{inside_count, nodes_count, spots_count}}
+use Rattle.{rnix_green.proofs.InsideLemmas.elements_in_all, rnix_tree.specs.InsideCounts.{inside_count, nodes_count, spots_count}}
 
 -- the trees of a row are all of it
 row_counts : (t : Tree) (n s : ℕ) (p : Option ℕ) (f : Forest) → ((m i : ℕ) → m ≡ n + i → i < element_count f → (item t m).below ≡ (at n s p f i).below)

@@ -27,8 +27,9 @@ pub start_shown : (P : Option (List ℕ) → Type 0) (text : List ℕ) (cut : �
     → ((i : ℕ) → 21 ≤ i → i < cut → ¬ IsCharBoundary text i) → P None → P (debug_str (take cut text ++ codes " ...")) → P (debug_str (shown text))
 start_shown P text cut utf8 long low nearest none h =
     subst (λ b. P (debug_str (if b then text else take 21 text ++ codes " ..."))) (sym (is_not_below (length text) 25 long))
-    (by (list_all is_ascii (take 21 text ++ codes " ...")) refl)
+    (ascii_cases (list_all is_ascii (take 21 text ++ codes " ...")) refl)
   where
-    by : (b : Bool) → list_all is_ascii (take 21 text ++ codes " ...") ≡ b → P (debug_str (take 21 text ++ codes " ..."))
-    by true e = subst (λ n. P (debug_str (take n text ++ codes " ..."))) (cut_there text cut utf8 long low nearest e) h
-    by false e = subst P (sym (ap (λ b. if b then Some (34 ∷ (flat_map (debug_escape 34) (take 21 text ++ codes " ...") ++ 34 ∷ [])) else None) e)) none
+    ascii_cases : (b : Bool) → list_all is_ascii (take 21 text ++ codes " ...") ≡ b → P (debug_str (take 21 text ++ codes " ..."))
+    ascii_cases true e = subst (λ n. P (debug_str (take n text ++ codes " ..."))) (cut_there text cut utf8 long low nearest e) h
+    ascii_cases false e =
+        subst P (sym (ap (λ b. if b then Some (34 ∷ (flat_map (debug_escape 34) (take 21 text ++ codes " ...") ++ 34 ∷ [])) else None) e)) none

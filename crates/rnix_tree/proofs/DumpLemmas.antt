@@ -7,7 +7,7 @@ use Rattle.rnix_green.{specs.{Tree.{part_of, part_at}, Walk.{Event, steps_from, 
 use Rattle.rnix_green.proofs.{PartLemmas.{IsPart, IsOne, one_leaf, one_node, part_there, one_there, item_of_part}, PieceLemmas.length-items_from}
 use Rattle.rnix_tree.specs.{Spots.{event_of, spot_of, place_of}, declared.element.{NodeOrToken.{NodeOrToken, TheVariants.{Node, Token}}, WalkEvent.WalkEvent}}
 use Rattle.rnix_tree.specs.{declared.element.WalkEvent.TheVariants.Enter, Lines.{line_of, lines_from, lines_of}, Walked.{event_lines, entered_in, IsNested}}
-use Rattle.rnix_tree.proofs.StandingItems.{Stands, first_item, front_stands, back_stands}
+use Rattle.rnix_tree.proofs.ItemsAt.{HasItemsAt, first_item, front_items, back_items}
 
 -- what an element's events print, around those of what is inside it
 around : (t : Tree) (n : ℕ) (i : Item) (depth : ℕ) (inside : List Event) (more : List Event) (lines : List ℕ) → item t n ≡ i
@@ -30,7 +30,7 @@ node_lines depth s k c f more =
     append_assoc (line ++ inner) outer more ∙ append_assoc line inner (outer ++ more)
 
 -- the walk over a row prints the row's lines
-walk_lines : (t : Tree) (n s : ℕ) (p : Option ℕ) (f : Forest) (depth : ℕ) (more : List Event) → Stands t n (items_from n s p f)
+walk_lines : (t : Tree) (n s : ℕ) (p : Option ℕ) (f : Forest) (depth : ℕ) (more : List Event) → HasItemsAt t n (items_from n s p f)
     → event_lines depth (map (event_at t) (steps_from n f) ++ more) ≡ lines_from depth s f ++ event_lines depth more
 walk_lines t n s p empty depth more h = refl
 walk_lines t n s p (leaf k u f) depth more h =
@@ -38,7 +38,7 @@ walk_lines t n s p (leaf k u f) depth more h =
     let line = line_of depth k record { start = s; end = s + length u } in
     let rest = items_from (n + 1) (s + length u) p f in
     around t n i depth [] (map (event_at t) (steps_from (n + 1) f) ++ more) [] (first_item t n i rest h) refl
-    ∙ ap (λ x. line ++ x) (walk_lines t (n + 1) (s + length u) p f depth more (back_stands t n (n + 1) (i ∷ []) rest refl h))
+    ∙ ap (λ x. line ++ x) (walk_lines t (n + 1) (s + length u) p f depth more (back_items t n (n + 1) (i ∷ []) rest refl h))
     ∙ sym (append_assoc line (lines_from depth (s + length u) f) (event_lines depth more))
 walk_lines t n s p (node k c f) depth more h =
     let i : Item = record { kind = k; is_node = true; start = s; end = s + length (text_of c); parent = p; below = element_count c } in
@@ -49,16 +49,16 @@ walk_lines t n s p (node k c f) depth more h =
     let outer = lines_from depth (s + length (text_of c)) f in
     let behind = map (event_at t) (steps_from (n + 1 + element_count c) f) ++ more in
     let steps = map (event_at t) (steps_from (n + 1) c) in
-    let below : Stands t (n + 1) (xs ++ ys) = back_stands t n (n + 1) (i ∷ []) (xs ++ ys) refl h in
+    let below : HasItemsAt t (n + 1) (xs ++ ys) = back_items t n (n + 1) (i ∷ []) (xs ++ ys) refl h in
     ap (λ x. event_lines depth (event_at t (true, n) ∷ (x ++ more)))
     (map-append (event_at t) (steps_from (n + 1) c) ((false, n) ∷ steps_from (n + 1 + element_count c) f))
     ∙ ap (λ x. event_lines depth (event_at t (true, n) ∷ x)) (append_assoc steps
     (event_at t (false, n) ∷ map (event_at t) (steps_from (n + 1 + element_count c) f)) more)
     ∙ around t n i depth steps behind inner (first_item t n i (xs ++ ys) h)
-    (walk_lines t (n + 1) s (Some n) c (depth + 1) (event_at t (false, n) ∷ behind) (front_stands t (n + 1) xs ys below))
+    (walk_lines t (n + 1) s (Some n) c (depth + 1) (event_at t (false, n) ∷ behind) (front_items t (n + 1) xs ys below))
     ∙ ap (λ x. line ++ (inner ++ x))
     (walk_lines t (n + 1 + element_count c) (s + length (text_of c)) p f depth more
-    (back_stands t (n + 1) (n + 1 + element_count c) xs ys (ap (λ x. n + 1 + x) (length-items_from (n + 1) s (Some n) c)) below))
+    (back_items t (n + 1) (n + 1 + element_count c) xs ys (ap (λ x. n + 1 + x) (length-items_from (n + 1) s (Some n) c)) below))
     ∙ sym (node_lines depth s k c f (event_lines depth more))
 
 -- the start of an element that is there is where its part begins

@@ -2,9 +2,9 @@ pub mod ListLemmas
 pub mod RelativeLemmas
 pub mod AncestorLemmas
 pub mod OffsetLemmas
-pub mod SameLemmas
+pub mod EqualElements
 pub mod CountLemmas
-pub mod StandingItems
+pub mod ItemsAt
 pub mod WalkRows
 pub mod EnterSteps
 pub mod LeaveSteps
@@ -12,7 +12,7 @@ pub mod PreorderLemmas
 pub mod LineLemmas
 pub mod DumpLemmas
 pub mod DebugLemmas
-pub mod TextLemmas
+pub mod DumpTextLemmas
 pub mod PointerLemmas
 pub mod DirectionLemmas
 pub mod ChildLemmas

@@ -13,11 +13,11 @@ filter_most p xs = omega (arith, length-filter p xs, count_by-le-length p xs)
 -- what is found first is the first of those that pass the test
 find_first : {X : Type 0} (p : X → Bool) (xs : List X) → find p xs ≡ slice_get (filter p xs) 0
 find_first p [] = refl
-find_first p (x ∷ xs) = by (p x) (find_first p xs)
+find_first p (x ∷ xs) = find_step (p x) (find_first p xs)
   where
-    by : (b : Bool) → find p xs ≡ slice_get (filter p xs) 0 → cond b (Some x) (find p xs) ≡ slice_get (cond b (x ∷ filter p xs) (filter p xs)) 0
-    by true e = refl
-    by false e = e
+    find_step : (b : Bool) → find p xs ≡ slice_get (filter p xs) 0 → cond b (Some x) (find p xs) ≡ slice_get (cond b (x ∷ filter p xs) (filter p xs)) 0
+    find_step true e = refl
+    find_step false e = e
 
 -- what an iterator over those that pass the test gives next is the first that is found
 pub found_first : {A B : Type 0} (view : A → B) (p : B → Bool) (r : Option A) (ys rest all : List B) → YieldsFirstBy view (λ (s : List B). s) ys r rest

@@ -1,4 +1,4 @@
--- Where a walk stands, and what is left of it.
+-- The current element of a walk, and what is left of it.
 use Rattle.std.specs.Prelude.{ℕ, zero, suc, ◌+◌, ◌-◌, ◌==◌, ◌<◌, ◌≤◌, nat_lt, List, [], ◌∷◌, ◌++◌, length, map, drop, false, Option, Some, None, if◌then◌else◌}
 use Rattle.rnix_green.specs.Forest.{Forest, empty, leaf, node, element_count}
 use Rattle.rnix_green.specs.Tree.{Tree, Item, items_of, item, part_at}
@@ -46,7 +46,7 @@ IsNextWithin t root (Enter m) = IsInside t root m
 IsNextWithin t root (Leave m) = IsInside t root m
 IsNextWithin t root Done = Unit {0}
 
--- a walk from a root that is there stands inside it
+-- a walk from a root that is there is inside it
 pub record IsWithin (t : Tree) (root : ℕ) (next : Next) : Type 0 where
   pub root_there : root < length (items_of t)
   pub next_inside : IsNextWithin t root next

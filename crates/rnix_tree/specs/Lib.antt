@@ -9,5 +9,5 @@ pub mod Same
 pub mod Siblings
 pub mod ByKind
 pub mod Covering
-pub mod Inside
-pub mod Chains
+pub mod InsideCounts
+pub mod ChainMeasures

@@ -20,7 +20,7 @@ address_of e = record { number = e.number; kind = (item_of e).kind; extent = ext
 abbrev pub address_in : SyntaxNodePtr → Address
 address_in p = record { number = p.number; kind = p.kind; extent = bounds_of p.range }
 
--- the element of an address, if it stands in the tree
+-- the element of an address, if the tree has it
 abbrev pub located_at : Tree → Address → Located
 located_at t a = record { tree = t; number = a.number }
 

@@ -36,6 +36,6 @@ abbrev pub IsBeside : Direction → Located → Option ℕ → Type 0
 IsBeside Next e = IsFirst (IsSibling e) e.number
 IsBeside Prev e = IsLast (IsSibling e) e.number
 
--- how many siblings stand before e
+-- how many siblings precede e
 abbrev pub index_of : Located → ℕ
 index_of e = length (filter (is_beside e) (numbers_below e.number))

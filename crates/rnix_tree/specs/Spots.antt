@@ -22,7 +22,7 @@ abbrev pub token_in : {N T : Type 0} → NodeOrToken N T → Option T
 token_in (Node n) = None
 token_in (Token t) = Some t
 
--- where an element stands
+-- the position of an element in its tree
 abbrev pub place_of : NodeOrToken Located Located → Located
 place_of (Node e) = e
 place_of (Token e) = e

@@ -9,7 +9,7 @@ use crate::element::{NodeOrToken, SyntaxElement};
 use crate::node::SyntaxNode;
 use rnix_green::TextRange;
 
-// Returns whether a range lies in another; an empty range lies strictly between its ends.
+// Returns whether a range is inside another; an empty range is strictly between its ends.
 fn holds(range: TextRange, place: TextRange) -> bool
     ensures { result ≡ holds (bounds_of range) (bounds_of place) }
 {

@@ -2,7 +2,7 @@
 
 ghost use Rattle.std.specs.Prelude.{◌≡◌, ◌<◌, ◌^◌, length};
 ghost use Rattle.rnix_green.specs.Forest.{element_count};
-ghost use Rattle.rnix_tree.specs.Inside.{inside_count};
+ghost use Rattle.rnix_tree.specs.InsideCounts.{inside_count};
 ghost use Rattle.rnix_green.specs.Range.{bounds_of};
 ghost use Rattle.rnix_green.specs.Tree.{item_of, extent_of, text_at, part_at};
 ghost use Rattle.rnix_green.specs.Walk.{children_of, preorder_of, nodes_in, elements_of, node_events, ancestors_of};

@@ -21,7 +21,7 @@ impl<'t> Model for SyntaxElementChildren<'t> {
     ghost use Rattle.std.specs.Prelude.{List, ◌≤◌, length, map};
     ghost use Rattle.rnix_green.specs.Tree.{items_of};
     ghost use Rattle.rnix_green.specs.Walk.{Spot, spots_code, spot_at};
-    ghost use Rattle.rnix_green.specs.Numbers.{siblings_between};
+    ghost use Rattle.rnix_green.specs.PreorderNumbers.{siblings_between};
 
     ghost Value = { List Spot };
 

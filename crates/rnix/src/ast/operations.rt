@@ -4,7 +4,7 @@ ghost use Rattle.std.specs.Prelude.{◌≡◌, option_map};
 ghost use Rattle.rnix_kinds.specs.declared.kinds.SyntaxKind.TheVariants as k;
 ghost use Rattle.rnix_green.specs.Walk.{children_of};
 ghost use Rattle.rnix_base.specs.Select.{child_of, tokens_in};
-ghost use Rattle.rnix_base.specs.Operators.{binary_operator, unary_operator, first_operator};
+ghost use Rattle.rnix_base.specs.TokenOperators.{binary_operator, unary_operator, first_operator};
 ghost use Rattle.rnix.specs.NodeKinds.{is_expr};
 ghost use Rattle.rnix.specs.Sums.{expr_node};
 

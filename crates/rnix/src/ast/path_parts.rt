@@ -1,7 +1,7 @@
 //! The parts of paths.
 
 ghost use Rattle.std.specs.Prelude.{◌≡◌, IfOk, not};
-ghost use Rattle.rnix.specs.Strings.{path_parts, parts_of_path, is_search};
+ghost use Rattle.rnix.specs.StringParts.{path_parts, parts_of_path, is_search};
 
 use crate::ast::attributes::Path;
 use crate::ast::paths::{PathAbs, PathHome, PathRel};

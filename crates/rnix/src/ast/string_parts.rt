@@ -5,7 +5,7 @@ ghost use Rattle.rnix_kinds.specs.declared.kinds.SyntaxKind.TheVariants as k;
 ghost use Rattle.rnix_green.specs.Equality.{same_kind};
 ghost use Rattle.rnix_base.specs.Parts.{parts_of};
 ghost use Rattle.rnix_base.specs.Normal.{with_text};
-ghost use Rattle.rnix.specs.Strings.{string_parts, normalized_parts};
+ghost use Rattle.rnix.specs.StringParts.{string_parts, normalized_parts};
 
 use crate::ast::strings::{Interpol, Str};
 use rnix_base::{

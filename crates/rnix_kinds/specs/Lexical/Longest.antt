@@ -26,7 +26,7 @@ pub data IsRow (multiline : Bool) : ℕ → List ℕ → Type 0 where
 abbrev pub IsLongestContent : Bool → List ℕ → ℕ → Type 0
 IsLongestContent multiline text n = n < length text → IsLongest (λ m. IsRow multiline m text) n
 
--- a then b stand at the place k
+-- a then b are at the index k
 abbrev pub IsPair : ℕ → ℕ → List ℕ → ℕ → Type 0
 IsPair a b text k = (k + 1 < length text) × (slice_index text k ≡ a) × (slice_index text (k + 1) ≡ b)
 

@@ -9,7 +9,7 @@ use Rattle.rnix_kinds.specs.declared.tokenizer.rule.PathStart.{PathStart}
 use Rattle.rnix_kinds.specs.declared.tokenizer.rule.PathStart.TheVariants.{Root, Relative, Home}
 use Rattle.rnix_kinds.specs.Lexical.PathKinds.{kind_of_path}
 use Rattle.rnix_kinds.specs.declared.tokenizer.rule.Mode.TheVariants.{Interpolation, Path}
-use Rattle.rnix_kinds.specs.Lexical.Texts.{begins, stands_at, run_end, before_pair, begins_space, char_len}
+use Rattle.rnix_kinds.specs.Lexical.Texts.{begins, occurs_at, run_end, before_pair, begins_space, char_len}
 use Rattle.rnix_kinds.specs.Lexical.Plain.{plain}
 use Rattle.rnix_kinds.specs.declared.tokenizer.text.Class.TheVariants.{Step, Angle}
 use Rattle.rnix_kinds.specs.Lexical.Classes.{class_test, is_path}
@@ -21,7 +21,7 @@ is_broken segment = slice_index segment (length segment - 1) == 47 || nat_lt (be
 -- the path characters from a place on, and what is before it; going: what it does to the modes before `${`, ended: elsewhere
 abbrev pub segment_to : PathStart → Change → Change → ℕ → List ℕ → Cut
 segment_to start going ended end text =
-    if stands_at (codes "${") end text then record { kind = kind_of_path start; len = end; change = going }
+    if occurs_at (codes "${") end text then record { kind = kind_of_path start; len = end; change = going }
     else record { kind = if is_broken (take end text) then TOKEN_ERROR else kind_of_path start; len = end; change = ended }
 
 abbrev pub segment : PathStart → Change → Change → ℕ → List ℕ → Cut

@@ -7,7 +7,7 @@ use Rattle.rnix_kinds.specs.declared.tokenizer.rule.Mode.TheVariants.{Interpolat
 use Rattle.rnix_kinds.specs.Lexical.Texts.{begins}
 use Rattle.rnix_kinds.specs.Lexical.Plain.{plain}
 
--- the length of the piece that begins the text; 0 where the closer or `${` stands
+-- the length of the piece that begins the text; 0 at the closer or `${`
 abbrev pub piece_len : Bool → List ℕ → ℕ
 piece_len multiline text =
     if begins (codes "${") text then 0

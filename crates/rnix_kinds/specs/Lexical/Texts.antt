@@ -4,15 +4,15 @@ use Rattle.std.specs.List.{prefix_len, take_while, list_any}
 use Rattle.std.specs.Char.{is_whitespace, len_utf8}
 use Rattle.std.specs.Str.{chars, encode_utf8_all}
 
--- these bytes stand in the text at the place i
-abbrev pub stands_at : List ℕ → ℕ → List ℕ → Bool
-stands_at [] i text = true
-stands_at (b ∷ []) i text = slice_index text i == b
-stands_at (b ∷ c ∷ bs) i text = slice_index text i == b && stands_at (c ∷ bs) (suc i) text
+-- these bytes occur in the text at the index i
+abbrev pub occurs_at : List ℕ → ℕ → List ℕ → Bool
+occurs_at [] i text = true
+occurs_at (b ∷ []) i text = slice_index text i == b
+occurs_at (b ∷ c ∷ bs) i text = slice_index text i == b && occurs_at (c ∷ bs) (suc i) text
 
 -- these bytes begin the text
 abbrev pub begins : List ℕ → List ℕ → Bool
-begins bytes = stands_at bytes 0
+begins bytes = occurs_at bytes 0
 
 -- where the longest run of bytes that passed the test ends, if it begins at the place i
 abbrev pub run_end : (ℕ → Bool) → ℕ → List ℕ → ℕ

@@ -104,7 +104,7 @@ abbrev pub IsPathGoingOn : Option Mode → List ℕ → Type 0
 IsPathGoingOn (Some (Path kind)) text = path_goes_on text ≡ true
 IsPathGoingOn mode text = Unit {0}
 
--- a token that opens a mode wherever it stands
+-- a token that opens a mode wherever it occurs
 abbrev pub opens_alone : SyntaxKind → Bool
 opens_alone TOKEN_STRING_START = true
 opens_alone TOKEN_INTERPOL_START = true

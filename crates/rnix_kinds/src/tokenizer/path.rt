@@ -91,7 +91,7 @@ pub fn home(text: &str) -> Cut
     plain(SyntaxKind::TOKEN_ERROR, len)
 }
 
-// Whether `/` and what a path goes on with stand behind the first `len` bytes.
+// Returns whether `/` and a character of a path follow the first `len` bytes.
 fn goes_on_as_path(text: &str, len: usize) -> bool
     requires { len ≤ length text.now }
     ensures { result ≡ goes_on_as_path len text.now }

@@ -2,7 +2,7 @@ use Rattle.std.proofs.{Common.{◌≡◌, ◌∙◌, [], true, sym, subst, refl,
 use Rattle.std.specs.Bool.{MatchBool}
 use Rattle.rnix_base.specs.Select.{child_of}
 use Rattle.rnix_grammar.specs.Fault.{fault_of}
-use Rattle.rnix.specs.{NodeKinds.is_expr, Reading.root_of}
+use Rattle.rnix.specs.{NodeKinds.is_expr, ParseResult.root_of}
 use Rattle.nix_rename.specs.Renamed.{is_name_whole}
 use Rattle.nix_rename.proofs.RenamedLemmas.{both_tested, name_tested}
 use Rattle.nix_rename.proofs.rename.is_name.Goals as goal

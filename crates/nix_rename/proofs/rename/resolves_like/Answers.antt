@@ -1,7 +1,7 @@
 use Rattle.std.proofs.{Common.{◌≡◌, ◌∙◌, [], true, sym, subst, refl}, lemmas.Bool.false≢true}
 use Rattle.std.specs.Bool.{MatchBool}
 use Rattle.rnix_grammar.specs.Fault.{fault_of}
-use Rattle.rnix.specs.Reading.{root_of}
+use Rattle.rnix.specs.ParseResult.{root_of}
 use Rattle.nix_scopes.specs.Alike.{IsResolution}
 use Rattle.nix_rename.specs.Renamed.{AreThese}
 use Rattle.nix_rename.proofs.RenamedLemmas.{both_tested, resolved_tested}

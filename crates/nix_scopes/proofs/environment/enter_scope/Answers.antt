@@ -4,7 +4,8 @@ use Rattle.nix_scopes.proofs.environment.enter_scope.Goals as goal
 
 pub returns-in_ok-push-clause-sees : goal.returns-in_ok-push-clause-sees
 returns-in_ok-push-clause-sees c =
-    scope_entered c.args.bindings.now.items c.bind_names.new.bindings.items c.args.scopes.now.items c.push.new.self.items c.in_ok-numbers.numbers c.args.node.now
+    scope_entered c.args.bindings.now.items c.bind_names.new.bindings.items c.args.scopes.now.items c.push.new.self.items c.in_ok-numbers.numbers
+    c.args.node.now
     (sym c.is_scope.ensures ∙ c.if-is_scope.true) c.in_ok-numbers.ensures.bindings c.in_ok-push.ensures.items c.in_ok-numbers.ensures.numbers
     c.in_ok-numbers.ensures.firsts
 

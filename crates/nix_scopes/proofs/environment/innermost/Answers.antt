@@ -7,7 +7,8 @@ use Rattle.nix_scopes.proofs.environment.innermost.Goals as goal
 pub returns-in-Some : goal.returns-in-Some
 returns-in-Some c =
     found_at (λ numbers. number_by numbers c.args.text.now) c.args.scopes.now c.index-scopes-outside.result (c.loop-outside.outside - 1) c.loop-outside.outside
-    c.in-Some.number.now (omega (arith, c.loop-outside-test.true)) (omega (arith, c.loop-outside-test.true, c.loop-outside.invariant.0)) c.index-scopes-outside.is
+    c.in-Some.number.now (omega (arith, c.loop-outside-test.true)) (omega (arith, c.loop-outside-test.true, c.loop-outside.invariant.0))
+    c.index-scopes-outside.is
     c.loop-outside.invariant.1 (sym c.in-Some.ensures.value)
 
 pub loop-outside-preserved : goal.loop-outside-preserved

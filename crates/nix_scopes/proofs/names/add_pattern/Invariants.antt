@@ -10,5 +10,6 @@ abbrev pub invariant-loop-entry : goal.invariant-loop-entry
 invariant-loop-entry l = record {
   next : (goal.iterator-loop-entry).can_next l.entry-iterator;
   ends : (goal.iterator-loop-entry).is_finite l.entry-iterator;
-  listing : map named l.names.items ++ flat_map own_name (those_of (same_kind k.NODE_PAT_ENTRY) l.entry-iterator) ≡ map named l.fn.names.items ++ pattern_names l.pattern;
+  listing : map named l.names.items ++ flat_map own_name (those_of (same_kind k.NODE_PAT_ENTRY) l.entry-iterator) ≡ map named l.fn.names.items ++ pattern_names
+      l.pattern;
 }

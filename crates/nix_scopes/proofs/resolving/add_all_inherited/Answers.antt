@@ -1,22 +1,23 @@
 use Rattle.std.proofs.Common.{◌≡◌, ◌++◌, ◌∙◌, map, true, None, ap, sym, rules}
 use Rattle.rnix_base.specs.Select.{those_of}
 use Rattle.rnix.specs.{NodeKinds.{is_attr}, Sums.{attr_node}}
-use Rattle.nix_scopes.specs.{Names.{named_if, attr_text, names_written}, Bound.{resolved_of}, References.{inherited_at, inherited_from}, Resolving.{outer_count, seen}}
+use Rattle.nix_scopes.specs.{Names.{named_if, attr_text, names_written}, Bound.{resolved_of}, References.{inherited_at, inherited_from}, Resolving.{outer_count, resolve_name}}
 use Rattle.nix_scopes.proofs.ResolvingLemmas.{mapped_next}
 use Rattle.nix_scopes.proofs.resolving.add_all_inherited.Goals as goal
 
 pub loop-attr-init : goal.loop-attr-init
 loop-attr-init c =
     let none : c.from.result ≡ None = search rules in
-    let written : those_of is_attr c.into_iter-attr-iterator.result ≡ _ = ap (those_of is_attr) c.into_iter-attr-iterator.ensures.into_iter_gives ∙ c.attrs-attr-items.ensures.children in
+    let written : those_of is_attr c.into_iter-attr-iterator.result ≡ _ =
+    ap (those_of is_attr) c.into_iter-attr-iterator.ensures.into_iter_gives ∙ c.attrs-attr-items.ensures.children in
     let inherited : names_written (those_of is_attr c.into_iter-attr-iterator.result) ≡ inherited_at c.args.inherit.now =
     ap names_written written ∙ sym (ap (λ from. inherited_from from c.args.inherit.now) (sym c.from.ensures ∙ none)) in
     record {
       next = tt;
       ends = tt;
       listing =
-          ap (λ names. map resolved_of c.args.references.now.items ++ map (seen c.args.around.now c.outer_depth-depth.result true) names) inherited
-          ∙ ap (λ depth. map resolved_of c.args.references.now.items ++ map (seen c.args.around.now depth true) (inherited_at c.args.inherit.now))
+          ap (λ names. map resolved_of c.args.references.now.items ++ map (resolve_name c.args.around.now c.outer_depth-depth.result true) names) inherited
+          ∙ ap (λ depth. map resolved_of c.args.references.now.items ++ map (resolve_name c.args.around.now depth true) (inherited_at c.args.inherit.now))
           (c.outer_depth-depth.ensures.count ∙ ap (outer_count c.args.around.now.scopes.items) c.syntax.ensures.node);
     }
 
@@ -24,9 +25,11 @@ pub loop-attr-preserved : goal.loop-attr-preserved
 loop-attr-preserved c = record {
   next = tt;
   ends = tt;
-  listing = mapped_next (λ e. named_if e (attr_text e)) (seen c.args.around.now c.outer_depth-depth.result true) (map resolved_of c.loop-attr.references.items)
+  listing = mapped_next (λ e. named_if e (attr_text e)) (resolve_name c.args.around.now c.outer_depth-depth.result true)
+      (map resolved_of c.loop-attr.references.items)
       (map resolved_of c.add_inherited.new.references.items)
-      (map resolved_of c.args.references.now.items ++ map (seen c.args.around.now (outer_count c.args.around.now.scopes.items c.args.inherit.now) true) (inherited_at c.args.inherit.now))
+      (map resolved_of c.args.references.now.items ++ map (resolve_name c.args.around.now (outer_count c.args.around.now.scopes.items c.args.inherit.now) true)
+      (inherited_at c.args.inherit.now))
       (those_of is_attr c.loop-attr.attr-iterator) (those_of is_attr c.next.new.self) (attr_node c.in-Some.attr) c.syntax-in-loop-attr.result.now
       c.loop-attr.invariant.listing c.in-Some.ensures.steps c.syntax-in-loop-attr.ensures.node c.in_ok-add_inherited.ensures;
 }

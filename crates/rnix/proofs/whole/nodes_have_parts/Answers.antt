@@ -1,4 +1,4 @@
-use Rattle.{std.proofs.Common.[], rnix_kinds.{specs.Lexical.Tokens.tokens_of, proofs.Lexical.Laws.AreSound-tokens_under}, rnix_rows.proofs.PartRows.shaped_rows}
+use Rattle.{std.proofs.Common.[], rnix_kinds.{specs.Lexical.Tokens.tokens_of, proofs.LexicalLemmas.Laws.AreSound-tokens_under}, rnix_proof_rows.proofs.PartRows.shaped_rows}
 use Rattle.rnix.proofs.{SameTree.{children_stay, child_stays}, AnyParts.{kind_parts, read_parts}}
 use Rattle.rnix.proofs.whole.nodes_have_parts.Goals as goal
 

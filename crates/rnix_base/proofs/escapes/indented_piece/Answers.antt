@@ -14,9 +14,11 @@ returns-in-Some-strip_prefix-2 c = escape_begins true c.args.text.now c.in-Some-
     (strip_gives (codes "''\\") _ _ c.in-Some-strip_prefix-2.ensures.cases) c.escape.ensures
 
 pub returns-then-starts_with : goal.returns-then-starts_with
-returns-then-starts_with c = primes_end c.args.text.now c.in_default.ensures.cases c.in_default-strip_prefix.ensures.cases c.in_default-strip_prefix-2.ensures.cases c.if-starts_with.ensures.cases
+returns-then-starts_with c = primes_end c.args.text.now c.in_default.ensures.cases c.in_default-strip_prefix.ensures.cases
+    c.in_default-strip_prefix-2.ensures.cases c.if-starts_with.ensures.cases
 
 pub returns : goal.returns
 returns c =
-    let free = primes_free c.args.text.now c.in_default.ensures.cases c.in_default-strip_prefix.ensures.cases c.in_default-strip_prefix-2.ensures.cases c.if-starts_with.ensures.cases in
+    let free = primes_free c.args.text.now c.in_default.ensures.cases c.in_default-strip_prefix.ensures.cases c.in_default-strip_prefix-2.ensures.cases
+    c.if-starts_with.ensures.cases in
     char_begins true c.args.text.now c.first_char.result free c.first_char.ensures

@@ -1,6 +1,6 @@
 use Rattle.std.proofs.{Common.{◌≡◌, ◌++◌, ◌∙◌, ap, sym, arith, string_bytes}, lemmas.{Bool.Decides.nat_tests, List.{append-nil, nil_from_length}}}
-use Rattle.{std.specs.Prelude.{encode_utf8, Some, false}, rnix_base.{specs.Indent.{kept, left_behind, is_lost}, proofs.KeptLemmas.{lost_char, stays_char}}}
-use Rattle.rnix_base.proofs.{KeptLemmas.{not_lost, kept-nil, left_behind-nil, grown}, indent.unindented.Goals.else-c-eq32-via-then-c-eq32+else-left-gt0}
+use Rattle.{std.specs.Prelude.{encode_utf8, Some, false}, rnix_base.{specs.Indent.{kept, left_behind, is_lost}, proofs.UnindentLemmas.{lost_char, stays_char}}}
+use Rattle.rnix_base.proofs.{UnindentLemmas.{not_lost, kept-nil, left_behind-nil, grown}, indent.unindented.Goals.else-c-eq32-via-then-c-eq32+else-left-gt0}
 use Rattle.rnix_base.proofs.indent.unindented.Goals.{else-c-eq32-via-else-c-eq32}
 use Rattle.rnix_base.proofs.indent.unindented.Goals as goal
 

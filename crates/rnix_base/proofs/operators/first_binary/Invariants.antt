@@ -1,4 +1,4 @@
-use Rattle.{std.proofs.Common.{◌≡◌, length}, rnix_green.specs.Walk.children_of, rnix_base.specs.{Select.tokens_in, Operators.{binary_operator, first_operator}}}
+use Rattle.{std.proofs.Common.{◌≡◌, length}, rnix_green.specs.Walk.children_of, rnix_base.specs.{Select.tokens_in, TokenOperators.{binary_operator, first_operator}}}
 use Rattle.rnix_base.proofs.operators.first_binary.Given as goal
 
 abbrev pub invariant-loop-element : goal.invariant-loop-element

@@ -21,6 +21,7 @@ loop-element-preserved c =
             let step : before ≡ after = cc (w.parts-is, w.text-is) in
             c.loop-element.invariant.left ∙ ap (fold with_element before) cut ∙ ap (λ f. fold with_element f c.next.new.self) step
       ];
-      from = others_follow c.args.green.now c.loop-element.number (spot_of c.in-Some.element) c.next.new.self c.loop-element.element-iterator c.in-Some.ensures.steps c.loop-element.invariant.from;
+      from = others_follow c.args.green.now c.loop-element.number (spot_of c.in-Some.element) c.next.new.self c.loop-element.element-iterator
+          c.in-Some.ensures.steps c.loop-element.invariant.from;
       fits = omega (arith, ap length c.in-Some.ensures.steps, c.loop-element.invariant.fits);
     }

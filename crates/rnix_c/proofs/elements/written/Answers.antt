@@ -7,6 +7,12 @@ fill-requires c = omega (arith, ap (λ (i : Item). i.below) c.element-count.ensu
 
 pub returns : goal.returns
 returns c = (
-  omega (arith, ints, ap (λ (i : Item). i.below) c.element-count.ensures.is, elements_in_all c.args.green.now, length-map (items_of c.args.green.now) element_of),
+  omega (
+    arith,
+    ints,
+    ap (λ (i : Item). i.below) c.element-count.ensures.is,
+    elements_in_all c.args.green.now,
+    length-map (items_of c.args.green.now) element_of,
+  ),
   c.fill.ensures,
 )

@@ -10,11 +10,14 @@ pub loop-number-preserved : goal.loop-number-preserved
 loop-number-preserved c =
     let counts = length-map (map fault_of c.args.errors.now) error_of in
     let faults = length-map c.args.errors.now fault_of in
-    filled-more c.loop-number.number (errors_of (map fault_of c.args.errors.now)) c.args.room.now c.loop-number.room _ (omega (arith, counts, faults)) (omega arith)
+    filled-more c.loop-number.number (errors_of (map fault_of c.args.errors.now)) c.args.room.now c.loop-number.room _ (omega (arith, counts, faults))
+    (omega arith)
     c.loop-number.invariant
-    (c.record_of.ensures ∙ ap (λ e. error_of (fault_of e)) (c.index-errors-number.is ∙ get_or_default c.args.errors.now c.loop-number.number _ UnexpectedEOF (omega arith))
+    (c.record_of.ensures
+    ∙ ap (λ e. error_of (fault_of e)) (c.index-errors-number.is ∙ get_or_default c.args.errors.now c.loop-number.number _ UnexpectedEOF (omega arith))
     ∙ ap error_of (sym (get_or-map fault_of c.args.errors.now c.loop-number.number UnexpectedEOF (fault_of UnexpectedEOF) (omega arith)))
     ∙ sym (get_or-map error_of (map fault_of c.args.errors.now) c.loop-number.number (fault_of UnexpectedEOF) _ (omega (arith, faults))))
 
 pub returns : goal.returns
-returns c = c.loop-number.invariant ∙ filled-all c.loop-number.number (errors_of (map fault_of c.args.errors.now)) c.args.room.now (omega (arith, length-map (map fault_of c.args.errors.now) error_of, length-map c.args.errors.now fault_of))
+returns c = c.loop-number.invariant ∙ filled-all c.loop-number.number (errors_of (map fault_of c.args.errors.now)) c.args.room.now
+    (omega (arith, length-map (map fault_of c.args.errors.now) error_of, length-map c.args.errors.now fault_of))

@@ -1,5 +1,5 @@
 use Rattle.std.proofs.Common.{◌≡◌, map, take}
-use Rattle.{nix_scopes.specs.Bound.{resolved_of}, rnix_c.specs.{Answers.{filled}, Names.{reference_of}}}
+use Rattle.{nix_scopes.specs.Bound.{resolved_of}, rnix_c.specs.{Answers.{filled}, NameCalls.{reference_of}}}
 use Rattle.rnix_c.proofs.names.fill_references.Given as goal
 
 abbrev pub invariant-loop-number : goal.invariant-loop-number

@@ -1,6 +1,6 @@
 use Rattle.std.proofs.{Common.{◌≡◌, ◌∙◌, length, map, ap, sym, arith}, lemmas.{Int.{ints}, List.{length-map}}}
 use Rattle.nix_scopes.specs.{Bound.{bindings_of, resolved_of}, Scopes.{bindings_in, resolved_in}}
-use Rattle.rnix_c.{specs.{Answers.{filled}, Names.{reference_of, bindings_written}}, proofs.WrittenNames.{own_binding, all_among}}
+use Rattle.rnix_c.{specs.{Answers.{filled}, NameCalls.{reference_of, bindings_written}}, proofs.WrittenNames.{own_binding, all_among}}
 use Rattle.rnix_c.proofs.names.write_names.Goals as goal
 
 pub returns-clause-bindings : goal.returns-clause-bindings
@@ -14,7 +14,8 @@ returns-clause-bindings c =
 
 pub returns-clause-references : goal.returns-clause-references
 returns-clause-references c =
-    let referring : map resolved_of c.references-referring.result.now ≡ resolved_in c.args.root.now = ap (map resolved_of) c.references-referring.ensures ∙ c.requires.resolved in
+    let referring : map resolved_of c.references-referring.result.now ≡ resolved_in c.args.root.now =
+    ap (map resolved_of) c.references-referring.ensures ∙ c.requires.resolved in
     c.fill_references.ensures ∙ ap (λ names. filled (map reference_of names) c.args.references.now) referring
 
 pub returns-clause-count : goal.returns-clause-count

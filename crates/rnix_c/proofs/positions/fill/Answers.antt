@@ -1,5 +1,5 @@
 use Rattle.std.proofs.{Common.{sym, ◌∙◌, arith}, lemmas.List.{get_or-map, length-map}}
-use Rattle.rnix_c.{specs.Positions.{position_of, positions_of}, proofs.FilledLemmas.{filled-none, filled-more, filled-all}}
+use Rattle.rnix_c.{specs.PositionCalls.{position_of, positions_of}, proofs.FilledLemmas.{filled-none, filled-more, filled-all}}
 use Rattle.rnix_c.proofs.positions.fill.Goals as goal
 
 pub loop-number-init : goal.loop-number-init
@@ -15,4 +15,5 @@ loop-number-preserved c =
 pub returns : goal.returns
 returns c =
     let place = position_of c.args.index.now.unit c.args.index.now.text in
-    c.loop-number.invariant ∙ filled-all c.loop-number.number (positions_of c.args.index.now.unit c.args.index.now.text c.args.offsets.now) c.args.room.now (omega (arith, length-map c.args.offsets.now place))
+    c.loop-number.invariant ∙ filled-all c.loop-number.number (positions_of c.args.index.now.unit c.args.index.now.text c.args.offsets.now) c.args.room.now
+    (omega (arith, length-map c.args.offsets.now place))

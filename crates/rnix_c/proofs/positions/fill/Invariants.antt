@@ -1,5 +1,5 @@
 use Rattle.std.proofs.Common.{◌≡◌, take}
-use Rattle.rnix_c.specs.{Answers.{filled}, Positions.{positions_of}}
+use Rattle.rnix_c.specs.{Answers.{filled}, PositionCalls.{positions_of}}
 use Rattle.rnix_c.proofs.positions.fill.Given as goal
 
 abbrev pub invariant-loop-number : goal.invariant-loop-number

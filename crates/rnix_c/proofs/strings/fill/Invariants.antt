@@ -1,5 +1,5 @@
 use Rattle.std.proofs.Common.{◌≡◌, take, drop}
-use Rattle.{rnix_base.specs.Normal.{owned}, rnix_c.specs.{Answers.{filled}, Strings.{parts_from}}}
+use Rattle.{rnix_base.specs.Normal.{owned}, rnix_c.specs.{Answers.{filled}, StringCalls.{parts_from}}}
 use Rattle.rnix_c.proofs.strings.fill.Given as goal
 
 abbrev pub invariant-loop-number : goal.invariant-loop-number

@@ -1,5 +1,5 @@
 use Rattle.std.proofs.Common.{◌≡◌, ◌∷◌, List, sym, subst, ◌∙◌, arith}
-use Rattle.{rnix_kinds.specs.Lexical.Tokens.{Lexeme}, rnix_c.specs.{Tokens.{tokens_written}}}
+use Rattle.{rnix_kinds.specs.Lexical.Tokens.{Lexeme}, rnix_c.specs.{TokenCalls.{tokens_written}}}
 use Rattle.rnix_c.proofs.{FilledLemmas.{filled-none, filled-more, filled-past}, WrittenTokens.{IsAt, at_first, is_there, next_is, at_next}}
 use Rattle.rnix_c.proofs.tokens.written.Goals.{then-count-room, else-count-room}
 use Rattle.rnix_c.proofs.tokens.written.Goals as goal

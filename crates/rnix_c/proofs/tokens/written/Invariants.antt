@@ -1,5 +1,5 @@
 use Rattle.std.proofs.Common.{◌≡◌, length, take}
-use Rattle.rnix_c.{specs.{Answers.{filled}, Tokens.{tokens_written}}, proofs.WrittenTokens.{IsAt}}
+use Rattle.rnix_c.{specs.{Answers.{filled}, TokenCalls.{tokens_written}}, proofs.WrittenTokens.{IsAt}}
 use Rattle.rnix_c.proofs.tokens.written.Given as goal
 
 abbrev pub invariant-loop-next : goal.invariant-loop-next

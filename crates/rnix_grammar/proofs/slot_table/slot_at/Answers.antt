@@ -1,6 +1,6 @@
 use Rattle.std.{proofs.{Common.{◌≡◌, ℕ, List, Option, Some, None, length, refl, sym, ap, ◌∙◌}, lemmas.Option.{slice_get_past, slice_get_read}}}
 use Rattle.std.specs.{Borrow.Bor, Slice.IsItemAt, List.slice_get, Option.option_copied}
-use Rattle.rnix_grammar.specs.{declared.slot_table.TheConstants.SLOTS, SlotRows.slot_at}
+use Rattle.rnix_grammar.specs.{declared.slot_table.TheConstants.SLOTS, Slots.slot_at}
 use Rattle.rnix_grammar.proofs.slot_table.slot_at.Goals as goal
 
 found : {X : Type 0} (xs : List X) (i : ℕ) (r : Option (Bor X)) → IsItemAt xs i r → option_copied r ≡ slice_get xs i

@@ -137,7 +137,8 @@ elements-preserved-in-Continue-1 c =
     let push_is = rw c.new-then-size-gt0.ensures at c.in_ok-push-in-None.ensures.items in
     let r =
     node_at (made c.args.text.now c.args.elements.items) es c.elements.left c.elements.offset _ _ y frame (size_in y - 1)
-    (omega (arith, c.elements.invariant.few)) c.if-left-eq0.false c.index.ensures some c.kind-kind.ensures c.size-size.ensures open_ c.elements.invariant.work in
+    (omega (arith, c.elements.invariant.few)) c.if-left-eq0.false c.index.ensures some c.kind-kind.ensures c.size-size.ensures open_
+    c.elements.invariant.work in
     let before = length-entries_before (c.elements.left - 1) es (omega (arith, c.elements.invariant.few)) in
     record {
       small = c.elements.invariant.small;

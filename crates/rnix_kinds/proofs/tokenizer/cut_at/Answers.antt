@@ -1,4 +1,4 @@
-use Rattle.{std.proofs.Common.{◌≡◌, rules, subst}, rnix_kinds.{specs.Lexical.Tokens.{cut_at, IsCutOf}, proofs.Lexical.CutLemmas.cut_good}}
+use Rattle.{std.proofs.Common.{◌≡◌, rules, subst}, rnix_kinds.{specs.Lexical.Tokens.{cut_at, IsCutOf}, proofs.LexicalLemmas.CutLemmas.cut_good}}
 use Rattle.rnix_kinds.proofs.tokenizer.cut_at.Goals as goal
 
 pub returns-in-Some-Quoted-clause-good : goal.returns-in-Some-Quoted-clause-good

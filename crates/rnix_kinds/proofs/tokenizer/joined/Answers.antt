@@ -1,4 +1,4 @@
-use Rattle.rnix_kinds.proofs.Lexical.Laws.{AreSound-tokens_under}
+use Rattle.rnix_kinds.proofs.LexicalLemmas.Laws.{AreSound-tokens_under}
 use Rattle.rnix_kinds.proofs.tokenizer.joined.Goals as goal
 
 pub returns : goal.returns

@@ -1,5 +1,5 @@
-use Rattle.{std.proofs.Common.lit<, rnix_kinds.proofs.Lexical.LongestLemmas.{prefix_len-IsLongest, content_len-IsLongest, before_pair-IsFirstPair}}
-use Rattle.rnix_kinds.proofs.Lexical.{OperatorsLemmas.operator-IsLongest, SchemeLemmas.scheme_ends}
+use Rattle.{std.proofs.Common.lit<, rnix_kinds.proofs.LexicalLemmas.LongestLemmas.{prefix_len-IsLongest, content_len-IsLongest, before_pair-IsFirstPair}}
+use Rattle.rnix_kinds.proofs.LexicalLemmas.{OperatorsLemmas.operator-IsLongest, SchemeLemmas.scheme_ends}
 use Rattle.rnix_kinds.proofs.tokenizer.longest.Goals as goal
 
 pub returns : goal.returns

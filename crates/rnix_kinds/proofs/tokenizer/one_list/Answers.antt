@@ -1,5 +1,5 @@
-use Rattle.{std.proofs.Common.[], rnix_kinds.{specs.Lexical.Tokens.tokens_of, proofs.Lexical.Laws.{AreTokens-tokens_under, AreTokens-unique}}}
-use Rattle.rnix_kinds.proofs.Lexical.Laws.{AreSound-tokens_under}
+use Rattle.{std.proofs.Common.[], rnix_kinds.{specs.Lexical.Tokens.tokens_of, proofs.LexicalLemmas.Laws.{AreTokens-tokens_under, AreTokens-unique}}}
+use Rattle.rnix_kinds.proofs.LexicalLemmas.Laws.{AreSound-tokens_under}
 use Rattle.rnix_kinds.proofs.tokenizer.one_list.Goals as goal
 
 pub returns : goal.returns

@@ -1,4 +1,4 @@
-use Rattle.{std.proofs.Common.[], rnix_kinds.{proofs.Lexical.Laws.AreSound-tokens_under, specs.Lexical.Tokens.tokens_of}}
+use Rattle.{std.proofs.Common.[], rnix_kinds.{proofs.LexicalLemmas.Laws.AreSound-tokens_under, specs.Lexical.Tokens.tokens_of}}
 use Rattle.rnix_parser.proofs.ParsedLemmas.{all_follows}
 use Rattle.rnix_parser.proofs.readings.all_follows.Goals as goal
 

@@ -1,5 +1,5 @@
 use Rattle.rnix_grammar.specs.AnnotatedForest.{without_trivia}
-use Rattle.rnix_rows.proofs.{ReadsNest.{reads_shallow, reads_limited}, ErrorNodeRows.root_error_nodes, NamedRows.are_named}
+use Rattle.rnix_proof_rows.proofs.{ReadsNest.{reads_shallow, reads_limited}, ErrorNodeRows.root_error_nodes, NamedRows.are_named}
 use Rattle.rnix_parser.proofs.readings.error_forms.Goals as goal
 
 pub returns : goal.returns

@@ -1,4 +1,4 @@
-use Rattle.{std.proofs.Common.[], rnix_kinds.proofs.Lexical.Laws.AreSound-tokens_under, rnix_parser.proofs.AlikeTexts.alike_texts}
+use Rattle.{std.proofs.Common.[], rnix_kinds.proofs.LexicalLemmas.Laws.AreSound-tokens_under, rnix_parser.proofs.AlikeTexts.alike_texts}
 use Rattle.rnix_parser.proofs.readings.layout.Goals as goal
 
 pub returns : goal.returns

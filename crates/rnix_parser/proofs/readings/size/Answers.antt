@@ -1,4 +1,4 @@
-use Rattle.{std.proofs.Common.[], rnix_kinds.{proofs.Lexical.Laws.AreSound-tokens_under, specs.Lexical.Tokens.tokens_of}}
+use Rattle.{std.proofs.Common.[], rnix_kinds.{proofs.LexicalLemmas.Laws.AreSound-tokens_under, specs.Lexical.Tokens.tokens_of}}
 use Rattle.{rnix_proof_size.proofs.SizedReadings.{sized, sized_by_tokens}, rnix_parser.proofs.SizedTexts.sized_by_bytes}
 use Rattle.rnix_parser.proofs.readings.size.Goals as goal
 

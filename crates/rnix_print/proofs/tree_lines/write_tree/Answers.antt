@@ -1,5 +1,5 @@
 use Rattle.std.proofs.{Common.{[], ◌++◌, ap, ◌∙◌}, KnownBytes.{Appends-nil, Appends-trans}}
-use Rattle.{rnix_tree.{specs.Spots.place_of, proofs.DumpLemmas.{begun, deeper}}, rnix_print.{specs.Lines.{element_line, walk_lines}, proofs.WalkLines.entered}}
+use Rattle.{rnix_tree.{specs.Spots.place_of, proofs.DumpLemmas.{begun, deeper}}, rnix_print.{specs.OutputLines.{element_line, walk_lines}, proofs.WalkLines.entered}}
 use Rattle.rnix_print.proofs.tree_lines.write_tree.Goals as goal
 
 pub loop-event-init : goal.loop-event-init

@@ -1,5 +1,5 @@
 use Rattle.{std.{proofs.Common.{◌≡◌, ℕ, List, ◌++◌, ◌+◌, ◌<◌, ◌^◌}, specs.Io.KnownBytes.Appends}, rnix_green.specs.Walk.preorder_of}
-use Rattle.{rnix_tree.specs.Walked.{entered_in, IsNested}, rnix_print.specs.Lines.walk_lines}
+use Rattle.{rnix_tree.specs.Walked.{entered_in, IsNested}, rnix_print.specs.OutputLines.walk_lines}
 use Rattle.rnix_print.proofs.tree_lines.write_tree.Given as goal
 
 -- the lines so far and those of the events left are those of all events

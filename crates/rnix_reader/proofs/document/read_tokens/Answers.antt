@@ -13,7 +13,8 @@ read_all-requires-clause-state c =
     opened_root c.in_ok-cursor.cursor c.start_node.new.self.draft c.reserve.new.self.draft c.new-3.result.items c.new-4.result.items c.here-at.result
     (state c.mark.new.self)
     (ap (λ (x : TextDraft). x.draft) (c.reserve.ensures ∙ c.in_ok-builder.ensures))
-    (ap (λ (x : TextDraft). x.draft) c.in_ok-start_node.ensures.ok) c.new-3.ensures.items c.new-4.ensures.items c.here-at.ensures.position c.in_ok-mark.ensures.state
+    (ap (λ (x : TextDraft). x.draft) c.in_ok-start_node.ensures.ok) c.new-3.ensures.items c.new-4.ensures.items c.here-at.ensures.position
+    c.in_ok-mark.ensures.state
 
 pub returns : goal.returns
 returns c =

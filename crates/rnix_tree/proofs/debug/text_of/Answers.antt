@@ -1,6 +1,6 @@
 use Rattle.std.{proofs.{Common.{◌≡◌, Some, Ok, IfSome, subst, sym, ap, refl, ◌∙◌}, Output.displays_on_ok_of_eq}, specs.Fmt.formatter_writer}
 use Rattle.{std.specs.Fmt.InlineText.{inline_text, IsIntact, AppendsIfIntact}, rnix_green.specs.{Range.bounds_of, Tree.{item_of, extent_of}}}
-use Rattle.rnix_tree.{specs.{Lines.{element_text, spot_text, token_text}, Spots.spot_of}, proofs.TextLemmas.inline_told}
+use Rattle.rnix_tree.{specs.{Lines.{element_text, spot_text, token_text}, Spots.spot_of}, proofs.DumpTextLemmas.inline_text_written}
 use Rattle.rnix_tree.proofs.debug.text_of.Goals.{in-Node+in_ok-write_place-in-Node, in-Token+in_ok-write_token-in-Token}
 use Rattle.rnix_tree.proofs.debug.text_of.Goals as goal
 
@@ -12,7 +12,7 @@ returns c =
     elim c.match-element.branch [
       | in-Node+in_ok-write_place-in-Node w ↦
           subst (λ e. IfSome (spot_text (spot_of e)) (λ bs. inline_text c.into_inner.result ≡ bs)) (sym w.in-Node.is)
-          (inline_told f w.write_place.new.f (Ok w.in_ok-write_place-in-Node.field-0)
+          (inline_text_written f w.write_place.new.f (Ok w.in_ok-write_place-in-Node.field-0)
           (Some (element_text (item_of w.in-Node.node).kind (extent_of w.in-Node.node))) c.into_inner.result
           c.new-f.ensures.plain intact none refl
           (displays_on_ok_of_eq AppendsIfIntact _ _ (Ok w.in_ok-write_place-in-Node.field-0) _ _
@@ -21,6 +21,6 @@ returns c =
           w.in_ok-write_place-in-Node.ensures) (c.into_inner.ensures ∙ ap formatter_writer w.f-is))
       | in-Token+in_ok-write_token-in-Token w ↦
           subst (λ e. IfSome (spot_text (spot_of e)) (λ bs. inline_text c.into_inner.result ≡ bs)) (sym w.in-Token.is)
-          (inline_told f w.write_token.new.f (Ok w.in_ok-write_token-in-Token.field-0) (token_text w.in-Token.token) c.into_inner.result
+          (inline_text_written f w.write_token.new.f (Ok w.in_ok-write_token-in-Token.field-0) (token_text w.in-Token.token) c.into_inner.result
           c.new-f.ensures.plain intact none refl w.in_ok-write_token-in-Token.ensures (c.into_inner.ensures ∙ ap formatter_writer w.f-is))
     ]

@@ -1,5 +1,5 @@
 use Rattle.{std.proofs.Common.{◌≡◌, List, ℕ, Ok, IfSome, subst, sym, refl}, rnix_tree.specs.{Lines.{indent, spot_text}, Spots.spot_of}}
-use Rattle.rnix_tree.proofs.TextLemmas.{line_written}
+use Rattle.rnix_tree.proofs.DumpTextLemmas.{line_written}
 use Rattle.rnix_tree.proofs.debug.write_line.Goals as goal
 
 pub returns : goal.returns

@@ -12,6 +12,7 @@ returns g c =
     c.as_str-start.ensures.value ∙ whole.1
     ∙ ap (λ (x : List ℕ). x ++ codes " ...") (front.1 ∙ ap (λ (x : List ℕ). x ++ c.range.result.now) c.new-start.ensures.text ∙ c.range.ensures.value
     ∙ ap (λ n. take n c.args.text.now) bare) in
-    start_shown (λ (o : Option (List ℕ)). DisplaysOnOk g.W.Write.write_str_gives c.args.f.now c.write.result o c.write.new.self) c.args.text.now cut.result c.utf8.text c.requires
+    start_shown (λ (o : Option (List ℕ)). DisplaysOnOk g.W.Write.write_str_gives c.args.f.now c.write.result o c.write.new.self) c.args.text.now cut.result
+    c.utf8.text c.requires
     (cut.ensures.bound (omega (arith, c.requires))) cut.ensures.nearest tt
     (subst (λ (x : List ℕ). DisplaysOnOk g.W.Write.write_str_gives c.args.f.now c.write.result (debug_str x) c.write.new.self) is c.write.ensures.writes)

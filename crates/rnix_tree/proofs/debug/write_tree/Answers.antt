@@ -1,6 +1,6 @@
 use Rattle.std.{proofs.{Common.{ℕ, List, [], Option, Some, None, Ok, IfSome, subst, ap, ◌∙◌, refl}, Output.has_written_styled_nil}, specs.Fmt.{◌++?◌, IsFlush}}
 use Rattle.{std.specs.Fmt.{HasWrittenStyled, DisplaysStyledOnOk}, rnix_tree.specs.{Spots.spot_of, Lines.{text_line, text_lines_of}, Walked.event_texts}}
-use Rattle.rnix_tree.proofs.{DumpLemmas.{deeper, begun}, TextLemmas.{entered, finished, nothing_first, written_more}}
+use Rattle.rnix_tree.proofs.{DumpLemmas.{deeper, begun}, DumpTextLemmas.{entered, finished, nothing_first, written_more}}
 use Rattle.rnix_tree.proofs.debug.write_tree.Goals as goal
 
 pub loop-event-init : goal.loop-event-init
@@ -27,10 +27,10 @@ pub returns : goal.returns
 returns g c =
     let so_far = c.loop-event.invariant in
     let is = finished c.args.node.now so_far.0 _ _ so_far.2 c.in-None.ensures.steps.0 in
-    told (text_lines_of c.args.node.now) (λ flush. subst (λ (o : Option (List ℕ)). IfSome o
+    if_flushed (text_lines_of c.args.node.now) (λ flush. subst (λ (o : Option (List ℕ)). IfSome o
     (λ bs. HasWrittenStyled g.W.Write.write_str_gives c.args.f.now bs c.loop-event.f)) is (so_far.1 flush))
   where
-    told : (o : Option (List ℕ)) → (IsFlush c.args.f.now → IfSome o (λ bs. HasWrittenStyled g.W.Write.write_str_gives c.args.f.now bs c.loop-event.f))
+    if_flushed : (o : Option (List ℕ)) → (IsFlush c.args.f.now → IfSome o (λ bs. HasWrittenStyled g.W.Write.write_str_gives c.args.f.now bs c.loop-event.f))
         → DisplaysStyledOnOk g.W.Write.write_str_gives c.args.f.now (Ok tt) o c.loop-event.f
-    told None h = tt
-    told (Some bs) h = λ flush _. h flush
+    if_flushed None h = tt
+    if_flushed (Some bs) h = λ flush _. h flush

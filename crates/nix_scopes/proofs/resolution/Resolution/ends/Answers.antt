@@ -11,7 +11,8 @@ returns-clause-exactly c =
     let all : map bounds_of places ≡ occurrences_of c.args.number c.args.self.now =
     ap (map bounds_of) c.deref-place-items.ensures.value ∙ c.in_ok-occurrences.ensures in
     let listed : c.loop-place.ends.items ≡ map (λ (place : Extent). place.end) (occurrences_of c.args.number c.args.self.now) =
-    c.loop-place.invariant ∙ ap (λ xs. map (λ (place : Extent). place.end) (map bounds_of xs)) (take_all c.loop-place.place-index places c.loop-place-test.false)
+    c.loop-place.invariant
+    ∙ ap (λ xs. map (λ (place : Extent). place.end) (map bounds_of xs)) (take_all c.loop-place.place-index places c.loop-place-test.false)
     ∙ ap (map (λ (place : Extent). place.end)) all in
     subst (λ xs. IsPermutation xs c.sort.new.self.items) listed c.in_ok-sort.ensures.permutation
 

@@ -1,4 +1,4 @@
-use Rattle.rnix.{specs.Strings.path_parts, proofs.SameParts.same_parts}
+use Rattle.rnix.{specs.StringParts.path_parts, proofs.SameParts.same_parts}
 use Rattle.rnix.proofs.ast.path_parts.parts_of_node.Goals as goal
 
 pub returns : goal.returns

@@ -12,7 +12,8 @@ returns-clause-before c =
     let parted = partitioned t es text kept c.args.from c.args.end c.args.offset c.requires.ordered c.requires.there in
     let point = IsPartitionPoint-from_clause (starts_before c.args.offset) _ c.partition_point.result c.partition_point.ensures.partitioned parted
     (λ a r q k. search rules) in
-    before t es text kept c.args.from c.args.end c.args.offset c.requires.ordered c.requires.there c.partition_point.result c.partition_point.ensures.bound point
+    before t es text kept c.args.from c.args.end c.args.offset c.requires.ordered c.requires.there c.partition_point.result c.partition_point.ensures.bound
+    point
 
 pub returns-clause-behind : goal.returns-clause-behind
 returns-clause-behind c =
@@ -24,4 +25,5 @@ returns-clause-behind c =
     let parted = partitioned t es text kept c.args.from c.args.end c.args.offset c.requires.ordered c.requires.there in
     let point = IsPartitionPoint-from_clause (starts_before c.args.offset) _ c.partition_point.result c.partition_point.ensures.partitioned parted
     (λ a r q k. search rules) in
-    behind t es text kept c.args.from c.args.end c.args.offset c.requires.ordered c.requires.there c.partition_point.result c.partition_point.ensures.bound point
+    behind t es text kept c.args.from c.args.end c.args.offset c.requires.ordered c.requires.there c.partition_point.result c.partition_point.ensures.bound
+    point

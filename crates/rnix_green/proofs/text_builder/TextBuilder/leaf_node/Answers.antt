@@ -45,7 +45,8 @@ returns-clause-ok c =
     ∙ ap (λ (l : List ℕ). let d : TextDraft = record {
       draft = record {
         finished = wrapped c.args.node
-            (tree_count (made (take b.taken b.text.now) b.entries.items)) (with_leaf c.args.kind c.args.part.now (made (take b.taken b.text.now) b.entries.items));
+            (tree_count (made (take b.taken b.text.now) b.entries.items))
+            (with_leaf c.args.kind c.args.part.now (made (take b.taken b.text.now) b.entries.items));
         open_nodes = open_pairs b.pending.items;
       };
       left = l;

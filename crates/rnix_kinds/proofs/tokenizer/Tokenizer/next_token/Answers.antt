@@ -1,7 +1,7 @@
 use Rattle.{std.proofs.Common.{◌≡◌, ◌<◌, [], length, take, drop, sym, ◌∙◌, ap, subst, arith, true-eqb, false-eqb}, rnix_kinds.specs.Lexical.Tokens.cut_at}
-use Rattle.rnix_kinds.{specs.Lexical.{Tokens.{top, without_ended_paths, tokens_under, OpensFirst}, Ahead.IsAhead}, proofs.Lexical.TokensLemmas.nil_from_length}
-use Rattle.rnix_kinds.proofs.Lexical.TokensLemmas.{tokens_under-nil, tokens_under-cut, tokens_under-settled, IsPathGoingOn-settled, CountsFit-settled}
-use Rattle.rnix_kinds.proofs.Lexical.{TokensLemmas.{CountsFit-changed, HasRoom-fit, opens_first}, WordsLemmas.IsAhead-pass}
+use Rattle.rnix_kinds.{specs.Lexical.{Tokens.{top, without_ended_paths, tokens_under, OpensFirst}, Ahead.IsAhead}, proofs.LexicalLemmas.TokensLemmas.nil_from_length}
+use Rattle.rnix_kinds.proofs.LexicalLemmas.TokensLemmas.{tokens_under-nil, tokens_under-cut, tokens_under-settled, IsPathGoingOn-settled, CountsFit-settled}
+use Rattle.rnix_kinds.proofs.LexicalLemmas.{TokensLemmas.{CountsFit-changed, HasRoom-fit, opens_first}, WordsLemmas.IsAhead-pass}
 use Rattle.rnix_kinds.proofs.tokenizer.Tokenizer.next_token.Goals as goal
 
 pub returns-then-is_empty : goal.returns-then-is_empty

@@ -1,5 +1,5 @@
 use Rattle.std.proofs.{Common.{◌+◌, ◌-◌, ◌%◌, ltb, length, ap, ◌∙◌}, lemmas.{Simd.zip2_splat, List.length-map}}
-use Rattle.rnix_kinds.proofs.Lexical.LaneLemmas.{filled, lanes-map}
+use Rattle.rnix_kinds.proofs.LexicalLemmas.LaneLemmas.{filled, lanes-map}
 use Rattle.rnix_kinds.proofs.tokenizer.lanes.between.Goals as goal
 
 pub returns : goal.returns

@@ -1,4 +1,4 @@
-use Rattle.{std.proofs.Common.eqb, rnix_kinds.proofs.Lexical.LaneLemmas.emptied}
+use Rattle.{std.proofs.Common.eqb, rnix_kinds.proofs.LexicalLemmas.LaneLemmas.emptied}
 use Rattle.rnix_kinds.proofs.tokenizer.lanes.differ.Goals as goal
 
 pub returns : goal.returns

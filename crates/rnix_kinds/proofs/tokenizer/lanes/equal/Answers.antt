@@ -1,4 +1,4 @@
-use Rattle.{std.proofs.Common.eqb, rnix_kinds.proofs.Lexical.LaneLemmas.filled}
+use Rattle.{std.proofs.Common.eqb, rnix_kinds.proofs.LexicalLemmas.LaneLemmas.filled}
 use Rattle.rnix_kinds.proofs.tokenizer.lanes.equal.Goals as goal
 
 pub returns : goal.returns

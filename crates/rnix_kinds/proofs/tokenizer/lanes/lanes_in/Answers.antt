@@ -1,5 +1,5 @@
 use Rattle.std.proofs.{Common.{arith}, lemmas.List.Sums.prefix_len-le-length}
-use Rattle.rnix_kinds.{specs.Lexical.Classes.{class_test, class_of}, proofs.Lexical.LaneLemmas.{no_empty, some_empty}}
+use Rattle.rnix_kinds.{specs.Lexical.Classes.{class_test, class_of}, proofs.LexicalLemmas.LaneLemmas.{no_empty, some_empty}}
 use Rattle.rnix_kinds.proofs.tokenizer.lanes.lanes_in.Goals as goal
 
 pub returns-then-others-eq0-clause-len : goal.returns-then-others-eq0-clause-len

@@ -1,6 +1,6 @@
 use Rattle.std.proofs.Common.{refl, ◌∙◌}
 use Rattle.rnix_kinds.specs.{Lexical.Classes.class_test, declared.tokenizer.text.Class.TheVariants.{Content, Blank}}
-use Rattle.rnix_kinds.proofs.Lexical.LaneLemmas.{both, either, same_lanes}
+use Rattle.rnix_kinds.proofs.LexicalLemmas.LaneLemmas.{both, either, same_lanes}
 use Rattle.rnix_kinds.proofs.tokenizer.lanes.members.Goals.{in-Line, in-Content, in-Blank, in-Comment}
 use Rattle.rnix_kinds.proofs.tokenizer.lanes.members.Goals as goal
 

@@ -1,5 +1,5 @@
 use Rattle.std.proofs.Common.{arith, ◌≡◌, ◌∙◌}
-use Rattle.rnix_kinds.{specs.Lexical.Classes.{class_test, class_of}, proofs.Lexical.LaneLemmas.{run_through, run_ends}}
+use Rattle.rnix_kinds.{specs.Lexical.Classes.{class_test, class_of}, proofs.LexicalLemmas.LaneLemmas.{run_through, run_ends}}
 use Rattle.rnix_kinds.proofs.tokenizer.long.wide_run_len.Goals as goal
 
 pub returns-then-len-lt-LANES-clause-len : goal.returns-then-len-lt-LANES-clause-len

@@ -1,6 +1,6 @@
 use Rattle.std.{proofs.Common.{◌≡◌, [], None, false, get_or, sym, ap, ◌∙◌, zero-add}, specs.List.prefix_len}
 use Rattle.rnix_kinds.specs.{declared.tokenizer.text.Class.TheVariants.Name, Lexical.{Classes.class_test, Paths.relative, Plain.{uri, word, goes_past_name}}}
-use Rattle.rnix_kinds.{specs.Lexical.Tokens.one_error, proofs.Lexical.FirstBytes.{relative-None-named, uri-None-named, third_fits}}
+use Rattle.rnix_kinds.{specs.Lexical.Tokens.one_error, proofs.LexicalLemmas.FirstBytes.{relative-None-named, uri-None-named, third_fits}}
 use Rattle.rnix_kinds.proofs.tokenizer.normal.named.Goals.{then-goes_past_name+in_default+in_default-uri, else-goes_past_name}
 use Rattle.rnix_kinds.proofs.tokenizer.normal.named.Goals as goal
 

@@ -1,7 +1,7 @@
 use Rattle.{std.{proofs.Common.{◌≡◌, ◌<◌, ◌==◌, true, false, sym, ◌∙◌, arith, rules}, specs.Char.is_whitespace}, rnix_kinds.specs.Lexical.Plain.begins_word}
-use Rattle.rnix_kinds.proofs.Lexical.FirstBytes.{begins_step, begins_opener, is_invisible, normal-blank, normal-named, normal-stepped, normal-opened}
-use Rattle.rnix_kinds.proofs.Lexical.FirstBytes.{normal-symbol, normal-other, normal-line_comment, normal-block_comment, normal-slash, normal-home}
-use Rattle.rnix_kinds.proofs.Lexical.FirstBytes.{normal-angled, normal-opening_brace, normal-closing_brace}
+use Rattle.rnix_kinds.proofs.LexicalLemmas.FirstBytes.{begins_step, begins_opener, is_invisible, normal-blank, normal-named, normal-stepped, normal-opened}
+use Rattle.rnix_kinds.proofs.LexicalLemmas.FirstBytes.{normal-symbol, normal-other, normal-line_comment, normal-block_comment, normal-slash, normal-home}
+use Rattle.rnix_kinds.proofs.LexicalLemmas.FirstBytes.{normal-angled, normal-opening_brace, normal-closing_brace}
 use Rattle.rnix_kinds.proofs.tokenizer.normal.normal.Goals as goal
 
 pub returns-in-35-clause-cut : goal.returns-in-35-clause-cut

@@ -1,6 +1,6 @@
 use Rattle.{std.proofs.Common.{◌≡◌, ◌∷◌, [], None, sym, ap, ◌∙◌}, rnix_kinds.specs.Lexical.{Classes.is_path, Operators.{ellipsis, operator}, Paths.relative}}
-use Rattle.rnix_kinds.{specs.Lexical.{Numbers.number, Tokens.one_error}, proofs.Lexical.FirstBytes.{relative-None-short, ellipsis-None-short, third_fits}}
-use Rattle.rnix_kinds.proofs.{Lexical.FirstBytes.none_of_three, tokenizer.normal.stepped.Goals.{then-is_in+in_default+in_default-relative, else-is_in}}
+use Rattle.rnix_kinds.{specs.Lexical.{Numbers.number, Tokens.one_error}, proofs.LexicalLemmas.FirstBytes.{relative-None-short, ellipsis-None-short, third_fits}}
+use Rattle.rnix_kinds.proofs.{LexicalLemmas.FirstBytes.none_of_three, tokenizer.normal.stepped.Goals.{then-is_in+in_default+in_default-relative, else-is_in}}
 use Rattle.rnix_kinds.proofs.tokenizer.normal.stepped.Goals as goal
 
 pub returns-in-Some-number-clause-cut : goal.returns-in-Some-number-clause-cut

@@ -1,4 +1,4 @@
-use Rattle.{std.proofs.{Common.arith, lemmas.Str.IsCharBoundary-after_ascii}, rnix_kinds.proofs.Lexical.WordsLemmas.within_from_byte}
+use Rattle.{std.proofs.{Common.arith, lemmas.Str.IsCharBoundary-after_ascii}, rnix_kinds.proofs.LexicalLemmas.WordsLemmas.within_from_byte}
 use Rattle.rnix_kinds.proofs.tokenizer.path.goes_on_as_path.Goals as goal
 
 pub range_from-requires : goal.range_from-requires

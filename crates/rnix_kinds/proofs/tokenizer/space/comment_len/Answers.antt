@@ -1,5 +1,5 @@
 use Rattle.std.proofs.{Common.{arith, sym, ◌∙◌, ap, ◌+◌}, lemmas.List.drop_all}
-use Rattle.rnix_kinds.proofs.Lexical.{CommentLemmas.{comment_run_end, star_follows, star_passed, pair_ends}, WordsLemmas.before_pair-nil}
+use Rattle.rnix_kinds.proofs.LexicalLemmas.{CommentLemmas.{comment_run_end, star_follows, star_passed, pair_ends}, WordsLemmas.before_pair-nil}
 use Rattle.rnix_kinds.specs.Lexical.Texts.{before_pair}
 use Rattle.rnix_kinds.proofs.tokenizer.space.comment_len.Goals as goal
 

@@ -1,6 +1,6 @@
 use Rattle.std.proofs.{Common.{◌≡◌, ◌+◌, ◌<◌, ◌≤◌, length, arith, drop, length-drop, sym, ◌∙◌, ap}, lemmas.List.{drop-drop, drop_all, take_rest}}
-use Rattle.rnix_kinds.{specs.Lexical.Strings.content_len, proofs.Lexical.StringsLemmas.{content_len-run_end, content_len-stop, content_len-piece}}
-use Rattle.rnix_kinds.proofs.Lexical.StringsLemmas.{content_len-past, content_len-nil}
+use Rattle.rnix_kinds.{specs.Lexical.Strings.content_len, proofs.LexicalLemmas.StringsLemmas.{content_len-run_end, content_len-stop, content_len-piece}}
+use Rattle.rnix_kinds.proofs.LexicalLemmas.StringsLemmas.{content_len-past, content_len-nil}
 use Rattle.rnix_kinds.proofs.tokenizer.string.content_len.Goals as goal
 
 pub returns-then-len-eq0-clause-value : goal.returns-then-len-eq0-clause-value
@@ -35,7 +35,8 @@ loop-at-preserved c =
     = omega (arith, c.loop-at.invariant.so_far, more, ap (content_len c.args.multiline) (drop-drop c.piece_len-len.result c.loop-at.at c.args.bytes.now)) in
     record {
       within = c.long_run_end-at-in-loop-at.ensures.within;
-      so_far = content_len-run_end c.args.multiline (c.loop-at.at + c.piece_len-len.result) c.long_run_end-at-in-loop-at.result c.args.bytes.now so_far c.long_run_end-at-in-loop-at.ensures.end;
+      so_far = content_len-run_end c.args.multiline (c.loop-at.at + c.piece_len-len.result) c.long_run_end-at-in-loop-at.result c.args.bytes.now so_far
+          c.long_run_end-at-in-loop-at.ensures.end;
     }
 
 pub returns-clause-value : goal.returns-clause-value

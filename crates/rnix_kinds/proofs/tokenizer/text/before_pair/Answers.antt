@@ -1,5 +1,5 @@
-use Rattle.{std.proofs.{Common.arith, lemmas.{List.drop_all, Bool.Decides.nat_tests}}, rnix_kinds.proofs.Lexical.WordsLemmas.before_pair-turn}
-use Rattle.rnix_kinds.proofs.{Lexical.WordsLemmas.before_pair-nil, tokenizer.text.before_pair.Goals.else-bytes-at-via-then-bytes-at+else-byte_of-b}
+use Rattle.{std.proofs.{Common.arith, lemmas.{List.drop_all, Bool.Decides.nat_tests}}, rnix_kinds.proofs.LexicalLemmas.WordsLemmas.before_pair-turn}
+use Rattle.rnix_kinds.proofs.{LexicalLemmas.WordsLemmas.before_pair-nil, tokenizer.text.before_pair.Goals.else-bytes-at-via-then-bytes-at+else-byte_of-b}
 use Rattle.rnix_kinds.proofs.tokenizer.text.before_pair.Goals.{else-bytes-at-via-else-bytes-at}
 use Rattle.rnix_kinds.proofs.tokenizer.text.before_pair.Goals as goal
 

@@ -1,5 +1,5 @@
 use Rattle.{std.proofs.Common.{refl, ◌∙◌, arith}, rnix_kinds.specs.declared.tokenizer.text.Class.TheVariants.{Digit, Name, Path, Step, Scheme, Angle, Uri}}
-use Rattle.rnix_kinds.{specs.declared.tokenizer.text.Class.TheVariants.Content, proofs.Lexical.ClassTable.{agree, from_table}}
+use Rattle.rnix_kinds.{specs.declared.tokenizer.text.Class.TheVariants.Content, proofs.LexicalLemmas.ClassTableLemmas.{agree, from_table}}
 use Rattle.rnix_kinds.proofs.tokenizer.text.is_in.Goals as goal
 
 pub returns-in-Digit : goal.returns-in-Digit

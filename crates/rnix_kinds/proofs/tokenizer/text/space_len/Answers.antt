@@ -1,5 +1,5 @@
 use Rattle.{std.{proofs.Common.{◌≡◌, ◌<◌, ◌≤◌, ◌∙◌, sym, subst, arith, get_or, zero-add, true, length}, specs.List.prefix_len}, rnix_kinds.specs.Lexical.Texts.is_blank}
-use Rattle.rnix_kinds.proofs.Lexical.{LaneLemmas.run_end-first, WordsLemmas.space_len-blanks}
+use Rattle.rnix_kinds.proofs.LexicalLemmas.{LaneLemmas.run_end-first, WordsLemmas.space_len-blanks}
 use Rattle.rnix_kinds.proofs.tokenizer.text.space_len.Goals as goal
 
 pub returns-then-byte_at-lt128 : goal.returns-then-byte_at-lt128

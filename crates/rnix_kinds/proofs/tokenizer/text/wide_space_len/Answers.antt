@@ -1,4 +1,4 @@
-use Rattle.rnix_kinds.proofs.Lexical.WordsLemmas.{space_len-trim_start}
+use Rattle.rnix_kinds.proofs.LexicalLemmas.WordsLemmas.{space_len-trim_start}
 use Rattle.rnix_kinds.proofs.tokenizer.text.wide_space_len.Goals as goal
 
 pub returns : goal.returns

@@ -1,4 +1,4 @@
-use Rattle.{std.proofs.Common.zero-add, rnix_kinds.{specs.declared.tokenizer.text.Class.TheVariants.Name, proofs.Lexical.WordsLemmas.IsCharBoundary-run}}
+use Rattle.{std.proofs.Common.zero-add, rnix_kinds.{specs.declared.tokenizer.text.Class.TheVariants.Name, proofs.LexicalLemmas.WordsLemmas.IsCharBoundary-run}}
 use Rattle.rnix_kinds.proofs.tokenizer.word.word.Goals as goal
 
 pub range-requires-clause-end_boundary : goal.range-requires-clause-end_boundary

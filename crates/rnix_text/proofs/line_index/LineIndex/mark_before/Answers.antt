@@ -1,5 +1,5 @@
 use Rattle.std.proofs.{Common.{rules, ◌≡◌, ◌≤◌, ◌∙◌, true, false, length, ap, sym, subst}, lemmas.List.Sorted.IsPartitionPoint-from_clause}
-use Rattle.{std.specs.List.Sorted.{IsPartitionedBy, IsPartitionPoint}, rnix_text.specs.{Marks.{is_before, first_mark}, Texts.last_mark}}
+use Rattle.{std.specs.List.Sorted.{IsPartitionedBy, IsPartitionPoint}, rnix_text.specs.{Marks.{is_before, first_mark}, TextColumns.last_mark}}
 use Rattle.rnix_text.proofs.{MarkLemmas.last_in, PositionLemmas.{before_back, first_before}}
 use Rattle.rnix_text.proofs.line_index.LineIndex.mark_before.Goals as goal
 

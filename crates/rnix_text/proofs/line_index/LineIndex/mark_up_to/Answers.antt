@@ -1,6 +1,6 @@
 use Rattle.std.proofs.{Common.{rules, ◌≡◌, ◌≤◌, ◌∙◌, true, false, length, ap, sym, subst}, lemmas.List.Sorted.IsPartitionPoint-from_clause}
-use Rattle.{std.specs.List.Sorted.{IsPartitionedBy, IsPartitionPoint}, rnix_text.specs.{Marks.{is_up_to, first_mark}, Texts.last_mark}}
-use Rattle.rnix_text.proofs.{MarkLemmas.last_in, OffsetLemmas.{up_to_back, first_up_to}}
+use Rattle.{std.specs.List.Sorted.{IsPartitionedBy, IsPartitionPoint}, rnix_text.specs.{Marks.{is_up_to, first_mark}, TextColumns.last_mark}}
+use Rattle.rnix_text.proofs.{MarkLemmas.last_in, MarkOffsets.{up_to_back, first_up_to}}
 use Rattle.rnix_text.proofs.line_index.LineIndex.mark_up_to.Goals as goal
 
 pub overflow_sub-behind : goal.overflow_sub-behind

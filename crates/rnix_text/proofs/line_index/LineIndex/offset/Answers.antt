@@ -1,5 +1,5 @@
-use Rattle.{std.proofs.{Common.{◌≡◌, Some, ap, sym, subst, arith}, lemmas.Bool.both_ways}, rnix_text.{specs.Positions.IsAt, proofs.OffsetLemmas.Leads}}
-use Rattle.rnix_text.proofs.OffsetLemmas.{text_led}
+use Rattle.{std.proofs.{Common.{◌≡◌, Some, ap, sym, subst, arith}, lemmas.Bool.both_ways}, rnix_text.{specs.Positions.IsAt, proofs.MarkOffsets.Leads}}
+use Rattle.rnix_text.proofs.MarkOffsets.{text_led}
 use Rattle.rnix_text.proofs.line_index.LineIndex.offset.Goals as goal
 
 pub returns-then-is_at-clause-only : goal.returns-then-is_at-clause-only

@@ -1,4 +1,4 @@
-use Rattle.{std.{proofs.Common.{rules, ◌≤◌, ◌∙◌, ap, sym, subst, arith}, specs.Str.IsCharBoundary}, rnix_text.specs.declared.mark.Mark.Mark}
+use Rattle.{std.{proofs.Common.{rules, ◌≤◌, ◌∙◌, ap, sym, subst, arith}, specs.Str.IsCharBoundary}, rnix_text.specs.declared.line_column.Mark.Mark}
 use Rattle.rnix_text.{specs.Marks.position_behind, proofs.PositionLemmas.{text_counted, column_fits}}
 use Rattle.rnix_text.proofs.line_index.LineIndex.position.Goals as goal
 

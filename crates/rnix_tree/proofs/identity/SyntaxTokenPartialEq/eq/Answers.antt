@@ -1,4 +1,4 @@
-use Rattle.{std.proofs.Common.◌∙◌, rnix_tree.{specs.Same.same_located, proofs.SameLemmas.same_where}}
+use Rattle.{std.proofs.Common.◌∙◌, rnix_tree.{specs.Same.same_located, proofs.EqualElements.same_where}}
 use Rattle.rnix_tree.proofs.identity.SyntaxTokenPartialEq.eq.Goals as goal
 
 pub returns-then-self-other : goal.returns-then-self-other

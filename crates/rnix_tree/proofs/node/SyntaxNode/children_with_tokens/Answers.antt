@@ -1,5 +1,5 @@
 use Rattle.{std.proofs.Common.{ap, sym, arith, length, map, ◌+◌, ◌∙◌}, rnix_green.specs.{Tree.{Item, Located, items_of}, Walk.{spot_at, children_of}}}
-use Rattle.{rnix_green.{specs.Numbers.siblings_between, proofs.PartLemmas.children_between}, rnix_tree.proofs.CountLemmas.children_of-few}
+use Rattle.{rnix_green.{specs.PreorderNumbers.siblings_between, proofs.PartLemmas.children_between}, rnix_tree.proofs.CountLemmas.children_of-few}
 use Rattle.rnix_tree.proofs.node.SyntaxNode.children_with_tokens.Goals as goal
 
 pub returns-clause-children : goal.returns-clause-children

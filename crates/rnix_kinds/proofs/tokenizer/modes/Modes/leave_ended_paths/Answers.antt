@@ -1,4 +1,4 @@
-use Rattle.{std.proofs.Common.{sym, ◌∙◌}, rnix_kinds.proofs.Lexical.TokensLemmas.settled_stays}
+use Rattle.{std.proofs.Common.{sym, ◌∙◌}, rnix_kinds.proofs.LexicalLemmas.TokensLemmas.settled_stays}
 use Rattle.rnix_kinds.proofs.tokenizer.modes.Modes.leave_ended_paths.Goals as goal
 
 pub returns-then-path_goes_on : goal.returns-then-path_goes_on

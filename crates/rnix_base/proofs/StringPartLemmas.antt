@@ -1,0 +1,147 @@
+-- The texts of the parts, of a row of symbols.
+use Rattle.std.proofs.Common.{◌≡◌, ◌≢◌, ◌<◌, ◌≤◌, ◌++◌, ◌∙◌, ℕ, suc, Bool, true, false, ◌==◌, List, [], ◌∷◌, Some, None, refl, sym, ap, map, arith}
+use Rattle.std.{proofs.{Common.{append_assoc, append-nil}, lemmas.Bool.Decides.nat_tests}, specs.Prelude.{if◌then◌else◌, option_to_list}}
+use Rattle.rnix_base.specs.{declared.parts.InterpolPart.TheVariants.{Literal, Interpolation}, Escapes.unescaped, Normal.{Parts, Symbol, symbols, lines}}
+use Rattle.rnix_base.specs.Normal.{least_indentation, unindented, text_of, with_texts, with_text, without_last_spaces, opened, closed, indented_parts}
+use Rattle.rnix_base.{specs.Indent.{is_lost, left_after, kept, left_behind, indent_of, no_indent}, proofs.SymbolLineLemmas.{row_kept, row_kept-lines, kept_step}}
+use Rattle.rnix_base.proofs.LeastLemmas.{least-parts}
+
+-- the parts without indentation, part by part
+unfoldable pub unindented_parts : {I : Type 0} → ℕ → ℕ → Parts I → Parts I
+unindented_parts n left [] = []
+unindented_parts n left (Literal text ∷ parts) = Literal (kept n left text) ∷ unindented_parts n (left_behind n left text) parts
+unindented_parts n left (Interpolation i ∷ parts) = Interpolation i ∷ unindented_parts n 0 parts
+
+-- a row of the bytes of one part
+abbrev pub text_row : ℕ → List ℕ → List Symbol
+text_row m text = map (λ b. record { part = m; byte = Some b }) text
+
+-- what one text leaves of a row
+row_kept-text : (n m : ℕ) (text : List ℕ) (left : ℕ) (row : List Symbol) → row_kept n left (text_row m text ++ row) ≡ text_row m (kept n left text)
+    ++ row_kept n (left_behind n left text) row
+unfolding row_kept kept left_behind
+row_kept-text n m [] left row = refl
+row_kept-text n m (b ∷ text) left row = text_step (is_lost left (Some b)) (row_kept-text n m text (left_after n left (Some b)) row) where
+  text_step : (lost : Bool) → row_kept n (left_after n left (Some b)) (text_row m text ++ row) ≡ text_row m (kept n (left_after n left (Some b)) text)
+      ++ row_kept n (left_behind n (left_after n left (Some b)) text) row
+      → (if lost then [] else record { part = m; byte = Some b } ∷ []) ++ row_kept n (left_after n left (Some b)) (text_row m text ++ row)
+      ≡ text_row m ((if lost then [] else b ∷ []) ++ kept n (left_after n left (Some b)) text)
+      ++ row_kept n (left_behind n (left_after n left (Some b)) text) row
+  text_step true e = e
+  text_step false e = ap (λ t. record { part = m; byte = Some b } ∷ t) e
+
+text_of-append : (k : ℕ) (xs ys : List Symbol) → text_of k (xs ++ ys) ≡ text_of k xs ++ text_of k ys
+unfolding text_of
+text_of-append k [] ys = refl
+text_of-append k (s ∷ xs) ys =
+    ap (λ t. (if s.part == k then option_to_list s.byte else []) ++ t) (text_of-append k xs ys)
+    ∙ sym (append_assoc (if s.part == k then option_to_list s.byte else []) (text_of k xs) (text_of k ys))
+
+same_part : (m : ℕ) → (m == m) ≡ true
+same_part m = grind (arith, nat_tests)
+
+other_part : (m k : ℕ) → m ≢ k → (m == k) ≡ false
+other_part m k h = grind (arith, nat_tests)
+
+text_of-own : (m : ℕ) (text : List ℕ) → text_of m (text_row m text) ≡ text
+unfolding text_of
+text_of-own m [] = refl
+text_of-own m (b ∷ text) = ap (λ e. (if e then b ∷ [] else []) ++ text_of m (text_row m text)) (same_part m) ∙ ap (λ t. b ∷ t) (text_of-own m text)
+
+text_of-other : (m k : ℕ) (text : List ℕ) → m ≢ k → text_of k (text_row m text) ≡ []
+unfolding text_of
+text_of-other m k [] h = refl
+text_of-other m k (b ∷ text) h = ap (λ e. (if e then b ∷ [] else []) ++ text_of k (text_row m text)) (other_part m k h) ∙ text_of-other m k text h
+
+text_of-none : (k : ℕ) → text_of k [] ≡ []
+unfolding text_of
+text_of-none k = refl
+
+text_of-gap : (m k : ℕ) (row : List Symbol) → text_of k (record { part = m; byte = None } ∷ row) ≡ text_of k row
+unfolding text_of
+text_of-gap m k row = gap_step (m == k) where
+  gap_step : (e : Bool) → (if e then [] else []) ++ text_of k row ≡ text_of k row
+  gap_step true = refl
+  gap_step false = refl
+
+row_kept-gap : (n left m : ℕ) (row : List Symbol) → row_kept n left (record { part = m; byte = None } ∷ row) ≡ record { part = m; byte = None }
+    ∷ row_kept n 0 row
+row_kept-gap n left m row = kept_step n left 0 record { part = m; byte = None } row refl refl
+
+-- later parts have no bytes of an earlier one
+text_of-later : {I : Type 0} (n k : ℕ) (parts : Parts I) (left m : ℕ) → k < m → text_of k (row_kept n left (symbols m parts)) ≡ []
+unfolding symbols row_kept text_of
+text_of-later n k [] left m h = refl
+text_of-later n k (Literal text ∷ parts) left m h =
+    ap (text_of k) (row_kept-text n m text left (symbols (suc m) parts))
+    ∙ text_of-append k (text_row m (kept n left text)) (row_kept n (left_behind n left text) (symbols (suc m) parts))
+    ∙ ap (λ t. t ++ text_of k (row_kept n (left_behind n left text) (symbols (suc m) parts)))
+    (text_of-other m k (kept n left text) (λ e. absurd (omega (arith, h, e))))
+    ∙ text_of-later n k parts (left_behind n left text) (suc m) (omega arith)
+text_of-later n k (Interpolation i ∷ parts) left m h =
+    ap (text_of k) (row_kept-gap n left m (symbols (suc m) parts)) ∙ text_of-gap m k (row_kept n 0 (symbols (suc m) parts))
+    ∙ text_of-later n k parts 0 (suc m) (omega arith)
+
+-- a row that goes on behind what earlier parts left of it
+with_texts-behind : {I : Type 0} (n : ℕ) (parts : Parts I) (before : List Symbol) (left m : ℕ) → ((k : ℕ) → m ≤ k → text_of k before ≡ [])
+    → with_texts (before ++ row_kept n left (symbols m parts)) m parts ≡ unindented_parts n left parts
+unfolding with_texts unindented_parts symbols
+with_texts-behind n [] before left m none = refl
+with_texts-behind n (Literal text ∷ parts) before left m none =
+    let own = kept n left text in
+    let later = row_kept n (left_behind n left text) (symbols (suc m) parts) in
+    let whole : before ++ row_kept n left (text_row m text ++ symbols (suc m) parts) ≡ (before ++ text_row m own) ++ later =
+    ap (λ t. before ++ t) (row_kept-text n m text left (symbols (suc m) parts)) ∙ sym (append_assoc before (text_row m own) later) in
+    let mine : text_of m ((before ++ text_row m own) ++ later) ≡ own =
+    text_of-append m (before ++ text_row m own) later
+    ∙ ap (λ t. t ++ text_of m later) (text_of-append m before (text_row m own) ∙ ap (λ t. t ++ text_of m (text_row m own)) (none m (omega arith))
+    ∙ text_of-own m own)
+    ∙ ap (λ t. own ++ t) (text_of-later n m parts (left_behind n left text) (suc m) (omega arith)) ∙ append-nil own in
+    let passed : (k : ℕ) → suc m ≤ k → text_of k (before ++ text_row m own) ≡ [] =
+    λ k h. text_of-append k before (text_row m own) ∙ ap (λ t. t ++ text_of k (text_row m own)) (none k (omega (arith, h)))
+    ∙ text_of-other m k own (λ e. absurd (omega (arith, h, e))) in
+    ap (λ row. Literal (text_of m row) ∷ with_texts row (suc m) parts) whole
+    ∙ ap (λ t. Literal t ∷ with_texts ((before ++ text_row m own) ++ later) (suc m) parts) mine
+    ∙ ap (λ t. Literal own ∷ t) (with_texts-behind n parts (before ++ text_row m own) (left_behind n left text) (suc m) passed)
+with_texts-behind n (Interpolation i ∷ parts) before left m none =
+    let gap : Symbol = record { part = m; byte = None } in
+    let later = row_kept n 0 (symbols (suc m) parts) in
+    let whole : before ++ row_kept n left (gap ∷ symbols (suc m) parts) ≡ (before ++ gap ∷ []) ++ later =
+    ap (λ t. before ++ t) (row_kept-gap n left m (symbols (suc m) parts)) ∙ sym (append_assoc before (gap ∷ []) later) in
+    let passed : (k : ℕ) → suc m ≤ k → text_of k (before ++ gap ∷ []) ≡ [] =
+    λ k h. text_of-append k before (gap ∷ []) ∙ ap (λ t. t ++ text_of k (gap ∷ [])) (none k (omega (arith, h))) ∙ text_of-gap m k [] ∙ text_of-none k in
+    ap (λ row. Interpolation i ∷ with_texts row (suc m) parts) whole
+    ∙ ap (λ t. Interpolation i ∷ t) (with_texts-behind n parts (before ++ gap ∷ []) 0 (suc m) passed)
+
+-- a text of the last part, without the spaces behind its last line feed
+abbrev pub last_text : {I : Type 0} → Parts I → List ℕ → List ℕ
+last_text [] text = without_last_spaces text
+last_text (part ∷ parts) text = text
+
+-- the parts of an indented string, one by one
+unfoldable pub indented_from : {I : Type 0} → ℕ → ℕ → Parts I → Parts I
+indented_from n left [] = []
+indented_from n left (Literal text ∷ parts) = Literal (unescaped true (last_text parts (kept n left text))) ∷ indented_from n (left_behind n left text) parts
+indented_from n left (Interpolation i ∷ parts) = Interpolation i ∷ indented_from n 0 parts
+
+closed_from : {I : Type 0} (n left : ℕ) (parts : Parts I) → map (with_text (unescaped true))
+    (closed (unindented_parts n left parts)) ≡ indented_from n left parts
+unfolding closed unindented_parts indented_from
+closed_from n left [] = refl
+closed_from n left (Literal text ∷ []) = refl
+closed_from n left (Literal text ∷ Literal more ∷ parts) =
+    ap (λ t. Literal (unescaped true (kept n left text)) ∷ t) (closed_from n (left_behind n left text) (Literal more ∷ parts))
+closed_from n left (Literal text ∷ Interpolation i ∷ parts) =
+    ap (λ t. Literal (unescaped true (kept n left text)) ∷ t) (closed_from n (left_behind n left text) (Interpolation i ∷ parts))
+closed_from n left (Interpolation i ∷ parts) = ap (λ t. Interpolation i ∷ t) (closed_from n 0 parts)
+
+-- the normalized parts, one by one
+pub indented_parts-from : {I : Type 0} (parts : Parts I) (n : ℕ) → n ≡ (indent_of no_indent (opened parts)).least
+    → indented_from n n (opened parts) ≡ indented_parts parts
+indented_parts-from parts n e =
+    let row = symbols 0 (opened parts) in
+    let least : n ≡ least_indentation (lines row) = e ∙ least-parts (opened parts) in
+    let kept_row : row_kept n n row ≡ unindented row = ap (λ k. row_kept k k row) least ∙ sym (row_kept-lines (least_indentation (lines row)) row) in
+    sym (closed_from n n (opened parts))
+    ∙ ap (λ t. map (with_text (unescaped true)) (closed t)) (sym (with_texts-behind n (opened parts) [] n 0 (λ k _. text_of-none k)))
+    ∙ ap (λ r. map (with_text (unescaped true)) (closed (with_texts r 0 (opened parts)))) kept_row

@@ -1,0 +1,11 @@
+use Rattle.{std.{proofs.Common.{◌≡◌, ◌++◌, length}, specs.Vec.Iter.{into_iter_items, into_iter_len}}, rnix_base.specs.Normal.{borrowed, owned, quoted_parts}}
+use Rattle.rnix_base.proofs.normalized_parts.quoted_parts.Given as goal
+
+abbrev pub invariant-loop-part : goal.invariant-loop-part
+invariant-loop-part g l = record {
+  length : into_iter_len l.rest ≡ length (into_iter_items l.rest);
+  so_far : quoted_parts (borrowed (into_iter_items l.initial.rest)) ≡ owned l.normal.items ++ quoted_parts (borrowed (into_iter_items l.rest));
+}
+
+abbrev pub decreases-loop-part : goal.decreases-loop-part
+decreases-loop-part g l = into_iter_len l.rest

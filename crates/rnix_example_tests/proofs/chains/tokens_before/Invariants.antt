@@ -1,5 +1,0 @@
-use Rattle.rnix.specs.Chains.{before_if}
-use Rattle.rnix_example_tests.proofs.chains.tokens_before.Given as goal
-
-abbrev pub decreases-loop-next : goal.decreases-loop-next
-decreases-loop-next l = before_if l.next

@@ -1,8 +1,0 @@
-use Rattle.{rnix_rows.proofs.ParsedRanges.{parsed_order, parsed_nodes}}
-use Rattle.rnix_parser.proofs.ranges.ranges_of_errors.Goals as goal
-
-pub returns : goal.returns
-returns c = record {
-  order = λ tree faults h. parsed_order h h.reading.reads;
-  nodes = λ tree faults h. parsed_nodes h h.reading.reads;
-}

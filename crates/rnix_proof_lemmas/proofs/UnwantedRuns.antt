@@ -1,0 +1,35 @@
+-- Runs of items that are not wanted.
+use Rattle.std.proofs.Common.{◌≡◌, Bool, true, false, List, [], ◌∷◌, ◌++◌, refl, sym, ap, if◌then◌else◌}
+use Rattle.rnix_grammar.specs.{declared.expected_set.ExpectedSet.ExpectedSet, Tables.{is_wanted, stops}, AnnotatedForest.{Token, head_kind, is_some}, UnwantedRun.run_of}
+use Rattle.rnix_proof_lemmas.specs.Machine.{dropped}
+use Rattle.{rnix_grammar.specs.ErrorNodes.AreUnwanted, rnix_proof_lemmas.proofs.Basics.true_is_not_false}
+
+-- what a run and the items behind it are
+pub record Parted (until : ExpectedSet) (ts run : List Token) : Type 0 where
+  pub all : ts ≡ run ++ dropped run ts
+  pub unwanted : AreUnwanted until run
+  pub stops : stops until (head_kind (dropped run ts)) ≡ true
+
+parted_by : (until : ExpectedSet) (t : Token) (ts : List Token) (w : Bool) → is_wanted until t.kind ≡ w → Parted until ts (run_of until ts)
+    → Parted until (t ∷ ts) (if w then [] else t ∷ run_of until ts)
+parted_by until t ts true e r = record { all = refl; unwanted = tt; stops = e }
+parted_by until t ts false e r = record { all = ap (λ x. t ∷ x) r.all; unwanted = (e, r.unwanted); stops = r.stops }
+
+-- a run parts some tokens
+pub parted : (until : ExpectedSet) (ts : List Token) → Parted until ts (run_of until ts)
+parted until [] = record { all = refl; unwanted = tt; stops = refl }
+parted until (t ∷ ts) = parted_by until t ts (is_wanted until t.kind) refl (parted until ts)
+
+-- a run that begins with an item that is not wanted
+pub run_begins : (until : ExpectedSet) (t : Token) (ts : List Token) → is_wanted until t.kind ≡ false → run_of until (t ∷ ts) ≡ t ∷ run_of until ts
+run_begins until t ts e = ap (λ w. if w then [] else t ∷ run_of until ts) e
+
+-- nothing is left behind all
+pub dropped_all : (ts : List Token) → dropped ts ts ≡ []
+dropped_all [] = refl
+dropped_all (t ∷ ts) = dropped_all ts
+
+-- some tokens with more behind them are some
+pub some_left : (ts us : List Token) → is_some ts ≡ true → is_some (ts ++ us) ≡ true
+some_left [] us h = absurd (true_is_not_false (sym h))
+some_left (t ∷ ts) us h = refl

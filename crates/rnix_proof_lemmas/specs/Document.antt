@@ -1,0 +1,23 @@
+-- A whole text that is read.
+use Rattle.std.specs.Prelude.{◌≡◌, ◌+◌, true, List, [], ◌∷◌}
+use Rattle.rnix_kinds.specs.declared.kinds.SyntaxKind.TheVariants.{NODE_ROOT}
+use Rattle.rnix_kinds.specs.Lexical.Tokens.{Lexeme}
+use Rattle.rnix_green.specs.Tree.{Tree}
+use Rattle.rnix_grammar.specs.declared.position.Position.TheVariants as p
+use Rattle.rnix_grammar.specs.declared.slot_table.TheConstants.{ROOT}
+use Rattle.rnix_grammar.specs.Fault.{Fault}
+use Rattle.rnix_grammar.specs.AnnotatedForest.{placed_from, forget}
+use Rattle.rnix_grammar.specs.Layout.{items}
+use Rattle.rnix_proof_lemmas.specs.Machine.{Node, Frame, Machine, begins, with_leading, Runs}
+
+-- the machine of steps reads these tokens to the end: its last frame is the root, and its row is the tree's
+pub record IsRead (lexemes : List Lexeme) (tree : Tree) (faults : List Fault) : Type 0 where
+  pub root : Frame
+  pub last : Machine
+  pub runs : Runs true (begins (placed_from 0 lexemes)) last
+  pub alone : last.frames ≡ root ∷ []
+  pub head : root.head ≡ Node NODE_ROOT
+  pub position : root.position ≡ p.Left (ROOT + 1)
+  pub nothing : items last.left ≡ []
+  pub tree_is : tree ≡ record { kind = NODE_ROOT; children = forget (with_leading true root.row last.left) }
+  pub faults_are : faults ≡ last.faults

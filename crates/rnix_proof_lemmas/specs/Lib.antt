@@ -1,0 +1,11 @@
+pub mod SlotRows
+pub mod Spelled
+pub mod BegunOperands
+pub mod LeafKinds
+pub mod RowReports
+pub mod Machine
+pub mod WithoutTrivia
+pub mod FrameKinds
+pub mod Measures
+pub mod Allowed
+pub mod Document

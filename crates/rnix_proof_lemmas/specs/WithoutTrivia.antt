@@ -1,0 +1,18 @@
+-- A machine without trivia.
+use Rattle.std.specs.Prelude.{List, [], ◌∷◌}
+use Rattle.rnix_grammar.specs.AnnotatedForest.{without_trivia}
+use Rattle.rnix_grammar.specs.Layout.{items}
+use Rattle.rnix_proof_lemmas.specs.Machine.{Frame, Machine, put, machine}
+
+-- frames whose rows have no trivia
+abbrev pub without_trivia_frame : Frame → Frame
+without_trivia_frame f = put f.position (without_trivia f.row) f
+
+-- and all frames
+abbrev pub without_trivia_frames : List Frame → List Frame
+without_trivia_frames [] = []
+without_trivia_frames (f ∷ fs) = without_trivia_frame f ∷ without_trivia_frames fs
+
+-- a machine that has read the items alone
+abbrev pub without_trivia_machine : Machine → Machine
+without_trivia_machine m = machine (without_trivia_frames m.frames) (items m.left) m.prev_end m.faults

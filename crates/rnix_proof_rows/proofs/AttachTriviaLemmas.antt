@@ -1,0 +1,149 @@
+-- Rows with their trivia, as the items of the rows and the tokens make them.
+use Rattle.std.proofs.Common.{◌≡◌, true, false, List, [], ◌∷◌, ◌++◌, refl, ap, sym, ◌∙◌, subst}
+use Rattle.{rnix_kinds.specs.{declared.kinds.SyntaxKind.SyntaxKind, SyntaxKind.is_trivia}, rnix_grammar.specs.AnnotatedForest.{Token, Note, TooDeep}}
+use Rattle.rnix_grammar.specs.AnnotatedForest.{AnnotatedForest, blank, token, branch, fault, ◌⊕◌, one_branch, one_fault, without_trivia, token_if, leaf_kind}
+use Rattle.rnix_grammar.specs.{AnnotatedForest.head_kind, Layout.{from_item, from_item_if, trivia_if, trivia_before, items, tail_of, is_last, trivia_after}}
+use Rattle.rnix_grammar.specs.Layout.{rest_after, left_after, with_trivia}
+use Rattle.rnix_proof_lemmas.specs.Allowed.{is_there}
+use Rattle.rnix_proof_lemmas.specs.Machine.{with_leading, after_item, leaf_in, leaf, run_row, run_rest}
+use Rattle.rnix_proof_lemmas.proofs.{Basics.true_is_not_false, AnnotatedForestLemmas.{⊕-assoc, ⊕-blank}, LayoutLemmas.{trivia-from_item, from_item-from_item}}
+use Rattle.rnix_proof_lemmas.proofs.{LayoutLemmas.{items_head, items-view, from_item_item}, WithoutTriviaLemmas.{with_leading_without_trivia, added_without_trivia, run_bared}}
+
+-- what is left behind two rows
+pub left_after-⊕ : (f g : AnnotatedForest) (ts : List Token) → left_after (f ⊕ g) ts ≡ left_after g (left_after f ts)
+left_after-⊕ blank g ts = refl
+left_after-⊕ (token k t f) g ts = left_after-⊕ f g (tail_of (from_item ts))
+left_after-⊕ (branch k c f) g ts = left_after-⊕ f g (left_after c (from_item ts))
+left_after-⊕ (fault n c f) g ts = left_after-⊕ f g (rest_after (is_last n) (left_after c (from_item ts)))
+
+-- two rows with their trivia, the second from where the first ends
+pub with_trivia-⊕ : (f g : AnnotatedForest) (ts : List Token) → with_trivia (f ⊕ g) ts ≡ with_trivia f ts ⊕ with_trivia g (left_after f ts)
+with_trivia-⊕ blank g ts = refl
+with_trivia-⊕ (token k t f) g ts =
+    let rest = tail_of (from_item ts) in rw (with_trivia-⊕ f g rest)
+    (sym (⊕-assoc (trivia_before ts) (token k t (with_trivia f rest)) (with_trivia g (left_after f rest))))
+with_trivia-⊕ (branch k c f) g ts =
+    let rest = left_after c (from_item ts) in
+    rw (with_trivia-⊕ f g rest) (sym (⊕-assoc (trivia_before ts) (branch k (with_trivia c (from_item ts)) (with_trivia f rest))
+    (with_trivia g (left_after f rest))))
+with_trivia-⊕ (fault n c f) g ts =
+    let later = rest_after (is_last n) (left_after c (from_item ts)) in
+    let own = trivia_after (is_last n) (left_after c (from_item ts)) in
+    rw (with_trivia-⊕ f g later, sym (⊕-assoc own (with_trivia f later) (with_trivia g (left_after f later))))
+    (sym (⊕-assoc (trivia_before ts) (fault n (with_trivia c (from_item ts)) (own ⊕ with_trivia f later)) (with_trivia g (left_after f later))))
+
+-- some tree stands in a row
+abbrev pub HasTree : AnnotatedForest → Type 0
+HasTree blank = ⊥
+HasTree (token k t f) = Unit {0}
+HasTree (branch k c f) = Unit {0}
+HasTree (fault n c f) = Unit {0}
+
+-- a tree behind a row stands in both
+pub tree_behind : (f g : AnnotatedForest) → HasTree g → HasTree (f ⊕ g)
+tree_behind blank g h = h
+tree_behind (token k t f) g h = tt
+tree_behind (branch k c f) g h = tt
+tree_behind (fault n c f) g h = tt
+
+-- no trivia come first
+abbrev pub HasNoLeadingTrivia : List Token → Type 0
+HasNoLeadingTrivia ts = from_item ts ≡ ts
+
+-- from the first item on no trivia come first
+pub from_no_leading_trivia : (ts : List Token) → HasNoLeadingTrivia (from_item ts)
+from_no_leading_trivia ts = from_item-from_item ts
+
+-- and so none are before it
+pub no_leading_trivia : (ts : List Token) → HasNoLeadingTrivia ts → trivia_before ts ≡ blank
+no_leading_trivia ts h = ap trivia_before (sym h) ∙ trivia-from_item ts
+
+-- a row is what its items and the tokens make of it, and these tokens are left behind it
+pub record HasTrivia (row : AnnotatedForest) (ts us : List Token) : Type 0 where
+  pub same : with_trivia (without_trivia row) ts ≡ row
+  pub left : left_after (without_trivia row) ts ≡ us
+
+-- nothing is read yet
+pub with_trivia_blank : (ts : List Token) → HasTrivia blank ts ts
+with_trivia_blank ts = record { same = refl; left = refl }
+
+-- what some items make of the tokens, by what they make of those from the first item on
+record IsAhead (c : AnnotatedForest) (ts : List Token) : Type 0 where
+  pub same : with_trivia c ts ≡ trivia_before ts ⊕ with_trivia c (from_item ts)
+  pub left : left_after c ts ≡ left_after c (from_item ts)
+
+-- trivia come before the first tree
+ahead : (c : AnnotatedForest) (ts : List Token) → HasTree c → IsAhead c ts
+ahead blank ts h = absurd h
+ahead (token k t f) ts h = record { same = rw (from_item-from_item ts, trivia-from_item ts) refl; left = rw (from_item-from_item ts) refl }
+ahead (branch k c f) ts h = record { same = rw (from_item-from_item ts, trivia-from_item ts) refl; left = rw (from_item-from_item ts) refl }
+ahead (fault n c f) ts h = record { same = rw (from_item-from_item ts, trivia-from_item ts) refl; left = rw (from_item-from_item ts) refl }
+
+-- a row with trivia and trees behind it
+pub with_trivia_added : (row g : AnnotatedForest) (ts us vs : List Token) → HasTrivia row ts us → HasTrivia g (from_item us) vs → HasTree (without_trivia g)
+    → HasTrivia (with_leading true row us ⊕ g) ts vs
+with_trivia_added row g ts us vs h j t =
+    let parts : without_trivia (with_leading true row us ⊕ g) ≡ without_trivia row ⊕ without_trivia g = added_without_trivia row us g refl in
+    let a : IsAhead (without_trivia g) us = ahead (without_trivia g) us t in
+    record {
+      same = rw (parts, with_trivia-⊕ (without_trivia row) (without_trivia g) ts, h.same, h.left, a.same, j.same) (sym (⊕-assoc row (trivia_before us) g));
+      left = rw (parts, left_after-⊕ (without_trivia row) (without_trivia g) ts, h.left, a.left) j.left;
+    }
+
+-- a tree is in a row with trivia and trees behind it
+pub tree_added : (row : AnnotatedForest) (us : List Token) (g : AnnotatedForest) → HasTree (without_trivia g)
+    → HasTree (without_trivia (with_leading true row us ⊕ g))
+tree_added row us g h = subst HasTree (sym (added_without_trivia row us g refl)) (tree_behind (without_trivia row) (without_trivia g) h)
+
+-- a node over a row
+pub with_trivia_branch : (k : SyntaxKind) (row : AnnotatedForest) (ts us : List Token) → HasNoLeadingTrivia ts → HasTrivia row ts us
+    → HasTrivia (one_branch k row) ts us
+with_trivia_branch k row ts us b h = record { same = rw (no_leading_trivia ts b, b, h.same) refl; left = ap (left_after (without_trivia row)) b ∙ h.left }
+
+-- an error node over a row, behind which trivia need not stand
+pub with_trivia_fault : (n : Note) (row : AnnotatedForest) (ts us : List Token) → is_last n ≡ false → HasNoLeadingTrivia ts → HasTrivia row ts us
+    → HasTrivia (one_fault n row) ts us
+with_trivia_fault n row ts us e b h = record { same = rw (no_leading_trivia ts b, b, e, h.same) refl; left = rw (b, e) h.left }
+
+-- the node of what is too deep, with the trivia behind it
+pub with_trivia_last : (row : AnnotatedForest) (ts us : List Token) → HasNoLeadingTrivia ts → HasTrivia row ts us
+    → HasTrivia (with_leading true (one_fault TooDeep row) us) ts (from_item us)
+with_trivia_last row ts us b h =
+    let bare : without_trivia (with_leading true (one_fault TooDeep row) us) ≡ one_fault TooDeep (without_trivia row) =
+    with_leading_without_trivia (one_fault TooDeep row) us in
+    record {
+      same = ap (λ x. with_trivia x ts) bare ∙ rw (no_leading_trivia ts b, b, h.same, h.left) (ap (fault TooDeep row) (⊕-blank (trivia_before us)));
+      left = ap (λ x. left_after x ts) bare ∙ ap (λ x. from_item (left_after (without_trivia row) x)) b ∙ ap from_item h.left;
+    }
+
+-- the next item as a leaf
+pub with_trivia_leaf : (k : SyntaxKind) (ts : List Token) → HasTrivia (leaf true k ts) (from_item ts) (after_item true ts)
+with_trivia_leaf k ts = by_head (from_item ts) refl
+  where
+    by_item : (x : Token) (xs : List Token) → is_trivia x.kind ≡ false → HasTrivia (token (leaf_kind k x) x blank) (x ∷ xs) xs
+    by_item x xs e =
+        let bare : without_trivia (token (leaf_kind k x) x blank) ≡ token (leaf_kind k x) x blank = ap (λ y. token_if y (leaf_kind k x) x blank) e in
+        let here : from_item (x ∷ xs) ≡ x ∷ xs = ap (λ y. from_item_if y x xs (from_item xs)) e in
+        record {
+          same =
+              ap (λ y. with_trivia y (x ∷ xs)) bare ∙ ap (λ y. trivia_if y x (trivia_before xs) ⊕ token (leaf_kind k x) x blank) e;
+          left = ap (λ y. left_after y (x ∷ xs)) bare ∙ ap tail_of here;
+        }
+
+    by_head : (xs : List Token) → from_item ts ≡ xs → HasTrivia (leaf_in k xs) xs (tail_of xs)
+    by_head [] e = with_trivia_blank []
+    by_head (x ∷ xs) e = by_item x xs (from_item_item ts x xs e)
+
+-- there is one where an item is left
+pub tree_leaf : (k : SyntaxKind) (ts : List Token) → is_there (head_kind (items ts)) ≡ true → HasTree (without_trivia (leaf true k ts))
+tree_leaf k ts h = by_head (from_item ts) refl (subst (λ (x : List Token). is_there (head_kind x) ≡ true) (items-view ts) h)
+  where
+    by_head : (xs : List Token) → from_item ts ≡ xs → is_there (head_kind (items_head xs)) ≡ true → HasTree (without_trivia (leaf_in k xs))
+    by_head [] e h = absurd (true_is_not_false (sym h))
+    by_head (x ∷ xs) e h = rw (from_item_item ts x xs e) tt
+
+-- the first items as leaves
+pub with_trivia_run : (run ts us : List Token) → items ts ≡ run ++ us → HasTrivia (run_row true run ts) (from_item ts) (run_rest true run ts)
+with_trivia_run run ts us e =
+    let w = run_bared run ts us e in
+    record { same = ap (λ x. with_trivia x (from_item ts)) w.same; left = ap (λ x. left_after x (from_item ts)) w.same }

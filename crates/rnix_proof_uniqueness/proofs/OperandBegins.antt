@@ -1,0 +1,212 @@
+-- What the first items of an operand begin.
+use Rattle.std.proofs.{lemmas.Bool.and_parts, Common.{◌≡◌, ◌++◌, subst, append_assoc, arith, ℕ, ◌≤◌, Bool, true, false, List, [], ◌∷◌, Some, refl, ap, sym}}
+use Rattle.{std.proofs.Common.{◌∙◌, ◌&&◌, if◌then◌else◌, nat_le, Option, None, nat_eq}, rnix_kinds.specs.declared.kinds.SyntaxKind.SyntaxKind}
+use Rattle.rnix_kinds.specs.declared.kinds.SyntaxKind.TheVariants.{TOKEN_AT, TOKEN_COLON, TOKEN_IDENT, TOKEN_INVERT, TOKEN_L_BRACE, TOKEN_LET, TOKEN_SUB}
+use Rattle.rnix_kinds.specs.declared.kinds.SyntaxKind.TheVariants.{NODE_APPLY, NODE_BIN_OP, NODE_HAS_ATTR, NODE_IDENT_PARAM, NODE_LAMBDA, NODE_LEGACY_LET}
+use Rattle.{rnix_kinds.specs.declared.kinds.SyntaxKind.TheVariants.{NODE_PATTERN, NODE_SELECT, NODE_UNARY_OP}, rnix_grammar.specs.Actions.{follow, more_action}}
+use Rattle.rnix_grammar.specs.{Actions.{goes_on as goes_between}, Levels.binding_power, AnnotatedForest.{Token, AnnotatedForest, head_kind, end_from, blank}}
+use Rattle.rnix_grammar.specs.{AnnotatedForest.{token, branch, one_branch, leaf_kind_as, Stray}, Operands.{follows, first_tree, goes_on}}
+use Rattle.rnix_proof_lemmas.specs.BegunOperands.{IsBegun, kind_of}
+use Rattle.rnix_grammar.specs.{declared.action.Action.Action, Fault.Fault, TreeLevels.{row_level, level_of}}
+use Rattle.rnix_proof_lemmas.specs.Machine.{Operand, Frame, machine, opened, perform}
+use Rattle.rnix_grammar.specs.{declared.{position.Position.Position, begin.Begin.Begin}, Tables.is_cur_pos, Begins.begin_of}
+use Rattle.rnix_proof_lemmas.specs.Machine.{operand_on, Runs, Node}
+use Rattle.rnix_grammar.specs.{Begins.{begin_name, begin_let, is_pattern, second_kind}, Rows.{is_atom, is_expression}, Rules.{after, done, row as row_of_kind}}
+use Rattle.rnix_proof_lemmas.proofs.{Basics.{true_is_not_false, choice}, LevelLemmas.{at_most, at_most_true}}
+use Rattle.rnix_proof_lemmas.specs.SlotRows.{left_at}
+use Rattle.rnix_proof_lemmas.proofs.FollowLemmas.{FollowedTo, follows_level, atom_is_selection_level, followed_atom, followed_negated, followed_inverted, followed_keyword}
+use Rattle.{rnix_proof_lemmas.proofs.TokenEnds.end_behind, rnix_proof_uniqueness.proofs.StepReads.{runs_on, runs_to, runs_from, step_to, IsOperandRead, ReadsTree}}
+use Rattle.rnix_proof_uniqueness.proofs.OneAction.{is_at}
+use Rattle.rnix_grammar.specs.declared.position.Position.TheVariants as p
+use Rattle.rnix_grammar.specs.declared.action.Action.TheVariants as a
+use Rattle.rnix_grammar.specs.declared.begin.Begin.TheVariants as b
+
+-- an item goes on with a tree, as far as the tree's level
+pub goes : (level max_bp : ℕ) (i : SyntaxKind) (x : AnnotatedForest) → FollowedTo max_bp x → follows i x ≡ true → level ≤ binding_power i
+    → more_action level max_bp (Some i) ≡ follow i
+goes level max_bp i x b f l =
+    let w = (b i).1 f in
+    ap (λ z. if z then follow i else a.EndOperand) (all_three (nat_le 1 (binding_power i)) (nat_le level (binding_power i)) (nat_le (binding_power i) max_bp)
+    (at_most_true 1 (binding_power i) w.0) (at_most_true level (binding_power i) l) (at_most_true (binding_power i) max_bp w.1))
+  where
+    all_three : (u v w : Bool) → u ≡ true → v ≡ true → w ≡ true → (u && (v && w)) ≡ true
+    all_three u v w e f g = ap (λ z. z && (v && w)) e ∙ ap (λ z. z && w) f ∙ g
+
+-- an operand that no item goes on with ends
+pub settles : (level max_bp : ℕ) (x : AnnotatedForest) (us : List Token) → FollowedTo max_bp x → goes_on level x us ≡ false
+    → more_action level max_bp (head_kind us) ≡ a.EndOperand
+settles level max_bp x [] b h = refl
+settles level max_bp x (t ∷ ts) b h = by (goes_between level max_bp t.kind) refl
+  where
+    by : (w : Bool) → goes_between level max_bp t.kind ≡ w → (if w then follow t.kind else a.EndOperand) ≡ a.EndOperand
+    by false e = refl
+    by true e =
+        let u = and_parts (nat_le 1 (binding_power t.kind)) (nat_le level (binding_power t.kind) && nat_le (binding_power t.kind) max_bp) e in
+        let v = and_parts (nat_le level (binding_power t.kind)) (nat_le (binding_power t.kind) max_bp) u.1 in
+        let f : follows t.kind x ≡ true = (b t.kind).0 (at_most 1 (binding_power t.kind) u.0) (at_most (binding_power t.kind) max_bp v.1) in
+        absurd (true_is_not_false (sym (ap (λ z. z && nat_le level (binding_power t.kind)) f ∙ v.0) ∙ h))
+
+-- two trees whose first trees are of one kind begin alike
+pub begun_same : (level : ℕ) (x y : AnnotatedForest) (ts : List Token) → first_tree x ≡ first_tree y → IsBegun level x ts → IsBegun level y ts
+begun_same level x y [] e h = h
+begun_same level x y (t ∷ ts) e h = h ∙ e
+
+-- a tree with which an item goes on is the first of another that is read, if the steps read the rest of that
+pub continued : (zs xs : List Token) (x z : AnnotatedForest) (i : SyntaxKind) (action : Action) (max_bp d n : ℕ) (us : List Token) (es ds : List Fault)
+    → follows i x ≡ true
+    → head_kind (xs ++ us) ≡ Some i → follow i ≡ action → first_tree z ≡ first_tree x → row_level z ≤ binding_power i → FollowedTo max_bp z
+    → ReadsTree d n zs x (xs ++ us) es
+    → ((level other : ℕ) (f : Frame) (fs : List Frame) (gs : List Fault)
+    → Runs false (perform false action (opened Operand (p.AfterOperand level other) d x) (f ∷ fs) (xs ++ us) (end_from n zs) gs)
+    (machine (opened Operand (p.AfterOperand level max_bp) d z ∷ (f ∷ fs)) us (end_from (end_from n zs) xs) (gs ++ ds)))
+    → ReadsTree d n (zs ++ xs) z us (es ++ ds)
+continued zs xs x z i action max_bp d n us es ds goes_so next act same least followed tree rest level f fs gs min_bp begins =
+    by (tree level f fs gs (omega (arith, min_bp, least, follows_level i x goes_so))
+    (begun_same level z x (zs ++ (xs ++ us)) same (subst (IsBegun level z) (append_assoc zs xs us) begins)))
+  where
+    by : IsOperandRead level d n zs x (xs ++ us) es f fs gs → IsOperandRead level d n (zs ++ xs) z us (es ++ ds) f fs gs
+    by r = record {
+      max_bp = max_bp;
+      followed = followed;
+      runs =
+          runs_from (ap (λ w. operand_on false level d f fs w w n gs) (append_assoc zs xs us))
+          (runs_on r.runs
+          (step_to
+          (ap (λ w. perform false w (opened Operand (p.AfterOperand level r.max_bp) d x) (f ∷ fs) (xs ++ us) (end_from n zs) (gs ++ es))
+          (ap (more_action level r.max_bp) next ∙ goes level r.max_bp i x r.followed goes_so (omega (arith, min_bp, least)) ∙ act))
+          (runs_to
+          (ap (λ w. machine (opened Operand (p.AfterOperand level max_bp) d z ∷ (f ∷ fs)) us (end_from (end_from n zs) xs) w) (append_assoc gs es ds)
+          ∙ ap (λ w. machine (opened Operand (p.AfterOperand level max_bp) d z ∷ (f ∷ fs)) us w (gs ++ (es ++ ds))) (sym (end_behind n zs xs)))
+          (rest level r.max_bp f fs (gs ++ es)))));
+    }
+
+-- the kinds of expressions that begin with one item
+abbrev pub begins_with_item : SyntaxKind → Bool
+begins_with_item NODE_BIN_OP = false
+begins_with_item NODE_HAS_ATTR = false
+begins_with_item NODE_APPLY = false
+begins_with_item NODE_SELECT = false
+begins_with_item NODE_LAMBDA = false
+begins_with_item NODE_LEGACY_LET = false
+begins_with_item k = is_expression k
+
+-- the highest level behind a node that begins with an item of a kind
+abbrev max_bp_at : SyntaxKind → SyntaxKind → ℕ
+max_bp_at NODE_UNARY_OP TOKEN_INVERT = 8
+max_bp_at NODE_UNARY_OP i = 13
+max_bp_at k i = if is_atom k then 16 else 0
+
+-- what an item of a kind begins
+abbrev pub BegunBy : SyntaxKind → Begin → Type 0
+BegunBy i (b.Leaf k) = (begins_with_item k ≡ true) × (after (row_of_kind k) (leaf_kind_as k i) ≡ done) × (is_atom k ≡ true)
+BegunBy i (b.Node k z max_bp) = (begins_with_item k ≡ true) × (after (row_of_kind k) (leaf_kind_as k i) ≡ left_at z) × (is_at k (p.Left z) ≡ true)
+    × (max_bp_at k i ≡ max_bp)
+BegunBy i b.NameLambda = i ≡ TOKEN_IDENT
+BegunBy i b.BoundLambda = i ≡ TOKEN_IDENT
+BegunBy i b.PatternLambda = i ≡ TOKEN_L_BRACE
+BegunBy i begin = Unit {0}
+
+-- what a name begins
+name_begins : (text : List ℕ) (second : Option SyntaxKind) → BegunBy TOKEN_IDENT (begin_name text second)
+name_begins text None = choice (BegunBy TOKEN_IDENT) (is_cur_pos text) (refl, refl, refl) (refl, refl, refl)
+name_begins text (Some TOKEN_COLON) = refl
+name_begins text (Some TOKEN_AT) = refl
+name_begins text (Some _) = choice (BegunBy TOKEN_IDENT) (is_cur_pos text) (refl, refl, refl) (refl, refl, refl)
+
+-- what `let` begins
+let_begins : (second : Option SyntaxKind) → BegunBy TOKEN_LET (begin_let second)
+let_begins (Some TOKEN_L_BRACE) = tt
+let_begins _ = (refl, refl, refl, refl)
+
+-- what begins where an expression may stand
+scoped : (i : SyntaxKind) (level : ℕ) (begin : Begin) → BegunBy i begin → BegunBy i (if nat_eq level 0 then begin else b.Stray)
+scoped i level begin h = choice (BegunBy i) (nat_eq level 0) h tt
+
+-- so it is for each beginning
+begins_by : (level : ℕ) (i : SyntaxKind) (text : List ℕ) (second third : Option SyntaxKind) → BegunBy i (begin_of level i text second third)
+begins_by level TOKEN_IDENT text second third = name_begins text second
+begins_by level TOKEN_L_BRACE text second third = choice (BegunBy TOKEN_L_BRACE) (is_pattern second third) refl (refl, refl, refl, refl)
+begins_by level TOKEN_LET text second third = choice (BegunBy TOKEN_LET) (nat_eq level 0) (let_begins second) tt
+begins_by level TOKEN_INVERT text second third = choice (BegunBy TOKEN_INVERT) (nat_le level 9) (refl, refl, refl, refl) tt
+begins_by level TOKEN_SUB text second third = choice (BegunBy TOKEN_SUB) (nat_le level 14) (refl, refl, refl, refl) tt
+begins_by level i text second third = first_of (assumption, search scoped)
+
+-- the beginning of what is no such expression
+abbrev pub begin_for : SyntaxKind → SyntaxKind → Begin
+begin_for NODE_LEGACY_LET i = b.LegacyLet
+begin_for NODE_IDENT_PARAM i = b.NameLambda
+begin_for NODE_PATTERN TOKEN_IDENT = b.BoundLambda
+begin_for NODE_PATTERN i = b.PatternLambda
+begin_for k i = b.Stray
+
+-- what begins no such expression is known by the kind of the first tree
+special : (i k : SyntaxKind) (begin : Begin) → begins_with_item k ≡ false → kind_of begin ≡ k → BegunBy i begin → begin ≡ begin_for k i
+special i k (b.Leaf j) h e w = absurd (true_is_not_false (sym w.0 ∙ ap begins_with_item e ∙ h))
+special i k (b.Node j z max_bp) h e w = absurd (true_is_not_false (sym w.0 ∙ ap begins_with_item e ∙ h))
+special i k b.BoundLambda h e w = ap (begin_for NODE_PATTERN) (sym w) ∙ ap (λ j. begin_for j i) e
+special i k b.PatternLambda h e w = ap (begin_for NODE_PATTERN) (sym w) ∙ ap (λ j. begin_for j i) e
+special i k begin h e w = ap (λ j. begin_for j i) e
+
+-- the beginning of some items, if the tree is no expression that begins with an item
+pub begins_special : (k : SyntaxKind) → begins_with_item k ≡ false → (level : ℕ) (t : Token) (ts : List Token)
+    → kind_of (begin_of level t.kind t.text (head_kind ts) (second_kind ts)) ≡ k
+    → (begin_of level t.kind t.text (head_kind ts) (second_kind ts) ≡ begin_for k t.kind) × BegunBy t.kind (begin_for k t.kind)
+    × (kind_of (begin_for k t.kind) ≡ k)
+begins_special k h level t ts e =
+    let begin : Begin = begin_of level t.kind t.text (head_kind ts) (second_kind ts) in
+    let w : BegunBy t.kind begin = begins_by level t.kind t.text (head_kind ts) (second_kind ts) in
+    let s = special t.kind k begin h e w in
+    (s, subst (BegunBy t.kind) s w, ap kind_of (sym s) ∙ e)
+
+-- how an expression that begins with an item does so: it is the item, or a node that goes on at a position
+pub data BegunByItem (k i : SyntaxKind) (begin : Begin) : Type 0 where
+  led_leaf : begin ≡ b.Leaf k → after (row_of_kind k) (leaf_kind_as k i) ≡ done → is_atom k ≡ true → BegunByItem k i begin
+  led_node : (z max_bp : ℕ) → begin ≡ b.Node k z max_bp → after (row_of_kind k) (leaf_kind_as k i) ≡ left_at z → is_at k (p.Left z) ≡ true
+      → max_bp_at k i ≡ max_bp → BegunByItem k i begin
+
+-- each such expression begins so, by its beginning
+led_by : (k i : SyntaxKind) (begin : Begin) → begins_with_item k ≡ true → kind_of begin ≡ k → BegunBy i begin → BegunByItem k i begin
+led_by k i (b.Leaf j) h e w =
+    let v = subst (λ (z : SyntaxKind). BegunBy i (b.Leaf z)) e w in led_leaf (ap b.Leaf e) v.1 v.2
+led_by k i (b.Node j z max_bp) h e w =
+    let v = subst (λ (x : SyntaxKind). BegunBy i (b.Node x z max_bp)) e w in led_node z max_bp (ap (λ x. b.Node x z max_bp) e) v.1 v.2 v.3
+led_by k i _ h e w = absurd (true_is_not_false (sym h ∙ ap begins_with_item (sym e)))
+
+-- such an expression is its own first tree
+first_led : (k : SyntaxKind) (c f : AnnotatedForest) → begins_with_item k ≡ true → first_tree (branch k c f) ≡ k
+first_led NODE_BIN_OP c f h = absurd (true_is_not_false (sym h))
+first_led _ c f h = cc
+
+-- each such expression begins so
+pub begins_led : (k : SyntaxKind) → begins_with_item k ≡ true → (level : ℕ) (t : Token) (ts : List Token) (c : AnnotatedForest)
+    → kind_of (begin_of level t.kind t.text (head_kind ts) (second_kind ts)) ≡ first_tree (one_branch k c)
+    → BegunByItem k t.kind (begin_of level t.kind t.text (head_kind ts) (second_kind ts))
+begins_led k h level t ts c e =
+    led_by k t.kind (begin_of level t.kind t.text (head_kind ts) (second_kind ts)) h (e
+    ∙ first_led k c blank h) (begins_by level t.kind t.text (head_kind ts) (second_kind ts))
+
+-- the nodes of prefix operators
+abbrev is_unary : SyntaxKind → Bool
+is_unary NODE_UNARY_OP = true
+is_unary k = false
+
+-- the level of such an expression that is no atom and has no prefix operator
+keyword_level : (k : SyntaxKind) (c : AnnotatedForest) → begins_with_item k ≡ true → is_atom k ≡ false → is_unary k ≡ false → level_of k c ≡ 0
+keyword_level NODE_BIN_OP c h a u = absurd (true_is_not_false (sym h))
+keyword_level _ c h a u = cc
+
+-- what goes on with it
+followed_plain : (k : SyntaxKind) (c : AnnotatedForest) → begins_with_item k ≡ true → is_unary k ≡ false
+    → FollowedTo (if is_atom k then 16 else 0) (one_branch k c)
+followed_plain k c h u = by (is_atom k) refl
+  where
+    by : (w : Bool) → is_atom k ≡ w → FollowedTo (if w then 16 else 0) (one_branch k c)
+    by true a = followed_atom (one_branch k c) (atom_is_selection_level k c a) a
+    by false a = followed_keyword (one_branch k c) (keyword_level k c h a u) a
+
+-- what goes on with such a tree
+pub followed_item_begun : (k i : SyntaxKind) (t : Token) (f : AnnotatedForest) → begins_with_item k ≡ true
+    → FollowedTo (max_bp_at k i) (one_branch k (token (leaf_kind_as k i) t f))
+followed_item_begun NODE_UNARY_OP TOKEN_INVERT t f h = followed_inverted (one_branch NODE_UNARY_OP (token TOKEN_INVERT t f)) refl refl
+followed_item_begun NODE_UNARY_OP i t f h = followed_negated (one_branch NODE_UNARY_OP (token i t f)) refl refl
+followed_item_begun k i t f h = followed_plain k (token (leaf_kind_as k i) t f) h refl
