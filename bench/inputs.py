@@ -75,13 +75,25 @@ SHAPES = {
     "semicolons": ("", ";", ""),
 }
 
+# Broken texts for nix_check, each with many errors.
+BROKEN = {
+    # a comma in a list, and `=` for `==`, in each package
+    "errors": ("{\n  ", PACKAGE.replace("hello-12 ]", "hello-12, 1 ]").replace("minor == 0", "minor = 0") + "\n  ", "}"),
+    "commas": ("", ",", ""),
+    "open": ("", "[", ""),
+    "no-equals": ("", "{ a b } ", ""),
+    "repeated": ("[\n", "  ({ a, b ? 1, a }: a + b + 1)\n", "]"),
+    "one-pattern": ("{ ", "a, ", "b }: 1"),
+    "assigns": ("{\n", "  a = f\n    b c\n    d = 1;\n", "}"),
+}
+
 # Their trees are about as deep as they have tokens, so that each line of a printed tree is indented by as much.
 DEEP = {"sums", "calls", "lambdas", "strings", "plus", "angles", "no-values", "semicolons"}
 
 
 def text_of(shape, size):
     """A text of the shape, of at most so many bytes."""
-    head, turn, tail = SHAPES[shape]
+    head, turn, tail = SHAPES.get(shape) or BROKEN[shape]
     return head + turn * ((size - len(head) - len(tail)) // len(turn)) + tail
 
 

@@ -149,13 +149,13 @@ next_dollar b e = subst IsNext (sym e) (omega arith, omega arith, refl, refl, re
 
 module _ (t s : List ℕ) (is : is_relative (t ++ s) ≡ true) (fits : Fits t (first_segment Relative 0 (t ++ s))) where
   -- the place of the first slash, what precedes it, and what follows it
-  slash_at : get_or (t ++ s) (prefix_len (class_test Step) (t ++ s)) 0 ≡ 47
+  pub slash_at : get_or (t ++ s) (prefix_len (class_test Step) (t ++ s)) 0 ≡ 47
   slash_at = (on (t ++ s) is).0
 
   slash_next : (get_or (t ++ s) (prefix_len (class_test Step) (t ++ s) + 1) 0 == 47) ≡ false
   slash_next = (on (t ++ s) is).1
 
-  slash_inside : prefix_len (class_test Step) (t ++ s) < length t
+  pub slash_inside : prefix_len (class_test Step) (t ++ s) < length t
   slash_inside =
       let path : is_path (get_or (t ++ s) (prefix_len (class_test Step) (t ++ s)) 0) ≡ true = ap is_path slash_at in
       omega (arith, run_longer is_path (class_test Step) (t ++ s) step_is_path refl path, segment_len Relative (Open (Path Relative)) Stay 0 (t ++ s), fits.0)

@@ -101,7 +101,8 @@ module _ (t s : List ℕ) (some : 0 < length t) where
 
   slash_cases : (cut : Cut) → get_or (t ++ s) 0 0 ≡ 47 → (a : Bool) → begins (codes "//") (t ++ s) ≡ a → (b : Bool) → begins_path (t ++ s) ≡ b
       → cond a (Some (plain TOKEN_UPDATE 2))
-      (cond b (Some (first_segment Root 0 (t ++ s))) (cond (begins (codes "/") (t ++ s)) (Some (plain TOKEN_DIV 1)) None)) ≡ Some cut → Fits t cut → Keeps slash t s (Some cut) cut.change
+      (cond b (Some (first_segment Root 0 (t ++ s))) (cond (begins (codes "/") (t ++ s)) (Some (plain TOKEN_DIV 1)) None)) ≡ Some cut
+      → Fits t cut → Keeps slash t s (Some cut) cut.change
   slash_cases cut first true e b f is fits =
       let same = same_Some (plain TOKEN_UPDATE 2) cut is in
       subst (λ (c : Cut). Fits t c → Keeps slash t s (Some c) c.change) same

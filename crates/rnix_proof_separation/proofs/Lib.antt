@@ -8,6 +8,7 @@ pub mod KeptWords
 pub mod KeptStrings
 pub mod KeptComments
 pub mod KeptNormal
+pub mod Touching
 pub mod Stacks
 pub mod SeparatedTokens
 pub mod SeparatedExamples

@@ -1,7 +1,7 @@
 -- Texts that are separated, and what is not so: errors may be cut otherwise, and a comment goes on to the end of its line.
 use Rattle.std.{proofs.{lemmas.Bool.eqb-false, Common.{◌≡◌, ℕ, true, List, [], ◌∷◌, refl, ap, inl, inr, lit<, length}}, specs.{Prelude.codes, Str.chars}}
 use Rattle.rnix_kinds.specs.declared.kinds.SyntaxKind.TheVariants.{TOKEN_ADD, TOKEN_COMMENT, TOKEN_ERROR, TOKEN_IDENT, TOKEN_INTERPOL_END, TOKEN_INTERPOL_START}
-use Rattle.rnix_kinds.specs.declared.kinds.SyntaxKind.TheVariants.{TOKEN_L_BRACK, TOKEN_PATH_REL, TOKEN_STRING_END, TOKEN_STRING_START}
+use Rattle.rnix_kinds.specs.declared.kinds.SyntaxKind.TheVariants.{TOKEN_L_BRACK, TOKEN_L_PAREN, TOKEN_PATH_REL, TOKEN_R_PAREN, TOKEN_STRING_END, TOKEN_STRING_START}
 use Rattle.rnix_kinds.specs.declared.tokenizer.rule.{Cut.Cut, PathStart.TheVariants.Relative, Mode.TheVariants.{Quoted, Interpolation, Path}}
 use Rattle.rnix_kinds.specs.declared.tokenizer.rule.Change.TheVariants.{Open, Close}
 use Rattle.rnix_kinds.specs.Lexical.{Texts.{space_len, begins_space}, Plain.plain, Strings.content_from}
@@ -31,7 +31,17 @@ unfolding cut_at normal_cut space_len chars begins_space encode
 sums =
     token [] (codes "a+b") (plain TOKEN_IDENT 1) (codes " ") (codes "+ b") (lit< tt) refl refl (refl, inr refl)
     (token [] (codes "+b") (plain TOKEN_ADD 1) (codes " ") (codes "b") (lit< tt) refl refl (refl, inr refl)
-    (token [] (codes "b") (plain TOKEN_IDENT 1) [] [] (lit< tt) refl refl (refl, inl (refl, refl)) (none [])))
+    (token [] (codes "b") (plain TOKEN_IDENT 1) [] [] (lit< tt) refl refl (refl, inl (refl, inl refl)) (none [])))
+
+-- `( a )` and `(a)`
+pub parens : AreSeparated [] (codes "( a )") (codes "(a)")
+unfolding cut_at normal_cut space_len chars begins_space encode
+parens =
+    token [] (codes "( a )") (plain TOKEN_L_PAREN 1) [] (codes "a)") (lit< tt) refl refl (refl, inl (refl, inr refl))
+    (space [] (codes " a )") 1 (codes "a)") (lit< tt) refl
+    (token [] (codes "a )") (plain TOKEN_IDENT 1) [] (codes ")") (lit< tt) refl refl (refl, inl (refl, inr refl))
+    (space [] (codes " )") 1 (codes ")") (lit< tt) refl
+    (token [] (codes ")") (plain TOKEN_R_PAREN 1) [] [] (lit< tt) refl refl (refl, inl (refl, inl refl)) (none [])))))
 
 -- `''${x}''` and `''${ x }''`
 pub strings : AreSeparated [] (codes "''${x}''") (codes "''${ x }''")
@@ -41,7 +51,7 @@ strings =
     (token (Quoted true ∷ []) (codes "${x}''") dollar (codes " ") (codes "x }''") (lit< tt) refl refl (refl, inr refl)
     (token (Interpolation 0 ∷ Quoted true ∷ []) (codes "x}''") (plain TOKEN_IDENT 1) (codes " ") (codes "}''") (lit< tt) refl refl (refl, inr refl)
     (token (Interpolation 0 ∷ Quoted true ∷ []) (codes "}''") brace [] (codes "''") (lit< tt) refl refl refl
-    (token (Quoted true ∷ []) (codes "''") closing [] [] (lit< tt) refl refl (refl, inl (refl, refl)) (none [])))))
+    (token (Quoted true ∷ []) (codes "''") closing [] [] (lit< tt) refl refl (refl, inl (refl, inl refl)) (none [])))))
 
 -- `./a${b}` and `./a${ b }`
 pub paths : AreSeparated [] (codes "./a${b}") (codes "./a${ b }")
@@ -50,7 +60,7 @@ paths =
     token [] (codes "./a${b}") path [] (codes "${ b }") (lit< tt) refl refl refl
     (token (Path Relative ∷ []) (codes "${b}") dollar (codes " ") (codes "b }") (lit< tt) refl refl (refl, inr refl)
     (token (Interpolation 0 ∷ Path Relative ∷ []) (codes "b}") (plain TOKEN_IDENT 1) (codes " ") (codes "}") (lit< tt) refl refl (refl, inr refl)
-    (token (Interpolation 0 ∷ Path Relative ∷ []) (codes "}") brace [] [] (lit< tt) refl refl (refl, inl (refl, refl)) (none (Path Relative ∷ [])))))
+    (token (Interpolation 0 ∷ Path Relative ∷ []) (codes "}") brace [] [] (lit< tt) refl refl (refl, inl (refl, inl refl)) (none (Path Relative ∷ [])))))
 
 -- `#c` and a line feed before `a`, and two line feeds
 pub comments : AreSeparated [] (codes "#c\na") (codes "#c\n\na")
@@ -58,7 +68,7 @@ unfolding cut_at normal_cut space_len chars begins_space encode
 comments =
     token [] (codes "#c\na") (plain TOKEN_COMMENT 2) (codes "\n\n") (codes "a") (lit< tt) refl refl (refl, inr refl)
     (space [] (codes "\na") 1 (codes "a") (lit< tt) refl
-    (token [] (codes "a") (plain TOKEN_IDENT 1) [] [] (lit< tt) refl refl (refl, inl (refl, refl)) (none [])))
+    (token [] (codes "a") (plain TOKEN_IDENT 1) [] [] (lit< tt) refl refl (refl, inl (refl, inl refl)) (none [])))
 
 -- behind a comment to the end of its line, a blank belongs to the comment
 pub joined : solids (tokens_of (codes "#c a")) ≡ solids (tokens_of (codes "#c\na")) → ⊥
@@ -70,7 +80,7 @@ pub errors : AreSeparated [] (codes "a/[") (codes "a/ [")
 unfolding cut_at normal_cut space_len chars begins_space encode
 errors =
     token [] (codes "a/[") (plain TOKEN_ERROR 2) (codes " ") (codes "[") (lit< tt) refl refl (refl, inr refl)
-    (token [] (codes "[") (plain TOKEN_L_BRACK 1) [] [] (lit< tt) refl refl (refl, inl (refl, refl)) (none []))
+    (token [] (codes "[") (plain TOKEN_L_BRACK 1) [] [] (lit< tt) refl refl (refl, inl (refl, inl refl)) (none []))
 
 differ : solids (tokens_of (codes "a/ [")) ≡ solids (tokens_of (codes "a/[")) → ⊥
 unfolding tokens_behind cut_at normal_cut space_len chars begins_space encode

@@ -1,7 +1,7 @@
 -- The tokens of a text that are written with white space between them are cut again.
-use Rattle.std.proofs.Common.{◌≡◌, ℕ, ◌<◌, ◌≤◌, Bool, true, false, not, ◌||◌, ◌==◌, List, [], ◌∷◌, ◌++◌, length, get_or, take, drop, IsUtf8}
+use Rattle.std.proofs.Common.{◌≡◌, ℕ, ◌<◌, ◌≤◌, Bool, true, false, not, ◌&&◌, ◌||◌, ◌==◌, ◌⊎◌, List, [], ◌∷◌, ◌++◌, length, get_or, take, drop, IsUtf8}
 use Rattle.std.proofs.Common.{Option, Some, None, refl, sym, ap, ◌∙◌, subst, inl, inr, arith, cond, eq-eqb, length-append, length-take-le, take-append-drop}
-use Rattle.std.proofs.lemmas.{List.{take_at, drop_at}, Str.IsUtf8-drop, Bool.{true≢false, both_ways, and_parts, and_left, or_left, or_right, not-true}}
+use Rattle.std.proofs.lemmas.{List.{take_at, drop_at}, Str.IsUtf8-drop, Bool.{cases_Bool, true≢false, both_ways, and_parts, and_left, or_left, or_right, not-true}}
 use Rattle.std.{proofs.lemmas.Bool.Decides.nat_tests, specs.{Prelude.codes, List.{prefix_len}}}
 use Rattle.rnix_kinds.specs.declared.kinds.SyntaxKind.TheVariants.{TOKEN_WHITESPACE}
 use Rattle.rnix_kinds.specs.declared.tokenizer.{text.Class.TheVariants.Line, rule.{Cut.Cut, PathStart.PathStart}}
@@ -10,12 +10,13 @@ use Rattle.rnix_kinds.specs.Lexical.{Texts.{begins, is_blank}, Classes.{class_te
 use Rattle.rnix_kinds.specs.Lexical.Tokens.{cut_at, normal_cut, top, without_ended_paths, changed, tokens_under, tokens_of, IsCutOf, IsPathGoingOn}
 use Rattle.rnix_kinds.proofs.LexicalLemmas.{CutLemmas.cut_good, TokensLemmas.{tokens_under-nil, tokens_under-cut, tokens_under-settled, IsPathGoingOn-settled}}
 use Rattle.rnix_kinds.proofs.LexicalLemmas.TokensLemmas.{settled_stays}
-use Rattle.rnix_proof_separation.specs.Separated.{is_white_space, is_error, solids, have_no_error, is_inside, ends_token, IsGap, AreSeparated, none, space, token}
+use Rattle.rnix_proof_separation.specs.Separated.{is_white_space, is_error, solids, have_no_error, is_inside, ends_token, may_touch, NeedsNoGap, is_normal, IsGap, AreSeparated, none, space, token}
 use Rattle.rnix_proof_separation.specs.Separated.{IsSeparated}
 use Rattle.rnix_proof_separation.proofs.{Appended.{apart_edge, is_edge, same_byte, no_run, if_true, if_false, edge_path}, Kept.{Fits, IsBehind, Keeps}}
 use Rattle.rnix_proof_separation.proofs.{KeptNormal.{IsKept, normal_kept}, KeptStrings.{GoesOn, string_kept, string_stop, opened, closed, stop_opened, stop_closed}}
 use Rattle.rnix_proof_separation.proofs.KeptPaths.{segment_kept, change_going, change_ended, dollar_no_path, edge_no_dollar}
 use Rattle.rnix_proof_separation.proofs.{KeptOperators.word_kept, Stacks.{AreNested, nested_changed, nested_settled, normal_settled, inside_settled, outside_settled}}
+use Rattle.rnix_proof_separation.proofs.Touching.{touch_kept}
 use Rattle.rnix_proof_separation.proofs.Stacks.{blanks, string_solid, path_solid}
 
 -- what follows where a string or a path is open begins as before
@@ -28,6 +29,20 @@ Continues mode s r = Unit {0}
 record Follows (modes : List Mode) (t s r : List ℕ) : Type 0 where
   inside : is_inside (top modes) ≡ true → Continues (top modes) s r
   outside : is_inside (top modes) ≡ false → IsBehind t r
+
+-- white space follows, or a byte that may touch the token
+abbrev IsLoose : Bool → List ℕ → List ℕ → Type 0
+IsLoose normal t r = IsBehind t r ⊎ ((normal && may_touch t (get_or r 0 0)) ≡ true)
+
+-- the same, where a byte may touch the token
+record Continued (normal : Bool) (modes : List Mode) (t s r : List ℕ) : Type 0 where
+  inside : is_inside (top modes) ≡ true → Continues (top modes) s r
+  outside : is_inside (top modes) ≡ false → IsLoose normal t r
+
+-- inside strings and paths no byte may
+touchless : (t r : List ℕ) → IsLoose false t r → IsBehind t r
+touchless t r (inl behind) = behind
+touchless t r (inr e) = absurd (true≢false (sym e))
 
 goes_on_dollar : (s : List ℕ) → begins (codes "${") s ≡ true → path_goes_on s ≡ true
 goes_on_dollar s e = or_left _ _ e
@@ -52,6 +67,19 @@ normal_same : (o : List Mode) (t s r : List ℕ) (cut : Cut) → is_inside (top 
     → Follows (without_ended_paths (changed cut.change o) s) t s r → normal_cut (top o) (t ++ r) ≡ cut
 normal_same o t s r cut normal (inl same) follows = same r
 normal_same o t s r cut normal (inr keeps) follows = quiet_kept (normal_cut (top o)) o t s r cut cut.change normal keeps follows
+
+loose_same : (o : List Mode) (t s r : List ℕ) (cut : Cut) → is_inside (top o) ≡ false → IsKept (normal_cut (top o)) t s cut
+    → (may_touch t (get_or r 0 0) ≡ true → normal_cut (top o) (t ++ r) ≡ cut) → (normal : Bool)
+    → Continued normal (without_ended_paths (changed cut.change o) s) t s r → normal_cut (top o) (t ++ r) ≡ cut
+loose_same o t s r cut outer kept touch normal after =
+    elim (cases_Bool (is_inside (top (without_ended_paths (changed cut.change o) s)))) [
+      | inl e ↦ normal_same o t s r cut outer kept (record { inside = after.inside; outside = λ h. absurd (both_ways _ h e) })
+      | inr e ↦ by (after.outside e)
+    ]
+  where
+    by : IsLoose normal t r → normal_cut (top o) (t ++ r) ≡ cut
+    by (inl behind) = normal_same o t s r cut outer kept (record { inside = after.inside; outside = λ h. behind })
+    by (inr h) = touch (and_parts normal (may_touch t (get_or r 0 0)) h).1
 
 path_no_dollar : (b : ℕ) → is_path b ≡ true → (b == 36) ≡ false
 path_no_dollar b e = grind (arith, nat_tests)
@@ -90,27 +118,33 @@ module _ (start : PathStart) (t s r : List ℕ) (some : 0 < length t) where
 
 -- a token is cut again, under the same modes
 step_kept : (o : List Mode) (t s r : List ℕ) (cut : Cut) → AreNested o → IsPathGoingOn (top o) (t ++ s) → 0 < length t → cut_at (top o) (t ++ s) ≡ cut
-    → Fits t cut → is_white_space cut.kind ≡ false → Follows (without_ended_paths (changed cut.change o) s) t s r
+    → Fits t cut → is_white_space cut.kind ≡ false → Continued (is_normal o (changed cut.change o)) (without_ended_paths (changed cut.change o) s) t s r
     → (cut_at (top o) (t ++ r) ≡ cut) × (without_ended_paths o (t ++ r) ≡ o)
 unfolding cut_at
-step_kept [] t s r cut nested going some is fits solid follows =
-    (normal_same [] t s r cut refl (normal_kept None t s some cut is fits solid) follows, refl)
-step_kept (Interpolation n ∷ o) t s r cut nested going some is fits solid follows =
-    (normal_same (Interpolation n ∷ o) t s r cut refl (normal_kept (Some (Interpolation n)) t s some cut is fits solid) follows, refl)
+step_kept [] t s r cut nested going some is fits solid follows = (
+  loose_same [] t s r cut refl (normal_kept None t s some cut is fits solid) (touch_kept None t s some cut is fits r)
+      (is_normal [] (changed cut.change [])) follows,
+  refl,
+)
+step_kept (Interpolation n ∷ o) t s r cut nested going some is fits solid follows = (
+  loose_same (Interpolation n ∷ o) t s r cut refl (normal_kept (Some (Interpolation n)) t s some cut is fits solid)
+      (touch_kept (Some (Interpolation n)) t s some cut is fits r) (is_normal (Interpolation n ∷ o) (changed cut.change (Interpolation n ∷ o))) follows,
+  refl,
+)
 step_kept (Quoted m ∷ o) t s r cut nested going some is fits solid follows = (
   string_kept m t s r some cut is fits
-      (λ e. (subst (λ (c : Change). Follows (without_ended_paths (changed c (Quoted m ∷ o)) s) t s r) e follows).inside refl)
-      (λ e. let after = subst (λ (c : Change). Follows (without_ended_paths (changed c (Quoted m ∷ o)) s) t s r) e follows in
-      apart_edge r (after.outside (ap (λ p. is_inside (top p)) (normal_settled o s (nested.0 refl)) ∙ nested.0 refl)).0),
+      (λ e. (subst (λ (c : Change). Continued false (without_ended_paths (changed c (Quoted m ∷ o)) s) t s r) e follows).inside refl)
+      (λ e. let after = subst (λ (c : Change). Continued false (without_ended_paths (changed c (Quoted m ∷ o)) s) t s r) e follows in
+      apart_edge r (touchless t r (after.outside (ap (λ p. is_inside (top p)) (normal_settled o s (nested.0 refl)) ∙ nested.0 refl))).0),
   refl,
 )
 step_kept (Path k ∷ o) t s r cut nested going some is fits solid follows =
     let kept = path_kept k t s r some cut (begins (codes "${") (t ++ s)) refl is fits going
-    (λ e f. let after = subst (λ (c : Change). Follows (without_ended_paths (changed c (Path k ∷ o)) s) t s r) e follows in
+    (λ e f. let after = subst (λ (c : Change). Continued false (without_ended_paths (changed c (Path k ∷ o)) s) t s r) e follows in
     let stays = settled_stays (Path k ∷ o) s (goes_on_dollar s f) in
-    (subst (λ (p : List Mode). Follows p t s r) stays after).inside refl f)
-    (λ e. let after = subst (λ (c : Change). Follows (without_ended_paths (changed c (Path k ∷ o)) s) t s r) e follows in
-    apart_edge r (after.outside (ap (λ p. is_inside (top p)) (normal_settled o s (nested.0 refl)) ∙ nested.0 refl)).0) in
+    (subst (λ (p : List Mode). Continued false p t s r) stays after).inside refl f)
+    (λ e. let after = subst (λ (c : Change). Continued false (without_ended_paths (changed c (Path k ∷ o)) s) t s r) e follows in
+    apart_edge r (touchless t r (after.outside (ap (λ p. is_inside (top p)) (normal_settled o s (nested.0 refl)) ∙ nested.0 refl))).0) in
     (kept.0, settled_stays (Path k ∷ o) (t ++ r) kept.1)
 
 feed_blank : (b : ℕ) → (b == 10) ≡ true → (is_blank b ≡ true) × (class_test Line b ≡ false)
@@ -128,14 +162,19 @@ gap_first : (gap rest : List ℕ) (t : List ℕ) → ends_token t (get_or gap 0 
 gap_first [] rest t e = absurd (true≢false (sym (blank_feed 0 t e).0))
 gap_first (b ∷ gap) rest t e = refl
 
-gap_behind : (t gap rest : List ℕ) → IsGap false t gap rest → IsBehind t (gap ++ rest)
-gap_behind t gap rest (blank, inl ends) =
-    let none : gap ++ rest ≡ [] = ap (λ g. g ++ rest) ends.0 ∙ ends.1 in
-    (inl none, λ h. ap (prefix_len (class_test Line)) none)
-gap_behind t gap rest (blank, inr first) =
+no_gap : (normal : Bool) (t gap rest : List ℕ) → gap ≡ [] → NeedsNoGap normal t rest → IsLoose normal t (gap ++ rest)
+no_gap normal t gap rest nothing (inl ended) =
+    let none : gap ++ rest ≡ [] = ap (λ g. g ++ rest) nothing ∙ ended in
+    inl (inl none, λ h. ap (prefix_len (class_test Line)) none)
+no_gap normal t gap rest nothing (inr touch) =
+    inr (ap (λ g. normal && may_touch t (get_or (g ++ rest) 0 0)) nothing ∙ touch)
+
+gap_behind : (normal : Bool) (t gap rest : List ℕ) → IsGap false normal t gap rest → IsLoose normal t (gap ++ rest)
+gap_behind normal t gap rest (blank, inl ends) = no_gap normal t gap rest ends.0 ends.1
+gap_behind normal t gap rest (blank, inr first) =
     let feed = blank_feed (get_or gap 0 0) t first in
     let same = gap_first gap rest t first in
-    (inr (ap is_blank same ∙ feed.0), λ h. no_run (class_test Line) (gap ++ rest) (ap (class_test Line) same ∙ feed.1 h))
+    inl (inr (ap is_blank same ∙ feed.0), λ h. no_run (class_test Line) (gap ++ rest) (ap (class_test Line) same ∙ feed.1 h))
 
 -- a token inside a string with which no piece begins
 module _ (m : Bool) (s gap rest : List ℕ) where
@@ -174,8 +213,8 @@ next_string m o _ _ (token _ s cut gap rest some e solid isgap more) utf8 normal
     let whole = length-append (take cut.len s) (gap ++ rest) in (
       front ∙ ap (λ x. get_or x 0 0) (take-append-drop cut.len s),
       stop_cases m s gap rest cut (begins (codes "${") s) refl (sym (string_stop m s some stop) ∙ e) utf8 some stop size
-          (λ f. apart_edge (gap ++ rest) (gap_behind (take cut.len s) gap rest (subst (λ b. IsGap b (take cut.len s) gap rest)
-          (closed_outside cut.change (Quoted m) o (drop cut.len s) normal f) isgap)).0),
+          (λ f. apart_edge (gap ++ rest) (touchless (take cut.len s) (gap ++ rest) (gap_behind false (take cut.len s) gap rest
+          (subst (λ b. IsGap b false (take cut.len s) gap rest) (closed_outside cut.change (Quoted m) o (drop cut.len s) normal f) isgap))).0),
       omega arith,
     )
 
@@ -214,26 +253,35 @@ continues (Path k ∷ modes) s new separated utf8 nested =
       | false ↦ subst (λ p. Continues (top p) s new) (sym (normal_settled modes s (nested.0 refl))) (continues_normal modes s new (nested.0 refl))
     ]
 
-follows_gap : (modes : List Mode) (t s gap rest : List ℕ) → AreSeparated modes s rest → IsUtf8 s → AreNested modes
-    → IsGap (is_inside (top (without_ended_paths modes s))) t gap rest → Follows (without_ended_paths modes s) t s (gap ++ rest)
-follows_gap modes t s gap rest separated utf8 nested isgap = record {
-  inside = λ h. let nothing : gap ≡ [] = subst (λ b. IsGap b t gap rest) h isgap in
+follows_gap : (normal : Bool) (modes : List Mode) (t s gap rest : List ℕ) → AreSeparated modes s rest → IsUtf8 s → AreNested modes
+    → IsGap (is_inside (top (without_ended_paths modes s))) normal t gap rest → Continued normal (without_ended_paths modes s) t s (gap ++ rest)
+follows_gap normal modes t s gap rest separated utf8 nested isgap = record {
+  inside = λ h. let nothing : gap ≡ [] = subst (λ b. IsGap b normal t gap rest) h isgap in
       subst (λ g. Continues (top (without_ended_paths modes s)) s (g ++ rest)) (sym nothing) (continues modes s rest separated utf8 nested);
-  outside = λ h. gap_behind t gap rest (subst (λ b. IsGap b t gap rest) h isgap);
+  outside = λ h. gap_behind normal t gap rest (subst (λ b. IsGap b normal t gap rest) h isgap);
 }
 
+-- nothing is left out where there is no gap
+after_nothing : (normal : Bool) (modes : List Mode) (t s gap rest : List ℕ) → (normal ≡ true → is_inside (top modes) ≡ false) → gap ≡ []
+    → NeedsNoGap normal t rest → solids (tokens_under modes (gap ++ rest)) ≡ solids (tokens_under (without_ended_paths modes s) rest)
+after_nothing normal modes t s gap rest settles nothing (inl ended) =
+    ap (λ x. solids (tokens_under modes x)) (ap (λ g. g ++ rest) nothing ∙ ended)
+    ∙ (ap solids (tokens_under-nil modes) ∙ (sym (ap solids (tokens_under-nil (without_ended_paths modes s)))
+    ∙ ap (λ x. solids (tokens_under (without_ended_paths modes s) x)) (sym ended)))
+after_nothing normal modes t s gap rest settles nothing (inr touch) =
+    let free = settles (and_parts normal (may_touch t (get_or rest 0 0)) touch).0 in
+    ap (λ g. solids (tokens_under modes (g ++ rest))) nothing ∙ ap (λ m. solids (tokens_under m rest)) (sym (normal_settled modes s free))
+
 -- the gap is left out
-after_gap : (modes : List Mode) (t s gap rest : List ℕ) → AreNested modes → (b : Bool) → is_inside (top (without_ended_paths modes s)) ≡ b → IsGap b t gap rest
+after_gap : (normal : Bool) (modes : List Mode) (t s gap rest : List ℕ) → (normal ≡ true → is_inside (top modes) ≡ false) → AreNested modes → (b : Bool)
+    → is_inside (top (without_ended_paths modes s)) ≡ b → IsGap b normal t gap rest
     → solids (tokens_under modes (gap ++ rest)) ≡ solids (tokens_under (without_ended_paths modes s) rest)
-after_gap modes t s gap rest nested true h nothing =
+after_gap normal modes t s gap rest settles nested true h nothing =
     ap (λ g. solids (tokens_under modes (g ++ rest))) nothing
     ∙ ap (λ m. solids (tokens_under m rest)) (sym (inside_settled modes s nested h))
-after_gap modes t s gap rest nested false h (blank, inl ends) =
-    ap (λ x. solids (tokens_under modes x)) (ap (λ g. g ++ rest) ends.0 ∙ ends.1)
-    ∙ (ap solids (tokens_under-nil modes) ∙ (sym (ap solids (tokens_under-nil (without_ended_paths modes s)))
-    ∙ ap (λ x. solids (tokens_under (without_ended_paths modes s) x)) (sym ends.1)))
-after_gap modes t s [] rest nested false h (blank, inr first) = absurd (true≢false (sym (blank_feed 0 t first).0))
-after_gap modes t s (b ∷ gap) rest nested false h (blank, inr first) =
+after_gap normal modes t s gap rest settles nested false h (blank, inl ends) = after_nothing normal modes t s gap rest settles ends.0 ends.1
+after_gap normal modes t s [] rest settles nested false h (blank, inr first) = absurd (true≢false (sym (blank_feed 0 t first).0))
+after_gap normal modes t s (b ∷ gap) rest settles nested false h (blank, inr first) =
     let settled = outside_settled modes s b (gap ++ rest) nested h (blank_feed b t first).0 in
     ap solids (sym (tokens_under-settled modes (b ∷ (gap ++ rest))))
     ∙ (ap (λ m. solids (tokens_under m (b ∷ (gap ++ rest)))) settled ∙ blanks (without_ended_paths modes s) h (b ∷ gap) rest blank)
@@ -281,9 +329,11 @@ again _ _ _ (token modes text cut gap rest some e solid isgap more) utf8 nested 
     let inner = nested_changed o text cut outer e in
     let rest_utf8 = IsUtf8-drop text cut.len utf8 good.boundary in
     let kept = step_kept o t s (gap ++ rest) cut outer (subst (IsPathGoingOn (top o)) (sym split) (IsPathGoingOn-settled modes text)) (omega arith)
-    (ap (cut_at (top o)) split ∙ e) (sym len, not-true _ parts.0) solid (follows_gap after t s gap rest more rest_utf8 inner isgap) in
+    (ap (cut_at (top o)) split ∙ e) (sym len, not-true _ parts.0) solid (follows_gap (is_normal o after) after t s gap rest more rest_utf8 inner isgap) in
     let made = new_tokens o t (gap ++ rest) cut kept.0 kept.1 len long in
-    let behind = after_gap after t s gap rest inner (is_inside (top (without_ended_paths after s))) refl isgap
+    let behind = after_gap (is_normal o after) after t s gap rest
+    (λ h. not-true (is_inside (top after)) (and_parts (not (is_inside (top o))) (not (is_inside (top after))) h).1) inner
+    (is_inside (top (without_ended_paths after s))) refl isgap
     ∙ again after s rest more rest_utf8 inner parts.1 in
     ap solids made ∙ (ap (λ ts. cond (is_white_space cut.kind) ts ((cut.kind, t) ∷ ts)) behind ∙ sym (ap solids list))
 

@@ -1,5 +1,5 @@
 -- A text written anew: the tokens of another text, with white space between them where no string and no path is open.
-use Rattle.std.specs.Prelude.{◌≡◌, ◌⊎◌, ◌==◌, ◌<◌, ◌++◌, ℕ, Bool, true, false, not, if◌then◌else◌, List, [], ◌∷◌, length, take, drop, slice_index, codes, Option, Some}
+use Rattle.std.specs.Prelude.{◌&&◌, ◌||◌, ◌≡◌, ◌⊎◌, ◌==◌, ◌<◌, ◌++◌, ℕ, Bool, true, false, not, if◌then◌else◌, List, [], ◌∷◌, length, take, drop, slice_index, codes, Option, Some}
 use Rattle.std.specs.List.{list_all}
 use Rattle.rnix_kinds.specs.declared.kinds.SyntaxKind.{SyntaxKind}
 use Rattle.rnix_kinds.specs.declared.kinds.SyntaxKind.TheVariants.{TOKEN_ERROR, TOKEN_WHITESPACE}
@@ -7,7 +7,9 @@ use Rattle.rnix_kinds.specs.declared.tokenizer.rule.Cut.{Cut}
 use Rattle.rnix_kinds.specs.declared.tokenizer.rule.Mode.{Mode}
 use Rattle.rnix_kinds.specs.declared.tokenizer.rule.Mode.TheVariants.{Quoted, Path}
 use Rattle.rnix_kinds.specs.Lexical.Texts.{begins, is_blank}
-use Rattle.rnix_kinds.specs.Lexical.Plain.{plain}
+use Rattle.rnix_kinds.specs.declared.tokenizer.text.Class.TheVariants.{Name}
+use Rattle.rnix_kinds.specs.Lexical.Classes.{class_test}
+use Rattle.rnix_kinds.specs.Lexical.Plain.{plain, begins_word, goes_past_name}
 use Rattle.rnix_kinds.specs.Lexical.Tokens.{Lexeme, cut_at, top, without_ended_paths, changed, tokens_of}
 
 abbrev pub is_white_space : SyntaxKind → Bool
@@ -37,10 +39,31 @@ is_inside mode = false
 abbrev pub ends_token : List ℕ → ℕ → Bool
 ends_token token b = if begins (codes "#") token then b == 10 else is_blank b
 
--- the gap between a token and the rest of the text: nothing inside strings and paths; elsewhere white space, which may be missing at the end of the text
-abbrev pub IsGap : Bool → List ℕ → List ℕ → List ℕ → Type 0
-IsGap true token gap rest = gap ≡ []
-IsGap false token gap rest = (list_all is_blank gap ≡ true) × (((gap ≡ []) × (rest ≡ [])) ⊎ (ends_token token (slice_index gap 0) ≡ true))
+-- a bracket or a separator, the `{` of a set, and the `$` of `${`
+abbrev pub is_bracket : ℕ → Bool
+is_bracket b = b == 40 || b == 41 || b == 91 || b == 93 || b == 58 || b == 59 || b == 63 || b == 64 || b == 44 || b == 123 || b == 36
+
+-- a byte that goes on with no name, and behind a name with no path and no URI
+abbrev pub ends_name : ℕ → Bool
+ends_name b = not (class_test Name b) && not (goes_past_name b)
+
+-- a token that a byte may touch outside strings and paths: a bracket or a separator; a name or a keyword, if the byte ends it
+abbrev pub may_touch : List ℕ → ℕ → Bool
+may_touch token b = is_bracket (slice_index token 0) || (begins_word (slice_index token 0) && list_all (class_test Name) token && ends_name b)
+
+-- no gap is needed: the text ends, or normal rules apply before and after the token and the next byte may touch it
+abbrev pub NeedsNoGap : Bool → List ℕ → List ℕ → Type 0
+NeedsNoGap normal token rest = (rest ≡ []) ⊎ ((normal && may_touch token (slice_index rest 0)) ≡ true)
+
+-- the gap between a token and the rest of the text: nothing inside strings and paths; elsewhere white space, or nothing where no gap is needed
+abbrev pub IsGap : Bool → Bool → List ℕ → List ℕ → List ℕ → Type 0
+IsGap true normal token gap rest = gap ≡ []
+IsGap false normal token gap rest =
+    (list_all is_blank gap ≡ true) × (((gap ≡ []) × NeedsNoGap normal token rest) ⊎ (ends_token token (slice_index gap 0) ≡ true))
+
+-- normal rules apply, whatever the next text is
+abbrev pub is_normal : List Mode → List Mode → Bool
+is_normal before after = not (is_inside (top before)) && not (is_inside (top after))
 
 -- the second text is made of the tokens of the first one, without its white space and with gaps after them; known are the modes that are open before
 pub data AreSeparated : List Mode → List ℕ → List ℕ → Type 0 where
@@ -51,7 +74,8 @@ pub data AreSeparated : List Mode → List ℕ → List ℕ → Type 0 where
       → AreSeparated modes text new
   token : (modes : List Mode) (text : List ℕ) (cut : Cut) (gap rest : List ℕ) → 0 < length text
       → cut_at (top (without_ended_paths modes text)) text ≡ cut → is_white_space cut.kind ≡ false
-      → IsGap (is_inside (top (without_ended_paths (changed cut.change (without_ended_paths modes text)) (drop cut.len text)))) (take cut.len text) gap rest
+      → IsGap (is_inside (top (without_ended_paths (changed cut.change (without_ended_paths modes text)) (drop cut.len text))))
+      (is_normal (without_ended_paths modes text) (changed cut.change (without_ended_paths modes text))) (take cut.len text) gap rest
       → AreSeparated (changed cut.change (without_ended_paths modes text)) (drop cut.len text) rest
       → AreSeparated modes text (take cut.len text ++ (gap ++ rest))
 
