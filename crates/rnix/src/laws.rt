@@ -6,4 +6,5 @@ pub use rnix_parser::{
     all_follows, correct_prefix, error_forms, has_reading, layout, one_derivation, one_reading,
     one_text, ranges_of_errors, size, tree_derivation, tree_text,
 };
+pub use rnix_proof_locality::locality;
 pub use rnix_proof_separation::separation;
