@@ -9,7 +9,7 @@ use Rattle.rnix_kinds.specs.declared.tokenizer.rule.PathStart.TheVariants.{Relat
 use Rattle.rnix_kinds.specs.Lexical.{Texts.{begins, before_pair}, Plain.{plain, block_comment}, Operators.{opener, operator, ellipsis}, Numbers.number}
 use Rattle.rnix_kinds.specs.Lexical.{Paths.{first_segment, relative}, Tokens.{first_that_fits, one_error}}
 use Rattle.rnix_proof_separation.proofs.Appended.{if_true, if_false, same_byte, is_edge, apart_edge}
-use Rattle.rnix_proof_separation.proofs.Kept.{Fits, Keeps, plain_keeps, fits_first, fits_later}
+use Rattle.rnix_proof_separation.proofs.KeptCuts.{Fits, Keeps, plain_keeps, fits_first, fits_later}
 use Rattle.rnix_proof_separation.proofs.KeptOperators.{word_kept, operator_kept, operator_plain, operator_first, ellipsis_kept, ellipsis_none}
 use Rattle.rnix_proof_separation.proofs.{KeptNumbers.{HasNoSlash, number_kept, number_none, number_plain}, KeptPaths.{is_relative, relative_keeps, relative_none}}
 use Rattle.rnix_proof_separation.specs.Separated.{is_error}

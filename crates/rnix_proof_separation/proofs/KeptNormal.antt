@@ -10,7 +10,7 @@ use Rattle.rnix_kinds.proofs.LexicalLemmas.FirstBytes.{begins_opener, is_invisib
 use Rattle.rnix_kinds.proofs.LexicalLemmas.FirstBytes.{normal-line_comment, normal-block_comment, normal-slash, normal-home, normal-angled}
 use Rattle.rnix_kinds.proofs.LexicalLemmas.FirstBytes.{normal-opening_brace, normal-closing_brace}
 use Rattle.rnix_proof_separation.proofs.Appended.{same_byte, next_byte_at, end_stopped, is_edge, apart_edge, edge_not}
-use Rattle.rnix_proof_separation.proofs.Kept.{Fits, Keeps, plain_keeps, keeps_then, fits_first}
+use Rattle.rnix_proof_separation.proofs.KeptCuts.{Fits, Keeps, plain_keeps, keeps_then, fits_first}
 use Rattle.rnix_proof_separation.proofs.{KeptWords.{name_rules, name_keeps}, KeptSlashes.{angle_rules, angle_keeps, slash_some, slash_keeps, home_keeps}}
 use Rattle.rnix_proof_separation.proofs.KeptComments.{block_kept, opener_kept, step_rules, step_keeps}
 use Rattle.rnix_proof_separation.{specs.Separated.{is_error, is_white_space}, proofs.KeptOperators.{operator_kept, operator_plain, operator_first}}

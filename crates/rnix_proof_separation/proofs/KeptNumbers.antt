@@ -6,7 +6,7 @@ use Rattle.std.{proofs.lemmas.Bool.{eqb-false, Decides.nat_tests}, specs.{Prelud
 use Rattle.rnix_kinds.specs.declared.{kinds.SyntaxKind.TheVariants.{TOKEN_ERROR, TOKEN_FLOAT, TOKEN_INTEGER}, tokenizer.rule.{Cut.Cut, Change.TheVariants.Stay}}
 use Rattle.rnix_kinds.specs.Lexical.{Texts.{begins, run_end}, Plain.plain, Numbers.{exponent_digits, exponent, fraction, digits_to, number}}
 use Rattle.rnix_proof_separation.proofs.Appended.{if_true, if_false, same_byte, next_byte_at, no_run, end_stopped, end_some, is_edge, edge_digit, edge_not}
-use Rattle.rnix_proof_separation.{specs.Separated.is_error, proofs.Kept.{Fits, no_error_if}}
+use Rattle.rnix_proof_separation.{specs.Separated.is_error, proofs.KeptCuts.{Fits, no_error_if}}
 
 -- an `e`, and a sign
 abbrev is_mark : ℕ → Bool

@@ -12,7 +12,7 @@ use Rattle.rnix_kinds.specs.Lexical.Paths.{is_broken, segment_to, segment, first
 use Rattle.rnix_kinds.{specs.Lexical.Tokens.IsPathBegun, proofs.LexicalLemmas.WordsLemmas.within_from_byte}
 use Rattle.rnix_proof_separation.proofs.Appended.{if_true, if_false, same_byte, next_byte_at, dollar_after, no_run, run_inside, run_stopped, end_stopped}
 use Rattle.rnix_proof_separation.proofs.Appended.{run_longer, is_edge, apart_edge, edge_path, edge_step, edge_not}
-use Rattle.rnix_proof_separation.{specs.Separated.is_error, proofs.{Kept.{Fits, IsQuiet, Keeps, no_error_if}, KeptNumbers.HasNoSlash}}
+use Rattle.rnix_proof_separation.{specs.Separated.is_error, proofs.{KeptCuts.{Fits, IsQuiet, Keeps, no_error_if}, KeptNumbers.HasNoSlash}}
 
 -- a segment of n bytes, by whether `${` follows it
 abbrev segment_cut : PathStart → Change → Change → ℕ → Bool → List ℕ → Cut

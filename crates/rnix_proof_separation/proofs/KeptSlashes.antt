@@ -12,7 +12,7 @@ use Rattle.rnix_kinds.specs.Lexical.{Paths.{search_to, search_path}, Operators.o
 use Rattle.rnix_kinds.proofs.LexicalLemmas.WordsLemmas.{within_from_byte}
 use Rattle.rnix_proof_separation.proofs.Appended.{if_true, if_false, same_byte, next_byte_at, dollar_after, no_run, end_stopped, end_some, is_edge, apart_edge}
 use Rattle.rnix_proof_separation.proofs.Appended.{edge_path, edge_angle, edge_not, ink_other}
-use Rattle.rnix_proof_separation.proofs.{Kept.{Fits, Keeps, plain_keeps, fits_first, fits_later}, KeptOperators.{word_kept, word_none, operator_kept, operator_plain}}
+use Rattle.rnix_proof_separation.proofs.{KeptCuts.{Fits, Keeps, plain_keeps, fits_first, fits_later}, KeptOperators.{word_kept, word_none, operator_kept, operator_plain}}
 use Rattle.rnix_proof_separation.{specs.Separated.is_error, proofs.KeptPaths.{segment_len, segment_whole, change_going, first_keeps}}
 
 -- the first `${` that follows

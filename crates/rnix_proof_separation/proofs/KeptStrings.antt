@@ -7,7 +7,7 @@ use Rattle.rnix_kinds.specs.declared.kinds.SyntaxKind.TheVariants.{TOKEN_ERROR, 
 use Rattle.rnix_kinds.specs.declared.tokenizer.rule.{Cut.Cut, Change.TheVariants.{Stay, Open, Close}, Mode.TheVariants.Interpolation}
 use Rattle.rnix_kinds.specs.Lexical.{Texts.begins, Plain.plain, Strings.{piece_len, content_from, content_len, string_cut}}
 use Rattle.rnix_kinds.proofs.LexicalLemmas.StringsLemmas.{content_len-stop, content_len-stops, content_len-le}
-use Rattle.rnix_proof_separation.proofs.{Appended.{if_true, if_false, same_byte, next_byte_at, is_edge}, Kept.Fits, KeptOperators.word_kept}
+use Rattle.rnix_proof_separation.proofs.{Appended.{if_true, if_false, same_byte, next_byte_at, is_edge}, KeptCuts.Fits, KeptOperators.word_kept}
 use Rattle.rnix_proof_separation.specs.Separated.{is_error}
 
 -- the length of a piece by its first three bytes

@@ -11,7 +11,7 @@ use Rattle.rnix_kinds.specs.Lexical.{Paths.{first_segment, relative}, Tokens.{fi
 use Rattle.rnix_kinds.proofs.LexicalLemmas.FirstBytes.{relative-None-named, uri-None-named}
 use Rattle.rnix_proof_separation.proofs.Appended.{if_true, same_byte, next_byte_at, no_run, run_inside, end_stopped, run_stops, run_longer, run_more}
 use Rattle.rnix_proof_separation.proofs.Appended.{is_edge, apart_edge, edge_name, edge_uri}
-use Rattle.rnix_proof_separation.proofs.{Kept.{Fits, Keeps, plain_keeps, keeps_then, fits_first, fits_later}, KeptPaths.{is_relative, relative_keeps, relative_not, slash_at, slash_inside}}
+use Rattle.rnix_proof_separation.proofs.{KeptCuts.{Fits, Keeps, plain_keeps, keeps_then, fits_first, fits_later}, KeptPaths.{is_relative, relative_keeps, relative_not, slash_at, slash_inside}}
 
 -- a letter, when the bytes of a scheme from it on end before `:` and a byte of a URI
 abbrev is_uri_at : List ℕ → Bool

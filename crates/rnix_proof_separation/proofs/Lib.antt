@@ -1,5 +1,5 @@
 pub mod Appended
-pub mod Kept
+pub mod KeptCuts
 pub mod KeptNumbers
 pub mod KeptOperators
 pub mod KeptPaths

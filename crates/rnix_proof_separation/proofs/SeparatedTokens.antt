@@ -12,7 +12,7 @@ use Rattle.rnix_kinds.proofs.LexicalLemmas.{CutLemmas.cut_good, TokensLemmas.{to
 use Rattle.rnix_kinds.proofs.LexicalLemmas.TokensLemmas.{settled_stays}
 use Rattle.rnix_proof_separation.specs.Separated.{is_white_space, is_error, solids, have_no_error, is_inside, ends_token, may_touch, NeedsNoGap, is_normal, IsGap, AreSeparated, none, space, token}
 use Rattle.rnix_proof_separation.specs.Separated.{IsSeparated}
-use Rattle.rnix_proof_separation.proofs.{Appended.{apart_edge, is_edge, same_byte, no_run, if_true, if_false, edge_path}, Kept.{Fits, IsBehind, Keeps}}
+use Rattle.rnix_proof_separation.proofs.{Appended.{apart_edge, is_edge, same_byte, no_run, if_true, if_false, edge_path}, KeptCuts.{Fits, IsBehind, Keeps}}
 use Rattle.rnix_proof_separation.proofs.{KeptNormal.{IsKept, normal_kept}, KeptStrings.{GoesOn, string_kept, string_stop, opened, closed, stop_opened, stop_closed}}
 use Rattle.rnix_proof_separation.proofs.KeptPaths.{segment_kept, change_going, change_ended, dollar_no_path, edge_no_dollar}
 use Rattle.rnix_proof_separation.proofs.{KeptOperators.word_kept, Stacks.{AreNested, nested_changed, nested_settled, normal_settled, inside_settled, outside_settled}}

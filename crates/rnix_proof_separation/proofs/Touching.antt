@@ -10,7 +10,7 @@ use Rattle.rnix_kinds.specs.Lexical.{Texts.begins, Classes.class_test, Plain.{pl
 use Rattle.rnix_kinds.specs.Lexical.{Operators.{operator, ellipsis}, Tokens.{first_that_fits, one_error, normal_cut}}
 use Rattle.rnix_kinds.proofs.LexicalLemmas.FirstBytes.{normal-stepped, normal-symbol, normal-named, normal-opened, normal-opening_brace}
 use Rattle.rnix_proof_separation.proofs.Appended.{if_false, same_byte, no_run}
-use Rattle.rnix_proof_separation.proofs.{Kept.{Fits, fits_first, fits_later}, KeptPaths.relative_not, KeptComments.opener_kept, KeptWords.{name_touches}}
+use Rattle.rnix_proof_separation.proofs.{KeptCuts.{Fits, fits_first, fits_later}, KeptPaths.relative_not, KeptComments.opener_kept, KeptWords.{name_touches}}
 use Rattle.rnix_proof_separation.specs.Separated.{is_bracket, ends_name, may_touch}
 
 -- what begins with the byte is this token alone
