@@ -1,10 +1,11 @@
 -- Steps of a walk that are collected and compared.
-use Rattle.std.proofs.Common.{◌≡◌, List, [], ◌∷◌, ◌++◌, Bool, true, false, sym, ap, ◌∙◌, append_assoc}
+use Rattle.std.proofs.Common.{◌≡◌, List, [], ◌∷◌, ◌++◌, map, Bool, true, false, Option, Some, None, refl, sym, ap, ◌∙◌, append_assoc}
 use Rattle.std.proofs.lemmas.List.{append-nil}
-use Rattle.std.specs.{Prelude.{◌||◌, if◌then◌else◌}, List.list_any}
+use Rattle.std.specs.{Prelude.{◌||◌, if◌then◌else◌, slice_get}, List.list_any}
 use Rattle.rnix_green.specs.{Tree.Located, Walk.Event}
 use Rattle.rnix_edit.specs.declared.place.Place.{Place}
-use Rattle.rnix_edit.specs.Steps.{Step, is_at, step_at, steps_of, enters, leaves, events_before, events_after}
+use Rattle.rnix_edit.specs.declared.steps.Step.{Step as Made}
+use Rattle.rnix_edit.specs.Steps.{Step, step_of, is_at, step_at, steps_of, enters, leaves, events_before, events_after, enters_first}
 
 -- one more event is passed
 pub events_more : (steps more all : List Step) (events rest : List Event) (event : Event) → steps ++ steps_of events ≡ all →
@@ -51,3 +52,13 @@ pub node_found : (place : Place) (nodes rest : List Located) (node : Located) (a
     nodes ≡ node ∷ rest → is_at place node ≡ true → true ≡ all
 node_found place nodes rest node all so_far next found =
     sym (ap (list_any (is_at place)) next ∙ ap (λ b. b || list_any (is_at place) rest) found) ∙ so_far
+
+-- whether a step enters, if there is one
+abbrev pub entered : Option Made → Bool
+entered None = false
+entered (Some step) = step.enters
+
+-- the first step is the one at index 0
+pub first_entered : (steps : List Made) → entered (slice_get steps 0) ≡ enters_first (map step_of steps)
+first_entered [] = refl
+first_entered (step ∷ steps) = refl

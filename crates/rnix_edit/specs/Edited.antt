@@ -13,7 +13,9 @@ use Rattle.rnix_edit.specs.declared.edited.Edited.{Edited}
 use Rattle.rnix_edit.specs.declared.edited.Edited.TheVariants as edited
 use Rattle.rnix_edit.specs.declared.edited.Refusal.{Refusal}
 use Rattle.rnix_edit.specs.declared.edited.Refusal.TheVariants as refusal
-use Rattle.rnix_edit.specs.Steps.{place_of, has_node, steps_in, steps_before, steps_after, is_comment}
+use Rattle.rnix_edit.specs.declared.cut.Cut.{Cut}
+use Rattle.rnix_edit.specs.Steps.{place_of, has_node, steps_in, steps_before, steps_after, is_comment, enters_first}
+use Rattle.rnix_edit.specs.Ranges.{Gap, put_in, cut_of, gap_after, gap_inside}
 
 -- the text with new bytes in place of those from start up to end
 abbrev pub spliced : List ℕ → ℕ → ℕ → List ℕ → List ℕ
@@ -43,11 +45,13 @@ pub record IsAfter (root : Located) (old : Place) (comments : ℕ) (other : Loca
   pub are_comments : list_all is_comment (take comments (steps_after old root)) ≡ true
   pub after : steps_after new other ≡ drop comments (steps_after old root)
 
--- such a node is the last but for one token in a node of the other tree: after it come that token and the end of that node
+-- such a node comes right before the last token of a node of the other tree: after it, the walk enters one more element, which can only be that
+-- token, and then leaves the node
 pub record IsLastIn (root : Located) (old : Place) (other : Located) (new : Place) : Type 0 where
   pub added : IsWith root other new
   pub fits : 2 ≤ length (steps_after new other)
-  pub after : drop 2 (steps_after new other) ≡ steps_after old root
+  pub token : enters_first (steps_after new other) ≡ true
+  pub after : steps_after old root ≡ drop 2 (steps_after new other)
 
 -- the root of a tree
 abbrev pub root_in : Tree → Located
@@ -100,56 +104,57 @@ abbrev pub IsNotReplaced : Refusal → List ℕ → Located → Located → Synt
 IsNotReplaced refusal text root node kind new =
     IsHindered refusal text (item_of node).start (item_of node).end new (IsTreeReplaced root node kind new)
 
--- the text without a range: its tree is the old one without the node and comments after it
-pub record IsRemoved (text : List ℕ) (root node : Located) (made : List ℕ) : Type 0 where
-  pub start : ℕ
-  pub end : ℕ
-  pub comments : ℕ
-  pub made_so : IsMade text start end [] (IsWithout root (place_of node) comments) made
+-- the text without the bytes of a cut: its tree is the old one without the node and the comments in the cut
+abbrev pub IsCutOut : List ℕ → Located → Located → Cut → List ℕ → Type 0
+IsCutOut text root node cut made = IsMade text cut.start cut.end [] (IsWithout root (place_of node) cut.comments) made
 
 -- why there is no such text
-pub record IsNotRemoved (refusal : Refusal) (text : List ℕ) (root node : Located) : Type 0 where
-  pub start : ℕ
-  pub end : ℕ
-  pub comments : ℕ
-  pub hindered : IsHindered refusal text start end [] (IsWithout root (place_of node) comments)
+abbrev pub IsNotCutOut : Refusal → List ℕ → Located → Located → Cut → Type 0
+IsNotCutOut refusal text root node cut = IsHindered refusal text cut.start cut.end [] (IsWithout root (place_of node) cut.comments)
 
--- a gap in a text for a new text: the bytes from start up to end, which others before and after the new text replace
-pub record Gap : Type 0 where
-  pub start : ℕ
-  pub end : ℕ
-  pub before : List ℕ
-  pub after : List ℕ
+-- the text without a node: without the bytes that go with it
+abbrev pub IsRemoved : List ℕ → Located → Located → List ℕ → Type 0
+IsRemoved text root node made = IsCutOut text root node (cut_of text node) made
 
--- what is put into a gap
-abbrev pub put_in : Gap → List ℕ → List ℕ
-put_in gap new = gap.before ++ (new ++ gap.after)
+-- why there is no such text
+abbrev pub IsNotRemoved : Refusal → List ℕ → Located → Located → Type 0
+IsNotRemoved refusal text root node = IsNotCutOut refusal text root node (cut_of text node)
 
 -- the place of a node of a kind that is put into a gap
 abbrev pub place_in : Gap → SyntaxKind → List ℕ → Place
 place_in gap kind new = place_at kind (gap.start + length gap.before) new
 
--- the text with a new text in a gap: it is one node of the kind right after the other one and comments, and without it the tree is the old one
-pub record IsInsertedAfter (text : List ℕ) (root node : Located) (kind : SyntaxKind) (new made : List ℕ) : Type 0 where
-  pub gap : Gap
-  pub comments : ℕ
-  pub made_so : IsMade text gap.start gap.end (put_in gap new) (λ other. IsAfter root (place_of node) comments other (place_in gap kind new)) made
+-- the text with a new text in a gap: its tree is so
+abbrev pub IsFilled : (Gap → Located → Type 0) → List ℕ → List ℕ → Gap → List ℕ → Type 0
+IsFilled so text new gap made = IsMade text gap.start gap.end (put_in gap new) (so gap) made
 
 -- why there is no such text
-pub record IsNotInsertedAfter (refusal : Refusal) (text : List ℕ) (root node : Located) (kind : SyntaxKind) (new : List ℕ) : Type 0 where
-  pub gap : Gap
-  pub comments : ℕ
-  pub hindered : IsHindered refusal text gap.start gap.end (put_in gap new) (λ other. IsAfter root (place_of node) comments other (place_in gap kind new))
+abbrev pub IsNotFilled : (Gap → Located → Type 0) → Refusal → List ℕ → List ℕ → Gap → Type 0
+IsNotFilled so refusal text new gap = IsHindered refusal text gap.start gap.end (put_in gap new) (so gap)
 
--- the text with a new text in a gap: it is one node of the kind before the last token of the other one, and without it the tree is the old one
-pub record IsInsertedInside (text : List ℕ) (root node : Located) (kind : SyntaxKind) (new made : List ℕ) : Type 0 where
-  pub gap : Gap
-  pub made_so : IsMade text gap.start gap.end (put_in gap new) (λ other. IsLastIn root (place_of node) other (place_in gap kind new)) made
+-- the root is that of the tree with what is put into a gap: one node of a kind, right after the other one and the comments up to the gap
+abbrev pub IsTreeAfter : Located → Located → SyntaxKind → List ℕ → Gap → Located → Type 0
+IsTreeAfter root node kind new gap other = IsAfter root (place_of node) gap.comments other (place_in gap kind new)
+
+-- the text with a new text after a node, in the gap there
+abbrev pub IsInsertedAfter : List ℕ → Located → Located → SyntaxKind → List ℕ → List ℕ → Type 0
+IsInsertedAfter text root node kind new made = IsFilled (IsTreeAfter root node kind new) text new (gap_after text node) made
 
 -- why there is no such text
-pub record IsNotInsertedInside (refusal : Refusal) (text : List ℕ) (root node : Located) (kind : SyntaxKind) (new : List ℕ) : Type 0 where
-  pub gap : Gap
-  pub hindered : IsHindered refusal text gap.start gap.end (put_in gap new) (λ other. IsLastIn root (place_of node) other (place_in gap kind new))
+abbrev pub IsNotInsertedAfter : Refusal → List ℕ → Located → Located → SyntaxKind → List ℕ → Type 0
+IsNotInsertedAfter refusal text root node kind new = IsNotFilled (IsTreeAfter root node kind new) refusal text new (gap_after text node)
+
+-- the root is that of the tree with what is put into a gap: one node of a kind, right before the last token of the other one
+abbrev pub IsTreeInside : Located → Located → SyntaxKind → List ℕ → Gap → Located → Type 0
+IsTreeInside root node kind new gap other = IsLastIn root (place_of node) other (place_in gap kind new)
+
+-- the text with a new text before the closing bracket of a node, in the gap there
+abbrev pub IsInsertedInside : List ℕ → Located → Located → SyntaxKind → List ℕ → List ℕ → Type 0
+IsInsertedInside text root node kind new made = IsFilled (IsTreeInside root node kind new) text new (gap_inside text node) made
+
+-- why there is no such text
+abbrev pub IsNotInsertedInside : Refusal → List ℕ → Located → Located → SyntaxKind → List ℕ → Type 0
+IsNotInsertedInside refusal text root node kind new = IsNotFilled (IsTreeInside root node kind new) refusal text new (gap_inside text node)
 
 -- P holds of the new text, if there is one
 abbrev pub IfDone : (List ℕ → Type 0) → Edited → Type 0

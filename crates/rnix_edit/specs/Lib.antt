@@ -1,3 +1,6 @@
+pub mod Blanks
+pub mod Line
+pub mod Ranges
 pub mod Steps
 pub mod SameSteps
 pub mod Edited

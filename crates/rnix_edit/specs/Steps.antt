@@ -1,5 +1,5 @@
 -- A tree as the steps of a walk over it, without white space.
-use Rattle.std.specs.Prelude.{ℕ, ◌-◌, ◌==◌, ◌&&◌, Bool, true, not, List, [], ◌∷◌, flat_map, if◌then◌else◌}
+use Rattle.std.specs.Prelude.{ℕ, ◌-◌, ◌==◌, ◌&&◌, Bool, true, false, not, List, [], ◌∷◌, flat_map, if◌then◌else◌}
 use Rattle.std.specs.Bool.{beq}
 use Rattle.std.specs.Str.{bytes_eq}
 use Rattle.std.specs.List.{list_any}
@@ -96,3 +96,8 @@ steps_after place root = steps_of (events_after place (preorder_of root))
 -- whether a step passes a comment
 abbrev pub is_comment : Step → Bool
 is_comment step = same_kind step.kind k.TOKEN_COMMENT
+
+-- whether the first step enters a node or passes a token
+abbrev pub enters_first : List Step → Bool
+enters_first [] = false
+enters_first (step ∷ steps) = step.enters

@@ -6,7 +6,8 @@ use Rattle.rnix.specs.ParseResult.{Reading}
 use Rattle.rnix_text.specs.Changes.{IsInside, IsBetween}
 use Rattle.rnix_text.specs.declared.edit_error.EditError.{EditError}
 use Rattle.rnix_text.specs.declared.edit_error.EditError.TheVariants as cause
-use Rattle.rnix_edit.specs.Edited.{Gap, spliced, IsReadWithErrors}
+use Rattle.rnix_edit.specs.Edited.{spliced, IsReadWithErrors}
+use Rattle.rnix_edit.specs.Ranges.{Gap}
 use Rattle.rnix_edit.specs.declared.gap.Gap.{Gap as Found}
 use Rattle.rnix_edit.specs.declared.edited.Refusal.{Refusal}
 use Rattle.rnix_edit.specs.declared.edited.Refusal.TheVariants as refusal
@@ -41,4 +42,4 @@ IfNotRead P (tried.Refused refusal) = P refusal
 
 -- a gap of the program
 abbrev pub gap_of : Found → Gap
-gap_of gap = record { start = gap.start; end = gap.end; before = string_bytes gap.before; after = gap.after.now }
+gap_of gap = record { start = gap.start; end = gap.end; before = string_bytes gap.before; after = gap.after.now; comments = gap.comments }

@@ -6,12 +6,13 @@ ghost use Rattle.rnix_edit.specs.Edited.{IsAround, IsWithout, IsWith, IsAfter, I
 
 use crate::place::{Place, has_node};
 use crate::steps::{
-    add_from, are_comments_before, are_from, are_same, steps_after, steps_before, steps_in,
+    add_from, are_comments_before, are_from, are_same, enters_first, steps_after, steps_before,
+    steps_in,
 };
 use rnix::SyntaxNode;
 use std::alloc::{AllocError, Global};
 
-// The number of the steps of a closing bracket and of leaving its node.
+// The number of steps from a closing bracket to the end of its node: the bracket, and leaving the node.
 const CLOSING_STEPS: usize = 2;
 
 // Returns whether all of three hold.
@@ -116,5 +117,7 @@ pub fn is_inside(
     if after.len() < CLOSING_STEPS {
         return Ok(false);
     }
-    Ok(is_with && are_same(&after[CLOSING_STEPS..], &old_after))
+    let has_token = enters_first(&after);
+    let is_rest = are_from(&old_after, &after, CLOSING_STEPS);
+    Ok(all_hold(is_with, has_token, is_rest))
 }

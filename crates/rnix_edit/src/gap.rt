@@ -1,73 +1,139 @@
 //! Where new nodes go.
 
-use crate::layout::{indent_at, line_break_before, rest_of_line, without_blanks_before};
-use rnix::{NodeOrToken, SyntaxNode};
+ghost use Rattle.std.specs.Prelude.{◌≡◌, IfOk};
+ghost use Rattle.rnix_edit.specs.Ranges.{gap_in_line, gap_on_next_line, gap_by, gap_after, gap_above, gap_before, gap_at_closing, gap_inside};
+ghost use Rattle.rnix_edit.specs.Tried.{gap_of};
+
+use crate::blanks::{begins_line, blanks_before, blanks_start, line_break_before};
+use crate::line::{RestOfLine, closing_start, rest_of_line};
+use rnix::SyntaxNode;
 use std::alloc::{AllocError, Global};
 
-/// Where a new node goes: in place of the white space from `start` up to `end`, between two white spaces.
+/// Where a new node goes: in place of the blanks from `start` up to `end`, between two pieces of white space.
 #[derive(Drop)]
 pub struct Gap {
     pub start: usize,
     pub end: usize,
     pub before: String,
     pub after: &'static str,
-    /// The number of comments that it passes.
+    /// The number of comments between the other node and the gap.
     pub comments: usize,
 }
 
 // The indentation of an entry in a set that has none yet.
 const INDENT: &str = "  ";
 
-/// Returns where a new node goes after another: on the next line if that one has its own line, otherwise after a space.
-pub fn gap_after(alloc: Global, text: &str, node: &SyntaxNode<'_>) -> Result<Gap, AllocError> {
-    let range = node.text_range();
-    let rest = rest_of_line(node);
-    match (indent_at(text, range.start()), rest.next_line) {
-        (Some(indent), Some(next_line)) => Ok(Gap {
-            start: next_line,
-            end: next_line,
-            before: String::from_str(alloc, indent)?,
-            after: line_break_before(text, next_line),
-            comments: rest.comments,
-        }),
-        _ => Ok(Gap {
-            start: range.end(),
-            end: range.end(),
-            before: String::from_str(alloc, " ")?,
-            after: "",
-            comments: 0,
-        }),
+// Returns the gap at the end of a node.
+fn gap_in_line(alloc: Global, end: usize) -> Result<Gap, AllocError>
+    ensures { IfOk result (λ gap. gap_of gap ≡ gap_in_line end) }
+{
+    Ok(Gap {
+        start: end,
+        end,
+        before: String::from_str(alloc, " ")?,
+        after: "",
+        comments: 0,
+    })
+}
+
+// Returns the gap at the line after a node that begins at an offset.
+fn gap_on_next_line(
+    alloc: Global,
+    text: &str,
+    start: usize,
+    rest: RestOfLine,
+) -> Result<Gap, AllocError>
+    ensures { IfOk result (λ gap. gap_of gap ≡ gap_on_next_line text.now start rest) }
+{
+    Ok(Gap {
+        start: rest.next_line,
+        end: rest.next_line,
+        before: String::from_str(alloc, blanks_before(text, start))?,
+        after: line_break_before(text, rest.next_line),
+        comments: rest.comments,
+    })
+}
+
+// Returns the gap after a node with this range and this rest of its line.
+fn gap_by(
+    alloc: Global,
+    text: &str,
+    start: usize,
+    end: usize,
+    rest: Option<RestOfLine>,
+) -> Result<Gap, AllocError>
+    ensures { IfOk result (λ gap. gap_of gap ≡ gap_by text.now start end rest) }
+{
+    match rest {
+        Some(rest) => {
+            if begins_line(text, blanks_start(text, start)) {
+                gap_on_next_line(alloc, text, start, rest)
+            } else {
+                gap_in_line(alloc, end)
+            }
+        }
+        None => gap_in_line(alloc, end),
     }
 }
 
-// Returns where the last token of a node begins, or else where the node ends.
-fn closing_start(node: &SyntaxNode<'_>) -> usize {
-    match node.last_child_or_token() {
-        Some(NodeOrToken::Token(closing)) => closing.text_range().start(),
-        _ => node.text_range().end(),
+/// Returns where a new node goes after another: on the next line if that one has its own line, otherwise after a space.
+pub fn gap_after(alloc: Global, text: &str, node: &SyntaxNode<'_>) -> Result<Gap, AllocError>
+    ensures { IfOk result (λ gap. gap_of gap ≡ gap_after text.now node.now) }
+{
+    let range = node.text_range();
+    gap_by(alloc, text, range.start(), range.end(), rest_of_line(node))
+}
+
+// Returns the gap above the line of a closing bracket.
+fn gap_above(alloc: Global, text: &str, closing: usize) -> Result<Gap, AllocError>
+    ensures { IfOk result (λ gap. gap_of gap ≡ gap_above text.now closing) }
+{
+    let line = blanks_start(text, closing);
+    let mut before = String::from_str(alloc, blanks_before(text, closing))?;
+    before.push_str(INDENT)?;
+    Ok(Gap {
+        start: line,
+        end: line,
+        before,
+        after: line_break_before(text, line),
+        comments: 0,
+    })
+}
+
+// Returns the gap in place of the blanks before a closing bracket.
+fn gap_before(alloc: Global, text: &str, closing: usize) -> Result<Gap, AllocError>
+    ensures { IfOk result (λ gap. gap_of gap ≡ gap_before text.now closing) }
+{
+    Ok(Gap {
+        start: blanks_start(text, closing),
+        end: closing,
+        before: String::from_str(alloc, " ")?,
+        after: " ",
+        comments: 0,
+    })
+}
+
+// Returns the gap before a closing bracket, in a node that begins at an offset.
+fn gap_at_closing(
+    alloc: Global,
+    text: &str,
+    start: usize,
+    closing: usize,
+) -> Result<Gap, AllocError>
+    ensures { IfOk result (λ gap. gap_of gap ≡ gap_at_closing text.now start closing) }
+{
+    let line = blanks_start(text, closing);
+    if begins_line(text, line) && start < line {
+        gap_above(alloc, text, closing)
+    } else {
+        gap_before(alloc, text, closing)
     }
 }
 
 /// Returns where a new node goes before the closing bracket of a node: on its own line if the bracket has one, and else between spaces.
-pub fn gap_inside(alloc: Global, text: &str, node: &SyntaxNode<'_>) -> Result<Gap, AllocError> {
-    let closing = closing_start(node);
-    match indent_at(text, closing) {
-        Some(indent) if node.text_range().start().saturating_add(indent.len()) < closing => {
-            let line = closing.saturating_sub(indent.len());
-            Ok(Gap {
-                start: line,
-                end: line,
-                before: format!(in alloc; "{indent}{INDENT}")?,
-                after: line_break_before(text, line),
-                comments: 0,
-            })
-        }
-        _ => Ok(Gap {
-            start: without_blanks_before(text, closing),
-            end: closing,
-            before: String::from_str(alloc, " ")?,
-            after: " ",
-            comments: 0,
-        }),
-    }
+pub fn gap_inside(alloc: Global, text: &str, node: &SyntaxNode<'_>) -> Result<Gap, AllocError>
+    ensures { IfOk result (λ gap. gap_of gap ≡ gap_inside text.now node.now) }
+{
+    let start = node.text_range().start();
+    gap_at_closing(alloc, text, start, closing_start(node))
 }

@@ -1,7 +1,8 @@
 //! Inserting nodes.
 
 ghost use Rattle.std.specs.Prelude.{◌≡◌, ◌++◌, string_bytes, IfOk};
-ghost use Rattle.rnix_edit.specs.Edited.{IfDone, IfRefused, spliced, put_in, place_in, IsInsertedAfter, IsNotInsertedAfter, IsInsertedInside, IsNotInsertedInside};
+ghost use Rattle.rnix_edit.specs.Ranges.{put_in};
+ghost use Rattle.rnix_edit.specs.Edited.{IfDone, IfRefused, spliced, place_in, IsInsertedAfter, IsNotInsertedAfter, IsInsertedInside, IsNotInsertedInside};
 ghost use Rattle.rnix_edit.specs.Tried.{IsUnread, IfRead, IfNotRead, gap_of};
 
 use crate::check::{is_after, is_inside};

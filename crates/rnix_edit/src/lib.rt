@@ -1,11 +1,13 @@
 //! Edits of a text by its nodes: each is refused unless the new text, read again, has the old tree around the edited place.
 #![tactic(auto)]
 
+mod blanks;
 mod check;
+mod cut;
 mod edited;
 mod gap;
 mod insert;
-mod layout;
+mod line;
 mod place;
 mod removing;
 mod replacing;

@@ -5,7 +5,7 @@ ghost use Rattle.rnix_green.specs.Tree.{item_of, text_at};
 ghost use Rattle.std.specs.Bool.{Decides};
 ghost use Rattle.std.specs.List.{list_all};
 ghost use Rattle.rnix_tree.specs.Spots.{event_of};
-ghost use Rattle.rnix_edit.specs.Steps.{step_of, token_steps, node_step, step_at, steps_of, steps_in, enters, leaves, events_before, events_after, steps_before, steps_after, is_comment};
+ghost use Rattle.rnix_edit.specs.Steps.{step_of, token_steps, node_step, step_at, steps_of, steps_in, enters, leaves, events_before, events_after, steps_before, steps_after, is_comment, enters_first};
 
 use crate::place::{Place, is_at};
 use rnix::{
@@ -214,4 +214,14 @@ pub fn are_comments_before(steps: &[Step<'_>], end: usize) -> bool
     ensures { result ≡ list_all is_comment (take end (map step_of steps.now)) }
 {
     are_comments(&steps[..end])
+}
+
+/// Returns whether the first step enters a node or passes a token.
+pub fn enters_first(steps: &[Step<'_>]) -> bool
+    ensures { result ≡ enters_first (map step_of steps.now) }
+{
+    match steps.first() {
+        Some(step) => step.enters,
+        None => false,
+    }
 }

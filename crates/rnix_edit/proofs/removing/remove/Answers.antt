@@ -1,6 +1,12 @@
 use Rattle.std.proofs.{Common.{rules, ◌≡◌, ◌∙◌, [], sym, subst, string_bytes}, lemmas.Bool.false≢true}
+<<<<<<< HEAD
 use Rattle.rnix.specs.ParseResult.{root_of}
 use Rattle.rnix_edit.specs.{Steps.place_of, Edited.{spliced, IsWithout}, Tried.{IsUnread, IfRead, IfNotRead}}
+=======
+use Rattle.rnix.specs.ParseResult.{root_of}
+use Rattle.rnix_edit.specs.{Steps.place_of, Edited.{spliced, IsWithout, IsCutOut, IsNotCutOut}, Tried.{IsUnread, IfRead, IfNotRead}}
+use Rattle.rnix_edit.specs.declared.edited.Refusal.TheVariants as refusal
+>>>>>>> origin/main
 use Rattle.rnix_edit.proofs.EditLemmas.{hindered, made_so, otherwise}
 use Rattle.rnix_edit.proofs.removing.remove.Goals as goal
 
@@ -9,29 +15,22 @@ returns-in-Refused-clause-refused c =
     let cut = c.cut_of-cut.result in
     let text = c.args.text.now in
     let so = IsWithout c.args.root.now (place_of c.args.node.now) cut.comments in
-    record {
-      start = cut.start;
-      end = cut.end;
-      comments = cut.comments;
-      hindered = hindered text cut.start cut.end [] so c.in-Refused.refusal
-          (subst (IfNotRead (λ refusal. IsUnread refusal text cut.start cut.end [])) c.in-Refused.is c.in_ok-made.ensures.refused);
-    }
+    subst (IsNotCutOut c.in-Refused.refusal text c.args.root.now c.args.node.now) c.cut_of-cut.ensures
+    (hindered text cut.start cut.end [] so c.in-Refused.refusal
+    (subst (IfNotRead (λ refusal. IsUnread refusal text cut.start cut.end [])) c.in-Refused.is c.in_ok-made.ensures.refused))
 
 pub returns-then-branch-clause-done : goal.returns-then-branch-clause-done
 returns-then-branch-clause-done c =
     let cut = c.cut_of-cut.result in
     let text = c.args.text.now in
+    let made = string_bytes c.in-Read.made in
     let so = IsWithout c.args.root.now (place_of c.args.node.now) cut.comments in
     let read = subst (IfRead (spliced text cut.start cut.end [])) c.in-Read.is c.in_ok-made.ensures.read in
     let root : c.syntax.result ≡ root_of c.in-Read.read = search rules in
     let holds : so c.syntax.result =
     subst (λ old. IsWithout c.args.root.now old cut.comments c.syntax.result) c.place_of-old.ensures (c.in_ok-is_without.ensures.0 c.if-branch.true) in
-    record {
-      start = cut.start;
-      end = cut.end;
-      comments = cut.comments;
-      made_so = made_so text cut.start cut.end [] so (string_bytes c.in-Read.made) c.in-Read.read read.0 read.1 (subst so root holds);
-    }
+    subst (λ cut. IsCutOut text c.args.root.now c.args.node.now cut made) c.cut_of-cut.ensures
+    (made_so text cut.start cut.end [] so made c.in-Read.read read.0 read.1 (subst so root holds))
 
 pub returns-else-branch-clause-refused : goal.returns-else-branch-clause-refused
 returns-else-branch-clause-refused c =
@@ -43,9 +42,5 @@ returns-else-branch-clause-refused c =
     let fails : ¬ so c.syntax.result =
     subst (λ old. ¬ IsWithout c.args.root.now old cut.comments c.syntax.result) c.place_of-old.ensures
     (λ holds. false≢true (sym c.if-branch.false ∙ c.in_ok-is_without.ensures.1 holds)) in
-    record {
-      start = cut.start;
-      end = cut.end;
-      comments = cut.comments;
-      hindered = otherwise text cut.start cut.end [] so c.in-Read.read read.1 (subst (λ r. ¬ so r) root fails);
-    }
+    subst (IsNotCutOut refusal.ReadOtherwise text c.args.root.now c.args.node.now) c.cut_of-cut.ensures
+    (otherwise text cut.start cut.end [] so c.in-Read.read read.1 (subst (λ r. ¬ so r) root fails))
