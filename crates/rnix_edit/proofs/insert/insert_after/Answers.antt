@@ -1,14 +1,9 @@
 use Rattle.std.proofs.{Common.{rules, ◌≡◌, ◌∙◌, sym, subst, string_bytes}, lemmas.Bool.false≢true}
 use Rattle.rnix_green.specs.Tree.{Located}
-<<<<<<< HEAD
-use Rattle.rnix.specs.ParseResult.{root_of}
-use Rattle.rnix_edit.specs.{Steps.place_of, Edited.{spliced, put_in, place_in, IsAfter}, Tried.{IsUnread, IfRead, IfNotRead, gap_of}}
-=======
 use Rattle.rnix.specs.ParseResult.{root_of}
 use Rattle.rnix_edit.specs.declared.edited.Refusal.TheVariants as refusal
 use Rattle.rnix_edit.specs.{Steps.place_of, Ranges.put_in, Edited.{spliced, IsAfter, IsTreeAfter, IsFilled, IsNotFilled}}
 use Rattle.rnix_edit.specs.Tried.{IsUnread, IfRead, IfNotRead, gap_of}
->>>>>>> origin/main
 use Rattle.rnix_edit.proofs.EditLemmas.{hindered, made_so, otherwise}
 use Rattle.rnix_edit.proofs.insert.insert_after.Goals as goal
 

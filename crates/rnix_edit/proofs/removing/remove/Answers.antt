@@ -1,12 +1,7 @@
 use Rattle.std.proofs.{Common.{rules, ◌≡◌, ◌∙◌, [], sym, subst, string_bytes}, lemmas.Bool.false≢true}
-<<<<<<< HEAD
-use Rattle.rnix.specs.ParseResult.{root_of}
-use Rattle.rnix_edit.specs.{Steps.place_of, Edited.{spliced, IsWithout}, Tried.{IsUnread, IfRead, IfNotRead}}
-=======
 use Rattle.rnix.specs.ParseResult.{root_of}
 use Rattle.rnix_edit.specs.{Steps.place_of, Edited.{spliced, IsWithout, IsCutOut, IsNotCutOut}, Tried.{IsUnread, IfRead, IfNotRead}}
 use Rattle.rnix_edit.specs.declared.edited.Refusal.TheVariants as refusal
->>>>>>> origin/main
 use Rattle.rnix_edit.proofs.EditLemmas.{hindered, made_so, otherwise}
 use Rattle.rnix_edit.proofs.removing.remove.Goals as goal
 
