@@ -1,34 +1,45 @@
-//! One file with its new text.
+//! Formatting of one file.
 
+use crate::unified::unified_diff;
 use nix_cli::{Program, place_of, read_text, replace_text, shown_name};
 use nix_diagnostics::diagnostics;
 use nix_formatting::{Formatting, formatted};
 use rnix::Root;
 use std::io::{self, Write};
 
-// Errors of a file that are printed.
+// The most errors of a file that are printed.
 const LIMIT: usize = 3;
 
-/// What is done with a new text.
+/// What the program does with the formatted text of a file.
 #[derive(Clone, Copy, PartialEq, Eq)]
 pub enum Task {
-    /// It is written.
+    /// Write it to the file.
     Write,
-    /// It is compared, and the file is named if it differs.
+    /// Print the name of the file if the text differs.
     Check,
-    /// It is printed.
+    /// Print how the text differs.
+    Diff,
+    /// Print it.
     Print,
 }
 
-/// What came of a file.
+/// The result for a file.
 #[derive(Clone, Copy, PartialEq, Eq)]
 pub enum Outcome {
-    /// It has, or would have, a new text.
+    /// The formatted text differs.
     Changed,
-    /// It has the text that it should have.
+    /// The file is formatted already.
     Same,
-    /// It could not be read, or is not Nix.
+    /// The file could not be read, formatted or written.
     Failed,
+}
+
+// A file with its text and its formatted text.
+#[derive(Clone, Copy)]
+struct Change<'a> {
+    name: &'a str,
+    old: &'a str,
+    new: &'a str,
 }
 
 // Prints the first errors of a text.
@@ -52,32 +63,39 @@ fn write_errors(rt: &HostRuntime, program: &Program, name: &str, text: &str) -> 
     Ok(())
 }
 
-// Replaces a file. What fails is reported.
-fn replace(rt: &HostRuntime, program: &Program, name: &str, made: &str) -> io::Result<Outcome> {
-    match replace_text(rt, name, made) {
+// Replaces a file. Reports what fails.
+fn replace(rt: &HostRuntime, program: &Program, change: Change<'_>) -> io::Result<Outcome> {
+    match replace_text(rt, change.name, change.new) {
         Ok(()) => Ok(Outcome::Changed),
         Err(error) => {
-            eprintln!(rt; "{}: {name}: {error}", program.name)?;
+            eprintln!(rt; "{}: {}: {error}", program.name, change.name)?;
             Ok(Outcome::Failed)
         }
     }
 }
 
-// Does with a new text what the task asks for. Standard input has no file, so its new text is printed.
-fn use_made(
+// Prints how the formatted text differs.
+fn write_diff(rt: &HostRuntime, change: Change<'_>) -> io::Result<()> {
+    let name = shown_name(change.name);
+    let diff = unified_diff(rt.alloc(), name, change.old, change.new)?;
+    rt.stdout().write_all(diff.as_bytes())
+}
+
+// Does with the formatted text what the task asks for. Standard input has no file, so its formatted text is printed.
+fn finish(
     rt: &HostRuntime,
     program: &Program,
-    name: &str,
-    made: &str,
-    is_same: bool,
+    change: Change<'_>,
     task: Task,
 ) -> io::Result<Outcome> {
+    let is_same = change.new == change.old;
     match task {
-        Task::Check if !is_same => println!(rt; "{}", shown_name(name))?,
-        Task::Check => {}
-        Task::Write if name != "-" && !is_same => return replace(rt, program, name, made),
-        Task::Write if name != "-" => {}
-        Task::Write | Task::Print => rt.stdout().write_all(made.as_bytes())?,
+        Task::Check | Task::Diff if is_same => {}
+        Task::Check => println!(rt; "{}", shown_name(change.name))?,
+        Task::Diff => write_diff(rt, change)?,
+        Task::Write if change.name != "-" && !is_same => return replace(rt, program, change),
+        Task::Write if change.name != "-" => {}
+        Task::Write | Task::Print => rt.stdout().write_all(change.new.as_bytes())?,
     }
     Ok(if is_same {
         Outcome::Same
@@ -86,7 +104,7 @@ fn use_made(
     })
 }
 
-// Says that a text is not formatted.
+// Reports that a text is not formatted because of a bug.
 fn write_refusal(rt: &HostRuntime, program: &Program, name: &str) -> io::Result<()> {
     eprintln!(rt;
         "{}: {}: this text is left as it is: its new text would differ in more than white space, which is a bug; please report it",
@@ -105,8 +123,12 @@ fn format_text(
 ) -> io::Result<Outcome> {
     match formatted(rt.alloc(), text)? {
         Formatting::Formatted(made) => {
-            let is_same = made.as_str() == text;
-            use_made(rt, program, name, made.as_str(), is_same, task)
+            let change = Change {
+                name,
+                old: text,
+                new: made.as_str(),
+            };
+            finish(rt, program, change, task)
         }
         Formatting::Faulty => {
             write_errors(rt, program, name, text)?;
@@ -119,7 +141,7 @@ fn format_text(
     }
 }
 
-/// Formats a file, or standard input for `-`. What fails is reported.
+/// Formats a file, or standard input for `-`. Reports what fails.
 pub fn format_file(
     rt: &HostRuntime,
     program: &Program,

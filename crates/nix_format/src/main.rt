@@ -1,7 +1,9 @@
 //! Writes Nix files in the style of Nixpkgs: `nix-format [OPTION..] [FILE..]`, or with no file the text on standard input.
 #![tactic(auto)]
 
+mod diff;
 mod file;
+mod unified;
 
 use file::{Outcome, Task, format_file};
 use nix_cli::{
@@ -19,19 +21,20 @@ Writes Nix files in the style of Nixpkgs. Only white space changes: the tokens o
 and the tree is the same. A file with errors stays as it is. A folder means all files in it and below that end with .nix; - and no FILE mean
 standard input, whose new text is printed. Files are replaced: the new text goes to FILE.new, which is then renamed.
 
-    --check    change nothing, and name the files that would change
-    --print    change nothing, and print the new texts, each behind the name of its file if there are several
+    --check    change nothing, and print the names of the files that would change
+    --diff     change nothing, and print how the files would change, as a unified diff for `patch -p1` and `git apply`
+    --print    change nothing, and print the new texts, each after the name of its file if there are several
 ",
     statuses: "
-Ends with 0; with 1 if --check named a file; with 2 if a text has errors, or something could not be read or written.
+Ends with 0; with 1 if a file would change and --check or --diff is given; with 2 if a text has errors, or something could not be read or written.
 ",
-    flags: &["--check", "--print"],
+    flags: &["--check", "--diff", "--print"],
     has_colors: false,
     least: 0,
     most: usize::MAX,
 };
 
-// How many files came out how.
+// The numbers of files with each outcome.
 #[derive(Clone, Copy, Default)]
 struct Tally {
     changed: usize,
@@ -50,9 +53,11 @@ impl Tally {
     }
 }
 
-// What the options ask for.
+// What the options ask for. `--diff` includes what `--check` reports.
 fn task_of(arguments: &Arguments) -> Task {
-    if arguments.has("--check") {
+    if arguments.has("--diff") {
+        Task::Diff
+    } else if arguments.has("--check") {
         Task::Check
     } else if arguments.has("--print") {
         Task::Print
@@ -82,7 +87,7 @@ fn format_all(rt: &HostRuntime, names: &[String], task: Task) -> io::Result<Tall
     Ok(tally)
 }
 
-// The last line, on standard error, where there are several files.
+// Prints the numbers of files to standard error if there are several files.
 fn write_counts(rt: &HostRuntime, tally: Tally, task: Task) -> io::Result<()> {
     let all = tally
         .changed
@@ -92,7 +97,7 @@ fn write_counts(rt: &HostRuntime, tally: Tally, task: Task) -> io::Result<()> {
         return Ok(());
     }
     let done = match task {
-        Task::Check | Task::Print => "would change",
+        Task::Check | Task::Diff | Task::Print => "would change",
         Task::Write => "changed",
     };
     let (changed, same, failed) = (tally.changed, tally.same, tally.failed);
@@ -106,7 +111,7 @@ fn format_named(rt: &HostRuntime, arguments: &Arguments) -> io::Result<u8> {
     write_counts(rt, tally, task)?;
     Ok(match (task, tally.changed, tally.failed) {
         (_, _, 1..) => FAILED,
-        (Task::Check, 1.., _) => FOUND,
+        (Task::Check | Task::Diff, 1.., _) => FOUND,
         _ => 0,
     })
 }

@@ -1,0 +1,127 @@
+//! The difference of two texts, line by line.
+
+ghost use Rattle.std.specs.Prelude.{◌≡◌, ◌++◌, ◌∷◌, [], ◌≤◌, length, drop, true, IfOk, OnOk};
+ghost use Rattle.nix_format.specs.Diff.{lines_of, old_lines, new_lines, texts_of, IsDiff};
+
+use std::alloc::{AllocError, Global};
+
+/// A line of a diff, with the line feed that ends it.
+#[derive(Clone, Copy, PartialEq, Eq)]
+pub enum DiffLine<'t> {
+    /// A line of both texts.
+    Common(&'t str),
+    /// A line of the old text only.
+    Removed(&'t str),
+    /// A line of the new text only.
+    Added(&'t str),
+}
+
+// A line of a text, and the numbers of bytes other than white space before it and up to its end. Two texts that differ in white space alone have the
+// same such bytes, so these numbers say which lines correspond.
+#[derive(Clone, Copy)]
+struct Line<'t> {
+    text: &'t str,
+    start: usize,
+    end: usize,
+}
+
+// The number of bytes of a line that are not white space.
+fn weight(line: &str) -> usize {
+    line.bytes()
+        .filter(|byte| !byte.is_ascii_whitespace())
+        .count()
+}
+
+// The lines of a text.
+fn lines_of<'t>(alloc: Global, text: &'t str) -> Result<Vec<Line<'t>>, AllocError>
+    ensures { IfOk result (λ lines. texts_of lines.items ≡ lines_of text.now) }
+{
+    let mut lines = Vec::new(alloc);
+    let mut end = 0usize;
+    for line in text.split_inclusive('\n') {
+        let start = end;
+        end = end.saturating_add(weight(line));
+        lines.push(Line {
+            text: line,
+            start,
+            end,
+        })?;
+    }
+    Ok(lines)
+}
+
+impl<'t> Line<'t> {
+    // Whether the line comes before a line of the other text.
+    fn precedes(&self, other: &Line<'_>) -> bool {
+        self.start < other.start || (self.start == other.start && self.end < other.end)
+    }
+
+    // Whether the line is the same as a line of the other text, and at the same place.
+    fn is_same(&self, other: &Line<'_>) -> bool
+        ensures { result ≡ true → self.now.text.now ≡ other.now.text.now }
+    {
+        self.start == other.start && self.text == other.text
+    }
+}
+
+// How many of the lines come before a line of the other text.
+fn count_before(lines: &[Line<'_>], other: &Line<'_>) -> usize
+    ensures { result ≤ length lines.now }
+{
+    lines.partition_point(|line: &Line<'_>| -> bool { line.precedes(other) })
+}
+
+// Adds lines of the new text to a diff.
+#[tactic(auto, using(crate::proofs::DiffLemmas::old_more, crate::proofs::DiffLemmas::new_more))]
+fn add_new<'t>(diff: &mut Vec<DiffLine<'t>>, news: &[Line<'t>]) -> Result<(), AllocError>
+    ensures olds { OnOk result (old_lines diff.new.items ≡ old_lines diff.old.items) }
+    ensures news { OnOk result (new_lines diff.new.items ≡ new_lines diff.old.items ++ texts_of news.now) }
+{
+    for line in news {
+        diff.push(DiffLine::Added(line.text))?;
+    }
+    Ok(())
+}
+
+// Adds a line of the old text to a diff: as a common line, after the lines of the new text before it, or as a removed one. Returns how many lines of the
+// new text it added.
+fn add_old<'t>(
+    diff: &mut Vec<DiffLine<'t>>,
+    line: &Line<'t>,
+    news: &[Line<'t>],
+) -> Result<usize, AllocError>
+    ensures olds { OnOk result (old_lines diff.new.items ≡ old_lines diff.old.items ++ line.now.text.now ∷ []) }
+    ensures within { IfOk result (λ count. count ≤ length news.now) }
+    ensures news { IfOk result (λ count. new_lines diff.new.items ++ texts_of (drop count news.now) ≡ new_lines diff.old.items ++ texts_of news.now) }
+{
+    let before = count_before(news, line);
+    if before < news.len() && news[before].is_same(line) {
+        add_new(diff, &news[..before])?;
+        diff.push(DiffLine::Common(line.text))?;
+        return Ok(before + 1);
+    }
+    diff.push(DiffLine::Removed(line.text))?;
+    Ok(0)
+}
+
+/// Returns the difference of two texts. In each run of lines that differ, the removed ones come before the added ones.
+///
+/// Lines correspond if they are equal and the same number of bytes other than white space precedes them. So the difference is short if the texts
+/// differ in white space alone, and right for any two texts.
+pub fn line_diff<'t>(
+    alloc: Global,
+    old: &'t str,
+    new: &'t str,
+) -> Result<Vec<DiffLine<'t>>, AllocError>
+    ensures { IfOk result (λ diff. IsDiff old.now new.now diff.items) }
+{
+    let olds = lines_of(alloc, old)?;
+    let news = lines_of(alloc, new)?;
+    let mut diff = Vec::new(alloc);
+    let mut done = 0usize;
+    for line in &olds {
+        done += add_old(&mut diff, line, &news[done..])?;
+    }
+    add_new(&mut diff, &news[done..])?;
+    Ok(diff)
+}
