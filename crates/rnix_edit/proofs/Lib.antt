@@ -1,5 +1,5 @@
 pub mod BlankLemmas
-pub mod LineLemmas
+pub mod RestOfLineLemmas
 pub mod StepLemmas
 pub mod CheckLemmas
 pub mod EditLemmas

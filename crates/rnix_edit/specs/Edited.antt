@@ -15,7 +15,7 @@ use Rattle.rnix_edit.specs.declared.edited.Refusal.{Refusal}
 use Rattle.rnix_edit.specs.declared.edited.Refusal.TheVariants as refusal
 use Rattle.rnix_edit.specs.declared.cut.Cut.{Cut}
 use Rattle.rnix_edit.specs.Steps.{place_of, has_node, steps_in, steps_before, steps_after, is_comment, enters_first}
-use Rattle.rnix_edit.specs.Ranges.{Gap, put_in, cut_of, gap_after, gap_inside}
+use Rattle.rnix_edit.specs.EditRanges.{Gap, put_in, cut_of, gap_after, gap_inside}
 
 -- the text with new bytes in place of those from start up to end
 abbrev pub spliced : List ℕ → ℕ → ℕ → List ℕ → List ℕ

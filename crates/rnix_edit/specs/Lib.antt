@@ -1,6 +1,6 @@
 pub mod Blanks
 pub mod Line
-pub mod Ranges
+pub mod EditRanges
 pub mod Steps
 pub mod SameSteps
 pub mod Edited

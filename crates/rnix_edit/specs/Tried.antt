@@ -7,7 +7,7 @@ use Rattle.rnix_text.specs.Changes.{IsInside, IsBetween}
 use Rattle.rnix_text.specs.declared.edit_error.EditError.{EditError}
 use Rattle.rnix_text.specs.declared.edit_error.EditError.TheVariants as cause
 use Rattle.rnix_edit.specs.Edited.{spliced, IsReadWithErrors}
-use Rattle.rnix_edit.specs.Ranges.{Gap}
+use Rattle.rnix_edit.specs.EditRanges.{Gap}
 use Rattle.rnix_edit.specs.declared.gap.Gap.{Gap as Found}
 use Rattle.rnix_edit.specs.declared.edited.Refusal.{Refusal}
 use Rattle.rnix_edit.specs.declared.edited.Refusal.TheVariants as refusal

@@ -1,7 +1,7 @@
 //! Which bytes go with a node that is removed.
 
 ghost use Rattle.std.specs.Prelude.{◌≡◌};
-ghost use Rattle.rnix_edit.specs.Ranges.{cut_in_line, cut_with_rest, cut_of};
+ghost use Rattle.rnix_edit.specs.EditRanges.{cut_in_line, cut_with_rest, cut_of};
 
 use crate::blanks::{begins_line, blanks_end, blanks_start, is_opened};
 use crate::line::{RestOfLine, rest_of_line};

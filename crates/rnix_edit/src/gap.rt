@@ -1,7 +1,7 @@
 //! Where new nodes go.
 
 ghost use Rattle.std.specs.Prelude.{◌≡◌, IfOk};
-ghost use Rattle.rnix_edit.specs.Ranges.{gap_in_line, gap_on_next_line, gap_by, gap_after, gap_above, gap_before, gap_at_closing, gap_inside};
+ghost use Rattle.rnix_edit.specs.EditRanges.{gap_in_line, gap_on_next_line, gap_by, gap_after, gap_above, gap_before, gap_at_closing, gap_inside};
 ghost use Rattle.rnix_edit.specs.Tried.{gap_of};
 
 use crate::blanks::{begins_line, blanks_before, blanks_start, line_break_before};

@@ -1,7 +1,7 @@
 //! Inserting nodes.
 
 ghost use Rattle.std.specs.Prelude.{◌≡◌, ◌++◌, string_bytes, IfOk};
-ghost use Rattle.rnix_edit.specs.Ranges.{put_in};
+ghost use Rattle.rnix_edit.specs.EditRanges.{put_in};
 ghost use Rattle.rnix_edit.specs.Edited.{IfDone, IfRefused, spliced, place_in, IsInsertedAfter, IsNotInsertedAfter, IsInsertedInside, IsNotInsertedInside};
 ghost use Rattle.rnix_edit.specs.Tried.{IsUnread, IfRead, IfNotRead, gap_of};
 

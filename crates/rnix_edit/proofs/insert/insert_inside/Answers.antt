@@ -2,7 +2,7 @@ use Rattle.std.proofs.{Common.{rules, ◌≡◌, ◌∙◌, sym, subst, string_b
 use Rattle.rnix_green.specs.Tree.{Located}
 use Rattle.rnix.specs.ParseResult.{root_of}
 use Rattle.rnix_edit.specs.declared.edited.Refusal.TheVariants as refusal
-use Rattle.rnix_edit.specs.{Steps.place_of, Ranges.put_in, Edited.{spliced, IsLastIn, IsTreeInside, IsFilled, IsNotFilled}}
+use Rattle.rnix_edit.specs.{Steps.place_of, EditRanges.put_in, Edited.{spliced, IsLastIn, IsTreeInside, IsFilled, IsNotFilled}}
 use Rattle.rnix_edit.specs.Tried.{IsUnread, IfRead, IfNotRead, gap_of}
 use Rattle.rnix_edit.proofs.EditLemmas.{hindered, made_so, otherwise}
 use Rattle.rnix_edit.proofs.insert.insert_inside.Goals as goal

@@ -1,6 +1,6 @@
 use Rattle.rnix_tree.specs.Spots.{spot_of}
 use Rattle.rnix_edit.specs.Line.{closing_start}
-use Rattle.rnix_edit.proofs.LineLemmas.{child_passed}
+use Rattle.rnix_edit.proofs.RestOfLineLemmas.{child_passed}
 use Rattle.rnix_edit.proofs.line.closing_start.Goals as goal
 
 pub loop-element-preserved : goal.loop-element-preserved

@@ -2,7 +2,7 @@ use Rattle.std.proofs.Common.{◌≡◌, ◌+◌, ◌∙◌, sym, ap, length, ar
 use Rattle.rnix_tree.specs.Spots.{spot_of}
 use Rattle.rnix_edit.specs.Line.{rest_from, rest_of_line}
 use Rattle.rnix_edit.specs.declared.line.Part.TheVariants as part
-use Rattle.rnix_edit.proofs.LineLemmas.{element_passed}
+use Rattle.rnix_edit.proofs.RestOfLineLemmas.{element_passed}
 use Rattle.rnix_edit.proofs.line.rest_of_line.Goals as goal
 
 pub loop-element-preserved-in-Blanks : goal.loop-element-preserved-in-Blanks

@@ -1,5 +1,5 @@
 use Rattle.std.proofs.Common.{◌≡◌, ◌∙◌, length, drop, ap, arith, length-drop}
-use Rattle.rnix_edit.proofs.LineLemmas.{first_dropped}
+use Rattle.rnix_edit.proofs.RestOfLineLemmas.{first_dropped}
 use Rattle.rnix_edit.proofs.line.siblings_after.Goals as goal
 
 pub returns-clause-siblings : goal.returns-clause-siblings

@@ -8,7 +8,8 @@ use Rattle.rnix_edit.specs.declared.line.{Part.Part, RestOfLine.RestOfLine}
 use Rattle.rnix_edit.specs.Line.{is_feed, second_line, part_of, rest_after, rest_from, token_start, closing_from}
 
 -- without its first element, a walk is what is left of it
-pub first_dropped : (old new : List Spot) (first : Option (NodeOrToken Located Located)) → YieldsFirstBy spot_of (λ (s : List Spot). s) old first new → new ≡ drop 1 old
+pub first_dropped : (old new : List Spot) (first : Option (NodeOrToken Located Located)) →
+    YieldsFirstBy spot_of (λ (s : List Spot). s) old first new → new ≡ drop 1 old
 first_dropped old new None none = none.1 ∙ sym (ap (drop 1) none.0)
 first_dropped old new (Some element) next = sym (ap (drop 1) next)
 
