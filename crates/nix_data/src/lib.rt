@@ -1,6 +1,8 @@
 //! The data of a Nix text, and data as a Nix text.
 #![tactic(auto)]
 
+mod laws;
+mod meaning;
 mod names;
 mod nix_reader;
 mod nix_writer;
@@ -8,6 +10,7 @@ mod no_data;
 mod quoted;
 mod scalars;
 
+pub use laws::one_meaning;
 pub use nix_reader::{data_in, data_of};
 pub use nix_writer::nix_of;
 pub use no_data::{NoData, Reason};

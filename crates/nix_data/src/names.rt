@@ -1,19 +1,19 @@
-//! Names as Nix writes them.
+//! Names, with quotes where Nix needs them.
 
 use crate::quoted::quoted;
 use std::alloc::{AllocError, Global};
 
-// The words that are no names.
+// The keywords.
 const KEYWORDS: [&str; 10] = [
     "assert", "else", "if", "in", "inherit", "let", "or", "rec", "then", "with",
 ];
 
-// Whether a character may stand in a name.
+// Whether an identifier may contain a character.
 fn is_in_name(byte: u8) -> bool {
     byte.is_ascii_alphanumeric() || matches!(byte, b'_' | b'-' | b'\'')
 }
 
-// Whether a text is a word of Nix.
+// Whether a text is a keyword.
 fn is_keyword(text: &str) -> bool {
     for keyword in &KEYWORDS {
         if *keyword == text {

@@ -10,15 +10,15 @@ use std::alloc::{AllocError, Global};
 // A list or a set whose values are being read.
 #[derive(Clone, Copy)]
 struct Frame {
-    // Its number.
+    // The number of its value.
     node: usize,
-    // Where its text ends.
+    // The end of its text.
     end: usize,
-    // How many values there were when its text began: those of them that are inside it are from another text.
+    // The number of values before its text. Values inside it with smaller numbers come from elsewhere in the text.
     first: usize,
 }
 
-// The attribute whose value comes next.
+// The attribute that the next value belongs to.
 #[derive(Drop)]
 struct Entry {
     set: usize,
@@ -26,21 +26,21 @@ struct Entry {
     place: TextRange,
 }
 
-// What is read so far.
+// The state of the reader.
 #[derive(Drop)]
 struct Reading {
     alloc: Global,
     is_lossy: bool,
     builder: Builder,
-    // Where the name of each value stands, or the value where it has no name.
+    // The range of each value's name, or of the value if it has no name.
     places: Vec<TextRange>,
     frames: Vec<Frame>,
     entry: Option<Entry>,
-    // What begins before is passed over.
+    // Nodes that begin before this offset are skipped.
     skipped_to: usize,
 }
 
-// A name with its place.
+// A name with its range.
 #[derive(Drop)]
 struct Name {
     text: String,
@@ -48,7 +48,7 @@ struct Name {
 }
 
 impl Reading {
-    // The source of a node in a string, where what is no data is kept so.
+    // Replaces a name that cannot be read by its source, with `--lossy`.
     fn or_source(
         &self,
         node: &SyntaxNode<'_>,
@@ -90,7 +90,7 @@ impl Reading {
         }
     }
 
-    // A name with its place.
+    // A name with its range.
     fn name(&self, attr: &Attr<'_>) -> Result<Name, Stop> {
         Ok(Name {
             text: self.or_source(attr.syntax(), self.name_text(attr))?,
@@ -98,7 +98,7 @@ impl Reading {
         })
     }
 
-    // Says that an attribute is defined twice.
+    // The error for an attribute that is defined twice.
     fn repeated(&self, place: TextRange, first: usize) -> Stop {
         Stop::NoData(NoData {
             reason: Reason::Repeated,
@@ -107,7 +107,7 @@ impl Reading {
         })
     }
 
-    // Adds a value to a list or a set, or as the whole.
+    // Adds a value to a list or a set, or as the outermost value.
     fn push(
         &mut self,
         parent: Option<usize>,
@@ -119,7 +119,7 @@ impl Reading {
         Ok(self.builder.add(self.alloc, parent, name, value)?)
     }
 
-    // The set that an attribute of a set is, which it becomes if there is none. One that is older than `first` is of another text.
+    // The set that is the value of an attribute; it is added if there is none. One with a number below `first` comes from elsewhere in the text.
     fn set_of(&mut self, set: usize, name: Name, first: usize) -> Result<usize, Stop> {
         match self.builder.attribute(set, name.text.as_str()) {
             Some(found) if found >= first && self.builder.is_set(found) => Ok(found),
@@ -133,7 +133,7 @@ impl Reading {
         self.frames.last().copied()
     }
 
-    // Leaves the lists and sets whose text ends before an offset.
+    // Leaves the lists and sets that end at an offset or before.
     fn leave(&mut self, offset: usize) {
         for _frame in 0..self.frames.len() {
             match self.frames.last() {
@@ -145,7 +145,7 @@ impl Reading {
         }
     }
 
-    // Takes the path of an entry: its value comes next.
+    // Reads the path of an entry. Its value comes next.
     fn enter_entry(&mut self, entry: &AttrpathValue<'_>) -> Result<(), Stop> {
         let (Some(path), Some(frame)) = (entry.attrpath(), self.frame()) else {
             return Ok(());
@@ -177,7 +177,7 @@ impl Reading {
         Ok(())
     }
 
-    // Adds a value: of the entry whose path was read, of the innermost list, or as the whole.
+    // Adds a value: to the entry whose path was read, to the innermost list, or as the outermost value.
     fn add(&mut self, value: Value, range: TextRange) -> Result<usize, Stop> {
         match self.entry.take() {
             Some(entry) => match self.builder.attribute(entry.set, entry.name.as_str()) {
@@ -206,7 +206,7 @@ impl Reading {
         Ok(())
     }
 
-    // Takes an `inherit`, whose source is the value of each of its names where what is no data is kept.
+    // Reads an `inherit`. With `--lossy`, its source is the value of each of its names.
     fn enter_inherit(&mut self, inherit: &Inherit<'_>) -> Result<(), Stop> {
         let range = inherit.syntax().text_range();
         self.skipped_to = range.end();
@@ -227,7 +227,7 @@ impl Reading {
         Ok(())
     }
 
-    // Takes a value that holds no values, or the source of what is no data, where it is kept so.
+    // Reads a value other than a list or a set. With `--lossy`, what is not data becomes its source.
     fn enter_scalar(
         &mut self,
         node: &SyntaxNode<'_>,
@@ -249,7 +249,7 @@ impl Reading {
         Ok(())
     }
 
-    // Takes a set.
+    // Reads a set.
     fn enter_set(&mut self, set: &AttrSet<'_>) -> Result<(), Stop> {
         let range = set.syntax().text_range();
         match set.rec_token() {
@@ -258,7 +258,7 @@ impl Reading {
         }
     }
 
-    // Takes a node, whose parents were taken before.
+    // Reads a node. Its ancestors were read before.
     fn enter(&mut self, node: &SyntaxNode<'_>) -> Result<(), Stop> {
         let range = node.text_range();
         if range.start() < self.skipped_to {
@@ -285,7 +285,7 @@ impl Reading {
     }
 }
 
-// The data of a tree without errors.
+// Reads the data of a tree without errors.
 fn read(alloc: Global, root: &SyntaxNode<'_>, is_lossy: bool) -> Result<Data, Stop> {
     let mut reading = Reading {
         alloc,
@@ -302,7 +302,7 @@ fn read(alloc: Global, root: &SyntaxNode<'_>, is_lossy: bool) -> Result<Data, St
     Ok(reading.builder.finish(alloc)?)
 }
 
-/// Returns the data of a tree without errors, or the first part that is none. If `is_lossy`, such a part becomes a string that is its source.
+/// Returns the data of a tree without errors, or the first part that is not data. If `is_lossy`, such a part becomes a string with its source.
 pub fn data_in(
     alloc: Global,
     root: &SyntaxNode<'_>,
@@ -315,7 +315,7 @@ pub fn data_in(
     }
 }
 
-/// Returns the data of a Nix text, or the first part that is none.
+/// Returns the data of a Nix text, or the first part that is not data.
 pub fn data_of(alloc: Global, text: &str) -> Result<Result<Data, NoData>, AllocError> {
     let parse = Root::parse(alloc, text)?;
     if let Some(error) = parse.errors().first() {

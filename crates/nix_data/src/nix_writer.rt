@@ -1,12 +1,22 @@
 //! Data as a Nix text.
 
+ghost use Rattle.std.specs.Prelude.{◌≡◌, IfOk, IfSome, IsTrue, string_bytes};
+ghost use Rattle.nix_values.specs.Contents.{contents};
+ghost use Rattle.nix_data.specs.Written.{IsMeant, IsWritten};
+
+use crate::meaning::items_after;
 use crate::names::push_name;
-use crate::nix_reader::data_of;
+use crate::nix_reader::data_in;
 use crate::quoted::quoted;
 use nix_values::{Data, Item, Notation, Value, kept, push_indentation};
+use rnix::Root;
+use rnix::ast::AstNode;
 use std::alloc::{AllocError, Global};
 
-// A text that is being written, with the lists and sets that are open, the innermost last: whether each is a set.
+// The most levels of values that `nix_of` checks: more than the parser accepts.
+const LEVELS: usize = 1024;
+
+// A text that is being written, and for each open list or set whether it is a set, innermost last.
 #[derive(Drop)]
 struct Writing {
     alloc: Global,
@@ -24,7 +34,7 @@ fn is_negative(value: &Value) -> bool {
 }
 
 impl Writing {
-    // Ends a line at which a value ends.
+    // Ends the line of a value.
     fn end_line(&mut self) -> Result<(), AllocError> {
         match self.open.last() {
             Some(true) => self.text.push_str(";\n"),
@@ -32,7 +42,7 @@ impl Writing {
         }
     }
 
-    // Closes the lists and sets below a depth.
+    // Closes the lists and sets that are deeper than a depth.
     fn close(&mut self, depth: usize) -> Result<(), AllocError> {
         for _open in depth..self.open.len() {
             if let Some(is_set) = self.open.pop() {
@@ -55,7 +65,7 @@ impl Writing {
         self.text.push('\n')
     }
 
-    // Writes a value that holds no values.
+    // Writes a value other than a list or a set.
     fn write_scalar(&mut self, value: &Value) -> Result<(), AllocError> {
         match value {
             Value::Null => self.text.push_str("null"),
@@ -71,7 +81,7 @@ impl Writing {
         }
     }
 
-    // Writes a value that holds no values, in parentheses where a sign would be an operator.
+    // Writes a value other than a list or a set, on a line. In a list, a negative number is put in parentheses.
     fn write_line(&mut self, value: &Value) -> Result<(), AllocError> {
         let is_wrapped = is_negative(value) && self.open.last() == Some(&false);
         self.text.push_str(if is_wrapped { "(" } else { "" })?;
@@ -80,7 +90,7 @@ impl Writing {
         self.end_line()
     }
 
-    // Writes an item, which is empty if nothing is inside it.
+    // Writes an item. `is_empty` tells whether no item is inside it.
     fn write(&mut self, item: &Item, is_empty: bool) -> Result<(), AllocError> {
         self.close(item.depth)?;
         push_indentation(self.open.len(), &mut self.text)?;
@@ -96,7 +106,7 @@ impl Writing {
     }
 }
 
-// Data as a Nix text.
+// Writes data as a Nix text.
 fn written(alloc: Global, data: &Data) -> Result<String, AllocError> {
     let mut writing = Writing {
         alloc,
@@ -112,18 +122,48 @@ fn written(alloc: Global, data: &Data) -> Result<String, AllocError> {
     Ok(writing.text)
 }
 
+// Whether the expression of a tree means some data.
+#[tactic(auto, using(crate::proofs::WrittenLemmas::meant))]
+fn is_meant(alloc: Global, root: &Root<'_>, whole: &Data) -> Result<bool, AllocError>
+    ensures { IfOk result (λ is_meant. IsTrue is_meant → IsMeant root.now (contents whole.now)) }
+{
+    let Some(expr) = root.expr() else {
+        return Ok(false);
+    };
+    match items_after(alloc, LEVELS, 0, "", expr.syntax(), whole.items.as_slice())? {
+        Some(rest) => Ok(rest.is_empty()),
+        None => Ok(false),
+    }
+}
+
 // Nix.
 struct Nix;
 
 impl Notation for Nix {
-    ghost reads = { λ text entries. Unit {0} };
+    ghost use Rattle.nix_data.specs.Written.{IsWritten};
 
+    ghost reads = { IsWritten };
+
+    #[tactic(auto, using(crate::proofs::WrittenLemmas::written))]
     fn read(&self, alloc: Global, text: &str) -> Result<Option<Data>, AllocError> {
-        Ok(data_of(alloc, text)?.ok())
+        let parse = Root::parse(alloc, text)?;
+        let Ok(root) = parse.ok() else {
+            return Ok(None);
+        };
+        let Ok(data) = data_in(alloc, root.syntax(), false)? else {
+            return Ok(None);
+        };
+        if is_meant(alloc, &root, &data)? {
+            Ok(Some(data))
+        } else {
+            Ok(None)
+        }
     }
 }
 
-/// Returns data as a Nix text, or nothing if the text does not read as the same data.
-pub fn nix_of(alloc: Global, whole: &Data) -> Result<Option<String>, AllocError> {
+/// Returns data as a Nix text, or `None` if the text would be read as other data. The text has no errors, and its expression means the data.
+pub fn nix_of(alloc: Global, whole: &Data) -> Result<Option<String>, AllocError>
+    ensures { IfOk result (λ made. IfSome made (λ text. IsWritten (string_bytes text) (contents whole.now))) }
+{
     kept(alloc, &Nix, written(alloc, whole)?, whole)
 }

@@ -1,8 +1,8 @@
-//! Why a part of a text is no data.
+//! Why a part of a text is not data.
 
 use rnix::{SyntaxKind, TextRange};
 
-/// Why a part of a text is no data.
+/// Why a part of a text is not data.
 #[derive(Clone, Copy)]
 pub enum Reason {
     /// The text has errors.
@@ -13,7 +13,7 @@ pub enum Reason {
     Recursive,
     /// An integer that does not fit in 64 bits.
     TooLarge,
-    /// A float that Nix cannot hold.
+    /// A float that Nix cannot represent.
     NoFloat,
     /// A string with the character 0.
     HasNul,
@@ -25,18 +25,18 @@ pub enum Reason {
     Repeated,
 }
 
-/// A part of a text that is no data.
+/// A part of a text that is not data.
 #[derive(Clone, Copy)]
 pub struct NoData {
-    /// Why it is none.
+    /// Why it is not data.
     pub reason: Reason,
-    /// The part, in bytes.
+    /// The range of the part, in bytes.
     pub range: TextRange,
-    /// Where a repeated attribute is defined first.
+    /// The range where a repeated attribute is first defined.
     pub first: Option<TextRange>,
 }
 
-// What an expression of a kind is called.
+// The message for an expression of a kind.
 fn expression(kind: SyntaxKind) -> &'static str {
     match kind {
         SyntaxKind::NODE_APPLY => "a call is not data",

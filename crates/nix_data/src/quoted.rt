@@ -1,8 +1,8 @@
-//! Strings as Nix writes them.
+//! Strings of Nix.
 
 use std::alloc::{AllocError, Global};
 
-// How a character of a value is escaped between `"` if this rest follows it; None if it stands for itself there.
+// The escape for a character in front of a rest, in a string in `"`; `None` if it needs none.
 fn escape(letter: char, rest: &str) -> Option<&'static str> {
     match letter {
         '"' => Some("\\\""),
@@ -15,7 +15,7 @@ fn escape(letter: char, rest: &str) -> Option<&'static str> {
     }
 }
 
-/// A value as a Nix string in `"`.
+/// Returns a string of Nix, in `"`, with a value.
 pub fn quoted(alloc: Global, value: &str) -> Result<String, AllocError> {
     let mut text = String::new(alloc);
     text.push('"')?;

@@ -1,4 +1,8 @@
-//! Values that hold no values.
+//! Values other than lists and sets.
+
+ghost use Rattle.std.specs.Prelude.{◌≡◌, Some, map, string_bytes, IfOk, IfSome};
+ghost use Rattle.rnix_base.specs.Normal.{with_text};
+ghost use Rattle.nix_data.specs.Meaning.{joined, string_text};
 
 use crate::no_data::{NoData, Reason};
 use nix_values::{Value, float_of};
@@ -9,12 +13,12 @@ use rnix::ast::{
 use rnix::{SyntaxKind, SyntaxNode, TextRange};
 use std::alloc::{AllocError, Global};
 
-/// Why no more is read.
+/// Why reading stops.
 #[derive(Drop)]
 pub enum Stop {
-    /// There is no memory.
+    /// An allocation failed.
     Memory,
-    /// A part of the text is no data.
+    /// A part of the text is not data.
     NoData(NoData),
 }
 
@@ -30,7 +34,7 @@ impl<T: Drop> From<std::alloc::AllocFailed<T>> for Stop {
     }
 }
 
-/// Returns that a part of a text is no data.
+/// Returns the error for a part of a text that is not data.
 pub fn no_data(reason: Reason, range: TextRange) -> Stop {
     Stop::NoData(NoData {
         reason,
@@ -49,10 +53,13 @@ fn interpolation(string: &Str<'_>) -> TextRange {
     string.syntax().text_range()
 }
 
-// The text that a string stands for, or nothing if it has an interpolation.
-fn plain_text(alloc: Global, string: &Str<'_>) -> Result<Option<String>, AllocError> {
+// The texts of some parts, concatenated, if none of them is an interpolation.
+#[tactic(auto, using(crate::proofs::MeaningLemmas::joined_begun))]
+fn joined(alloc: Global, parts: &[InterpolPart<'_, String>]) -> Result<Option<String>, AllocError>
+    ensures { IfOk result (λ found. IfSome found (λ text. joined (map (with_text string_bytes) parts.now) ≡ Some (string_bytes text))) }
+{
     let mut text = String::new(alloc);
-    for part in &string.normalized_parts(alloc)? {
+    for part in parts {
         match part {
             InterpolPart::Literal(literal) => text.push_str(literal.as_str())?,
             InterpolPart::Interpolation(_) => return Ok(None),
@@ -61,7 +68,15 @@ fn plain_text(alloc: Global, string: &Str<'_>) -> Result<Option<String>, AllocEr
     Ok(Some(text))
 }
 
-/// Returns the text that a string stands for.
+/// Returns the value of a string, if it has no interpolation.
+pub fn plain_text(alloc: Global, string: &Str<'_>) -> Result<Option<String>, AllocError>
+    ensures { IfOk result (λ found. IfSome found (λ text. string_text string.now ≡ Some (string_bytes text))) }
+{
+    let parts = string.normalized_parts(alloc)?;
+    joined(alloc, parts.as_slice())
+}
+
+/// Returns the value of a string.
 pub fn text_of(alloc: Global, string: &Str<'_>) -> Result<String, Stop> {
     let (source, range) = (string.syntax().text(), string.syntax().text_range());
     let Some(text) = plain_text(alloc, string)? else {
@@ -102,7 +117,7 @@ fn float(alloc: Global, number: &Float<'_>, is_negative: bool) -> Result<Value, 
     }
 }
 
-// The value of a URI: its text. It has no negation.
+// The value of a URI: its text. It cannot be negated.
 fn uri(alloc: Global, address: &Uri<'_>, is_negative: bool) -> Result<Value, Stop> {
     if is_negative {
         return Err(no_data(
@@ -137,7 +152,7 @@ fn negative(alloc: Global, operation: &UnaryOp<'_>) -> Result<Value, Stop> {
     }
 }
 
-// The value of a name: one of three that mean the same everywhere.
+// The value of an identifier: `null`, `true` or `false`.
 fn named(node: &SyntaxNode<'_>) -> Result<Value, Stop> {
     match node.text() {
         "null" => Ok(Value::Null),

@@ -1,0 +1,4 @@
+pub mod MeaningLemmas
+pub mod WrittenLemmas
+pub mod UniqueLemmas
+pub mod MeaningExamples

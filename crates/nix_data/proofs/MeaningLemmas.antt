@@ -1,0 +1,124 @@
+-- Parts that are concatenated one after the other, and nodes that mean values one after the other.
+use Rattle.std.proofs.Common.{◌≡◌, ◌∙◌, ℕ, suc, ◌+◌, ◌-◌, ◌<◌, ◌≤◌, true, false, arith, List, [], ◌∷◌, ◌++◌, length, get_or, drop, map, ap, sym, refl, subst, append_assoc, add-one, Option, Some, None}
+use Rattle.std.specs.Prelude.{option_map, String, string_bytes}
+use Rattle.std.proofs.Math.Seq.{drop-cons}
+use Rattle.std.proofs.lemmas.List.{append-nil, drop_all}
+use Rattle.std.proofs.lemmas.Bool.{cond-true, cond-false}
+use Rattle.rnix_green.specs.Tree.{Located}
+use Rattle.rnix_green.specs.Walk.{nodes_in, children_of}
+use Rattle.rnix_base.specs.declared.parts.InterpolPart.{InterpolPart}
+use Rattle.rnix_base.specs.declared.parts.InterpolPart.TheVariants.{Literal}
+use Rattle.rnix_base.specs.Normal.{Parts, with_text}
+use Rattle.nix_values.specs.Contents.{Plain, has_parts, Entry}
+use Rattle.nix_data.specs.Meaning.{joined, unwrapped, parts_of, IsPart, MeansPart, Means, InOrder, IsHead, MeansFirst}
+
+-- a text before two others
+before_both : (text more : List ℕ) (rest : Option (List ℕ)) →
+    option_map (λ r. text ++ r) (option_map (λ r. more ++ r) rest) ≡ option_map (λ r. (text ++ more) ++ r) rest
+before_both text more None = refl
+before_both text more (Some r) = ap Some (sym (append_assoc text more r))
+
+-- an empty text before another
+before_none : (rest : Option (List ℕ)) → option_map (λ r. [] ++ r) rest ≡ rest
+before_none None = refl
+before_none (Some r) = refl
+
+-- a literal comes first
+joined_literal : {I : Type 0} (text : List ℕ) (parts : Parts I) → joined (Literal text ∷ parts) ≡ option_map (λ r. text ++ r) (joined parts)
+unfolding joined
+joined_literal text parts = refl
+
+-- no parts have an empty text
+joined_none : (I : Type 0) → joined {I = I} [] ≡ Some []
+unfolding joined
+joined_none I = refl
+
+-- all parts are the first few, with this text, and the others
+abbrev pub IsJoined : {I Z : Type 0} → List (InterpolPart (String Z) I) → ℕ → List ℕ → Type 0
+IsJoined parts n text = joined (map (with_text string_bytes) parts) ≡ option_map (λ r. text ++ r) (joined (map (with_text string_bytes) (drop n parts)))
+
+-- before the first part, the text is empty
+pub joined_begun : {I Z : Type 0} (parts : List (InterpolPart (String Z) I)) (text : List ℕ) → text ≡ [] → IsJoined parts 0 text
+joined_begun parts text none =
+    subst (λ t. IsJoined parts 0 t) (sym none) (sym (before_none (joined (map (with_text string_bytes) parts))))
+
+-- one literal more
+pub joined_more : {I Z : Type 0} (parts : List (InterpolPart (String Z) I)) (n : ℕ) (part : InterpolPart (String Z) I) (text more new : List ℕ) →
+    n < length parts → part ≡ get_or parts n part → with_text string_bytes part ≡ Literal more → new ≡ text ++ more →
+    IsJoined parts n text → IsJoined parts (n + 1) new
+joined_more parts n part text more new there at is_literal added so_far =
+    so_far ∙ ap (λ ps. option_map (λ r. text ++ r) (joined (map (with_text string_bytes) ps))) (drop-cons parts n part there)
+    ∙ ap (λ p. option_map (λ r. text ++ r) (joined (p ∷ map (with_text string_bytes) (drop (suc n) parts)))) (ap (with_text string_bytes) (sym at) ∙ is_literal)
+    ∙ ap (option_map (λ r. text ++ r)) (joined_literal more (map (with_text string_bytes) (drop (suc n) parts)))
+    ∙ before_both text more (joined (map (with_text string_bytes) (drop (suc n) parts)))
+    ∙ ap (λ t. option_map (λ r. t ++ r) (joined (map (with_text string_bytes) (drop (suc n) parts)))) (sym added)
+    ∙ ap (λ m. option_map (λ r. new ++ r) (joined (map (with_text string_bytes) (drop m parts)))) (sym (add-one n))
+
+-- after the last part, the text is that of all
+pub joined_all : {I Z : Type 0} (parts : List (InterpolPart (String Z) I)) (n : ℕ) (text : List ℕ) → length parts ≤ n → IsJoined parts n text →
+    joined (map (with_text string_bytes) parts) ≡ Some text
+joined_all {I} parts n text past so_far =
+    so_far ∙ ap (λ ps. option_map (λ r. text ++ r) (joined (map (with_text string_bytes) ps))) (drop_all n parts past)
+    ∙ ap (option_map (λ r. text ++ r)) (joined_none I) ∙ ap Some (append-nil text)
+
+-- the first of some nodes mean the first of some values after a head: with the values of the nodes that are left, they are the values of all
+abbrev pub Used : (Located → List Entry → Type 0) → List Located → List Located → Entry → List Entry → List Entry → Type 0
+Used means all left head entries rest =
+    (used : List Entry) × ((others : List Entry) → InOrder means left others → InOrder means all (used ++ others)) × (entries ≡ head ∷ (used ++ rest))
+
+-- no node is used yet
+pub used_none : (means : Located → List Entry → Type 0) (all left : List Located) (head : Entry) (entries rest : List Entry) → left ≡ all →
+    entries ≡ head ∷ rest → Used means all left head entries rest
+used_none means all left head entries rest same is = ([], λ others order. subst (λ nodes. InOrder means nodes others) same order, is)
+
+-- one node more is used
+pub used_more : (levels depth : ℕ) (own : Plain) (all left after : List Located) (child inner : Located) (name : List ℕ) (head : Entry)
+    (entries rest next : List Entry) →
+    left ≡ child ∷ after → IsPart own child name inner → MeansFirst levels depth name inner rest next →
+    Used (MeansPart (Means levels depth) own) all left head entries rest → Used (MeansPart (Means levels depth) own) all after head entries next
+used_more levels depth own all left after child inner name head entries rest next first part means so_far =
+    let used : List Entry = so_far.0 in
+    let more : List Entry = means.0 in (
+      used ++ more,
+      λ others order. subst (InOrder (MeansPart (Means levels depth) own) all) (sym (append_assoc used more others))
+          (so_far.1 (more ++ others) (subst (λ nodes. InOrder (MeansPart (Means levels depth) own) nodes (more ++ others)) (sym first)
+          (more, others, (name, inner, part, means.1), order, refl))),
+      so_far.2 ∙ ap (λ es. head ∷ (used ++ es)) means.2 ∙ ap (λ es. head ∷ es) (sym (append_assoc used more next)),
+    )
+
+-- an expression means its own value and those of its parts
+means_all : (levels depth : ℕ) (name : List ℕ) (e : Located) (head : Entry) (inside : List Entry) → IsHead depth name (unwrapped e) head →
+    InOrder (MeansPart (Means levels (depth + 1)) head.plain) (parts_of head.plain (unwrapped e)) inside → Means (suc levels) depth name e (head ∷ inside)
+unfolding Means
+means_all levels depth name e head inside is parts = (head, inside, is, parts, refl)
+
+-- so it means the first of some values
+means_first : (total depth : ℕ) (name : List ℕ) (e : Located) (head : Entry) (inside entries rest : List Entry) → 0 < total →
+    IsHead depth name (unwrapped e) head →
+    InOrder (MeansPart (Means (total - 1) (depth + 1)) head.plain) (parts_of head.plain (unwrapped e)) inside → entries ≡ head ∷ (inside ++ rest) →
+    MeansFirst total depth name e entries rest
+means_first total depth name e head inside entries rest some is parts all =
+    let total_is : suc (total - 1) ≡ total = omega arith in
+    subst (λ t. MeansFirst t depth name e entries rest) total_is (head ∷ inside, means_all (total - 1) depth name e head inside is parts, all)
+
+-- an expression whose value has no values inside it means that value alone
+pub means_alone : (total depth : ℕ) (name : List ℕ) (e : Located) (head : Entry) (entries rest : List Entry) → 0 < total →
+    IsHead depth name (unwrapped e) head → has_parts head.plain ≡ false → entries ≡ head ∷ rest → MeansFirst total depth name e entries rest
+means_alone total depth name e head entries rest some is alone all =
+    means_first total depth name e head [] entries rest some is
+    (subst (λ nodes. InOrder (MeansPart (Means (total - 1) (depth + 1)) head.plain) nodes [])
+    (sym (cond-false (has_parts head.plain) (nodes_in (children_of (unwrapped e))) [] alone)) refl) all
+
+-- an expression all of whose child nodes are used
+pub means_used : (total depth : ℕ) (name : List ℕ) (e : Located) (head : Entry) (left : List Located) (entries rest : List Entry) → 0 < total →
+    IsHead depth name (unwrapped e) head → has_parts head.plain ≡ true → left ≡ [] →
+    Used (MeansPart (Means (total - 1) (depth + 1)) head.plain) (nodes_in (children_of (unwrapped e))) left head entries rest →
+    MeansFirst total depth name e entries rest
+means_used total depth name e head left entries rest some is there none so_far =
+    let inside : List Entry = so_far.0 in
+    let order : InOrder (MeansPart (Means (total - 1) (depth + 1)) head.plain) (nodes_in (children_of (unwrapped e))) inside =
+    subst (InOrder (MeansPart (Means (total - 1) (depth + 1)) head.plain) (nodes_in (children_of (unwrapped e)))) (append-nil inside)
+    (so_far.1 [] (subst (λ nodes. InOrder (MeansPart (Means (total - 1) (depth + 1)) head.plain) nodes []) (sym none) refl)) in
+    means_first total depth name e head inside entries rest some is
+    (subst (λ nodes. InOrder (MeansPart (Means (total - 1) (depth + 1)) head.plain) nodes inside)
+    (sym (cond-true (has_parts head.plain) (nodes_in (children_of (unwrapped e))) [] there)) order) so_far.2

@@ -1,0 +1,30 @@
+-- Texts that mean data.
+use Rattle.std.proofs.Common.{◌≡◌, ◌∙◌, ℕ, List, [], ◌∷◌, ◌++◌, length, map, ap, sym, refl, subst, arith, Option, Some}
+use Rattle.std.specs.Prelude.{IsSomeAnd}
+use Rattle.std.proofs.lemmas.List.{append-nil}
+use Rattle.rnix_kinds.specs.Lexical.Tokens.{tokens_of}
+use Rattle.rnix_green.specs.Tree.{Located}
+use Rattle.rnix_grammar.specs.Parsed.{IsParsed}
+use Rattle.rnix.specs.ParseResult.{Reading, root_of}
+use Rattle.nix_values.specs.Contents.{Entry}
+use Rattle.nix_data.specs.Meaning.{Means, MeansFirst}
+use Rattle.nix_data.specs.Written.{IsMeant, IsWritten}
+
+-- what has no elements has none that are mapped
+mapped_none : {X Y : Type 0} (f : X → Y) (xs : List X) → length xs ≡ 0 → map f xs ≡ []
+mapped_none f [] none = refl
+mapped_none f (x ∷ xs) none = absurd (omega (arith, none))
+
+-- an expression means all values if none is left
+pub meant : {X : Type 0} (levels : ℕ) (found : Option Located) (e node : Located) (entries : List Entry) (f : X → Entry) (rest : List X) → Some e ≡ found →
+    node ≡ e → length rest ≡ 0 → MeansFirst levels 0 [] node entries (map f rest) → IsSomeAnd found (λ e. Means levels 0 [] e entries)
+meant levels found e node entries f rest is same none means =
+    let all : entries ≡ means.0 = means.2 ∙ ap (λ r. means.0 ++ r) (mapped_none f rest none) ∙ append-nil means.0 in
+    subst (λ o. IsSomeAnd o (λ e. Means levels 0 [] e entries)) is
+    (subst (λ n. Means levels 0 [] n entries) same (subst (Means levels 0 [] node) (sym all) means.1))
+
+-- a text that is parsed without errors, as a tree whose expression means some values
+pub written : (text : List ℕ) (read : Reading) (root : Located) (entries : List Entry) → IsParsed (tokens_of text) read.tree read.faults →
+    (read.faults ≡ []) × (root ≡ root_of read) → IsMeant root entries → IsWritten text entries
+written text read root entries parsed fine means =
+    record { read = read; is_read = parsed; no_errors = fine.0; is_meant = subst (λ r. IsMeant r entries) fine.1 means }

@@ -1,0 +1,123 @@
+-- What an expression means that contains only literals, lists, and sets whose paths are single names.
+use Rattle.std.specs.Prelude.{◌≡◌, ℕ, zero, suc, ◌+◌, Bool, true, false, List, [], ◌∷◌, ◌++◌, codes, Option, Some, None, option_map, unwrap_or, if◌then◌else◌, FitsSigned}
+use Rattle.std.specs.Fmt.{signed_decimal}
+use Rattle.std.specs.Int.{w64}
+use Rattle.rnix_kinds.specs.declared.kinds.SyntaxKind.{SyntaxKind}
+use Rattle.rnix_kinds.specs.declared.kinds.SyntaxKind.TheVariants as k
+use Rattle.rnix_green.specs.Equality.{same_kind}
+use Rattle.rnix_green.specs.Tree.{Located, item_of, text_at}
+use Rattle.rnix_green.specs.Walk.{nodes_in, children_of}
+use Rattle.rnix_base.specs.declared.literal.LiteralKind.{LiteralKind}
+use Rattle.rnix_base.specs.declared.literal.LiteralKind.TheVariants as literal
+use Rattle.rnix_base.specs.declared.parts.InterpolPart.TheVariants.{Literal, Interpolation}
+use Rattle.rnix_base.specs.Literal.{first_literal}
+use Rattle.rnix_base.specs.Select.{HasKind, nodes_of, child_of, token_of}
+use Rattle.rnix_base.specs.Normal.{Parts}
+use Rattle.rnix.specs.NodeKinds.{is_expr, is_attr}
+use Rattle.rnix.specs.StringParts.{normalized_parts}
+use Rattle.nix_values.specs.Contents.{Plain, null, boolean, integer, float, text, list, set, has_parts, Entry}
+
+-- the texts of some parts, concatenated, if none of them is an interpolation
+unfoldable pub joined : {I : Type 0} → Parts I → Option (List ℕ)
+joined [] = Some []
+joined (Literal t ∷ parts) = option_map (λ rest. t ++ rest) (joined parts)
+joined (Interpolation i ∷ parts) = None
+
+-- the value of a string without interpolations: escapes are replaced, and in `''` the indentation is dropped
+abbrev pub string_text : Located → Option (List ℕ)
+string_text e = joined (normalized_parts e)
+
+-- the value of an expression that is a string without interpolations
+abbrev pub text_of : Located → Option (List ℕ)
+text_of e = if same_kind k.NODE_STRING (item_of e).kind then string_text e else None
+
+-- the operand of an operation in front of it, as `1` of `-1`; any other expression is its own
+abbrev pub unsigned : Located → Located
+unsigned e = if same_kind k.NODE_UNARY_OP (item_of e).kind then unwrap_or (child_of is_expr 0 e) e else e
+
+-- whether a literal is an integer
+abbrev pub is_integer : Option LiteralKind → Bool
+is_integer (Some (literal.Integer token)) = true
+is_integer _ = false
+
+-- whether a literal is a float
+abbrev pub is_float : Option LiteralKind → Bool
+is_float (Some (literal.Float token)) = true
+is_float _ = false
+
+-- an expression is a literal of a sort, perhaps with a sign
+abbrev pub IsNumber : (Option LiteralKind → Bool) → Located → Type 0
+IsNumber is_sort e = HasKind k.NODE_LITERAL (unsigned e) × (is_sort (first_literal (unsigned e)) ≡ true)
+
+-- the word for a truth value
+abbrev pub word_of : Bool → List ℕ
+word_of b = if b then codes "true" else codes "false"
+
+-- an expression has a value, not counting the values inside it
+abbrev pub HasValue : Located → Plain → Type 0
+HasValue e null = HasKind k.NODE_IDENT e × (text_at e ≡ codes "null")
+HasValue e (boolean b) = HasKind k.NODE_IDENT e × (text_at e ≡ word_of b)
+HasValue e (integer n) = IsNumber is_integer e × (text_at e ≡ signed_decimal n) × FitsSigned w64 n
+HasValue e (float digits) = IsNumber is_float e × (text_at e ≡ digits)
+HasValue e (text t) = text_of e ≡ Some t
+HasValue e list = HasKind k.NODE_LIST e
+HasValue e set = HasKind k.NODE_ATTR_SET e × (token_of (same_kind k.TOKEN_REC) e ≡ None)
+
+-- the name that a node of a kind is
+abbrev pub name_by : SyntaxKind → Located → Option (List ℕ)
+name_by k.NODE_IDENT e = Some (text_at e)
+name_by k.NODE_STRING e = string_text e
+name_by _ e = None
+
+-- the name that an attribute is: an identifier, or a string without interpolations
+abbrev pub name_of : Located → Option (List ℕ)
+name_of e = name_by (item_of e).kind e
+
+-- the name that some attributes are, if there is exactly one
+abbrev pub single_name : List Located → Option (List ℕ)
+single_name (e ∷ []) = name_of e
+single_name attributes = None
+
+-- the name that a path is, if there is one and it is a single name
+abbrev pub path_name : Option Located → Option (List ℕ)
+path_name None = None
+path_name (Some path) = single_name (nodes_of is_attr path)
+
+-- a child node has a value inside: in a set it is an entry, with a name and a value; in a list it is the value, which has no name
+abbrev pub IsPart : Plain → Located → List ℕ → Located → Type 0
+IsPart set child name inner =
+    HasKind k.NODE_ATTRPATH_VALUE child × (path_name (child_of (same_kind k.NODE_ATTRPATH) 0 child) ≡ Some name) × (child_of is_expr 0 child ≡ Some inner)
+IsPart _ child name inner = (name ≡ []) × (child ≡ inner)
+
+-- the child nodes of an expression, if its value contains others
+abbrev pub parts_of : Plain → Located → List Located
+parts_of own e = if has_parts own then nodes_in (children_of e) else []
+
+-- an expression without the parentheses around it, if there are some
+abbrev pub unwrapped : Located → Located
+unwrapped e = if same_kind k.NODE_PAREN (item_of e).kind then unwrap_or (child_of is_expr 0 e) e else e
+
+-- nodes mean values, one node after the other
+abbrev pub InOrder : (Located → List Entry → Type 0) → List Located → List Entry → Type 0
+InOrder means [] entries = entries ≡ []
+InOrder means (node ∷ nodes) entries =
+    (own : List Entry) × (others : List Entry) × means node own × InOrder means nodes others × (entries ≡ own ++ others)
+
+-- a child node of an expression with this value means values
+abbrev pub MeansPart : (List ℕ → Located → List Entry → Type 0) → Plain → Located → List Entry → Type 0
+MeansPart means own child entries = (name : List ℕ) × (inner : Located) × IsPart own child name inner × means name inner entries
+
+-- an entry has this depth, this name, and the value of a node
+abbrev pub IsHead : ℕ → List ℕ → Located → Entry → Type 0
+IsHead depth name node head = (head.depth ≡ depth) × (head.name ≡ name) × HasValue node head.plain
+
+-- an expression with a name, at a depth, means values: its own, followed by those of its parts; they nest less than `levels` deep
+unfoldable pub Means : ℕ → ℕ → List ℕ → Located → List Entry → Type 0
+Means zero depth name e entries = ⊥
+Means (suc levels) depth name e entries =
+    (head : Entry) × (inside : List Entry) × IsHead depth name (unwrapped e) head
+    × InOrder (MeansPart (Means levels (depth + 1)) head.plain) (parts_of head.plain (unwrapped e)) inside × (entries ≡ head ∷ inside)
+
+-- an expression means the first of some values; these are the rest
+abbrev pub MeansFirst : ℕ → ℕ → List ℕ → Located → List Entry → List Entry → Type 0
+MeansFirst levels depth name e entries rest = (own : List Entry) × Means levels depth name e own × (entries ≡ own ++ rest)

@@ -1,0 +1,21 @@
+-- Texts that mean data.
+use Rattle.std.specs.Prelude.{◌≡◌, ℕ, List, [], IsSomeAnd}
+use Rattle.rnix_kinds.specs.Lexical.Tokens.{tokens_of}
+use Rattle.rnix_green.specs.Tree.{Located}
+use Rattle.rnix_base.specs.Select.{child_of}
+use Rattle.rnix_grammar.specs.Parsed.{IsParsed}
+use Rattle.rnix.specs.NodeKinds.{is_expr}
+use Rattle.rnix.specs.ParseResult.{Reading, root_of}
+use Rattle.nix_values.specs.Contents.{Entry}
+use Rattle.nix_data.specs.Meaning.{Means}
+
+-- the expression of a tree means these values, which nest less than 1,024 levels deep
+abbrev pub IsMeant : Located → List Entry → Type 0
+IsMeant root entries = IsSomeAnd (child_of is_expr 0 root) (λ e. Means 1024 0 [] e entries)
+
+-- a text is parsed without errors, and its expression means these values
+pub record IsWritten (text : List ℕ) (entries : List Entry) : Type 0 where
+  pub read : Reading
+  pub is_read : IsParsed (tokens_of text) read.tree read.faults
+  pub no_errors : read.faults ≡ []
+  pub is_meant : IsMeant (root_of read) entries

@@ -1,0 +1,252 @@
+//! Whether an expression means some data.
+
+ghost use Rattle.std.specs.Prelude.{◌≡◌, Some, None, map, string_bytes, IfOk, IfSome, IsTrue};
+ghost use Rattle.rnix_kinds.specs.declared.kinds.SyntaxKind.TheVariants as k;
+ghost use Rattle.rnix_green.specs.Equality.{same_kind};
+ghost use Rattle.rnix_green.specs.Tree.{text_at};
+ghost use Rattle.rnix_base.specs.Literal.{first_literal};
+ghost use Rattle.rnix_base.specs.Select.{HasKind, token_of};
+ghost use Rattle.nix_values.specs.Contents.{set, plain_of, entry_of};
+ghost use Rattle.nix_data.specs.Meaning.{text_of, unsigned, is_integer, is_float, IsNumber, word_of, HasValue, name_of, path_name, IsPart, unwrapped, IsHead, MeansFirst};
+
+use crate::scalars::plain_text;
+use nix_values::{Item, Value};
+use rnix::ast::{
+    AstNode, AttrSet, Attrpath, AttrpathValue, Ident, List, Literal, LiteralKind, Paren, Str,
+    UnaryOp,
+};
+use rnix::{SyntaxKind, SyntaxNode};
+use std::alloc::{AllocError, Global};
+
+// The value of an expression that is a string without interpolations.
+fn text_of(alloc: Global, node: &SyntaxNode<'_>) -> Result<Option<String>, AllocError>
+    ensures { IfOk result (λ found. IfSome found (λ text. text_of node.now ≡ Some (string_bytes text))) }
+{
+    match Str::cast(node.clone()) {
+        Some(string) => plain_text(alloc, &string),
+        None => Ok(None),
+    }
+}
+
+// The operand of an operation in front of it; any other expression is its own.
+fn unsigned<'t>(node: &SyntaxNode<'t>) -> SyntaxNode<'t>
+    ensures { result ≡ unsigned node.now }
+{
+    match UnaryOp::cast(node.clone()) {
+        Some(operation) => match operation.expr() {
+            Some(operand) => operand.syntax().clone(),
+            None => node.clone(),
+        },
+        None => node.clone(),
+    }
+}
+
+// The literal that an expression is, without a sign.
+fn literal_of<'t>(node: &SyntaxNode<'t>) -> Option<LiteralKind<'t>>
+    ensures { IfSome result (λ found. HasKind k.NODE_LITERAL (unsigned node.now) × (first_literal (unsigned node.now) ≡ Some found)) }
+{
+    match Literal::cast(unsigned(node)) {
+        Some(literal) => literal.kind(),
+        None => None,
+    }
+}
+
+// Whether an expression is an integer, perhaps with a sign.
+fn is_integer(node: &SyntaxNode<'_>) -> bool
+    ensures { IsTrue result → IsNumber is_integer node.now }
+{
+    match literal_of(node) {
+        Some(LiteralKind::Integer(_)) => true,
+        _ => false,
+    }
+}
+
+// Whether an expression is a float, perhaps with a sign.
+fn is_float(node: &SyntaxNode<'_>) -> bool
+    ensures { IsTrue result → IsNumber is_float node.now }
+{
+    match literal_of(node) {
+        Some(LiteralKind::Float(_)) => true,
+        _ => false,
+    }
+}
+
+// Whether a node is an identifier with this text.
+fn is_word(node: &SyntaxNode<'_>, word: &str) -> bool
+    ensures { IsTrue result → HasKind k.NODE_IDENT node.now × (text_at node.now ≡ word.now) }
+{
+    Ident::can_cast(node.kind()) && node.text() == word
+}
+
+// The word for a truth value.
+fn word_of(is_true: bool) -> &'static str
+    ensures { result.now ≡ word_of is_true }
+{
+    if is_true { "true" } else { "false" }
+}
+
+// Whether a node is a set without `rec`.
+fn is_plain_set(node: &SyntaxNode<'_>) -> bool
+    ensures { IsTrue result → HasKind k.NODE_ATTR_SET node.now × (token_of (same_kind k.TOKEN_REC) node.now ≡ None) }
+{
+    match AttrSet::cast(node.clone()) {
+        Some(set) => set.rec_token().is_none(),
+        None => false,
+    }
+}
+
+// Whether an expression has a value, not counting the values inside it.
+fn has_value(alloc: Global, node: &SyntaxNode<'_>, value: &Value) -> Result<bool, AllocError>
+    ensures { IfOk result (λ has_value. IsTrue has_value → HasValue node.now (plain_of value.now)) }
+{
+    match value {
+        Value::Null => Ok(is_word(node, "null")),
+        Value::Bool(is_true) => Ok(is_word(node, word_of(*is_true))),
+        Value::Integer(number) => {
+            let number = *number;
+            let digits = format!(in alloc; "{number}")?;
+            Ok(is_integer(node) && node.text() == digits.as_str())
+        }
+        Value::Float(digits) => Ok(is_float(node) && node.text() == digits.as_str()),
+        Value::Text(text) => match text_of(alloc, node)? {
+            Some(found) => Ok(found.as_str() == text.as_str()),
+            None => Ok(false),
+        },
+        Value::List => Ok(List::can_cast(node.kind())),
+        Value::Set => Ok(is_plain_set(node)),
+    }
+}
+
+// The name that an attribute is: an identifier, or a string without interpolations.
+fn name_of(alloc: Global, attribute: &SyntaxNode<'_>) -> Result<Option<String>, AllocError>
+    ensures { IfOk result (λ found. IfSome found (λ name. name_of attribute.now ≡ Some (string_bytes name))) }
+{
+    match attribute.kind() {
+        SyntaxKind::NODE_IDENT => Ok(Some(String::from_str(alloc, attribute.text())?)),
+        SyntaxKind::NODE_STRING => text_of(alloc, attribute),
+        _ => Ok(None),
+    }
+}
+
+// The name that a path is, if it is a single name.
+fn path_name(alloc: Global, path: Option<Attrpath<'_>>) -> Result<Option<String>, AllocError>
+    ensures { IfOk result (λ found. IfSome found (λ name. path_name path.entry ≡ Some (string_bytes name))) }
+{
+    let Some(path) = path else {
+        return Ok(None);
+    };
+    let mut attributes = path.attrs();
+    match (attributes.next(), attributes.next()) {
+        (Some(attribute), None) => name_of(alloc, attribute.syntax()),
+        _ => Ok(None),
+    }
+}
+
+// A value inside another, with its name.
+#[derive(Drop)]
+struct Part<'t> {
+    name: String,
+    node: SyntaxNode<'t>,
+}
+
+// The value of an entry of a set.
+fn attribute<'t>(alloc: Global, child: SyntaxNode<'t>) -> Result<Option<Part<'t>>, AllocError>
+    ensures { IfOk result (λ found. IfSome found (λ part. IsPart set child.entry (string_bytes part.name) part.node)) }
+{
+    let Some(entry) = AttrpathValue::cast(child) else {
+        return Ok(None);
+    };
+    let name = path_name(alloc, entry.attrpath())?;
+    match (name, entry.value()) {
+        (Some(name), Some(value)) => Ok(Some(Part {
+            name,
+            node: value.syntax().clone(),
+        })),
+        _ => Ok(None),
+    }
+}
+
+// The value that a child node of a list or a set has.
+fn part_in<'t>(
+    alloc: Global,
+    around: &Value,
+    child: SyntaxNode<'t>,
+) -> Result<Option<Part<'t>>, AllocError>
+    ensures { IfOk result (λ found. IfSome found (λ part. IsPart (plain_of around.now) child.entry (string_bytes part.name) part.node)) }
+{
+    match around {
+        Value::Set => attribute(alloc, child),
+        _ => Ok(Some(Part {
+            name: String::new(alloc),
+            node: child,
+        })),
+    }
+}
+
+// An expression without the parentheses around it.
+fn unwrapped<'t>(expr: &SyntaxNode<'t>) -> SyntaxNode<'t>
+    ensures { result ≡ unwrapped expr.now }
+{
+    match Paren::cast(expr.clone()) {
+        Some(paren) => match paren.expr() {
+            Some(inner) => inner.syntax().clone(),
+            None => expr.clone(),
+        },
+        None => expr.clone(),
+    }
+}
+
+// Whether an item has a depth, a name, and the value of a node, not counting the values inside it.
+fn is_head(
+    alloc: Global,
+    depth: usize,
+    name: &str,
+    node: &SyntaxNode<'_>,
+    item: &Item,
+) -> Result<bool, AllocError>
+    ensures { IfOk result (λ is_head. IsTrue is_head → IsHead depth name.now node.now (entry_of item.now)) }
+{
+    if item.depth != depth || item.name.as_str() != name {
+        return Ok(false);
+    }
+    has_value(alloc, node, &item.value)
+}
+
+/// Returns the items that follow those that an expression means: its own and those inside it. Returns `None` if the items do not begin with these, or
+/// if they nest `levels` deep.
+pub fn items_after<'a>(
+    alloc: Global,
+    levels: usize,
+    depth: usize,
+    name: &str,
+    expr: &SyntaxNode<'_>,
+    items: &'a [Item],
+) -> Result<Option<&'a [Item]>, AllocError>
+    ensures { IfOk result (λ found. IfSome found (λ rest. MeansFirst levels depth name.now expr.now (map entry_of items.now) (map entry_of rest.now))) }
+{
+    let Some((head, inside)) = items.split_first() else {
+        return Ok(None);
+    };
+    if levels == 0 || depth == usize::MAX {
+        return Ok(None);
+    }
+    let node = unwrapped(expr);
+    if !is_head(alloc, depth, name, &node, head)? {
+        return Ok(None);
+    }
+    let mut rest = inside;
+    if !head.value.has_parts() {
+        return Ok(Some(rest));
+    }
+    for child in node.children() {
+        let Some(part) = part_in(alloc, &head.value, child)? else {
+            return Ok(None);
+        };
+        let part_name = part.name.as_str();
+        match items_after(alloc, levels - 1, depth + 1, part_name, &part.node, rest)? {
+            Some(left) => rest = left,
+            None => return Ok(None),
+        }
+    }
+    Ok(Some(rest))
+}
