@@ -1,1 +1,2 @@
-mod QuotedLemmas
+pub mod QuotedLemmas
+pub mod WordLemmas

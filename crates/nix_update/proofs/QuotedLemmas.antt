@@ -1,29 +1,20 @@
--- What is written between quotes stands for the value, and ends at the closing quote.
+-- What is written between quotes reads back as the value, and ends at the closing quote.
 use Rattle.std.proofs.Common.{◌≡◌, ◌≢◌, ◌⊎◌, inl, inr, ℕ, suc, ◌+◌, ◌<◌, ◌≤◌, Bool, true, false, ◌==◌, List, [], ◌∷◌, ◌++◌, Some, None}
 use Rattle.std.proofs.Common.{refl, sym, ap, ◌∙◌, codes, length, get_or, arith, append_assoc}
 use Rattle.std.proofs.lemmas.{Bool.{Decides.nat_tests, cases_lt}, List.{append-nil, nil_from_length}, Str.{encode_ascii, inside_one}}
 use Rattle.std.specs.Prelude.{encode_utf8}
 use Rattle.rnix_kinds.specs.Lexical.{Texts.begins, Strings.{content_len}}
 use Rattle.rnix_kinds.proofs.LexicalLemmas.StringsLemmas.{content_len-stop, content_len-piece}
-use Rattle.{rnix_base.specs.Escapes.{escaped, unescaped, values}, nix_update.specs.Quoted.{escape_of, IsQuoted}}
+use Rattle.{rnix_base.specs.Escapes.{escaped, unescaped, values}, nix_update.specs.Quoted.{escape_of, piece_of, inside_of, quoted_text, IsQuoted}}
 use Rattle.rnix_base.proofs.EscapeLemmas.{unescaped_step}
-
--- what is written of a byte in front of a rest: its escape, or itself
-abbrev pub piece_of : ℕ → List ℕ → List ℕ
-piece_of b rest = elim (escape_of b rest) [ None ↦ b ∷ [] | Some escape ↦ escape ]
-
--- what is written of a value between the quotes
-abbrev pub inside_of : List ℕ → List ℕ
-inside_of [] = []
-inside_of (b ∷ rest) = piece_of b rest ++ inside_of rest
 
 -- a byte that is escaped
 record IsEscape (b : ℕ) (rest : List ℕ) : Type 0 where
   letter : ℕ
   piece : piece_of b rest ≡ 92 ∷ letter ∷ []
-  stands : escaped letter ≡ b
+  value : escaped letter ≡ b
 
--- a byte that stands for itself
+-- a byte that is written as it is
 record IsPlain (b : ℕ) (rest : List ℕ) : Type 0 where
   piece : piece_of b rest ≡ b ∷ []
   quote : b ≢ 34
@@ -34,17 +25,17 @@ record IsPlain (b : ℕ) (rest : List ℕ) : Type 0 where
 form_by : (b : ℕ) (rest : List ℕ) (q s n r t d o : Bool) → (b == 34) ≡ q → (b == 92) ≡ s → (b == 10) ≡ n → (b == 13) ≡ r → (b == 9) ≡ t
     → (b == 36) ≡ d → begins (codes "{") rest ≡ o → IsEscape b rest ⊎ IsPlain b rest
 form_by b rest true s n r t d o hq hs hn hr ht hd ho =
-    inl record { letter = 34; piece = rw (hq, piece_of, escape_of) refl; stands = grind (arith, nat_tests) }
+    inl record { letter = 34; piece = rw (hq, piece_of, escape_of) refl; value = grind (arith, nat_tests) }
 form_by b rest false true n r t d o hq hs hn hr ht hd ho =
-    inl record { letter = 92; piece = rw (hq, hs, piece_of, escape_of) refl; stands = grind (arith, nat_tests) }
+    inl record { letter = 92; piece = rw (hq, hs, piece_of, escape_of) refl; value = grind (arith, nat_tests) }
 form_by b rest false false true r t d o hq hs hn hr ht hd ho =
-    inl record { letter = 110; piece = rw (hq, hs, hn, piece_of, escape_of) refl; stands = grind (arith, nat_tests) }
+    inl record { letter = 110; piece = rw (hq, hs, hn, piece_of, escape_of) refl; value = grind (arith, nat_tests) }
 form_by b rest false false false true t d o hq hs hn hr ht hd ho =
-    inl record { letter = 114; piece = rw (hq, hs, hn, hr, piece_of, escape_of) refl; stands = grind (arith, nat_tests) }
+    inl record { letter = 114; piece = rw (hq, hs, hn, hr, piece_of, escape_of) refl; value = grind (arith, nat_tests) }
 form_by b rest false false false false true d o hq hs hn hr ht hd ho =
-    inl record { letter = 116; piece = rw (hq, hs, hn, hr, ht, piece_of, escape_of) refl; stands = grind (arith, nat_tests) }
+    inl record { letter = 116; piece = rw (hq, hs, hn, hr, ht, piece_of, escape_of) refl; value = grind (arith, nat_tests) }
 form_by b rest false false false false false true true hq hs hn hr ht hd ho =
-    inl record { letter = 36; piece = rw (hq, hs, hn, hr, ht, hd, ho, piece_of, escape_of) refl; stands = grind (arith, nat_tests) }
+    inl record { letter = 36; piece = rw (hq, hs, hn, hr, ht, hd, ho, piece_of, escape_of) refl; value = grind (arith, nat_tests) }
 form_by b rest false false false false false true false hq hs hn hr ht hd ho =
     inr record {
       piece = rw (hq, hs, hn, hr, ht, hd, ho, piece_of, escape_of) refl;
@@ -60,41 +51,41 @@ form_by b rest false false false false false false o hq hs hn hr ht hd ho =
       dollar = λ e. grind (arith, nat_tests);
     }
 
--- each byte is escaped or stands for itself
+-- each byte is escaped or written as it is
 form : (b : ℕ) (rest : List ℕ) → IsEscape b rest ⊎ IsPlain b rest
 form b rest = form_by b rest _ _ _ _ _ _ _ refl refl refl refl refl refl refl
 
--- what is written of a byte and those behind it
+-- what is written of a byte and those after it
 inside_step : (b : ℕ) (rest piece : List ℕ) → piece_of b rest ≡ piece → inside_of (b ∷ rest) ≡ piece ++ inside_of rest
 inside_step b rest piece e = ap (λ x. x ++ inside_of rest) e
 
 -- of no bytes
-empty_stands : unescaped false [] ≡ []
+empty_reads_back : unescaped false [] ≡ []
 unfolding values
-empty_stands = refl
+empty_reads_back = refl
 
--- behind an escape, and behind a byte that stands for itself
-stands_step : (b : ℕ) (rest : List ℕ) → IsEscape b rest ⊎ IsPlain b rest
+-- one more byte, which is escaped or written as it is
+reads_back_step : (b : ℕ) (rest : List ℕ) → IsEscape b rest ⊎ IsPlain b rest
     → unescaped false (inside_of rest) ≡ rest → unescaped false (inside_of (b ∷ rest)) ≡ b ∷ rest
-stands_step b rest (inl e) h =
+reads_back_step b rest (inl e) h =
     ap (unescaped false) (inside_step b rest _ e.piece)
     ∙ unescaped_step false 92 (e.letter ∷ inside_of rest) record { len = 2; value = escaped e.letter ∷ [] } (grind (arith, nat_tests))
-    ∙ ap (λ x. x ∷ unescaped false (inside_of rest)) e.stands ∙ ap (λ x. b ∷ x) h
-stands_step b rest (inr p) h =
+    ∙ ap (λ x. x ∷ unescaped false (inside_of rest)) e.value ∙ ap (λ x. b ∷ x) h
+reads_back_step b rest (inr p) h =
     ap (unescaped false) (inside_step b rest _ p.piece)
     ∙ unescaped_step false b (inside_of rest) record { len = 1; value = b ∷ [] } (grind (arith, nat_tests, p.quote, p.backslash))
     ∙ ap (λ x. b ∷ x) h
 
--- what is written stands for the value
-stands : (value : List ℕ) → unescaped false (inside_of value) ≡ value
-stands [] = empty_stands
-stands (b ∷ rest) = stands_step b rest (form b rest) (stands rest)
+-- what is written reads back as the value
+reads_back : (value : List ℕ) → unescaped false (inside_of value) ≡ value
+reads_back [] = empty_reads_back
+reads_back (b ∷ rest) = reads_back_step b rest (form b rest) (reads_back rest)
 
--- what stands behind what is written: the closing quote, and any text
+-- what is written, the closing quote, and any text
 abbrev closed : List ℕ → List ℕ → List ℕ
 closed value rest = inside_of value ++ codes "\"" ++ rest
 
--- what is written ends at the closing quote, and so it does behind a `$`, unless the value begins with `{`
+-- what is written ends at the closing quote, and so it does after a `$`, unless the value begins with `{`
 record Closes (value rest : List ℕ) : Type 0 where
   alone : content_len false (closed value rest) ≡ length (inside_of value)
   dollar : begins (codes "{") value ≡ false → content_len false (36 ∷ closed value rest) ≡ 1 + length (inside_of value)
@@ -119,7 +110,7 @@ plain_piece b text q s d = content_len-piece false 1 (b ∷ text) (grind (arith,
 quote_closes : (rest : List ℕ) → content_len false (34 ∷ rest) ≡ 0
 quote_closes rest = content_len-stop false (34 ∷ rest) (grind (arith, nat_tests))
 
--- behind an escape
+-- after an escape
 escape_closes : (b : ℕ) (value rest : List ℕ) → IsEscape b value → Closes value rest → Closes (b ∷ value) rest
 escape_closes b value rest e h =
     let whole : closed (b ∷ value) rest ≡ 92 ∷ e.letter ∷ closed value rest = ap (λ x. x ++ codes "\"" ++ rest) (inside_step b value _ e.piece) in
@@ -132,7 +123,7 @@ escape_closes b value rest e h =
           ∙ ap (λ x. 1 + content_len false x) (sym whole) ∙ ap (λ n. 1 + n) here;
     }
 
--- behind a byte that stands for itself
+-- after a byte that is written as it is
 plain_closes : (b : ℕ) (value rest : List ℕ) (d : Bool) → (b == 36) ≡ d → IsPlain b value → Closes value rest → Closes (b ∷ value) rest
 plain_closes b value rest true is p h =
     let same : b ≡ 36 = grind (arith, nat_tests) in
@@ -155,7 +146,7 @@ plain_closes b value rest false is p h =
           ∙ ap (λ x. 1 + content_len false x) (sym whole) ∙ ap (λ n. 1 + n) here;
     }
 
--- behind any byte
+-- after any byte
 closes_step : (b : ℕ) (value rest : List ℕ) → IsEscape b value ⊎ IsPlain b value → Closes value rest → Closes (b ∷ value) rest
 closes_step b value rest (inl e) h = escape_closes b value rest e h
 closes_step b value rest (inr p) h = plain_closes b value rest (b == 36) refl p h
@@ -166,10 +157,10 @@ closes [] rest = record { alone = quote_closes rest; dollar = λ _. lone_dollar 
 closes (b ∷ value) rest = closes_step b value rest (form b value) (closes value rest)
 
 -- quotes around what is written make a string
-pub is_quoted : (value text : List ℕ) → text ≡ codes "\"" ++ inside_of value ++ codes "\"" → IsQuoted value text
-is_quoted value text e = record { inside = inside_of value; text_is = e; value_is = stands value; is_content = λ rest. (closes value rest).alone }
+pub is_quoted : (value text : List ℕ) → text ≡ quoted_text value → IsQuoted value text
+is_quoted value text e = record { inside = inside_of value; text_is = e; value_is = reads_back value; is_content = λ rest. (closes value rest).alone }
 
--- a byte of 128 or above stands for itself
+-- a byte of 128 or above is written as it is
 high_piece : (b : ℕ) (rest : List ℕ) → 128 ≤ b → escape_of b rest ≡ None
 high_piece b rest h = grind (arith, nat_tests)
 
@@ -193,11 +184,11 @@ high_bytes c k h i =
 abbrev letter_of : ℕ → List ℕ → List ℕ
 letter_of c rest = elim (escape_of c rest) [ None ↦ encode_utf8 c | Some escape ↦ escape ]
 
--- such a character stands for itself
+-- such a character is written as it is
 high_letter : (c : ℕ) (rest : List ℕ) → 128 ≤ c → encode_utf8 c ≡ letter_of c rest
 high_letter c rest h = rw (high_piece c rest h, letter_of) refl
 
--- what is written of a character and those behind it
+-- what is written of a character and those after it
 letter_inside : (c : ℕ) (rest : List ℕ) → inside_of (encode_utf8 c ++ rest) ≡ letter_of c rest ++ inside_of rest
 letter_inside c rest =
     elim (cases_lt c 128) [
@@ -228,8 +219,8 @@ pub escape_kept : (value text rest more new escape : List ℕ) (c : ℕ) → ToW
 escape_kept value text rest more new escape c h e some is = letter_kept value text rest more new c h e (is ∙ ap (λ x. text ++ x) (rw (some, letter_of) refl))
 
 -- no character is left: with the closing quote the text is written
-pub all_written : (value text rest new : List ℕ) → ToWrite value text rest → length rest ≡ 0 → new ≡ text ++ encode_utf8 34 → IsQuoted value new
+pub all_written : (value text rest new : List ℕ) → ToWrite value text rest → length rest ≡ 0 → new ≡ text ++ encode_utf8 34 → new ≡ quoted_text value
 all_written value text rest new h none is =
     let nothing : rest ≡ [] = nil_from_length rest none in
-    is_quoted value new (is ∙ ap (λ x. text ++ x) (encode_ascii 34 (omega arith))
-    ∙ ap (λ x. x ++ codes "\"") (sym (append-nil text) ∙ sym (ap (λ x. text ++ inside_of x) nothing) ∙ h))
+    is ∙ ap (λ x. text ++ x) (encode_ascii 34 (omega arith))
+    ∙ ap (λ x. x ++ codes "\"") (sym (append-nil text) ∙ sym (ap (λ x. text ++ inside_of x) nothing) ∙ h)

@@ -1,5 +1,5 @@
 -- A value as a Nix string in `"`.
-use Rattle.std.specs.Prelude.{ℕ, ◌≡◌, ◌==◌, ◌&&◌, if◌then◌else◌, false, List, ◌++◌, length, codes, Option, Some, None}
+use Rattle.std.specs.Prelude.{ℕ, ◌≡◌, ◌==◌, ◌&&◌, if◌then◌else◌, false, List, [], ◌∷◌, ◌++◌, length, codes, Option, Some, None}
 use Rattle.rnix_kinds.specs.Lexical.Texts.{begins}
 use Rattle.rnix_kinds.specs.Lexical.Strings.{content_len}
 use Rattle.rnix_base.specs.Escapes.{unescaped}
@@ -15,7 +15,20 @@ escape_of letter rest =
     else (if letter == 36 && begins (codes "{") rest then Some (codes "\\$")
     else None)))))
 
--- a text is one string in `"` that stands for a value: whatever follows, its content ends at the closing quote and has no interpolation
+-- what is written of a byte in front of a rest: its escape, or itself
+abbrev pub piece_of : ℕ → List ℕ → List ℕ
+piece_of b rest = elim (escape_of b rest) [ None ↦ b ∷ [] | Some escape ↦ escape ]
+
+-- what is written of a value between the quotes
+abbrev pub inside_of : List ℕ → List ℕ
+inside_of [] = []
+inside_of (b ∷ rest) = piece_of b rest ++ inside_of rest
+
+-- a value between quotes
+abbrev pub quoted_text : List ℕ → List ℕ
+quoted_text value = codes "\"" ++ inside_of value ++ codes "\""
+
+-- a text is one string in `"` whose value is the given one: whatever follows, its content ends at the closing quote and has no interpolation
 pub record IsQuoted (value text : List ℕ) : Type 0 where
   pub inside : List ℕ
   pub text_is : text ≡ codes "\"" ++ inside ++ codes "\""

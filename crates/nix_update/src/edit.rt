@@ -1,11 +1,11 @@
-//! The new string, and the text with it.
+//! Values as Nix strings.
 
 ghost use Rattle.std.specs.Prelude.{◌≡◌, option_map, string_bytes, IfOk};
-ghost use Rattle.nix_update.specs.Quoted.{escape_of, IsQuoted};
+ghost use Rattle.nix_update.specs.Quoted.{escape_of, quoted_text, IsQuoted};
 
 use std::alloc::{AllocError, Global};
 
-// How a character of a value is escaped between `"` if this rest follows it; None if it stands for itself there.
+// Returns how a character of a value is escaped between `"` if this rest follows it, or `None` if it is written as it is.
 fn escape(letter: char, rest: &str) -> Option<&'static str>
     ensures { option_map (λ escape. escape.now) result ≡ escape_of letter rest.now }
 {
@@ -20,9 +20,10 @@ fn escape(letter: char, rest: &str) -> Option<&'static str>
     }
 }
 
-/// A value as a Nix string in `"`: one string without interpolation, which stands for the value.
+/// Returns a value as a Nix string in `"`, without interpolation.
 pub fn quoted(alloc: Global, value: &str) -> Result<String, AllocError>
-    ensures { IfOk result (λ text. IsQuoted value.now (string_bytes text)) }
+    ensures text { IfOk result (λ text. string_bytes text ≡ quoted_text value.now) }
+    ensures is_string { IfOk result (λ text. IsQuoted value.now (string_bytes text)) }
 {
     let mut text = String::new(alloc);
     text.push('"')?;

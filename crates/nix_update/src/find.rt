@@ -1,11 +1,11 @@
 //! Finds an attribute by its dotted path.
 
-use crate::path::behind_entries;
+use crate::path::end_of_entries;
 use rnix::ast::{AstNode, AttrpathValue, Expr, InterpolPart, Str};
 use rnix::{SyntaxKind, SyntaxNode, WalkEvent};
 use std::alloc::{AllocError, Global};
 
-/// What was found: the only entry of a path, or why there is none.
+/// The result of a search: the only entry of a path, or the reason why there is none.
 #[derive(Drop)]
 pub enum Search<'t> {
     One(AttrpathValue<'t>),
@@ -14,7 +14,7 @@ pub enum Search<'t> {
     Several(AttrpathValue<'t>),
 }
 
-// Whether a string has an interpolation.
+// Returns whether a string has an interpolation.
 fn has_interpolation(string: &Str<'_>) -> bool {
     for part in string.parts() {
         if let InterpolPart::Interpolation(_) = part {
@@ -32,7 +32,7 @@ pub fn is_plain_string(expr: &Expr<'_>) -> bool {
     }
 }
 
-// An entry that was found behind others.
+// Returns the result of a search that found one more entry.
 fn and_entry<'t>(found: Search<'t>, entry: AttrpathValue<'t>) -> Search<'t> {
     match found {
         Search::Nothing => Search::One(entry),
@@ -40,7 +40,7 @@ fn and_entry<'t>(found: Search<'t>, entry: AttrpathValue<'t>) -> Search<'t> {
     }
 }
 
-/// Returns the only entry of a dotted path, in which each name is behind a dot.
+/// Returns the only entry of a dotted path, in which each name is after a dot.
 pub fn find<'t>(
     alloc: Global,
     root: &SyntaxNode<'t>,
@@ -53,7 +53,7 @@ pub fn find<'t>(
         match event {
             WalkEvent::Enter(node) => {
                 if let Some(entry) = AttrpathValue::cast(node) {
-                    let end = behind_entries(
+                    let end = end_of_entries(
                         path,
                         around.last().copied().unwrap_or(Some(0)),
                         &entry,

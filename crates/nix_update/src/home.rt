@@ -1,6 +1,6 @@
 //! Finds the set for a new attribute by its dotted path.
 
-use crate::path::behind_entries;
+use crate::path::end_of_entries;
 use rnix::ast::{AstNode, AttrpathValue};
 use rnix::{SyntaxKind, SyntaxNode, WalkEvent};
 use std::alloc::{AllocError, Global};
@@ -15,7 +15,7 @@ pub struct Home<'t> {
     pub is_only: bool,
 }
 
-// Whether the sets in a node are no sets for attributes: they are in a parameter, in a source of names or in a computed name.
+// Returns whether the sets in a node are no sets for attributes: they are in a parameter, in a source of names or in a computed name.
 fn is_apart(node: &SyntaxNode<'_>) -> bool {
     match node.kind() {
         SyntaxKind::NODE_PATTERN
@@ -42,18 +42,18 @@ fn next_home<'t>(before: &Option<Home<'t>>, set: SyntaxNode<'t>, end: usize) -> 
     Some(Home { set, end, is_only })
 }
 
-// Where the names around what is in a node end in the path, if they are in the path.
+// Returns where the names around the content of a node end in the path, if they are in the path.
 fn end_below(path: &str, around: Option<usize>, node: &SyntaxNode<'_>) -> Option<usize> {
     if is_apart(node) {
         return None;
     }
     match AttrpathValue::cast(node.clone()) {
-        Some(entry) => behind_entries(path, around, &entry),
+        Some(entry) => end_of_entries(path, around, &entry),
         None => around,
     }
 }
 
-/// Returns the set for a new attribute of a dotted path, in which each name is behind a dot: of the sets whose entries around them are a
+/// Returns the set for a new attribute of a dotted path, in which each name is after a dot: of the sets whose entries around them are a
 /// part of the path, that of the longest part. There is none if an entry of a longer part has no set.
 pub fn find_home<'t>(
     alloc: Global,

@@ -1,5 +1,6 @@
 //! Sets, adds and removes attributes of a Nix text, and changes nothing else: `nix-update [OPTION..] PATH VALUE [FILE]` prints the text of
-//! FILE or of standard input in which the attribute of the dotted PATH has the VALUE. In PATH names stand as in the text, quotes included.
+//! FILE or of standard input in which the attribute of the dotted PATH has the VALUE. PATH has names as they are written in the text, quotes
+//! included.
 #![tactic(auto)]
 
 mod edit;
@@ -29,16 +30,16 @@ nix-update [OPTION..] PATH VALUE [FILE]
 nix-update [OPTION..] --remove PATH [FILE]
 
 Prints a Nix text in which the attribute of the dotted PATH is the string VALUE in place of another string, and all else is as before. In
-PATH, names are written as in the text, quotes included. - and no FILE stand for standard input.
+PATH, names are written as in the text, quotes included. - or no FILE means standard input.
 
     --raw      VALUE is a Nix expression, as 1, true, null or [ a ], and replaces any value
     --list     VALUE is a list of strings, separated by white space, and replaces any value
     --add      add the attribute if none has the path, after the others of its set
-    --remove   remove the attribute with its line, and the comments behind it
+    --remove   remove the attribute with its line and the comments after it there
     -i         write the new text to FILE instead: to FILE.new, which is then renamed
 ",
     statuses: "
-Ends with 0, with 1 if not just one attribute has the path, or it cannot be changed so, or with 2 if the text or VALUE is not Nix, or
+The exit status is 0; 1 if no attribute or more than one has the path, or if it cannot be changed so; 2 if the text or VALUE is not Nix, or if
 something cannot be read or written.
 ",
     flags: &["--raw", "--list", "--add", "--remove", "-i"],
@@ -65,7 +66,7 @@ fn wrong_with(arguments: &Arguments) -> Option<&'static str> {
     }
 }
 
-// Returns what is done.
+// Returns the action that a command line asks for.
 fn action_of(arguments: &Arguments) -> Action {
     if arguments.has("--remove") {
         Action::Remove
@@ -76,7 +77,7 @@ fn action_of(arguments: &Arguments) -> Action {
     }
 }
 
-// Returns what VALUE is.
+// Returns the form of VALUE.
 fn form_of(arguments: &Arguments) -> Form {
     if arguments.has("--raw") {
         Form::Raw
@@ -87,7 +88,7 @@ fn form_of(arguments: &Arguments) -> Form {
     }
 }
 
-// Says why a text is not updated, and where.
+// Reports why a text is not updated, and where.
 fn refuse_update(
     rt: &HostRuntime,
     name: &str,
@@ -124,7 +125,7 @@ fn update_file(rt: &HostRuntime, name: &str, update: Update<'_>, in_place: bool)
     }
 }
 
-// Does what some arguments ask for.
+// Runs the program with some arguments.
 fn run_with(rt: &HostRuntime, arguments: &Arguments) -> io::Result<u8> {
     if let Some(reason) = wrong_with(arguments) {
         refuse(rt, &PROGRAM, reason)?;
@@ -148,7 +149,7 @@ fn run_with(rt: &HostRuntime, arguments: &Arguments) -> io::Result<u8> {
     update_file(rt, name, update, arguments.has("-i"))
 }
 
-// Does what the command line asks for.
+// Runs the program with the command line of the process.
 fn run(rt: &HostRuntime) -> io::Result<u8> {
     match read_arguments(rt, &PROGRAM)? {
         Start::Run(arguments) => run_with(rt, &arguments),

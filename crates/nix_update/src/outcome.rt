@@ -1,4 +1,4 @@
-//! What comes of an update.
+//! The result of an update.
 
 use rnix_edit::Refusal;
 use std::fmt;
@@ -16,15 +16,15 @@ pub enum Reason {
     SeveralAttributes,
     /// The value is not a string without interpolations.
     NotAString,
-    /// No set is there for the new attribute.
+    /// There is no set for the new attribute.
     NoSet,
-    /// Several sets are there for it.
+    /// There are several sets for it.
     SeveralSets,
     /// The edit is refused.
     Edit(Refusal),
 }
 
-/// The new text, or why there is none and where.
+/// The result of an update: the new text, or the reason why there is none and the offset of its cause.
 #[derive(Drop)]
 pub enum Outcome {
     Updated(String),
@@ -32,7 +32,7 @@ pub enum Outcome {
 }
 
 impl Reason {
-    // Returns the words for people.
+    // Returns the message.
     fn text(self) -> &'static str {
         match self {
             Reason::NotNix => "this is not Nix",
@@ -52,7 +52,7 @@ impl Reason {
         }
     }
 
-    /// Returns whether the text or the value is to blame, and not what the text has.
+    /// Returns whether the text or the value is not Nix.
     pub fn is_failure(self) -> bool {
         matches!(&self, Reason::NotNix | Reason::NotAnExpression)
     }

@@ -6,7 +6,7 @@ use crate::value::Form;
 use std::alloc::{AllocError, Global};
 use std::test::Fail;
 
-// The updated text, or the reason and the offset.
+// Returns the updated text, or the offset and the reason.
 fn shown(
     alloc: Global,
     text: &str,

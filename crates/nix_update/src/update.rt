@@ -1,8 +1,8 @@
 //! Texts in which an attribute is set, added or removed.
 
-ghost use Rattle.std.specs.Prelude.{IfOk, IfSome};
-ghost use Rattle.rnix_edit.specs.Edited.{IfDone};
-ghost use Rattle.nix_update.specs.NewValue.{IsSetTo};
+ghost use Rattle.std.specs.Prelude.{IfOk, IfSome, IfNone};
+ghost use Rattle.rnix_edit.specs.Edited.{IfDone, IfRefused};
+ghost use Rattle.nix_update.specs.NewValue.{IsNoValue, IsSetTo, IsNotSetTo};
 
 use crate::find::{Search, find, is_plain_string};
 use crate::home::find_home;
@@ -13,7 +13,7 @@ use rnix::{Root, SyntaxKind, SyntaxNode};
 use rnix_edit::{Edited, insert_after, insert_inside, remove, replace};
 use std::alloc::{AllocError, Global};
 
-/// What is done to the attribute of a path.
+/// An action on the attribute of a path.
 #[derive(Clone, Copy, PartialEq, Eq)]
 pub enum Action {
     /// It gets a value.
@@ -24,7 +24,7 @@ pub enum Action {
     Remove,
 }
 
-/// An update: an action on the attribute of a path, in which each name is behind a dot, and the text and form of its value.
+/// An update: an action on the attribute of a path, in which each name is after a dot, and the text and form of its value.
 #[derive(Clone, Copy)]
 pub struct Update<'a> {
     pub action: Action,
@@ -33,7 +33,7 @@ pub struct Update<'a> {
     pub value: &'a str,
 }
 
-/// Returns the text in which a node is the value that another text stands for, or `None` if that text must be an expression and is not.
+/// Returns the text in which a node is the one that another text means, or `None` if that text must be an expression and is none.
 pub fn set_value(
     alloc: Global,
     text: &str,
@@ -42,7 +42,9 @@ pub fn set_value(
     form: Form,
     value: &str,
 ) -> Result<Option<Edited>, AllocError>
-    ensures { IfOk result (λ edited. IfSome edited (IfDone (IsSetTo form value.now text.now root.now node.now))) }
+    ensures done { IfOk result (λ edited. IfSome edited (IfDone (IsSetTo form value.now text.now root.now node.now))) }
+    ensures refused { IfOk result (λ edited. IfSome edited (IfRefused (λ refusal. IsNotSetTo refusal form value.now text.now root.now node.now))) }
+    ensures none { IfOk result (λ edited. IfNone edited (IsNoValue form value.now)) }
 {
     let Some(new) = value_of(alloc, form, value)? else {
         return Ok(None);
@@ -62,7 +64,7 @@ fn last_entry<'t>(set: &SyntaxNode<'t>) -> Option<SyntaxNode<'t>> {
     last
 }
 
-// Returns the text in which a set has one more attribute behind its others, or `None` if there is no value.
+// Returns the text in which a set has one more attribute after its others, or `None` if there is no value.
 fn add_value(
     alloc: Global,
     text: &str,
@@ -83,7 +85,7 @@ fn add_value(
     Ok(Some(edited))
 }
 
-// Returns what comes of an edit at an offset.
+// Returns the result of an update by an edit at an offset.
 fn outcome_of(edited: Option<Edited>, offset: usize) -> Outcome {
     match edited {
         Some(Edited::Done(made)) => Outcome::Updated(made),

@@ -1,19 +1,20 @@
 //! New values.
 
-ghost use Rattle.std.specs.Prelude.{string_bytes, IfOk, IfSome};
-ghost use Rattle.nix_update.specs.NewValue.{IsExpression, IsValueOf};
+ghost use Rattle.std.specs.Prelude.{◌≡◌, ◌++◌, string_bytes, IfOk, IfSome, IfNone, OnOk};
+ghost use Rattle.nix_update.specs.Words.{item_text, IsListOf};
+ghost use Rattle.nix_update.specs.NewValue.{IsExpression, IsNoExpression, IsValueOf, IsNoValue};
 
 use crate::edit::quoted;
 use rnix::ast::AstNode;
 use rnix::{Root, SyntaxKind};
 use std::alloc::{AllocError, Global};
 
-/// What the new value is made of.
+/// The form in which a new value is given.
 #[derive(Clone, Copy, PartialEq, Eq)]
 pub enum Form {
     /// A string of the text.
     Text,
-    /// A list of strings, which white space parts in the text.
+    /// A list of strings, separated by white space in the text.
     List,
     /// The text is an expression.
     Raw,
@@ -26,20 +27,32 @@ pub struct Value {
     pub text: String,
 }
 
-// A list of strings.
-fn list(alloc: Global, text: &str) -> Result<String, AllocError> {
+// Adds a word to a list, as a string.
+fn add_word(alloc: Global, list: &mut String, word: &str) -> Result<(), AllocError>
+    ensures { OnOk result (string_bytes list.new ≡ string_bytes list.old ++ item_text word.now) }
+{
+    let item = quoted(alloc, word)?;
+    list.push_str(item.as_str())?;
+    list.push(' ')?;
+    Ok(())
+}
+
+// Returns the list of the words of a text, each as a string.
+fn list(alloc: Global, text: &str) -> Result<String, AllocError>
+    ensures { IfOk result (λ list. IsListOf text.now (string_bytes list)) }
+{
     let mut list = String::from_str(alloc, "[ ")?;
     for word in text.split_whitespace() {
-        list.push_str(quoted(alloc, word)?.as_str())?;
-        list.push(' ')?;
+        add_word(alloc, &mut list, word)?;
     }
     list.push(']')?;
     Ok(list)
 }
 
-// A text that is one expression, without the white space and the comments around it.
+// Returns the expression that a text is, without the white space and the comments around it, or `None` if it is none.
 fn expression(alloc: Global, text: &str) -> Result<Option<Value>, AllocError>
-    ensures { IfOk result (λ value. IfSome value (λ value. IsExpression text.now value.kind (string_bytes value.text))) }
+    ensures some { IfOk result (λ value. IfSome value (λ value. IsExpression text.now value.kind (string_bytes value.text))) }
+    ensures none { IfOk result (λ value. IfNone value (IsNoExpression text.now)) }
 {
     let read = Root::parse(alloc, text)?;
     if !read.errors().is_empty() {
@@ -54,9 +67,10 @@ fn expression(alloc: Global, text: &str) -> Result<Option<Value>, AllocError>
     }
 }
 
-/// Returns the value that a text stands for, or `None` if it must be an expression and is not.
+/// Returns the node that a text means, or `None` if it must be an expression and is none.
 pub fn value_of(alloc: Global, form: Form, text: &str) -> Result<Option<Value>, AllocError>
-    ensures { IfOk result (λ value. IfSome value (λ value. IsValueOf form text.now value.kind (string_bytes value.text))) }
+    ensures some { IfOk result (λ value. IfSome value (λ value. IsValueOf form text.now value.kind (string_bytes value.text))) }
+    ensures none { IfOk result (λ value. IfNone value (IsNoValue form text.now)) }
 {
     match form {
         Form::Text => Ok(Some(Value {

@@ -1,10 +1,10 @@
-//! Nodes that tests edit, and what comes of it.
+//! Nodes that tests edit, and the results as texts.
 
 use rnix::{SyntaxKind, SyntaxNode};
 use rnix_edit::{Edited, Refusal};
 use std::alloc::{AllocError, Global};
 
-/// The first node of a kind with a text.
+/// Returns the first node of a kind with a text.
 pub fn node_of<'t>(root: &SyntaxNode<'t>, kind: SyntaxKind, text: &str) -> Option<SyntaxNode<'t>> {
     for node in root.descendants() {
         if node.kind() == kind && node.text() == text {
@@ -14,7 +14,7 @@ pub fn node_of<'t>(root: &SyntaxNode<'t>, kind: SyntaxKind, text: &str) -> Optio
     None
 }
 
-// The words for a refusal.
+// Returns the words for a refusal.
 fn refusal_text(refusal: Refusal) -> &'static str {
     match refusal {
         Refusal::NotInText => "not in the text",
@@ -23,7 +23,7 @@ fn refusal_text(refusal: Refusal) -> &'static str {
     }
 }
 
-/// The new text, or why there is none.
+/// Returns the new text, or the words for the refusal.
 pub fn shown(alloc: Global, edited: Edited) -> Result<String, AllocError> {
     match edited {
         Edited::Done(text) => Ok(text),

@@ -6,7 +6,7 @@ use rnix_edit::{insert_after, insert_inside};
 use std::alloc::{AllocError, Global};
 use std::test::Fail;
 
-// The text with a new node of the same kind behind the first one of a kind with a text.
+// Returns the text with a new node of a kind after the first one of this kind with a text.
 fn inserted(
     alloc: Global,
     text: &str,
@@ -22,7 +22,7 @@ fn inserted(
     }
 }
 
-// The text with a new entry in the first set.
+// Returns the text with a new entry in the first set.
 fn inserted_in_set(alloc: Global, text: &str, new: &str) -> Result<String, AllocError> {
     let read = Root::parse(alloc, text)?;
     let root = read.syntax();

@@ -6,7 +6,7 @@ use rnix_edit::remove;
 use std::alloc::{AllocError, Global};
 use std::test::Fail;
 
-// The text without the first node of a kind with a text.
+// Returns the text without the first node of a kind with a text.
 fn removed(alloc: Global, text: &str, kind: SyntaxKind, own: &str) -> Result<String, AllocError> {
     let read = Root::parse(alloc, text)?;
     let root = read.syntax();
@@ -26,7 +26,7 @@ fn an_entry_goes_with_its_line(rt: HostRuntime) -> Result<(), Fail> {
             "{\r\n  a = 1;\r\n}\r\n",
         ),
         ("{\n\tb = 2;\n}", "{\n}"),
-        // Comments behind it go, those on other lines stay.
+        // Comments after it go, those on other lines stay.
         ("{\n  # a\n  b = 2; # b\n  # c\n}", "{\n  # a\n  # c\n}"),
         ("{\r\n  b = 2; # b\r\n  # c\r\n}", "{\r\n  # c\r\n}"),
         ("{\n  b = 2; /* b */ # c\n}", "{\n}"),

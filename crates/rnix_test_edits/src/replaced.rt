@@ -6,7 +6,7 @@ use rnix_edit::replace;
 use std::alloc::{AllocError, Global};
 use std::test::Fail;
 
-// The text in which the first name with a text is replaced by a node of a kind.
+// Returns the text in which the first name with a text is replaced by a node of a kind.
 fn replaced(
     alloc: Global,
     text: &str,
