@@ -1,2 +1,3 @@
 pub mod SolidLemmas
 pub mod SpotLemmas
+mod OutcomeLemmas

@@ -31,7 +31,7 @@ solids_same old new h =
     let flags : old.joins ≡ new.joins = flags_same old.joins new.joins texts_and.1 in
     sym (ap (λ k. solid_with k old.text.now old.joins) kinds ∙ ap (λ t. solid_with new.kind t old.joins) texts ∙ ap (solid_with new.kind new.text.now) flags)
 
--- both texts have the same token next, and behind it the same ones
+-- both texts have the same next token, and the same tokens after it
 both_step : (in_path : Bool) (olds news olds_left news_left : List Lexeme) (old new : Taken) (kind : SyntaxKind)
     → solids_from in_path olds ≡ solid_of old ∷ solids_from (ends_piece old.kind) olds_left
     → solids_from in_path news ≡ solid_of new ∷ solids_from (ends_piece new.kind) news_left
@@ -46,7 +46,7 @@ both_step in_path olds news olds_left news_left old new kind is_old is_new same 
     ∙ ap (λ k. solid_of old ∷ solids_from (ends_piece k) olds_left) is_kind
     ∙ sym is_old
 
--- what a step says
+-- the contract of a step
 pub stepped : (in_path : Bool) (olds news olds_left news_left : List Lexeme) (old new : Option Taken) (s : Step)
     → IsNextSolid in_path olds old olds_left → IsNextSolid in_path news new news_left → AreCompared s old new
     → IsStep in_path olds news olds_left news_left s

@@ -83,7 +83,7 @@ items_at n in_path (l ∷ ls) =
     (spots_from m false ls) (spots_from m (ends_piece l.0) ls) (items (placed_from m ls)) (space_is_trivia l.0)
     (items_at m false ls) (items_at m (ends_piece l.0) ls)
 
--- the kind of the last item, and where it ends, behind one more token
+-- the kind and the end of the last item, after one more token
 abbrev kind_behind : Bool → Option SyntaxKind → SyntaxKind → Option SyntaxKind
 kind_behind true prev k = prev
 kind_behind false prev k = Some k
@@ -92,7 +92,7 @@ abbrev end_behind : Bool → ℕ → ℕ → ℕ
 end_behind true p end = p
 end_behind false p end = end
 
--- what tokens say of joining is so: known are the kind of the item before, and where it ends
+-- the flags of tokens are right, given the kind and the end of the item before them
 abbrev AreTrue : Option SyntaxKind → ℕ → List Spot → Type 0
 AreTrue prev p [] = Unit {0}
 AreTrue prev p (s ∷ ss) =
@@ -113,7 +113,7 @@ touching false n = refl
 comment_ends : (k : SyntaxKind) → is_trivia k ≡ true → ends_piece k ≡ false
 comment_ends k is = not-true (ends_piece k) (implied is_trivia (λ k. not (ends_piece k)) refl k is)
 
--- what the tokens from a place on say of joining is so
+-- the flags of the tokens after an offset are right
 all_true : (prev : Option SyntaxKind) (p n : ℕ) (in_path : Bool) (ls : List Lexeme) → in_path ≡ is_in_path prev && nat_eq n p → p ≤ n
     → All (λ t. 0 < length t.1) ls → AreTrue prev p (spots_from n in_path ls)
 all_true prev p n in_path [] is order some = tt
@@ -136,7 +136,7 @@ all_true prev p n in_path (l ∷ ls) is order some =
       )
     ]
 
--- where a path may go on, two items that join alike touch alike
+-- if a path may continue, two items with the same flag touch the item before in both texts or in neither
 same_touch : (a c b d : Bool) → ((a && b) && c) ≡ ((a && d) && c) → a && c ≡ true → b ≡ d
 same_touch true true true true e m = refl
 same_touch true true true false e m = e

@@ -1,4 +1,4 @@
--- A text that differs from another one in white space alone.
+-- A text that differs from another one only in white space.
 use Rattle.std.specs.Prelude.{◌≡◌, ◌&&◌, Bool, true, false, ℕ, List, [], ◌∷◌, Option, Some, None}
 use Rattle.rnix_kinds.specs.declared.kinds.SyntaxKind.{SyntaxKind}
 use Rattle.rnix_kinds.specs.declared.kinds.SyntaxKind.TheVariants.{TOKEN_WHITESPACE}
@@ -10,7 +10,7 @@ use Rattle.rnix_grammar.specs.TokenKinds.{is_piece_start}
 use Rattle.rnix_proof_layout.specs.AlikeItems.{ends_piece}
 use Rattle.rnix_parser.specs.Significant.{significant}
 
--- a token other than white space: its kind, its text, and whether it touches a part of a path and would go on with that path
+-- a token other than white space: its kind, its text, and whether it follows a part of a path without white space between and would continue the path
 abbrev pub Solid : Type 0
 Solid = SyntaxKind × List ℕ × Bool
 
@@ -19,7 +19,7 @@ abbrev pub solid_if : Bool → Solid → List Solid → List Solid → List Soli
 solid_if true t spaced touching = spaced
 solid_if false t spaced touching = t ∷ touching
 
--- the tokens other than white space, comments included; the first argument says whether a part of a path precedes them
+-- the tokens other than white space, comments included; the first argument is whether a part of a path precedes them
 abbrev pub solids_from : Bool → List Lexeme → List Solid
 solids_from in_path [] = []
 solids_from in_path (t ∷ ts) =
@@ -29,7 +29,7 @@ solids_from in_path (t ∷ ts) =
 abbrev pub solids_of : List ℕ → List Solid
 solids_of text = solids_from false (tokens_of text)
 
--- both texts are read without errors, and as the same tree but for white space and comments
+-- both texts have no errors, and the same tree except for white space and comments
 pub record AreOneTree (old new : List ℕ) : Type 0 where
   pub before : Tree
   pub after : Tree
@@ -37,8 +37,7 @@ pub record AreOneTree (old new : List ℕ) : Type 0 where
   pub new_read : IsReading (tokens_of new) after []
   pub same : significant after.children ≡ significant before.children
 
--- the new text differs from the old one in white space alone: it has the same tokens in the same order, the same comments among them, and it is read
--- as the same tree
+-- the new text differs from the old one only in white space: it has the same tokens in the same order, comments included, and the same tree
 pub record IsRelayout (old new : List ℕ) : Type 0 where
   pub tokens : solids_of new ≡ solids_of old
   pub tree : AreOneTree old new

@@ -9,11 +9,11 @@ use Rattle.nix_formatting.specs.declared.alike.Solid.{Solid as Taken}
 use Rattle.nix_formatting.specs.declared.alike.Step.{Step}
 use Rattle.nix_formatting.specs.declared.alike.Step.TheVariants as step
 
--- a token that was taken
+-- a token that `next_solid` returned
 abbrev pub solid_of : Taken → Solid
 solid_of taken = (taken.kind, taken.text.now, taken.joins)
 
--- the next token other than white space was taken, if there is one
+-- the next token other than white space was returned, if there is one
 abbrev pub IsNextSolid : Bool → List Lexeme → Option Taken → List Lexeme → Type 0
 IsNextSolid in_path before None after = solids_from in_path before ≡ []
 IsNextSolid in_path before (Some taken) after = solids_from in_path before ≡ solid_of taken ∷ solids_from (ends_piece taken.kind) after
@@ -27,7 +27,7 @@ same_flag false new = not new
 abbrev pub same_solid : Taken → Taken → Bool
 same_solid old new = same_kind old.kind new.kind && (bytes_eq old.text.now new.text.now && same_flag old.joins new.joins)
 
--- what a comparison of two tokens says of them
+-- the result of comparing two tokens
 abbrev pub AreCompared : Step → Option Taken → Option Taken → Type 0
 AreCompared (step.Same kind) (Some old) (Some new) = (solid_of new ≡ solid_of old) × (kind ≡ old.kind)
 AreCompared (step.Same kind) old new = ⊥
@@ -35,7 +35,7 @@ AreCompared step.Differ old new = Unit {0}
 AreCompared step.End None None = Unit {0}
 AreCompared step.End old new = ⊥
 
--- what a step says of the tokens that were left and are left: where they are the same behind it, they were before
+-- the result of a step: if the tokens after it are the same, so are the tokens before it
 abbrev pub IsStep : Bool → List Lexeme → List Lexeme → List Lexeme → List Lexeme → Step → Type 0
 IsStep in_path olds news olds_left news_left (step.Same kind) =
     solids_from (ends_piece kind) news_left ≡ solids_from (ends_piece kind) olds_left → solids_from in_path news ≡ solids_from in_path olds

@@ -1,10 +1,10 @@
-//! Which part of a node may be broken while the rest of the node stays on its line, as in `a = f {` .. `};`.
+//! The part of a node that may be broken while the rest of the node stays on its line, as in `a = f {` .. `};`.
 
 use crate::layout::Target;
 use rnix::SyntaxKind;
 use rnix::ast::BinOpKind;
 
-// What is broken by itself: sets, lists and strings.
+// Whether nodes of a kind can be broken on their own: sets, lists and strings.
 fn is_term(kind: SyntaxKind) -> bool {
     matches!(
         kind,
@@ -23,7 +23,7 @@ fn is_tail_call(child: SyntaxKind, target: Target, end: usize) -> bool {
     child == SyntaxKind::NODE_APPLY && is_last && !target.is_paren
 }
 
-// Whether an entry of a set may be broken where its value may be.
+// Whether an entry of a set may be broken at the target of its value.
 fn entry_takes(child: SyntaxKind) -> bool {
     is_term(child)
         || matches!(
@@ -36,7 +36,7 @@ fn entry_takes(child: SyntaxKind) -> bool {
         )
 }
 
-/// Whether a node may be broken at the target of a child of it, which ends before the piece `end`.
+/// Whether a node may be broken at the target of one of its children, which ends before the piece `end`.
 pub fn takes_target(
     parent: SyntaxKind,
     operator: Option<BinOpKind>,
@@ -63,7 +63,7 @@ pub fn takes_target(
     }
 }
 
-/// Whether a node that has a target is broken there wherever that helps. The others wait for the node around them.
+/// Whether a node with a target is broken there whenever that makes it fit. Other nodes are broken there only if the node around them is.
 pub fn absorbs(kind: SyntaxKind) -> bool {
     matches!(
         kind,
@@ -74,7 +74,7 @@ pub fn absorbs(kind: SyntaxKind) -> bool {
     )
 }
 
-/// What may be broken of a node by itself: what is between its brackets, from the piece that opens it to the last one before `end`.
+/// The node's own target: from its opening bracket, the piece `open`, to the last piece before `end`.
 pub fn own_target(kind: SyntaxKind, open: usize, end: usize) -> Option<Target> {
     let close = end.saturating_sub(1);
     let is_filled = close > open.saturating_add(1);

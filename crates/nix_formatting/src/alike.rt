@@ -1,4 +1,4 @@
-//! Whether two texts differ in white space alone.
+//! Comparison of the tokens of two texts other than white space.
 
 ghost use Rattle.std.specs.Prelude.{◌≡◌, true, IfOk};
 ghost use Rattle.rnix_grammar.specs.TokenKinds.{is_piece_start};
@@ -14,11 +14,11 @@ use std::alloc::{AllocError, Global};
 struct Solid<'t> {
     kind: SyntaxKind,
     text: &'t str,
-    // Whether it touches a part of a path and would go on with that path.
+    // Whether it follows a part of a path without white space between, and would continue the path.
     joins: bool,
 }
 
-// Whether a path may go on behind a token of the kind.
+// Whether a path may continue after a token of the kind.
 fn ends_piece(kind: SyntaxKind) -> bool
     ensures { result ≡ ends_piece kind }
 {
@@ -31,7 +31,7 @@ fn ends_piece(kind: SyntaxKind) -> bool
     )
 }
 
-// Whether a token of the kind goes on with a path that it touches.
+// Whether a token of the kind continues a path that ends right before it.
 fn is_piece_start(kind: SyntaxKind) -> bool
     ensures { result ≡ is_piece_start kind }
 {
@@ -44,7 +44,7 @@ fn is_piece_start(kind: SyntaxKind) -> bool
     )
 }
 
-// Takes the next token other than white space; `in_path` says whether a part of a path precedes the first token.
+// Returns the next token other than white space; `in_path` is whether a part of a path precedes the first token.
 fn next_solid<'t>(
     tokens: &mut Tokenizer<'t>,
     in_path: bool,
@@ -63,14 +63,14 @@ fn next_solid<'t>(
     Ok(None)
 }
 
-// What two texts have next.
+// How the next tokens of two texts compare.
 #[derive(Clone, Copy)]
 enum Step {
-    // The same token, of this kind.
+    // Both are the same token, of this kind.
     Same(SyntaxKind),
-    // Two tokens that differ, or a token in one of them.
+    // They differ, or only one text has a next token.
     Differ,
-    // Both end.
+    // Neither text has a next token.
     End,
 }
 
@@ -106,7 +106,7 @@ fn compared<'t>(old: Option<Solid<'t>>, new: Option<Solid<'t>>) -> Step
     }
 }
 
-// Takes the next tokens of two texts.
+// Compares the next tokens of two texts and advances past them.
 #[tactic(auto, using(crate::proofs::SolidLemmas::stepped))]
 fn next_step(
     olds: &mut Tokenizer<'_>,
@@ -120,8 +120,7 @@ fn next_step(
     Ok(compared(old, new))
 }
 
-/// Whether two texts have the same tokens but for white space, and the parts of paths touch alike in both. No is said of texts that differ in
-/// some other way.
+/// Whether two texts have the same tokens except for white space, and the same parts of paths without white space between them.
 #[tactic(auto, using(crate::proofs::SolidLemmas::same_step, crate::proofs::SolidLemmas::end_step))]
 pub fn have_same_solids(alloc: Global, old: &str, new: &str) -> Result<bool, AllocError>
     ensures { IfOk result (λ are_same. are_same ≡ true → solids_of new.now ≡ solids_of old.now) }

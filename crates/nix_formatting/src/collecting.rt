@@ -18,18 +18,18 @@ use std::alloc::{AllocError, Global};
 struct Frame {
     kind: SyntaxKind,
     operator: Option<BinOpKind>,
-    // The number of the piece that opens it: its bracket, or else its first one.
+    // The number of its opening bracket, or of its first piece if it has none.
     open: usize,
-    // Its group, and that of its condition.
+    // The number of its group, and of the group of its condition.
     group: usize,
     inner: usize,
-    // Whether the group is its own.
+    // Whether the group began with the node.
     is_own: bool,
-    // The kind of its last child so far that is no trivia.
+    // The kind of its last child so far that is not trivia.
     before: Option<SyntaxKind>,
     // Whether it is a function whose parameter is a name.
     is_named_lambda: bool,
-    // What may be broken of it.
+    // The part of it that may be broken.
     target: Option<Target>,
 }
 
@@ -38,11 +38,11 @@ struct Frame {
 struct Collector {
     layout: Layout,
     frames: Vec<Frame>,
-    // How deep inside a string or a path the walk is.
+    // The depth of the walk inside a string or a path.
     atom_depth: usize,
-    // The line feeds behind the last piece.
+    // The number of line feeds after the last piece.
     line_feeds: usize,
-    // The first of the pieces whose gap is not known yet.
+    // The number of the first piece whose gap is not set yet.
     unset: usize,
     // The spacing and the group of the next piece.
     spacing: Option<Spacing>,
@@ -51,7 +51,7 @@ struct Collector {
     last: SyntaxKind,
 }
 
-// Whether a node has a group of its own, and does not go on with that of its parent.
+// Whether a node has a group of its own, or else shares that of its parent.
 fn has_group(parent: &Frame, kind: SyntaxKind, operator: Option<BinOpKind>) -> bool {
     match kind {
         SyntaxKind::NODE_APPLY => {
@@ -98,7 +98,7 @@ impl Collector {
         Ok(number)
     }
 
-    // Closes a group behind the last piece.
+    // Closes a group after the last piece.
     fn close_group(&mut self, number: usize, target: Option<Target>) {
         let end = self.layout.pieces.len();
         if number < self.layout.groups.len() {
@@ -107,7 +107,7 @@ impl Collector {
         }
     }
 
-    // Adds a piece. If it is no comment, the gaps up to it are known.
+    // Adds a piece, with the line feeds before it.
     fn add_piece(&mut self, piece: Piece) -> Result<(), AllocError> {
         let line_feeds = self.line_feeds;
         self.layout.pieces.push(Piece {
@@ -124,7 +124,7 @@ impl Collector {
         self.unset = self.layout.pieces.len();
     }
 
-    // Whether the last piece begins its line in any case.
+    // Whether the last piece always begins its line.
     fn begins_line(&self) -> bool {
         match self.layout.pieces.last() {
             Some(piece) => piece.gap.is_hard,
@@ -145,7 +145,7 @@ impl Collector {
         }
     }
 
-    // Notes the gap between the next child and the one before it.
+    // Stores the spacing between the next child and the one before it.
     fn note_child(&mut self, child: Child) {
         let top = self.frames.len().saturating_sub(1);
         if top < self.frames.len() {
@@ -163,7 +163,7 @@ impl Collector {
         }
     }
 
-    // Notes that the last piece opens the node that the walk is in.
+    // Stores that the last piece is the opening bracket of the innermost node.
     fn note_bracket(&mut self) {
         let top = self.frames.len().saturating_sub(1);
         if top < self.frames.len() {
@@ -171,7 +171,7 @@ impl Collector {
         }
     }
 
-    // Hands the target of a child to the node that the walk is in.
+    // Stores the target of a child as that of the innermost node, if that node may be broken there.
     fn offer_target(&mut self, child: SyntaxKind, target: Option<Target>) {
         let Some(target) = target else {
             return;
@@ -187,7 +187,7 @@ impl Collector {
         }
     }
 
-    // Adds a piece that is no comment.
+    // Adds a piece that is not a comment, and sets the gaps up to it.
     fn add_item(&mut self, piece: Piece, kind: SyntaxKind) -> Result<(), AllocError> {
         self.add_piece(piece)?;
         match self.spacing {
@@ -215,7 +215,7 @@ impl Collector {
         self.settle(wanted, 0);
     }
 
-    // Enters a string or a path: one piece.
+    // Enters a string or a path, which is one piece.
     fn enter_atom(&mut self, node: &SyntaxNode<'_>) -> Result<(), AllocError> {
         self.atom_depth = 1;
         let number = self.layout.pieces.len();
@@ -356,7 +356,7 @@ impl Collector {
         }
     }
 
-    // The layout, when the walk is done. Comments at the end have lines of their own, or stay behind the last piece.
+    // Returns the layout at the end of the walk. Comments at the end of the text stay on the line of the last piece or have lines of their own.
     fn finish(mut self) -> Layout {
         self.settle_first();
         self.layout

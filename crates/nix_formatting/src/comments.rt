@@ -3,7 +3,7 @@
 use crate::piece::{Gap, Level, Piece};
 use crate::spacing::Spacing;
 
-// The gap as its spacing has it, for a piece with these line feeds before it.
+// The gap with a spacing, for a piece with a number of line feeds before it.
 fn plain_gap(spacing: Spacing, group: usize, line_feeds: usize) -> Gap {
     Gap {
         blanks: spacing.blanks,
@@ -35,7 +35,7 @@ fn spaced(gap: Gap) -> Gap {
     }
 }
 
-// The level of comments: inside what a bracket closes.
+// The level of comments: inside the brackets, if a closing bracket follows.
 fn comment_level(spacing: Spacing) -> Level {
     if spacing.closes {
         Level::Inner
@@ -44,8 +44,7 @@ fn comment_level(spacing: Spacing) -> Level {
     }
 }
 
-// The gap before a comment. What is known: whether it is the first in its gap, whether the comment before it ended the line, and whether
-// the line ends behind it.
+// The gap before a comment, by whether it is the first of its comments, whether the comment before it ended its line, and whether this one does.
 fn comment_gap(
     piece: &Piece,
     spacing: Spacing,
@@ -81,7 +80,7 @@ fn gap_behind(piece: &Piece, spacing: Spacing, group: usize, is_ended: bool) -> 
     }
 }
 
-// Whether the line ends behind a comment.
+// Whether the line ends after a comment.
 fn ends_line(pieces: &[Piece], number: usize) -> bool {
     match (pieces.get(number), pieces.get(number.saturating_add(1))) {
         (Some(piece), Some(next)) => piece.ends_line || next.line_feeds > 0,
@@ -89,7 +88,7 @@ fn ends_line(pieces: &[Piece], number: usize) -> bool {
     }
 }
 
-/// Sets the gaps of the pieces from a number on: they are comments, and perhaps a last piece that is none.
+/// Sets the gaps of the pieces from a number on: comments, and perhaps a last piece that is not a comment.
 pub fn set_gaps(pieces: &mut Vec<Piece>, from: usize, spacing: Spacing, group: usize) {
     let mut is_ended = false;
     for number in from..pieces.len() {

@@ -1,8 +1,8 @@
-//! The text with other white space.
+//! Formatting of a text.
 
 ghost use Rattle.std.specs.Prelude.{◌≡◌, IfOk};
 ghost use Rattle.nix_formatting.specs.Relayout.{solids_of, IsRelayout};
-ghost use Rattle.nix_formatting.specs.Formatted.{IsFaultless, IsFaulty, IfFormatted, IfFaulty};
+ghost use Rattle.nix_formatting.specs.Formatted.{IsFaultless, IsOutcome};
 
 use crate::alike::have_same_solids;
 use crate::collecting::layout_of;
@@ -11,18 +11,18 @@ use rnix::Root;
 use rnix::laws::{has_reading, layout, one_list};
 use std::alloc::{AllocError, Global};
 
-/// What comes of formatting a text.
+/// The result of formatting a text.
 #[derive(Drop)]
 pub enum Formatting {
-    /// The text in the style of Nixpkgs.
+    /// The formatted text.
     Formatted(String),
     /// The text has errors.
     Faulty,
-    /// The text that was made differs in more than white space. This is a bug of the layout, and the text is not to be used.
+    /// The text has no errors, but the layout would change more than white space. This is a bug of the layout.
     Refused,
 }
 
-// Two texts with the same tokens but for white space are read as one tree, if one of them has no errors.
+// Two texts with the same tokens except for white space have the same tree, if one of them has no errors.
 fn read_alike(text: &str, made: &str)
     requires faultless { IsFaultless text.now }
     requires same { solids_of made.now ≡ solids_of text.now }
@@ -34,11 +34,10 @@ fn read_alike(text: &str, made: &str)
     layout(text, made);
 }
 
-// The new text, if it differs from the old one in white space alone.
+// Returns the new text if it has the same tokens as the old one, except for white space.
 fn compared(alloc: Global, text: &str, made: String) -> Result<Formatting, AllocError>
     requires { IsFaultless text.now }
-    ensures formatted { IfOk result (IfFormatted (IsRelayout text.now)) }
-    ensures faulty { IfOk result (IfFaulty (IsFaulty text.now)) }
+    ensures { IfOk result (IsOutcome text.now) }
 {
     if !have_same_solids(alloc, text, made.as_str())? {
         return Ok(Formatting::Refused);
@@ -47,12 +46,10 @@ fn compared(alloc: Global, text: &str, made: String) -> Result<Formatting, Alloc
     Ok(Formatting::Formatted(made))
 }
 
-/// Formats a text in the style of Nixpkgs. A text without errors becomes one that has the same tokens, comments among them, and is read as the same
-/// tree but for white space; the tokens of the new text are compared with the old ones, and a text that differs is `Refused`. A text with errors is
-/// `Faulty`.
+/// Formats a text in the style of Nixpkgs. The new text has the same tokens, comments included, and the same tree, except for white space. It is
+/// compared with the old one, and the result is `Refused` if it has other tokens. The result is `Faulty` exactly if the text has errors.
 pub fn formatted(alloc: Global, text: &str) -> Result<Formatting, AllocError>
-    ensures formatted { IfOk result (IfFormatted (IsRelayout text.now)) }
-    ensures faulty { IfOk result (IfFaulty (IsFaulty text.now)) }
+    ensures { IfOk result (IsOutcome text.now) }
 {
     let read = Root::parse(alloc, text)?;
     if !read.errors().is_empty() {

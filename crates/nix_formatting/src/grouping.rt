@@ -1,4 +1,4 @@
-//! Which nodes are one piece, and which have groups of their own.
+//! The kinds of nodes that are one piece, and those that have groups of their own.
 
 use crate::spacing::Child;
 use rnix::{SyntaxKind, SyntaxNode};
@@ -15,7 +15,7 @@ pub fn is_atom(kind: SyntaxKind) -> bool {
     )
 }
 
-/// Whether nodes of a kind have groups of their own in every place.
+/// Whether nodes of a kind always have groups of their own.
 pub fn is_grouped(kind: SyntaxKind) -> bool {
     matches!(
         kind,
@@ -45,7 +45,7 @@ fn is_named_lambda(node: &SyntaxNode<'_>) -> bool {
     }
 }
 
-/// What is known of a node before the walk enters it.
+/// Describes a node that the walk is about to enter.
 pub fn child_of(node: &SyntaxNode<'_>) -> Child {
     Child {
         kind: node.kind(),

@@ -1,4 +1,4 @@
-//! Widths of pieces, so that what fits on a line is known of each group at once.
+//! Sums of widths of pieces, so that it takes constant time to see whether a group fits on a line.
 
 use crate::layout::{Group, Layout, Target};
 use crate::piece::Piece;
@@ -9,34 +9,34 @@ use std::alloc::{AllocError, Global};
 pub struct Measures {
     // The column at which each piece ends, if all pieces are written on one line.
     ends: Vec<usize>,
-    // How many lines end in any case before each piece and its gap, and last, before the end.
+    // The number of unconditional line ends before the gap of each piece, and last, in the whole text.
     breaks: Vec<usize>,
-    // How much is written before the line may end next, from each gap on.
+    // The number of columns from each gap to the next place where the line may end.
     tails: Vec<usize>,
 }
 
-/// How a group can be written on a line from some column on.
+/// The room for a group on its line.
 #[derive(Clone, Copy)]
 pub struct Room {
     /// The column at which the group begins.
     pub column: usize,
     /// The column at which the line begins.
     pub indent: usize,
-    /// How much has to follow on the same line.
+    /// The number of columns that have to follow on the same line.
     pub tail: usize,
     /// The columns of a line.
     pub limit: usize,
 }
 
-// Parentheses before other arguments are broken where they take more columns.
+// Parentheses wider than this are broken even if other arguments follow.
 const WIDE: usize = 40;
 
-// Whether the line ends in the gap before a piece, in any case.
+// Whether the line always ends in the gap before a piece: 0 or 1.
 fn hard_gap(piece: &Piece) -> usize {
     usize::from(piece.gap.is_hard)
 }
 
-// Whether a piece has several lines.
+// Whether a piece has several lines: 0 or 1.
 fn several_lines(piece: &Piece) -> usize {
     usize::from(piece.last_width.is_some())
 }
@@ -54,7 +54,7 @@ fn ends_of(alloc: Global, pieces: &[Piece]) -> Result<Vec<usize>, AllocError> {
     Ok(ends)
 }
 
-// How many lines end before each piece.
+// The number of line ends before each piece.
 fn breaks_of(alloc: Global, pieces: &[Piece]) -> Result<Vec<usize>, AllocError> {
     let mut breaks = Vec::new(alloc);
     let mut count = 0usize;
@@ -68,7 +68,7 @@ fn breaks_of(alloc: Global, pieces: &[Piece]) -> Result<Vec<usize>, AllocError> 
     Ok(breaks)
 }
 
-// How much is written before the line may end next, from each gap on; the last one is that at the end.
+// The number of columns from each gap to the next place where the line may end; last, 0 for the end of the text.
 fn tails_of(alloc: Global, pieces: &[Piece]) -> Result<Vec<usize>, AllocError> {
     let mut tails = Vec::new(alloc);
     let mut tail = 0usize;
@@ -87,7 +87,7 @@ fn tails_of(alloc: Global, pieces: &[Piece]) -> Result<Vec<usize>, AllocError> {
     Ok(tails)
 }
 
-// The number at a place, and 0 where there is none.
+// The number at an index, or 0 beyond the end.
 fn at(numbers: &[usize], place: usize) -> usize {
     numbers.get(place).copied().unwrap_or(0)
 }
@@ -102,7 +102,7 @@ impl Measures {
         })
     }
 
-    /// How much is written before the line may end next, from the gap before a piece on.
+    /// The number of columns from the gap before a piece to the next place where the line may end.
     pub fn tail(&self, piece: usize) -> usize {
         at(&self.tails, piece)
     }
@@ -114,7 +114,7 @@ impl Measures {
         between.saturating_add(own)
     }
 
-    // How many lines end in any case from behind the gap of `first` up to the piece `end`.
+    // The number of unconditional line ends after the gap of `first` and up to the piece `end`.
     fn breaks_inside(&self, pieces: &[Piece], first: usize, end: usize) -> usize {
         let gap = pieces.get(first).map_or(0, |piece| hard_gap(piece));
         at(&self.breaks, end)
@@ -154,7 +154,7 @@ impl Measures {
         breaks == 0 && column.saturating_add(room.tail) <= room.limit
     }
 
-    // Whether the target has to be broken: several lines are in it, or it does not fit on the line.
+    // Whether the target has to be broken: it has several lines, does not fit on the line, or ends the group.
     fn has_to_break(&self, pieces: &[Piece], group: &Group, target: Target, room: Room) -> bool {
         let width = self.width(pieces, group.first, target.close);
         let behind = target.close.saturating_add(1);
@@ -167,7 +167,7 @@ impl Measures {
             || room.column.saturating_add(width).saturating_add(glued) > room.limit
     }
 
-    /// Whether a group fits if its target is broken: what comes before that on the line, and what comes behind it on the last one.
+    /// Whether a group fits if its target is broken: the part before the target on the first line, and the part after it on the last one.
     pub fn fits_around(&self, pieces: &[Piece], group: &Group, target: Target, room: Room) -> bool {
         self.fits_before(pieces, group, target, room)
             && self.fits_behind(pieces, group, target, room)

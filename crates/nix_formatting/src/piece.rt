@@ -1,56 +1,56 @@
-//! The pieces of a text that stay as they are, and the gaps before them.
+//! The pieces of a text that are copied as they are, and the gaps before them.
 
 /// The gap between a piece and the one before it.
 #[derive(Clone, Copy)]
 pub struct Gap {
-    /// How many blanks, where the line goes on: none or one.
+    /// The number of spaces if the line does not end here: 0 or 1.
     pub blanks: usize,
     /// Whether the line ends here if the group of the gap is broken.
     pub can_break: bool,
-    /// Whether the line ends here in any case.
+    /// Whether the line always ends here.
     pub is_hard: bool,
-    /// Whether an empty line follows the end of the line.
+    /// Whether an empty line follows if the line ends here.
     pub has_empty_line: bool,
     /// The number of the group.
     pub group: usize,
-    /// Where the next line begins.
+    /// The indentation of the next line.
     pub level: Level,
 }
 
-/// Where a line begins, seen from the line on which its group begins.
+/// The indentation of a line, relative to the line on which its group begins.
 #[derive(Clone, Copy, PartialEq, Eq)]
 pub enum Level {
-    /// At the same column.
+    /// The same.
     Same,
-    /// One level further right.
+    /// One level more.
     Inner,
-    /// At the same column if the group begins its line, else one level further right.
+    /// The same if the group begins its line, and one level more otherwise.
     Operator,
 }
 
 /// A token, a comment, or a whole string or path, with the gap before it.
 #[derive(Clone, Copy)]
 pub struct Piece {
-    /// Where it starts in the old text, in bytes.
+    /// Its start in the old text, in bytes.
     pub start: usize,
-    /// Where it ends.
+    /// Its end in the old text, in bytes.
     pub end: usize,
-    /// The characters of its first line.
+    /// The number of characters of its first line.
     pub width: usize,
-    /// The characters of its last line, if it has several.
+    /// The number of characters of its last line, if it has several lines.
     pub last_width: Option<usize>,
     /// Whether it is a comment.
     pub is_comment: bool,
-    /// Whether the line has to end behind it: a comment with `#`.
+    /// Whether the line has to end after it: whether it is a comment with `#`.
     pub ends_line: bool,
-    /// The line feeds before it in the old text, behind the piece before.
+    /// The number of line feeds between it and the piece before it in the old text.
     pub line_feeds: usize,
     /// The gap before it.
     pub gap: Gap,
 }
 
 impl Gap {
-    /// No gap.
+    /// An empty gap.
     pub fn nothing() -> Gap {
         Gap {
             blanks: 0,

@@ -3,40 +3,40 @@
 use crate::piece::Level;
 use rnix::SyntaxKind;
 
-/// The white space that the node wants in a gap.
+/// The white space between two children of a node.
 #[derive(Clone, Copy)]
 pub struct Spacing {
-    /// The blanks, where the line goes on.
+    /// The number of spaces if the line does not end here.
     pub blanks: usize,
     /// Whether the line ends here if the group is broken.
     pub can_break: bool,
-    /// Whether the line ends here in any case.
+    /// Whether the line always ends here.
     pub is_hard: bool,
-    /// Where the next line begins.
+    /// The indentation of the next line.
     pub level: Level,
-    /// Whether a line feed that was here stays.
+    /// Whether a line feed of the old text is kept.
     pub keeps_break: bool,
-    /// Whether an empty line that was here stays.
+    /// Whether an empty line of the old text is kept.
     pub keeps_empty: bool,
-    /// Whether a bracket or its like comes before.
+    /// Whether an opening bracket or keyword precedes.
     pub opens: bool,
-    /// Whether a bracket or its like follows.
+    /// Whether a closing bracket or keyword follows.
     pub closes: bool,
     /// Whether the group is that of the condition.
     pub is_inner: bool,
 }
 
-/// What is known of the child that follows.
+/// The child after the gap.
 #[derive(Clone, Copy)]
 pub struct Child {
     pub kind: SyntaxKind,
-    /// Whether no node is in it, as in `{ }`.
+    /// Whether it contains no node, as `{ }`.
     pub is_empty: bool,
     /// Whether it is a function whose parameter is a name.
     pub is_named_lambda: bool,
 }
 
-// Nothing at all.
+// No white space.
 const GLUED: Spacing = Spacing {
     blanks: 0,
     can_break: false,
@@ -49,22 +49,22 @@ const GLUED: Spacing = Spacing {
     is_inner: false,
 };
 
-// One blank.
+// One space.
 const SPACED: Spacing = Spacing { blanks: 1, ..GLUED };
 
-// One blank, or a line feed.
+// One space, or a line feed.
 const LINE: Spacing = Spacing {
     can_break: true,
     ..SPACED
 };
 
-// Nothing, or a line feed.
+// No white space, or a line feed.
 const SOFT: Spacing = Spacing {
     can_break: true,
     ..GLUED
 };
 
-// The same behind an opening bracket and before a closing one.
+// The same after an opening bracket, and before a closing one.
 fn opening(spacing: Spacing) -> Spacing {
     Spacing {
         opens: true,
@@ -88,7 +88,7 @@ fn level(spacing: Spacing) -> Spacing {
     }
 }
 
-// The same with a line feed in any case.
+// The same, always with a line feed.
 fn hard(spacing: Spacing) -> Spacing {
     Spacing {
         is_hard: true,
@@ -96,7 +96,7 @@ fn hard(spacing: Spacing) -> Spacing {
     }
 }
 
-// The same, where a line feed that was there stays.
+// The same, keeping a line feed of the old text.
 fn kept(spacing: Spacing) -> Spacing {
     Spacing {
         keeps_break: true,
@@ -104,7 +104,7 @@ fn kept(spacing: Spacing) -> Spacing {
     }
 }
 
-// The same, where an empty line that was there stays.
+// The same, keeping an empty line of the old text.
 fn airy(spacing: Spacing) -> Spacing {
     Spacing {
         keeps_empty: true,
@@ -212,7 +212,7 @@ fn in_entry(before: SyntaxKind, next: Child) -> Spacing {
     }
 }
 
-// In a selection: what could be read as a part of a path or of a number keeps its distance.
+// In a selection. After a path or a number a space is needed, since `.` would continue it.
 fn in_selection(before: SyntaxKind, next: SyntaxKind) -> Spacing {
     match (before, next) {
         (_, SyntaxKind::TOKEN_OR) | (SyntaxKind::TOKEN_OR, _) => SPACED,
@@ -257,7 +257,7 @@ fn in_operation(next: SyntaxKind) -> Spacing {
     }
 }
 
-/// Whether two items next to each other could be read as others: a path may begin with `-`, and a URI may hold a comma.
+/// Whether two items would become other tokens without white space between them: a path may begin with `-`, and a URI may contain a comma.
 pub fn keeps_distance(before: SyntaxKind, next: SyntaxKind) -> bool {
     matches!(
         (before, next),
@@ -268,7 +268,7 @@ pub fn keeps_distance(before: SyntaxKind, next: SyntaxKind) -> bool {
     )
 }
 
-/// The same white space, with at least a blank.
+/// The same white space, with at least one space.
 pub fn distant(spacing: Spacing) -> Spacing {
     Spacing {
         blanks: 1,
@@ -276,7 +276,7 @@ pub fn distant(spacing: Spacing) -> Spacing {
     }
 }
 
-/// The same white space, with a line feed wherever there may be one.
+/// The same white space, with a line feed if there may be one.
 pub fn broken(spacing: Spacing) -> Spacing {
     Spacing {
         is_hard: spacing.can_break,
@@ -284,7 +284,7 @@ pub fn broken(spacing: Spacing) -> Spacing {
     }
 }
 
-/// The white space behind a comma that a comment has put at the start of its line.
+/// The white space after a comma that a comment has moved to the start of its line.
 pub fn behind_first_comma() -> Spacing {
     SPACED
 }

@@ -5,13 +5,13 @@ use crate::measuring::{Measures, Room};
 use crate::piece::{Gap, Level, Piece};
 use std::alloc::{AllocError, Global};
 
-// The columns of a line.
+// The number of columns of a line.
 const LINE: usize = 100;
-// The blanks of a level.
+// The number of spaces of a level.
 const STEP: usize = 2;
-// No line begins further right.
+// The most spaces at the start of a line.
 const MOST_BLANKS: usize = 80;
-// The blanks before lines.
+// The spaces at the start of a line.
 const BLANKS: &str =
     "                                                                                ";
 
@@ -26,38 +26,38 @@ enum Mode {
     Broken,
 }
 
-// A group that was opened.
+// A group that the writer has begun.
 #[derive(Clone, Copy)]
 struct Opened {
     mode: Mode,
-    // The column at which its line begins.
+    // The indentation of its first line.
     indent: usize,
-    // Whether it begins its line.
+    // Whether it is the first of its line.
     is_first: bool,
 }
 
-// What is written so far.
+// The state of writing.
 #[derive(Drop)]
 struct Writer<'a> {
     text: &'a str,
     layout: &'a Layout,
     measures: Measures,
     made: String,
-    // The column in the last line, and that at which the line begins.
+    // The current column, and the indentation of the current line.
     column: usize,
     indent: usize,
-    // The groups so far, by their numbers.
+    // The groups begun so far, by their numbers.
     opened: Vec<Opened>,
 }
 
-// A group of which nothing is known.
+// Stands in for a group that does not exist.
 const UNKNOWN: Opened = Opened {
     mode: Mode::Broken,
     indent: 0,
     is_first: true,
 };
 
-// The column at which a line of a group begins.
+// The indentation of a line of a group.
 fn indent_of(opened: Opened, level: Level) -> usize {
     let is_same = match level {
         Level::Same => true,
@@ -103,7 +103,7 @@ impl<'a> Writer<'a> {
         Ok(())
     }
 
-    // How much has to follow a group on its line.
+    // The number of columns that have to follow a group on its line.
     fn tail_of(&self, group: &Group) -> usize {
         let Some(next) = self.layout.pieces.get(group.end) else {
             return 0;
@@ -118,7 +118,7 @@ impl<'a> Writer<'a> {
             .saturating_add(next.width)
     }
 
-    // How a group is written that does not fit on the line.
+    // The mode of a group that does not fit on the line.
     fn unfit_mode(&self, group: &Group, room: Room, is_shared: bool) -> Mode {
         let Some(target) = group.target else {
             return Mode::Broken;
@@ -131,7 +131,7 @@ impl<'a> Writer<'a> {
         }
     }
 
-    // How a group is written that begins here.
+    // The mode of a group that begins here.
     fn mode_of(&self, number: usize, group: &Group) -> Mode {
         let around = self.group_at(group.parent).mode;
         if number > 0 && around == Mode::Flat {
@@ -157,7 +157,7 @@ impl<'a> Writer<'a> {
         }
     }
 
-    // Opens the groups that begin at a piece.
+    // Begins the groups whose first piece this is.
     fn open_groups(&mut self, piece: usize) -> Result<(), AllocError> {
         for number in self.opened.len()..self.layout.groups.len() {
             let Some(group) = self.layout.groups.get(number).copied() else {
@@ -176,7 +176,7 @@ impl<'a> Writer<'a> {
         Ok(())
     }
 
-    // Writes a piece as it is.
+    // Copies a piece.
     fn write_piece(&mut self, piece: &Piece) -> Result<(), AllocError> {
         self.made
             .push_str(self.text.get(piece.start..piece.end).unwrap_or(""))?;

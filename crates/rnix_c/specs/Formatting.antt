@@ -1,12 +1,12 @@
--- What calls write of a text with other white space.
+-- What calls write of a formatted text.
 use Rattle.std.specs.Prelude.{◌≡◌, ◌⊎◌, ℕ, ℤ, List, IsUtf8}
 use Rattle.nix_formatting.specs.Relayout.{IsRelayout}
-use Rattle.nix_formatting.specs.Formatted.{IsFaulty}
+use Rattle.nix_formatting.specs.Formatted.{IsFaulty, IsFaultless}
 use Rattle.rnix_c.specs.Answers.{no_memory, has_errors, different, IsRefused, IsWritten}
 
--- why no new text is written: memory is refused, the text has errors, or the new text would differ in more than white space
+-- why no new text is written: memory is refused, or the text has errors, or it has none, but the new text would differ in more than white space
 abbrev pub IsUnformatted : List ℕ → ℤ → Type 0
-IsUnformatted text answer = (answer ≡ no_memory) ⊎ (((answer ≡ has_errors) × IsFaulty text) ⊎ (answer ≡ different))
+IsUnformatted text answer = (answer ≡ no_memory) ⊎ (((answer ≡ has_errors) × IsFaulty text) ⊎ ((answer ≡ different) × IsFaultless text))
 
 -- a text that differs from this one in white space alone is written, or nothing
 abbrev pub WritesFormat : List ℕ → ℤ → List ℕ → List ℕ → Type 0
