@@ -142,7 +142,7 @@ fn check_all(rt: &HostRuntime, arguments: &Arguments, format: Format) -> io::Res
 }
 
 // Checks the files that the command line names, and returns the exit status.
-fn answer(rt: &HostRuntime, arguments: &Arguments) -> io::Result<u8> {
+fn run_with(rt: &HostRuntime, arguments: &Arguments) -> io::Result<u8> {
     let Some(format) = format_of(arguments) else {
         refuse(rt, &PROGRAM, "--json and --sarif exclude each other")?;
         return Ok(FAILED);
@@ -158,7 +158,7 @@ fn answer(rt: &HostRuntime, arguments: &Arguments) -> io::Result<u8> {
 // Does what the command line asks for.
 fn run(rt: &HostRuntime) -> io::Result<u8> {
     match read_arguments(rt, &PROGRAM)? {
-        Start::Run(arguments) => answer(rt, &arguments),
+        Start::Run(arguments) => run_with(rt, &arguments),
         Start::End(status) => Ok(status),
     }
 }

@@ -113,14 +113,14 @@ pub fn write_excerpt<W: Write>(text: &str, range: Range<usize>, out: &mut W) -> 
         .get(range.start..marked_end)
         .unwrap_or("")
         .trim_end_matches('\r');
-    let behind = text.get(end..).unwrap_or("");
+    let after = text.get(end..).unwrap_or("");
     let is_cut_before = !text.get(..start).unwrap_or("").ends_with('\n') && start > 0;
-    let is_cut_behind = !behind.is_empty() && !behind.starts_with('\n');
+    let is_cut_after = !after.is_empty() && !after.starts_with('\n');
     let line = text.get(start..end).unwrap_or("").trim_end_matches('\r');
     out.write_all(b"  ")?;
     out.write_all(if is_cut_before { CUT.as_bytes() } else { b"" })?;
     write_letters(line, out)?;
-    out.write_all(if is_cut_behind { CUT.as_bytes() } else { b"" })?;
+    out.write_all(if is_cut_after { CUT.as_bytes() } else { b"" })?;
     out.write_all(if is_cut_before { b"\n   " } else { b"\n  " })?;
     write_spaces(before, out)?;
     write_carets(marked, out)?;

@@ -88,7 +88,7 @@ pub fn shown_name(name: &str) -> &str {
 }
 
 // The line and the column, in characters and both from 1, at the end of a text.
-fn place_behind(text: &str) -> (usize, usize) {
+fn end_place(text: &str) -> (usize, usize) {
     let line = text.bytes().filter(|byte| *byte == b'\n').count();
     let own = match text.rsplit_once('\n') {
         Some((_, own)) => own,
@@ -102,7 +102,7 @@ fn place_behind(text: &str) -> (usize, usize) {
 
 /// The line and the column, in characters and both from 1, at a byte offset.
 pub fn place_of(text: &str, offset: usize) -> (usize, usize) {
-    place_behind(text.get(..offset).unwrap_or(text))
+    end_place(text.get(..offset).unwrap_or(text))
 }
 
 /// Reads the text of a file, or of standard input for `-`. Returns None if it cannot be read or is not UTF-8, which is reported.
@@ -125,7 +125,7 @@ pub fn read_text(rt: &HostRuntime, program: &Program, name: &str) -> io::Result<
             let (line, column) = match std::str::from_utf8(
                 error.as_bytes().get(..valid).unwrap_or(b""),
             ) {
-                Ok(text) => place_behind(text),
+                Ok(text) => end_place(text),
                 Err(_) => (1, 1),
             };
             eprintln!(rt; "{}: {shown}:{line}:{column}: not UTF-8", program.name)?;

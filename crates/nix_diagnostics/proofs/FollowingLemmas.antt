@@ -12,7 +12,7 @@ use Rattle.rnix_green.specs.Range.{bounds_of}
 use Rattle.nix_diagnostics.specs.Places.{place_of}
 use Rattle.nix_diagnostics.specs.Following.{is_slip, is_extra, last_from, last_slip, must_follow, is_near, IsErrorNode, IfErrorNode, IsInGroup, IfInGroup, Skips, Loses}
 use Rattle.nix_diagnostics.specs.Following.{is_group, range_if_group, group_around}
-use Rattle.nix_diagnostics.specs.Following.{skips, behind, AreLost, MayFollow, follows, same_group, lost}
+use Rattle.nix_diagnostics.specs.Following.{skips, after_opening, AreLost, MayFollow, follows, same_group, lost}
 use Rattle.nix_diagnostics.specs.Known.{are_shared, IsLostFrom, IsLastIn, Knows, Judges}
 use Rattle.nix_diagnostics.specs.declared.folding.Folding.{Folding}
 
@@ -52,7 +52,7 @@ slip_follows root before (unexpected_eof_wanted kinds) is = refl
 slip_follows root before (duplicated_args range name) is = absurd (grind (arith, is))
 slip_follows root before too_deep is = refl
 
--- the reader stays lost
+-- the parser stays lost
 pub lost_more : (root : Located) (all before : List Fault) (fault : Fault) → AreLost root all before → AreLost root all (before ++ fault ∷ [])
 lost_more root all before fault are = record {
   first = are.first;
@@ -62,11 +62,11 @@ lost_more root all before fault are = record {
   loses = are.loses;
 }
 
--- an error that loses the reader's way does so among the errors up to it
+-- an error at which the parser loses its way is one of the errors up to it
 pub lost_now : (root : Located) (all before : List Fault) (fault : Fault) → Loses root all fault → AreLost root all (before ++ fault ∷ [])
 lost_now root all before fault loses = record { first = before; fault = fault; rest = []; is = refl; loses = loses }
 
--- behind where the reader lost its way an error may follow
+-- an error may follow after the parser has lost its way
 pub judged_lost : (root : Located) (all before : List Fault) (fault : Fault) (f : Folding) → Knows root all before f → f.is_lost ≡ true →
     Judges root all before fault true
 judged_lost root all before fault f known is = (λ yes. lost (known.lost is), λ no. absurd (grind (arith, no)))
@@ -109,7 +109,7 @@ judged_shared root all before fault f group known is shared = (λ yes. found gro
   found (Some own) None mine other same = absurd (grind (arith, same))
   found None last mine other same = absurd (grind (arith, same))
 
--- what is known behind an error about an unexpected or a missing token
+-- what is known after an error about an unexpected or a missing token
 pub knows_slip : (root : Located) (all before : List Fault) (fault : Fault) (f new : Folding) → Knows root all before f → is_slip fault ≡ true →
     new.last ≡ Some (place_of root fault).end → new.end ≡ f.end → new.lost_from ≡ f.lost_from →
     IfInGroup root fault new.group → (new.is_lost ≡ true → AreLost root all (before ++ fault ∷ [])) →
@@ -128,7 +128,7 @@ knows_slip root all before fault f new known slip last end from group are =
       in_group None h = h
       in_group (Some range) h = record { last = fault; is = slip_last before fault slip; group = h }
 
--- what is known behind another error
+-- what is known after another error
 pub knows_other : (root : Located) (all before : List Fault) (fault : Fault) (f : Folding) → Knows root all before f → is_slip fault ≡ false →
     Knows root all (before ++ fault ∷ []) f
 knows_other root all before fault f known other =
@@ -187,14 +187,14 @@ pub judged_name : (root : Located) (all before : List Fault) (fault : Fault) (f 
     is_extra fault ≡ false → Judges root all before fault f.is_lost
 judged_name root all before fault f known other is = (λ yes. lost (known.lost yes), λ no. name_follows root before fault other is)
 
--- an error behind what is opened loses the reader's way
-pub lost_behind : (root : Located) (all : List Fault) (fault : Fault) (from : Option ℕ) (start at : ℕ) → IfSome from (IsLostFrom root all) →
+-- the parser loses its way at an error after an opening that is never closed
+pub lost_after_opening : (root : Located) (all : List Fault) (fault : Fault) (from : Option ℕ) (start at : ℕ) → IfSome from (IsLostFrom root all) →
     from ≡ Some start → start ≤ at → at ≡ (place_of root fault).start → Loses root all fault
-lost_behind root all fault from start at known is low place =
+lost_after_opening root all fault from start at known is low place =
     let opening : IsLostFrom root all start = subst (λ o. IfSome o (IsLostFrom root all)) is known in
-    behind opening.token opening.is_token opening.opens (grind (arith, opening.start_is, low, place)) opening.early
+    after_opening opening.token opening.is_token opening.opens (grind (arith, opening.start_is, low, place)) opening.early
 
--- an error whose node skips brackets loses the reader's way
+-- the parser loses its way at an error whose node skips brackets
 pub lost_skipping : (root : Located) (all : List Fault) (fault : Fault) (found : Option Located) (node : Located) →
     IfErrorNode root fault found → found ≡ Some node → Skips node → Loses root all fault
 lost_skipping root all fault found node known is skipped = skips node (subst (λ o. IfSome o (IsErrorNode root fault)) is known) skipped

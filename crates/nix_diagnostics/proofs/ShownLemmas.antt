@@ -57,7 +57,7 @@ pub record IsLastRun (root : Located) (all faults : List Fault) (before : List D
   pub worded : IsWorded d
   pub first : d.first_error ≡ length earlier
 
--- the last diagnostic stands for a run of errors, and those before it show the others
+-- the last diagnostic covers a run of errors, and those before it show the others
 last_run : (root : Located) (all faults : List Fault) (ds before : List Diagnostic) (d : Diagnostic) → Shows root all faults ds → ds ≡ before ++ d ∷ [] →
     IsLastRun root all faults before d
 last_run root all _ _ before d none is = absurd (omega (arith, ap length is ∙ length_push before d))

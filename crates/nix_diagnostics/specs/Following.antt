@@ -167,7 +167,7 @@ pub data Loses (root : Located) (all : List Fault) (fault : Fault) : Type 0 wher
   -- its error node skips a token that opens or closes something
   skips : (node : Located) → IsErrorNode root fault node → Skips node → Loses root all fault
   -- it follows a token that opens something, in a text that ends too early
-  behind : (token : Located) → IsTokenOf root token → opens (item_of token).kind ≡ true → counts_from token ≤ (place_of root fault).start →
+  after_opening : (token : Located) → IsTokenOf root token → opens (item_of token).kind ≡ true → counts_from token ≤ (place_of root fault).start →
       list_any is_at_end all ≡ true → Loses root all fault
 
 -- the parser loses its way at one of these errors

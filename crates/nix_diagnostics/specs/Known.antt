@@ -41,25 +41,25 @@ pub record Knows (root : Located) (all before : List Fault) (f : Folding) : Type
 abbrev pub Judges : Located → List Fault → List Fault → Fault → Bool → Type 0
 Judges root all before fault follows = (follows ≡ true → MayFollow root all before fault) × (follows ≡ false → must_follow root before fault ≡ false)
 
--- if the answer is yes, the parser loses its way at an error with this error node and place, whatever the earlier errors are
+-- if the result is true, the parser loses its way at an error with this error node and place, whatever the earlier errors are
 abbrev pub LosesIf : Folding → Fault → Option Located → TextRange → Bool → Type 0
-LosesIf f fault node place answer =
+LosesIf f fault node place loses =
     (root : Located) (all before : List Fault) → Knows root all before f → bounds_of place ≡ place_of root fault → IfErrorNode root fault node →
-    answer ≡ true → Loses root all fault
+    loses ≡ true → Loses root all fault
 
--- if the answer is yes, the parser has lost its way at such an error or before it
+-- if the result is true, the parser loses its way at such an error or before it
 abbrev pub AreLostIf : Folding → Fault → Option Located → TextRange → Bool → Type 0
-AreLostIf f fault node place answer =
+AreLostIf f fault node place is_lost =
     (root : Located) (all before : List Fault) → Knows root all before f → bounds_of place ≡ place_of root fault → IfErrorNode root fault node →
-    answer ≡ true → AreLost root all (before ++ fault ∷ [])
+    is_lost ≡ true → AreLost root all (before ++ fault ∷ [])
 
--- the answer is right for any error about an unexpected or a missing token that has this place and list, pattern, .., whatever the earlier ones are
+-- the result judges any error about an unexpected or a missing token that has this place and list, pattern, .., whatever the earlier errors are
 abbrev pub JudgesSlips : Located → Folding → Option TextRange → TextRange → Bool → Type 0
 JudgesSlips root f group place follows =
     (all before : List Fault) (fault : Fault) → Knows root all before f → bounds_of place ≡ place_of root fault → is_slip fault ≡ true →
     IfInGroup root fault group → Judges root all before fault follows
 
--- the answer is right for an error, whatever the earlier ones are, and the new state fits them and it
+-- the result judges an error, whatever the earlier ones are, and the new state fits them and it
 abbrev pub JudgesNext : Located → Fault → Folding → Folding → Bool → Type 0
 JudgesNext root fault old new follows =
     (all before : List Fault) → Knows root all before old →

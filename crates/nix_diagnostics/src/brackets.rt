@@ -7,8 +7,8 @@ use SyntaxKind::*;
 use rnix::{NodeOrToken, SyntaxKind, SyntaxNode, SyntaxToken, TextRange};
 use std::alloc::{AllocError, Global};
 
-// How many of the innermost openings are searched for the one that a token closes.
-const MOST_OPEN: usize = 64;
+// How many openings are kept. The parser gives up at expressions that are nested more than 512 deep.
+const MOST_OPEN: usize = 2048;
 
 /// A token that opens something.
 #[derive(Clone, Copy)]
@@ -22,6 +22,8 @@ pub struct Opening {
     // The number of its line, and the indentation of that line in bytes.
     line: usize,
     indent: usize,
+    // The kinds of this opening and of those around it, as the sum of their bits.
+    kinds: u8,
 }
 
 /// Whether a token opens something.
@@ -58,26 +60,42 @@ pub fn closes(kind: SyntaxKind) -> bool
     )
 }
 
-// Whether one token closes what another opens.
-fn is_closed_by(opening: SyntaxKind, closing: SyntaxKind) -> bool {
-    matches!(
-        (opening, closing),
-        (TOKEN_L_BRACE, TOKEN_R_BRACE)
-            | (TOKEN_L_BRACK, TOKEN_R_BRACK)
-            | (TOKEN_L_PAREN, TOKEN_R_PAREN)
-            | (TOKEN_INTERPOL_START, TOKEN_INTERPOL_END)
-            | (TOKEN_STRING_START, TOKEN_STRING_END)
-            | (TOKEN_LET, TOKEN_IN)
-            | (TOKEN_IF, TOKEN_THEN)
-            | (TOKEN_THEN, TOKEN_ELSE)
-    )
+// The kind of token that a token closes, if it closes one.
+fn opener_of(closing: SyntaxKind) -> Option<SyntaxKind> {
+    match closing {
+        TOKEN_R_BRACE => Some(TOKEN_L_BRACE),
+        TOKEN_R_BRACK => Some(TOKEN_L_BRACK),
+        TOKEN_R_PAREN => Some(TOKEN_L_PAREN),
+        TOKEN_INTERPOL_END => Some(TOKEN_INTERPOL_START),
+        TOKEN_STRING_END => Some(TOKEN_STRING_START),
+        TOKEN_IN => Some(TOKEN_LET),
+        TOKEN_THEN => Some(TOKEN_IF),
+        TOKEN_ELSE => Some(TOKEN_THEN),
+        _ => None,
+    }
+}
+
+// The bit of a kind that opens something.
+fn bit_of(opener: SyntaxKind) -> u8 {
+    match opener {
+        TOKEN_L_BRACE => 1,
+        TOKEN_L_BRACK => 2,
+        TOKEN_L_PAREN => 4,
+        TOKEN_INTERPOL_START => 8,
+        TOKEN_STRING_START => 16,
+        TOKEN_LET => 32,
+        TOKEN_IF => 64,
+        TOKEN_THEN => 128,
+        _ => 0,
+    }
 }
 
 // The state while the tokens of a text are read.
 #[derive(Drop)]
 struct Brackets {
-    // What is open, the innermost last.
+    // What is open, the innermost last, and how many openings inside it are not kept.
     open: Vec<Opening>,
+    deeper: usize,
     // The first opening whose closing token is missing, since a token closes something around it.
     unclosed: Option<Opening>,
     // The first opening that is closed by the first token of a line that is indented less.
@@ -86,6 +104,10 @@ struct Brackets {
     long: Option<Opening>,
     // The first token that closes nothing.
     extra: Option<TextRange>,
+    // The starts of the braces that `:` or `@` follows.
+    patterns: Vec<usize>,
+    // The start of the braces that the last token other than trivia closes.
+    closed: Option<usize>,
     // The last `inherit` that no `;` follows.
     inherit: Option<TextRange>,
     // The kind of the last token other than trivia.
@@ -101,10 +123,13 @@ impl Brackets {
     fn new(alloc: Global) -> Brackets {
         Brackets {
             open: Vec::new(alloc),
+            deeper: 0,
             unclosed: None,
             suspect: None,
             long: None,
             extra: None,
+            patterns: Vec::new(alloc),
+            closed: None,
             inherit: None,
             last: None,
             line: 0,
@@ -121,7 +146,7 @@ impl Brackets {
         self.line = self.line.saturating_add(1);
         self.indent = line.len();
         self.is_first = true;
-        if let (TOKEN_STRING_CONTENT, Some(string)) = (kind, self.open.last()) {
+        if let (TOKEN_STRING_CONTENT, 0, Some(string)) = (kind, self.deeper, self.open.last()) {
             if string.range.len() == 1 {
                 let long = Opening {
                     is_long: true,
@@ -132,18 +157,48 @@ impl Brackets {
         }
     }
 
-    // Closes the innermost opening that the token closes. The openings inside it are never closed.
+    // Adds the opening that a token begins.
+    fn add_opening(&mut self, kind: SyntaxKind, range: TextRange) -> Result<(), AllocError> {
+        if self.open.len() == MOST_OPEN {
+            self.deeper = self.deeper.saturating_add(1);
+            return Ok(());
+        }
+        let around = self.open.last().map_or(0, |outer| outer.kinds);
+        self.open.push(Opening {
+            kind,
+            range,
+            is_long: false,
+            line: self.line,
+            indent: self.indent,
+            kinds: around | bit_of(kind),
+        })?;
+        Ok(())
+    }
+
+    // Forgets the innermost opening.
+    fn forget(&mut self) {
+        if self.deeper > 0 {
+            self.deeper -= 1;
+        } else {
+            let _innermost = self.open.pop();
+        }
+    }
+
+    // The number of the innermost opening of a kind. It is searched for only if there is one.
+    fn innermost(&self, kind: SyntaxKind) -> Option<usize> {
+        let inner = self.open.last()?;
+        if inner.kinds & bit_of(kind) == 0 {
+            return None;
+        }
+        self.open.iter().rposition(|opening| opening.kind == kind)
+    }
+
+    // Closes the innermost opening of a kind. The openings inside it are never closed.
     fn close(&mut self, kind: SyntaxKind, range: TextRange) {
-        let outer = self.open.len().saturating_sub(MOST_OPEN);
-        let innermost = self.open.get(outer..).unwrap_or(&[]);
-        let found = innermost
-            .iter()
-            .rposition(|opening| is_closed_by(opening.kind, kind));
-        let Some(inner) = found else {
+        let Some(number) = self.innermost(kind) else {
             self.extra = Some(self.extra.unwrap_or(range));
             return;
         };
-        let number = outer.saturating_add(inner);
         if let Some(inside) = self.open.get(number.saturating_add(1)) {
             self.unclosed = Some(self.unclosed.unwrap_or(*inside));
         } else if let Some(own) = self.open.get(number) {
@@ -151,7 +206,28 @@ impl Brackets {
                 self.suspect = Some(self.suspect.unwrap_or(*own));
             }
         }
+        if kind == TOKEN_L_BRACE {
+            self.closed = self.open.get(number).map(|brace| brace.range.start());
+        }
         self.open.truncate(number);
+    }
+
+    // Closes what a token closes. What is nested too deep to be kept is closed by any token.
+    fn close_by(&mut self, kind: SyntaxKind, range: TextRange) {
+        match opener_of(kind) {
+            Some(_) if self.deeper > 0 => self.forget(),
+            Some(opener) => self.close(opener, range),
+            None => {}
+        }
+    }
+
+    // Notes the braces before a token if it shows that they are those of a pattern.
+    fn end_braces(&mut self, next: SyntaxKind) -> Result<(), AllocError> {
+        if matches!(next, TOKEN_COLON | TOKEN_AT) {
+            self.patterns.extend(self.closed)?;
+        }
+        self.closed = None;
+        Ok(())
     }
 
     // Reads the next token.
@@ -161,9 +237,8 @@ impl Brackets {
             self.skip(kind, token.text());
             return Ok(());
         }
-        if closes(kind) {
-            self.close(kind, token.text_range());
-        }
+        self.end_braces(kind)?;
+        self.close_by(kind, token.text_range());
         match kind {
             TOKEN_INHERIT => self.inherit = Some(token.text_range()),
             TOKEN_SEMICOLON => self.inherit = None,
@@ -171,16 +246,10 @@ impl Brackets {
         }
         // A legacy `let` has no `in`.
         if kind == TOKEN_L_BRACE && self.last == Some(TOKEN_LET) {
-            let _let = self.open.pop();
+            self.forget();
         }
         if opens(kind) {
-            self.open.push(Opening {
-                kind,
-                range: token.text_range(),
-                is_long: false,
-                line: self.line,
-                indent: self.indent,
-            })?;
+            self.add_opening(kind, token.text_range())?;
         }
         self.last = Some(kind);
         self.is_first = false;
@@ -217,17 +286,36 @@ pub struct Mismatch {
     pub inherit: Option<TextRange>,
 }
 
-/// Returns what does not match among the tokens of a node.
-pub fn mismatch_in(alloc: Global, node: &SyntaxNode<'_>) -> Result<Mismatch, AllocError> {
+/// What is known of the brackets of a text.
+#[derive(Drop)]
+pub struct Matching {
+    /// Those that do not match.
+    pub mismatch: Mismatch,
+    // The starts of the braces that `:` or `@` follows, sorted.
+    patterns: Vec<usize>,
+}
+
+impl Matching {
+    /// Whether the braces that start at an offset are those of a pattern, since `:` or `@` follows them.
+    pub fn is_pattern(&self, start: usize) -> bool {
+        self.patterns.binary_search(&start).is_ok()
+    }
+}
+
+/// Matches the brackets in a node.
+pub fn match_brackets(alloc: Global, node: &SyntaxNode<'_>) -> Result<Matching, AllocError> {
     let mut brackets = Brackets::new(alloc);
     for element in node.descendants_with_tokens() {
         if let NodeOrToken::Token(token) = element {
             brackets.read(&token)?;
         }
     }
-    Ok(Mismatch {
+    let mismatch = Mismatch {
         unclosed: brackets.unclosed(),
         extra: brackets.extra,
         inherit: brackets.inherit,
-    })
+    };
+    let mut patterns = brackets.patterns;
+    patterns.sort()?;
+    Ok(Matching { mismatch, patterns })
 }

@@ -7,10 +7,10 @@ ghost use Rattle.rnix.specs.ParseResult.{root_of};
 ghost use Rattle.nix_diagnostics.specs.Places.{end_of_items, error_range, own_range, place_of};
 ghost use Rattle.nix_diagnostics.specs.Shown.{IsFolded, AreShown};
 
-use crate::brackets::mismatch_in;
+use crate::brackets::match_brackets;
 use crate::folding::Folding;
 use crate::message::message;
-use crate::notes::{Note, notes};
+use crate::notes::{Note, NoteFinder};
 use crate::place::error_node;
 use rnix::{NodeOrToken, Parse, ParseError, SyntaxKind, SyntaxNode, TextRange};
 use std::alloc::{AllocError, Global};
@@ -105,18 +105,20 @@ pub fn diagnostics(alloc: Global, read: &Parse) -> Result<Vec<Diagnostic>, Alloc
     }
     let root = read.syntax();
     let end = end_of_items(&root);
-    let mismatch = mismatch_in(alloc, &root)?;
-    let mut folding = Folding::new(&root, errors, mismatch, end);
+    let matching = match_brackets(alloc, &root)?;
+    let mut folding = Folding::new(&root, errors, matching.mismatch, end);
+    let mut finder = NoteFinder::new(matching);
+    let mut earlier = root.clone();
     for number in 0..errors.len() {
         let error = &errors[number];
         let range = place_of(error, &root, end);
-        let node = error_node(&root, error);
+        let node = error_node(&root, &mut earlier, error);
         let folds = folding.folds(&root, error, &node, range);
         if folds {
             fold(&mut found, number)?;
         } else {
             let message = message(alloc, error, node.as_ref())?;
-            let notes = notes(alloc, error, &root, node, range, mismatch)?;
+            let notes = finder.notes(alloc, error, &root, node, range)?;
             found.push(Diagnostic {
                 range,
                 message,

@@ -91,7 +91,7 @@ fn in_place_of(wanted: SyntaxKind, unwanted: &Unwanted<'_>) -> Option<&'static s
         (TOKEN_EQUAL | TOKEN_COLON, TOKEN_ASSIGN) => Some(BIND),
         (TOKEN_SEMICOLON, TOKEN_ASSIGN) => Some(ENTRY),
         (TOKEN_COMMA, TOKEN_SEMICOLON) => Some(SEMICOLONS),
-        (TOKEN_ASSIGN, _) if unwanted.kind_behind() == Some(TOKEN_MORE) => Some(ARROW),
+        (TOKEN_ASSIGN, _) if unwanted.kind_after() == Some(TOKEN_MORE) => Some(ARROW),
         (TOKEN_ASSIGN, TOKEN_SEMICOLON) if unwanted.end_of_value().is_some() => None,
         (TOKEN_ASSIGN, TOKEN_THEN | TOKEN_ELSE | TOKEN_R_PAREN | TOKEN_SEMICOLON) => Some(COMPARE),
         (TOKEN_SEMICOLON | TOKEN_R_BRACE | TOKEN_IN | TOKEN_THEN, TOKEN_ELSE) => Some(ELSE),
@@ -113,7 +113,7 @@ pub fn hint(unwanted: &Unwanted<'_>) -> Option<&'static str> {
         }
         _ => {}
     }
-    if unwanted.is_in_pattern() {
+    if unwanted.is_in_pattern {
         return in_pattern(unwanted);
     }
     let is_inherited = unwanted.parent.kind() == NODE_INHERIT;

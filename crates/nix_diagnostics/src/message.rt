@@ -9,7 +9,7 @@ use std::alloc::{AllocError, Global};
 use std::fmt::Write;
 
 // The words for where in its node a token is missing.
-fn behind(wanted: SyntaxKind, parent: SyntaxKind) -> &'static str {
+fn context(wanted: SyntaxKind, parent: SyntaxKind) -> &'static str {
     match (wanted, parent) {
         (SyntaxKind::TOKEN_SEMICOLON, SyntaxKind::NODE_WITH) => " after the set of \"with\"",
         (SyntaxKind::TOKEN_SEMICOLON, SyntaxKind::NODE_ASSERT) => " after the condition",
@@ -39,12 +39,12 @@ fn add_entry(wanted: SyntaxKind, path: &Attrpath<'_>, text: &mut String) -> Resu
 }
 
 // Adds where the missing token belongs; in an entry with the entry's name.
-fn add_behind(
+fn add_context(
     wanted: SyntaxKind,
     parent: SyntaxNode<'_>,
     text: &mut String,
 ) -> Result<(), AllocError> {
-    text.push_str(behind(wanted, parent.kind()))?;
+    text.push_str(context(wanted, parent.kind()))?;
     match AttrpathValue::cast(parent).and_then(|entry| entry.attrpath()) {
         Some(path) => add_entry(wanted, &path, text),
         None => Ok(()),
@@ -58,7 +58,7 @@ fn add_unwanted(
     text: &mut String,
 ) -> Result<(), AllocError> {
     if let (Some(kind), Some(parent)) = (wanted.first(), node.parent()) {
-        add_behind(*kind, parent, text)?;
+        add_context(*kind, parent, text)?;
     }
     if let Some(token) = node.first_token() {
         let is_string = node

@@ -1,6 +1,6 @@
 //! Notes on errors: what is not closed, where something is missing, what was meant.
 
-use crate::brackets::{Mismatch, Opening};
+use crate::brackets::{Matching, Opening};
 use crate::hints::hint;
 use crate::place::token_before;
 use crate::unwanted::Unwanted;
@@ -8,6 +8,9 @@ use SyntaxKind::*;
 use rnix::ast::{AstNode, Pattern};
 use rnix::{ParseError, SyntaxKind, SyntaxNode, TextRange};
 use std::alloc::{AllocError, Global};
+
+// How many entries of patterns are searched for first declarations, over all errors of a text.
+const MOST_ENTRIES: usize = 100_000;
 
 /// A note that may help with an error.
 #[derive(Clone, Copy)]
@@ -35,19 +38,37 @@ fn opened(opening: Opening) -> &'static str {
     }
 }
 
-// The first argument with a name, in the pattern that has it again at a range.
-fn first_argument(root: &SyntaxNode<'_>, range: TextRange, name: &str) -> Option<Note> {
+// The range of the first argument of a pattern with a name. The number of entries that may still be searched falls.
+fn argument_in(pattern: &Pattern<'_>, name: &str, entries_left: &mut usize) -> Option<TextRange> {
+    for entry in pattern.pat_entries() {
+        if *entries_left == 0 {
+            return None;
+        }
+        *entries_left -= 1;
+        if let Some(ident) = entry.ident() {
+            if ident.syntax().text() == name {
+                return Some(ident.syntax().text_range());
+            }
+        }
+    }
+    None
+}
+
+// The note on the first argument with a name, in the pattern that has it again at a range.
+fn first_argument(
+    root: &SyntaxNode<'_>,
+    range: TextRange,
+    name: &str,
+    entries_left: &mut usize,
+) -> Option<Note> {
     if !root.text_range().contains_inclusive(range.start()) {
         return None;
     }
     let token = root.token_at_offset(range.start()).right_biased()?;
     for node in token.parent_ancestors() {
         if let Some(pattern) = Pattern::cast(node) {
-            let first = pattern.pat_entries().find_map(|entry| {
-                entry.ident().filter(|ident| ident.syntax().text() == name)
-            })?;
             return Some(Note {
-                range: Some(first.syntax().text_range()),
+                range: Some(argument_in(&pattern, name, entries_left)?),
                 message: "first declared here",
             });
         }
@@ -88,11 +109,10 @@ fn open_inherit(error: &ParseError, inherit: Option<TextRange>) -> Option<Note> 
 }
 
 // The hint for an unexpected token, or the place where a ";" is missing. There is none if something is not closed, which explains the error.
-fn remark(unwanted: &Unwanted<'_>, mismatch: &Mismatch) -> Option<Note> {
+fn remark(unwanted: &Unwanted<'_>, is_explained: bool, extra: Option<TextRange>) -> Option<Note> {
     let kind = unwanted.token.kind();
-    let is_explained = mismatch.unclosed.is_some();
     let is_closing = matches!(kind, TOKEN_R_BRACE | TOKEN_R_BRACK | TOKEN_R_PAREN);
-    if is_closing && !is_explained && mismatch.extra == Some(unwanted.token.text_range()) {
+    if is_closing && !is_explained && extra == Some(unwanted.token.text_range()) {
         return Some(Note {
             range: None,
             message: "no opening bracket matches this",
@@ -109,38 +129,52 @@ fn remark(unwanted: &Unwanted<'_>, mismatch: &Mismatch) -> Option<Note> {
     }
 }
 
-/// Returns the notes on an error, given its error node, the place where it is shown, and the mismatch of the text.
-pub fn notes(
-    alloc: Global,
-    error: &ParseError,
-    root: &SyntaxNode<'_>,
-    node: Option<SyntaxNode<'_>>,
-    place: TextRange,
-    mismatch: Mismatch,
-) -> Result<Vec<Note>, AllocError> {
-    let mut notes = Vec::new(alloc);
-    if let ParseError::DuplicatedArgs(range, name) = error {
-        notes.extend(first_argument(root, *range, name.as_str()))?;
-        return Ok(notes);
+/// Finds notes on the errors of a text.
+#[derive(Drop)]
+pub struct NoteFinder {
+    matching: Matching,
+    // How many more entries of patterns are searched.
+    entries_left: usize,
+}
+
+impl NoteFinder {
+    /// Returns a finder for a text with these brackets.
+    pub fn new(matching: Matching) -> NoteFinder {
+        NoteFinder {
+            matching,
+            entries_left: MOST_ENTRIES,
+        }
     }
-    let unclosed = mismatch
-        .unclosed
-        .filter(|opening| opening.range.start() <= place.start());
-    if let Some(opening) = unclosed {
-        notes.push(Note {
-            range: Some(opening.range),
-            message: opened(opening),
-        })?;
+
+    /// Returns the notes on an error, given its error node and the place where it is shown.
+    pub fn notes(
+        &mut self,
+        alloc: Global,
+        error: &ParseError,
+        root: &SyntaxNode<'_>,
+        node: Option<SyntaxNode<'_>>,
+        place: TextRange,
+    ) -> Result<Vec<Note>, AllocError> {
+        let mut notes = Vec::new(alloc);
+        if let ParseError::DuplicatedArgs(range, name) = error {
+            let first = first_argument(root, *range, name.as_str(), &mut self.entries_left);
+            notes.extend(first)?;
+            return Ok(notes);
+        }
+        let mismatch = self.matching.mismatch;
+        let unclosed = mismatch
+            .unclosed
+            .filter(|opening| opening.range.start() <= place.start());
+        if let Some(opening) = unclosed {
+            notes.push(Note {
+                range: Some(opening.range),
+                message: opened(opening),
+            })?;
+        }
+        notes.extend(open_inherit(error, mismatch.inherit))?;
+        if let Some(unwanted) = Unwanted::of(error, node, &self.matching) {
+            notes.extend(remark(&unwanted, unclosed.is_some(), mismatch.extra))?;
+        }
+        Ok(notes)
     }
-    notes.extend(open_inherit(error, mismatch.inherit))?;
-    if let Some(unwanted) = Unwanted::of(error, node) {
-        notes.extend(remark(
-            &unwanted,
-            &Mismatch {
-                unclosed,
-                ..mismatch
-            },
-        ))?;
-    }
-    Ok(notes)
 }

@@ -1,23 +1,65 @@
 //! Finding errors in a tree.
 
+ghost use Rattle.std.specs.Prelude.{◌≡◌, IfSome};
 ghost use Rattle.rnix_grammar.specs.Fault.{fault_of};
 ghost use Rattle.nix_diagnostics.specs.Following.{IfErrorNode};
 
 use rnix::{ParseError, SyntaxKind, SyntaxNode, SyntaxToken, TextRange};
 
+// How many tokens are passed before the token of an error is searched for in the whole tree.
+const MOST_STEPS: usize = 32;
 // How many trivia are skipped to find the previous token.
 const MOST_TRIVIA: usize = 64;
 
-/// Returns the error node of an error, if it has one.
-pub fn error_node<'t>(root: &SyntaxNode<'t>, error: &ParseError) -> Option<SyntaxNode<'t>>
-    ensures { IfErrorNode root.now (fault_of error.now) result }
+// Returns the token that starts at an offset, if it is among the next from a token on.
+fn near_token<'t>(from: &SyntaxToken<'t>, offset: usize) -> Option<SyntaxToken<'t>>
+    ensures { IfSome result (λ token. token.tree ≡ from.now.tree) }
+{
+    let mut token = from.clone();
+    for _step in 0..MOST_STEPS {
+        let start = token.text_range().start();
+        if start == offset {
+            return Some(token);
+        }
+        if start > offset {
+            return None;
+        }
+        token = token.next_token()?;
+    }
+    None
+}
+
+// Returns the token at an offset, which is first searched for after the beginning of an earlier node.
+fn token_at<'t>(
+    root: &SyntaxNode<'t>,
+    earlier: &SyntaxNode<'t>,
+    offset: usize,
+) -> Option<SyntaxToken<'t>>
+    requires { earlier.now.tree ≡ root.now.tree }
+    ensures { IfSome result (λ token. token.tree ≡ root.now.tree) }
+{
+    if let Some(first) = earlier.first_token() {
+        if let Some(token) = near_token(&first, offset) {
+            return Some(token);
+        }
+    }
+    root.token_at_offset(offset).right_biased()
+}
+
+/// Returns the error node of an error, if it has one. It is searched for after that of an earlier error, and replaces it.
+pub fn error_node<'t>(
+    root: &SyntaxNode<'t>,
+    earlier: &mut SyntaxNode<'t>,
+    error: &ParseError,
+) -> Option<SyntaxNode<'t>>
+    requires { earlier.old.tree ≡ root.now.tree }
+    ensures node { IfErrorNode root.now (fault_of error.now) result }
+    ensures earlier { earlier.new.tree ≡ root.now.tree }
 {
     let range = error.range()?;
-    let node = root
-        .token_at_offset(range.start())
-        .right_biased()?
-        .parent()?;
+    let node = token_at(root, earlier, range.start())?.parent()?;
     if node.kind() == SyntaxKind::NODE_ERROR && node.text_range() == range {
+        *earlier = node.clone();
         Some(node)
     } else {
         None

@@ -47,7 +47,7 @@ pub fn add_wanted(wanted: &[SyntaxKind], text: &mut String) -> Result<(), AllocE
 }
 
 // The word for a kind whose tokens have different texts.
-fn sort(kind: SyntaxKind) -> Option<&'static str> {
+fn category(kind: SyntaxKind) -> Option<&'static str> {
     match kind {
         SyntaxKind::TOKEN_IDENT => Some("the name"),
         SyntaxKind::TOKEN_INTEGER | SyntaxKind::TOKEN_FLOAT => Some("the number"),
@@ -81,14 +81,14 @@ pub fn add_shown(own: &str, text: &mut String) -> Result<(), AllocError> {
 
 /// Adds the words for the token that was found.
 pub fn add_found(token: &SyntaxToken<'_>, text: &mut String) -> Result<(), AllocError> {
-    let (sort, own) = (sort(token.kind()), token.text());
+    let (category, own) = (category(token.kind()), token.text());
     let is_long = own.len() > LONGEST || own.contains('\n');
-    match sort {
+    match category {
         _ if token.kind() == SyntaxKind::TOKEN_STRING_START => return text.push_str("a string"),
-        Some(sort) if is_long => return text.push_str(sort),
+        Some(category) if is_long => return text.push_str(category),
         None if is_long => return text.push_str(token.kind().name()),
-        Some(sort) => {
-            text.push_str(sort)?;
+        Some(category) => {
+            text.push_str(category)?;
             text.push(' ')?;
         }
         None => {}

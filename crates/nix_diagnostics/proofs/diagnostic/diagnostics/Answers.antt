@@ -10,7 +10,7 @@ pub returns-then-is_empty : goal.returns-then-is_empty
 returns-then-is_empty c = no_errors _ c.errors-errors.result.now _ _ (search rules) c.errors-errors.ensures (search rules)
 
 pub loop-number-init : goal.loop-number-init
-loop-number-init c = record { shown = nothing_shown _ _ [] _ refl (search rules); known = search rules }
+loop-number-init c = record { shown = nothing_shown _ _ [] _ refl (search rules); known = search rules; earlier = search rules }
 
 pub fold-requires-clause-some : goal.fold-requires-clause-some
 fold-requires-clause-some c =
@@ -45,4 +45,5 @@ loop-number-preserved c =
             (grind (arith, w.found-is, w.in_ok-push.ensures.items))
       ];
       known = subst (λ faults. Knows root all faults c.folds-folds.new.self) (sym more) judged.1;
+      earlier = c.error_node-node.ensures.earlier;
     }

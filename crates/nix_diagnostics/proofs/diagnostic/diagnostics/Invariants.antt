@@ -1,4 +1,4 @@
-use Rattle.std.proofs.Common.{take, map}
+use Rattle.std.proofs.Common.{◌≡◌, take, map}
 use Rattle.rnix_grammar.specs.Fault.{fault_of}
 use Rattle.nix_diagnostics.specs.Shown.{Shows}
 use Rattle.nix_diagnostics.specs.Known.{Knows}
@@ -8,4 +8,5 @@ abbrev pub invariant-loop-number : goal.invariant-loop-number
 invariant-loop-number l = record {
   shown : Shows l.root (map fault_of l.errors) (map fault_of (take l.number l.errors)) l.found.items;
   known : Knows l.root (map fault_of l.errors) (map fault_of (take l.number l.errors)) l.folding;
+  earlier : l.earlier.tree ≡ l.root.tree;
 }
