@@ -1,0 +1,13 @@
+pub mod CompletedTrees
+pub mod KeptSteps
+pub mod Leads
+pub mod OpenedBraces
+pub mod EndedRuns
+pub mod LateErrors
+pub mod SpannedErrors
+pub mod PartedReadings
+pub mod AlikeSteps
+pub mod NextPlaces
+pub mod SameTrees
+pub mod AheadTexts
+pub mod LookaheadExamples

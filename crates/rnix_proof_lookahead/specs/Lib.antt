@@ -1,0 +1,4 @@
+pub mod Completed
+pub mod SameBeginnings
+pub mod ErrorsBefore
+pub mod ReadAhead
