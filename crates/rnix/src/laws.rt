@@ -7,4 +7,5 @@ pub use rnix_parser::{
     one_text, ranges_of_errors, size, tree_derivation, tree_text,
 };
 pub use rnix_proof_locality::locality;
+pub use rnix_proof_lookahead::lookahead;
 pub use rnix_proof_separation::separation;
