@@ -9,3 +9,4 @@ pub use rnix_parser::{
 pub use rnix_proof_locality::locality;
 pub use rnix_proof_lookahead::lookahead;
 pub use rnix_proof_separation::separation;
+pub use rnix_proof_steps::steps;

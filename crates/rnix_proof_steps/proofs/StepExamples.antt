@@ -1,0 +1,46 @@
+-- How many steps some texts need, by computation: the first three as many as they may.
+use Rattle.std.proofs.Common.{◌≡◌, ℕ, zero, suc, Bool, true, false, List, [], ◌∷◌, if◌then◌else◌, codes, refl}
+use Rattle.rnix_kinds.specs.Lexical.Tokens.{Lexeme}
+use Rattle.rnix_kinds.specs.declared.kinds.SyntaxKind.TheVariants.{TOKEN_WHITESPACE, TOKEN_LET, TOKEN_INTERPOL_START, TOKEN_STRING_START, TOKEN_IDENT, TOKEN_PATH_REL}
+use Rattle.rnix_grammar.specs.{AnnotatedForest.{Token, placed_from, head_kind}, Layout.items, Actions.action_at}
+use Rattle.rnix_proof_lemmas.specs.Machine.{Frame, Machine, begins, step}
+use Rattle.rnix_reader.specs.Performed.{is_finish}
+
+-- the root is complete
+abbrev is_finished : List Frame → List Token → Bool
+is_finished [] ts = false
+is_finished (f ∷ fs) ts = is_finish (action_at f.position (head_kind (items ts)) false)
+
+-- the steps of a machine until the root is complete, or so many
+abbrev steps_until : ℕ → Machine → ℕ
+steps_until zero m = 0
+steps_until (suc n) m = if is_finished m.frames m.left then 0 else suc (steps_until n (step true m))
+
+abbrev steps_for : List Lexeme → ℕ
+steps_for tokens = steps_until 100 (begins (placed_from 0 tokens))
+
+abbrev space : Lexeme
+space = (TOKEN_WHITESPACE, codes " ")
+
+abbrev let_begun : List Lexeme → List Lexeme
+let_begun tokens = (TOKEN_LET, codes "let") ∷ (space ∷ tokens)
+
+-- the empty text; `let ''`; `let ${let ''`
+pub for_nothing : steps_for [] ≡ 1
+for_nothing = refl
+
+pub for_two_items : steps_for (let_begun ((TOKEN_STRING_START, codes "''") ∷ [])) ≡ 16
+for_two_items = refl
+
+pub for_four_items : steps_for (let_begun ((TOKEN_INTERPOL_START, codes "${") ∷ let_begun ((TOKEN_STRING_START, codes "''") ∷ []))) ≡ 31
+for_four_items = refl
+
+abbrev path_after : List Lexeme → List Lexeme
+path_after tokens = space ∷ ((TOKEN_PATH_REL, codes "./a") ∷ tokens)
+
+-- `f ./a` and `f ./a ./a`: four steps for each argument
+pub for_one_path : steps_for ((TOKEN_IDENT, codes "f") ∷ path_after []) ≡ 6
+for_one_path = refl
+
+pub for_two_paths : steps_for ((TOKEN_IDENT, codes "f") ∷ path_after (path_after [])) ≡ 10
+for_two_paths = refl
