@@ -1,12 +1,9 @@
 -- Bindings that are not marked are those to which no name refers.
-use Rattle.std.proofs.Common.{◌≡◌, ℕ, suc, ◌+◌, ◌<◌, List, [], ◌∷◌, ◌++◌, length, take, map, get_or, Bool, true, nat_eq, Some, refl, ap, sym, ◌∙◌, subst, arith, append_assoc}
-use Rattle.std.proofs.lemmas.{List.{append-nil}}
-use Rattle.std.specs.{Prelude.{◌&&◌, not, if◌then◌else◌}, List.list_any}
-use Rattle.nix_scopes.specs.declared.{resolution.{Binding.Binding, Reference.Reference}}
-use Rattle.nix_scopes.specs.{Bound.{bound_of, resolved_of, AreFirst}, Occurrences.is_number, Scopes.{Bound, Resolved, number_in, bindings_in, resolved_in}}
-use Rattle.rnix_green.specs.Tree.{Located}
-use Rattle.std.{specs.List.Sorted.IsPermutation, proofs.lemmas.List.{Sorted.IsPermutation-map, take_more, length-take-le}}
-use Rattle.nix_dead.specs.declared.dead.Name.{Name}
+use Rattle.std.proofs.Common.{◌≡◌, ℕ, suc, ◌+◌, ◌<◌, List, [], ◌∷◌, ◌++◌, length, take, map, get_or, Bool, true, nat_eq, Some, refl, ap, sym, ◌∙◌, subst, arith}
+use Rattle.std.{proofs.{Common.append_assoc, lemmas.List.{append-nil, take_more, length-take-le, Sorted.IsPermutation-map}}, specs.Prelude.{◌&&◌, not}}
+use Rattle.{std.specs.{Prelude.if◌then◌else◌, List.{list_any, Sorted.IsPermutation}}, nix_scopes.specs.declared.resolution.Binding.Binding}
+use Rattle.nix_scopes.specs.{declared.resolution.Reference.Reference, Bound.{bound_of, resolved_of, AreFirst}, Occurrences.is_number, Scopes.{Bound, Resolved}}
+use Rattle.{nix_scopes.specs.Scopes.{number_in, bindings_in, resolved_in}, rnix_green.specs.Tree.Located, nix_dead.specs.declared.dead.Name.Name}
 use Rattle.nix_dead.specs.Dead.{listed_name, refers, is_judged, listed, is_dead, dead_from, dead_in, marked, AreMarked, unmarked, unmarked_from}
 
 -- one binding more

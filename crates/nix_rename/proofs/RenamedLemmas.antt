@@ -1,16 +1,13 @@
 -- What was tested of a text that was read.
 use Rattle.std.proofs.Common.{◌≡◌, List, ℕ, [], ◌∷◌, length, map, Bool, true, false, Option, Some, Result, Ok, Err, sym, ◌∙◌, ap, refl, arith, ◌==◌}
-use Rattle.std.proofs.lemmas.{List.length-map, Bool.{false≢true, Decides.nat_tests}}
-use Rattle.std.specs.{Prelude.{◌&&◌, IfOk}, Bool.MatchBool}
-use Rattle.std.specs.declared.alloc.AllocError.{AllocError}
-use Rattle.rnix_green.specs.Tree.{Located, extent_of}
-use Rattle.nix_scopes.specs.declared.resolution.{Binding.Binding, Resolution.Resolution}
-use Rattle.nix_scopes.specs.{Alike.IsResolution, Occurrences.{IsNameAt, binding_at}}
-use Rattle.nix_rename.specs.declared.{refusal.Refusal.Refusal, rename.Renaming.Renaming}
+use Rattle.std.{proofs.lemmas.{List.length-map, Bool.{false≢true, Decides.nat_tests}}, specs.{Prelude.{◌&&◌, IfOk}, Bool.MatchBool}}
+use Rattle.{std.specs.declared.alloc.AllocError.AllocError, rnix_green.specs.Tree.{Located, extent_of}, nix_scopes.specs.declared.resolution.Binding.Binding}
+use Rattle.nix_scopes.specs.{declared.resolution.Resolution.Resolution, Alike.IsResolution, Occurrences.{IsNameAt, binding_at}}
+use Rattle.nix_rename.specs.{declared.{refusal.Refusal.Refusal, rename.Renaming.Renaming}, Renamed.{IsRead, IsNameIn, IsNoName, AreThese, ResolvesLike}}
+use Rattle.nix_rename.specs.Renamed.{ResolvesUnlike, IsName, IsNamed, IsReason, IsMeant, IsRenamed, IsHindered, IsCause, IfRenamed, IfRefused}
+use Rattle.rnix.specs.ParseResult.{Reading, root_of}
 use Rattle.nix_rename.specs.declared.refusal.Refusal.TheVariants as refusal
 use Rattle.nix_rename.specs.declared.rename.Renaming.TheVariants as renaming
-use Rattle.rnix.specs.ParseResult.{Reading, root_of}
-use Rattle.nix_rename.specs.Renamed.{IsRead, IsNameIn, IsNoName, AreThese, ResolvesLike, ResolvesUnlike, IsName, IsNamed, IsReason, IsMeant, IsRenamed, IsHindered, IsCause, IfRenamed, IfRefused}
 
 -- a list is empty if its length is 0
 empty : {X : Type 0} (xs : List X) → length xs ≡ 0 → xs ≡ []

@@ -1,9 +1,8 @@
 -- The binding and the reference of `let x=1;in x` (without spaces) in which x is named yy, by computation.
-use Rattle.std.proofs.Common.{◌≡◌, List, ℕ, [], ◌∷◌, length, Option, Some, None, false, refl, ap, arith, codes}
+use Rattle.{std.proofs.Common.{◌≡◌, List, ℕ, [], ◌∷◌, length, Option, Some, None, false, refl, ap, arith, codes}, rnix_green.specs.Forest.{Forest, empty, leaf}}
+use Rattle.{rnix_green.specs.{Forest.node, Tree.Tree}, nix_scopes.specs.{declared.resolution.{Binding.Binding, Reference.Reference}, Alike.{Rename, ended_by}}}
+use Rattle.nix_scopes.specs.{Alike.{IsBoundAlike, RefersAlike}, Occurrences.{written_number, referred_number}}
 use Rattle.rnix_kinds.specs.declared.kinds.SyntaxKind.TheVariants as k
-use Rattle.rnix_green.specs.{Forest.{Forest, empty, leaf, node}, Tree.Tree}
-use Rattle.nix_scopes.specs.declared.resolution.{Binding.Binding, Reference.Reference}
-use Rattle.nix_scopes.specs.{Alike.{Rename, ended_by, IsBoundAlike, RefersAlike}, Occurrences.{written_number, referred_number}}
 
 -- a name
 abbrev name : List ℕ → Forest

@@ -1,8 +1,7 @@
 -- Two lists that are compared element by element, and how many numbers are a given one or below it.
 use Rattle.std.proofs.Common.{◌≡◌, ℕ, zero, suc, ◌+◌, ◌<◌, ◌≤◌, Bool, true, false, cond, List, ◌++◌, [], ◌∷◌, length, get_or, take, ap, sym, ◌∙◌, subst, arith}
-use Rattle.std.specs.{Prelude.nat_le, List.{AllWithin, AllZip, filter, Sorted.IsPermutation}}
 use Rattle.std.proofs.lemmas.{List.{take_more, Elements.AllZip-push, Sums.length-filter, Sorted.sum_by-IsPermutation}, Bool.{cond-true, cond-false}}
-use Rattle.nix_scopes.specs.Alike.{rename_of, ended_by}
+use Rattle.{std.specs.{Prelude.nat_le, List.{AllWithin, AllZip, filter, Sorted.IsPermutation}}, nix_scopes.specs.Alike.{rename_of, ended_by}}
 
 -- one element more is alike
 pub alike_more : {X : Type 0} (R : X → X → Type 0) (xs ys : List X) (n : ℕ) (x y : X) → n < length xs → n < length ys →

@@ -1,9 +1,8 @@
 -- The numbers of bindings, and what adding bindings does to them.
-use Rattle.std.proofs.Common.{◌≡◌, ℕ, ◌+◌, ◌<◌, List, [], ◌∷◌, ◌++◌, length, get_or, take, map, Bool, true, false, Option, Some, None, refl, ap, sym, ◌∙◌, arith, ◌==◌}
-use Rattle.std.proofs.lemmas.{List.{map_more, map_push, Elements.{All-head, All-tail}}, Bool.{cond-false, and_left, Decides.nat_tests}}
-use Rattle.std.specs.{Prelude.{cond, ◌&&◌, if◌then◌else◌}, List.{All, position_from}, Option.option_or, Str.bytes_eq}
-use Rattle.rnix_green.{specs.Tree.Located, proofs.NumberTests.{is_same, is_above}}
-use Rattle.nix_scopes.specs.{Scopes.{Bound, binds, number_in}, Resolving.{number_or, last_some}}
+use Rattle.std.proofs.Common.{◌≡◌, ℕ, ◌+◌, ◌<◌, List, [], ◌∷◌, ◌++◌, length, get_or, take, map, Bool, true, false, Option, Some, None, refl, ap, sym, ◌∙◌}
+use Rattle.std.proofs.{Common.{arith, ◌==◌}, lemmas.{List.{map_more, map_push, Elements.{All-head, All-tail}}, Bool.{cond-false, and_left, Decides.nat_tests}}}
+use Rattle.{std.specs.{Prelude.{cond, ◌&&◌, if◌then◌else◌}, List.{All, position_from}, Option.option_or, Str.bytes_eq}, rnix_green.specs.Tree.Located}
+use Rattle.{rnix_green.proofs.NumberTests.{is_same, is_above}, nix_scopes.specs.{Scopes.{Bound, binds, number_in}, Resolving.{number_or, last_some}}}
 
 -- nothing behind a number
 pub or_none : (o : Option ℕ) → option_or o None ≡ o

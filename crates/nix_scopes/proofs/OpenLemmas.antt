@@ -1,14 +1,13 @@
 -- Which nodes are open at each step of a walk: those around the node that is entered.
-use Rattle.std.proofs.Common.{◌≡◌, ℕ, zero, suc, ◌+◌, ◌≤◌, ◌<◌, List, [], ◌∷◌, ◌++◌, length, map, drop, Option, Some, None, Bool, true, false, refl, ap, sym, ◌∙◌, subst, arith, inl, inr, append_assoc, length-append}
-use Rattle.std.{proofs.lemmas.{Bool.{cases_lt, cond-true, cond-false, le-leb, lt-leb}, List.{map-append, append-nil}}, specs.Prelude.{filter, nat_le, nat_lt, if◌then◌else◌}}
-use Rattle.rnix_green.specs.{Forest.{Forest, empty, leaf, node, text_of, element_count}, Tree.{Tree, Item, Located, items_from, items_of, item, item_of, part_at}}
-use Rattle.rnix_green.specs.Walk.{NodeEvent, event_at, steps_from, preorder_of, node_events, holders, ancestors_of}
-use Rattle.rnix_green.proofs.{PartLemmas.{IsPart, IsOne, one_leaf, one_node, part_there, one_there}, PieceLemmas.length-items_from, ParentLemmas.parent_is_before}
-use Rattle.rnix_kinds.specs.declared.kinds.SyntaxKind.{SyntaxKind}
-use Rattle.rnix_green.{specs.{Tree.forest_of, Relatives.{parent_of, located}}, proofs.InsideLemmas.elements_in_all}
-use Rattle.{nix_scopes.specs.Scopes.around, rnix_tree.specs.Around.ancestors_if}
+use Rattle.std.proofs.Common.{◌≡◌, ℕ, zero, suc, ◌+◌, ◌≤◌, ◌<◌, List, [], ◌∷◌, ◌++◌, length, map, drop, Option, Some, None, Bool, true, false, refl, ap, sym}
+use Rattle.std.proofs.{Common.{◌∙◌, subst, arith, inl, inr, append_assoc, length-append}, lemmas.Bool.{cases_lt, cond-true, cond-false, le-leb, lt-leb}}
+use Rattle.{std.{proofs.lemmas.List.{map-append, append-nil}, specs.Prelude.{filter, nat_le, nat_lt, if◌then◌else◌}}, rnix_green.specs.Forest.{Forest, empty}}
+use Rattle.rnix_green.specs.{Forest.{leaf, node, text_of, element_count}, Tree.{Tree, Item, Located, items_from, items_of, item, item_of, part_at, forest_of}}
+use Rattle.rnix_green.specs.{Walk.{NodeEvent, event_at, steps_from, preorder_of, node_events, holders, ancestors_of}, Relatives.{parent_of, located}}
+use Rattle.rnix_green.proofs.{PartLemmas.{IsPart, IsOne, one_leaf, one_node, part_there, one_there}, PieceLemmas.length-items_from}
+use Rattle.{rnix_green.proofs.{ParentLemmas.parent_is_before, InsideLemmas.elements_in_all}, rnix_kinds.specs.declared.kinds.SyntaxKind.SyntaxKind}
+use Rattle.{nix_scopes.{specs.Scopes.around, proofs.WalkLemmas.{node_events-append, absent_part}}, rnix_tree.specs.Around.ancestors_if}
 use Rattle.rnix_tree.proofs.{AncestorLemmas.ancestors_step, ItemsAt.{HasItemsAt, first_item, front_items, back_items}}
-use Rattle.nix_scopes.proofs.WalkLemmas.{node_events-append, absent_part}
 
 -- the nodes that are left later and are not entered before: those that are open, the innermost first
 abbrev pub open_nodes : List NodeEvent → List Located

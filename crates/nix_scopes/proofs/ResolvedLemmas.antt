@@ -1,13 +1,12 @@
 -- What the names refer to where a walk stands is what they refer to in the whole text.
 use Rattle.std.proofs.Common.{◌≡◌, ℕ, suc, ◌+◌, ◌-◌, ◌≤◌, List, [], ◌∷◌, ◌++◌, length, take, drop, map, Bool, true, false, refl, ap, ◌∙◌, subst, arith, ◌==◌}
-use Rattle.std.proofs.lemmas.{List.{take_all, Elements.{All-append, All-map}}, Bool.{cond-false}}
-use Rattle.std.specs.{Prelude.{cond, filter, not, ◌||◌, flat_map, if◌then◌else◌}, List.{All, list_any}}
+use Rattle.std.{proofs.lemmas.{List.{take_all, Elements.{All-append, All-map}}, Bool.cond-false}, specs.Prelude.{cond, filter, not, ◌||◌, flat_map}}
+use Rattle.{std.specs.{Prelude.if◌then◌else◌, List.{All, list_any}}, rnix_green.{proofs.NumberTests.is_above, specs.{Tree.{Located, item_of}, Walk.NodeEvent}}}
+use Rattle.{rnix_green.specs.Equality.same_kind, nix_scopes.specs.{Names.Named, Binders.{is_scope, names_bound}, Resolving.{Numbers, found_in, AreOpen}}}
+use Rattle.nix_scopes.specs.{Resolving.{IsAround, is_in_scope, outer_count, depth_at}, Scopes.{Bound, is_with_body, resolved, bound_in, bindings_at, innermost}}
+use Rattle.nix_scopes.{specs.Scopes.resolved_among, proofs.{WalkLemmas.entered, OpenLemmas.{Placed, IsBelow, placed_lower}, ScopeLemmas.found_in_all}}
+use Rattle.nix_scopes.proofs.ScopeLemmas.{outer_open}
 use Rattle.rnix_kinds.specs.declared.kinds.SyntaxKind.TheVariants as k
-use Rattle.rnix_green.proofs.NumberTests.{is_above}
-use Rattle.rnix_green.specs.{Tree.{Located, item_of}, Walk.NodeEvent, Equality.same_kind}
-use Rattle.nix_scopes.specs.{Names.Named, Binders.{is_scope, names_bound}, Resolving.{Numbers, found_in, AreOpen, IsAround, is_in_scope, outer_count, depth_at}}
-use Rattle.nix_scopes.specs.Scopes.{Bound, is_with_body, resolved, bound_in, bindings_at, innermost, resolved_among}
-use Rattle.nix_scopes.proofs.{WalkLemmas.entered, OpenLemmas.{Placed, IsBelow, placed_lower}, ScopeLemmas.{found_in_all, outer_open}}
 
 -- whether there are some among those that are counted
 pub any_counted : {X : Type 0} (p : X → Bool) (xs : List X) → not (length (filter p xs) == 0) ≡ list_any p xs

@@ -1,15 +1,13 @@
 -- What is found so far while a text is resolved.
 use Rattle.std.proofs.Common.{◌≡◌, ℕ, ◌+◌, ◌≤◌, List, [], ◌∷◌, ◌++◌, length, drop, map, true, false, refl, ap, sym, ◌∙◌, subst, arith, append_assoc}
-use Rattle.std.proofs.lemmas.List.{map-append}
-use Rattle.std.specs.{Prelude.{flat_map, ◌||◌, ◌&&◌, is_some}}
+use Rattle.{std.{proofs.lemmas.List.map-append, specs.Prelude.{flat_map, ◌||◌, ◌&&◌, is_some}}, rnix_green.specs.{Tree.{Located, item_of}, Walk.Event}}
+use Rattle.rnix_green.specs.{Walk.{NodeEvent, node_events, preorder_of, nodes_in, elements_of}, Equality.{same_kind, same_kind-decides}}
+use Rattle.{rnix_base.specs.Select.token_of, nix_scopes.specs.declared.{resolution.{Binding.Binding, Reference.Reference}, environment.Environment.Environment}}
+use Rattle.nix_scopes.specs.{Names.Named, Binders.{is_binder, is_scope}, References.{references_at, references_in}, Bound.{bound_of, resolved_of, name_of}}
+use Rattle.nix_scopes.specs.{Bound.AreFirst, Scopes.{Resolved, bindings_at, bindings_in, around, resolved_among, resolved_at, resolved_in}, Resolving.Sees}
+use Rattle.nix_scopes.{specs.Resolving.resolve_at, proofs.{WalkLemmas.{entered, walk_entered}, OpenLemmas.{open_nodes, Placed, walk_placed}}}
+use Rattle.nix_scopes.proofs.{ScopeLemmas.sees_begun, ResolvedLemmas.{bound_later, seen_resolved}}
 use Rattle.rnix_kinds.specs.declared.kinds.SyntaxKind.TheVariants as k
-use Rattle.rnix_green.specs.{Tree.{Located, item_of}, Walk.{Event, NodeEvent, node_events, preorder_of, nodes_in, elements_of}, Equality.{same_kind, same_kind-decides}}
-use Rattle.rnix_base.specs.Select.{token_of}
-use Rattle.nix_scopes.specs.declared.{resolution.{Binding.Binding, Reference.Reference}, environment.Environment.Environment}
-use Rattle.nix_scopes.specs.{Names.Named, Binders.{is_binder, is_scope}, References.{references_at, references_in}, Bound.{bound_of, resolved_of, name_of, AreFirst}}
-use Rattle.nix_scopes.specs.Scopes.{Resolved, bindings_at, bindings_in, around, resolved_among, resolved_at, resolved_in}
-use Rattle.nix_scopes.specs.Resolving.{Sees, resolve_at}
-use Rattle.nix_scopes.proofs.{WalkLemmas.{entered, walk_entered}, OpenLemmas.{open_nodes, Placed, walk_placed}, ScopeLemmas.sees_begun, ResolvedLemmas.{bound_later, seen_resolved}}
 
 -- what is found of a text before some events of the walk
 pub record IsFound (root : Located) (bindings : List Binding) (references : List Reference) (env : Environment) (events : List NodeEvent) : Type 0 where

@@ -1,8 +1,7 @@
 -- What the names of small texts refer to, by computation.
-use Rattle.std.proofs.Common.{◌≡◌, ℕ, List, [], ◌∷◌, map, Bool, true, false, Option, Some, None, refl, codes}
+use Rattle.{std.proofs.Common.{◌≡◌, ℕ, List, [], ◌∷◌, map, Bool, true, false, Option, Some, None, refl, codes}, rnix_green.specs.Forest.{Forest, empty, leaf}}
+use Rattle.{rnix_green.specs.{Forest.{node, join}, Tree.Located}, nix_scopes.specs.Scopes.resolved_in}
 use Rattle.rnix_kinds.specs.declared.kinds.SyntaxKind.TheVariants as k
-use Rattle.rnix_green.specs.{Forest.{Forest, empty, leaf, node, join}, Tree.Located}
-use Rattle.nix_scopes.specs.Scopes.{resolved_in}
 
 -- a tree at whose root these trees stand
 abbrev text : Forest → Located

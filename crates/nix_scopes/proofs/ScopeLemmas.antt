@@ -1,14 +1,11 @@
 -- What is known of the open scopes while a text is resolved.
-use Rattle.std.proofs.Common.{◌≡◌, ℕ, ◌+◌, ◌-◌, ◌<◌, ◌≤◌, List, [], ◌∷◌, ◌++◌, length, get_or, take, map, true, false, Some, refl, ap, sym, ◌∙◌, subst, arith, append_assoc}
-use Rattle.std.proofs.lemmas.{List.{length-map, map-append, map_more, map_push, Elements.{All-append, All-weaker, All-push, All-map}}, Bool.{cond-true, cond-false}}
-use Rattle.std.specs.{Prelude.{filter}, List.{All}, Option.option_or, Str.bytes_eq, Borrow.Bor}
-use Rattle.rnix_green.specs.Tree.{Located}
-use Rattle.nix_scopes.specs.declared.resolution.Binding.{Binding}
-use Rattle.nix_scopes.specs.{Names.Named, Binders.{is_scope, names_bound}, Bound.{bound_of, IsFirstOf, AreFirst}, Scopes.{Bound, bound_in, number_in, innermost}}
-use Rattle.nix_scopes.specs.{Resolving.{SeesScopes, Numbers, number_by, number_or, found_in, AreNumbers, AreOpen, IsAround}}
-use Rattle.std.proofs.lemmas.List.{length_push}
-use Rattle.std.specs.Map.{lookup}
-use Rattle.nix_scopes.proofs.NumberLemmas.{last_mapped, none_below, number_kept, number_bound, number_stays}
+use Rattle.std.proofs.Common.{◌≡◌, ℕ, ◌+◌, ◌-◌, ◌<◌, ◌≤◌, List, [], ◌∷◌, ◌++◌, length, get_or, take, map, true, false, Some, refl, ap, sym, ◌∙◌, subst, arith}
+use Rattle.std.proofs.{Common.append_assoc, lemmas.List.{length-map, map-append, map_more, map_push, length_push, Elements.{All-append, All-weaker, All-push}}}
+use Rattle.std.{proofs.lemmas.{List.Elements.All-map, Bool.{cond-true, cond-false}}, specs.{Prelude.filter, List.All, Option.option_or, Str.bytes_eq}}
+use Rattle.{std.specs.{Borrow.Bor, Map.lookup}, rnix_green.specs.Tree.Located, nix_scopes.specs.{declared.resolution.Binding.Binding, Names.Named}}
+use Rattle.nix_scopes.specs.{Binders.{is_scope, names_bound}, Bound.{bound_of, IsFirstOf, AreFirst}, Scopes.{Bound, bound_in, number_in, innermost}}
+use Rattle.nix_scopes.{specs.Resolving.{SeesScopes, Numbers, number_by, number_or, found_in, AreNumbers, AreOpen, IsAround}, proofs.NumberLemmas.last_mapped}
+use Rattle.nix_scopes.proofs.NumberLemmas.{none_below, number_kept, number_bound, number_stays}
 
 -- one more is mapped twice
 pub mapped_more : {X Y Z : Type 0} (g : X → Y) (f : Y → Z) (xs : List X) (i : ℕ) (x : X) (old bs more : List Z) → i < length xs → x ≡ get_or xs i x →

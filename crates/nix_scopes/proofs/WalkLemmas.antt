@@ -1,13 +1,10 @@
 -- The nodes that a walk enters, and what is listed of each.
 use Rattle.std.proofs.Common.{◌≡◌, ℕ, suc, ◌+◌, zero, List, [], ◌∷◌, ◌++◌, ◌≤◌, length, map, Bool, true, false, inl, inr, refl, ap, sym, subst, ◌∙◌, arith}
-use Rattle.std.specs.Prelude.{flat_map, nat_lt, if◌then◌else◌}
-use Rattle.std.proofs.lemmas.List.{map-append, append_assoc, get_or_past}
-use Rattle.std.proofs.lemmas.Bool.{cases_lt}
-use Rattle.rnix_green.specs.Forest.{Forest, empty, leaf, node, element_count}
-use Rattle.rnix_green.specs.Tree.{Tree, Located, items_of, item, item_of, no_item, forest_of, part_of, part_at}
-use Rattle.rnix_green.specs.Walk.{Spot, Event, NodeEvent, spot_at, event_at, steps_from, preorder_of, counted, nodes_in, elements_of, node_events}
-use Rattle.rnix_green.proofs.PartLemmas.{below_of_part, part_there, one_there}
-use Rattle.rnix_green.proofs.{NumberTests.{is_above, is_not_below}, InsideLemmas.{elements_in_all}}
+use Rattle.std.{proofs.lemmas.{List.{map-append, append_assoc, get_or_past}, Bool.cases_lt}, specs.Prelude.{flat_map, nat_lt, if◌then◌else◌}}
+use Rattle.rnix_green.specs.{Forest.{Forest, empty, leaf, node, element_count}, Tree.{Tree, Located, items_of, item, item_of, no_item, forest_of, part_of}}
+use Rattle.rnix_green.specs.{Tree.part_at, Walk.{Spot, Event, NodeEvent, spot_at, event_at, steps_from, preorder_of, counted, nodes_in, elements_of}}
+use Rattle.rnix_green.{specs.Walk.node_events, proofs.{PartLemmas.{below_of_part, part_there, one_there}, NumberTests.{is_above, is_not_below}}}
+use Rattle.rnix_green.proofs.InsideLemmas.{elements_in_all}
 
 -- the nodes that events enter
 abbrev pub entered : List NodeEvent → List Located

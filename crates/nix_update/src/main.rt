@@ -8,8 +8,6 @@ mod find;
 mod home;
 mod outcome;
 mod path;
-#[cfg(test)]
-mod tests;
 mod update;
 mod value;
 

@@ -1,12 +1,9 @@
 -- Texts whose items are alike are read as one tree but for trivia.
-use Rattle.std.proofs.Common.{◌≡◌, ℕ, List, None, ap, sym, ◌∙◌, subst}
-use Rattle.{rnix_kinds.specs.Lexical.Tokens.{Lexeme, tokens_of}, rnix_green.specs.Tree.Tree}
+use Rattle.{std.proofs.Common.{◌≡◌, ℕ, List, None, ap, sym, ◌∙◌, subst}, rnix_kinds.specs.Lexical.Tokens.{Lexeme, tokens_of}, rnix_green.specs.Tree.Tree}
 use Rattle.rnix_grammar.specs.{Fault.Fault, AnnotatedForest.{Token, AnnotatedForest, forget, tokens_in, without_trivia, placed_from}, Layout.items}
-use Rattle.rnix_grammar.specs.{Reading.IsReading, Parsed.IsParsed}
-use Rattle.{rnix_proof_lemmas.proofs.{ReportLemmas.without_trivia_tokens, SpelledLemmas.AreRuled}, rnix_proof_uniqueness.proofs.AllReads.one_row}
-use Rattle.{rnix_proof_layout.specs.AlikeItems.{AreAlike, AreSameFaults}, rnix_proof_layout.proofs.AlikeReadings.alike_readings}
-use Rattle.rnix_parser.specs.ReadAlike.{items_of, AreReadAlike}
-use Rattle.rnix_parser.proofs.{ParsedLemmas.all_follows, SignificantTrees.significant_tree}
+use Rattle.{rnix_grammar.specs.{Reading.IsReading, Parsed.IsParsed}, rnix_proof_lemmas.proofs.{ReportLemmas.without_trivia_tokens, SpelledLemmas.AreRuled}}
+use Rattle.{rnix_proof_uniqueness.proofs.AllReads.one_row, rnix_proof_layout.{specs.AlikeItems.{AreAlike, AreSameFaults}, proofs.AlikeReadings.alike_readings}}
+use Rattle.rnix_parser.{specs.ReadAlike.{items_of, AreReadAlike}, proofs.{ParsedLemmas.all_follows, SignificantTrees.significant_tree}}
 
 -- the items of a reading are those of its tokens
 own_items : {ls : List Lexeme} {tree : Tree} {faults : List Fault} (r : IsReading ls tree faults)

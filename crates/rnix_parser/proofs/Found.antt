@@ -6,11 +6,11 @@ use Rattle.{rnix_proof_completeness.proofs.{GrammarReads.expression_reads, OverT
 use Rattle.rnix_proof_strict.proofs.GrammarLeaves.{expression_fine}
 
 -- a derivation over its items
-annotate_derivation : (t : Forest) (ts : List Token) → IsDerivation t ts → IsAnnotatedRoot t ts
+pub annotate_derivation : (t : Forest) (ts : List Token) → IsDerivation t ts → IsAnnotatedRoot t ts
 annotate_derivation t ts d = annotate_root t ts (expression_fine d.strict).tokens d.yields
 
 -- a derivation is a reading of its items, without errors
-derivation_reads : (t : Forest) (ts : List Token) → IsDerivation t ts → ReadsRoot (annotate t ts) []
+pub derivation_reads : (t : Forest) (ts : List Token) → IsDerivation t ts → ReadsRoot (annotate t ts) []
 derivation_reads t ts d =
     let l = annotate_derivation t ts d in
     let over : Over t (annotate t ts) = subst (λ z. Over z (annotate t ts)) l.forest (over_trees (annotate t ts) l.spelled) in

@@ -1,16 +1,13 @@
 -- Each text has one reading.
 use Rattle.std.{proofs.Common.{◌≡◌, ℕ, true, List, [], ◌∷◌, ◌++◌, refl, ap, sym, ◌∙◌, subst, append_assoc}, specs.Prelude.flat_map}
-use Rattle.rnix_kinds.specs.{declared.kinds.SyntaxKind.TheVariants.NODE_ROOT, Lexical.Tokens.{Lexeme, text_of as lexeme_text, AreSound, tokens_of}}
+use Rattle.rnix_kinds.specs.{declared.kinds.SyntaxKind.TheVariants.NODE_ROOT, Lexical.{Tokens.{Lexeme, text_of as lexeme_text, AreSound, tokens_of}}}
 use Rattle.{rnix_green.specs.{Forest.text_of, Tree.Tree}, rnix_grammar.specs.{Fault.Fault, AnnotatedForest.{Token, AnnotatedForest, blank, token, branch}}}
-use Rattle.rnix_grammar.specs.{AnnotatedForest.{fault, forget, tokens_in, without_trivia, placed_from}, Layout.{items, with_all_trivia}}
-use Rattle.rnix_proof_lemmas.specs.Machine.{with_leading}
-use Rattle.rnix_grammar.specs.{Reads.ReadsRoot, Reading.IsReading}
-use Rattle.rnix_proof_lemmas.specs.WithoutTrivia.{without_trivia_machine, without_trivia_frame, without_trivia_frames}
-use Rattle.{rnix_grammar.specs.Parsed.IsParsed, rnix_proof_lemmas.proofs.{ReportLemmas.without_trivia_tokens, SpelledLemmas.AreRuled}}
-use Rattle.rnix_proof_lemmas.specs.Document.{IsRead}
-use Rattle.{rnix_proof_lemmas.proofs.WithoutTriviaLemmas.{runs_without_trivia, with_leading_without_trivia}, rnix_proof_rows.proofs.WithAllTrivia.with_all_trivia_tokens}
-use Rattle.{rnix_proof_rows.proofs.WithAllTrivia.{with_trivia_same, read_with_trivia}, rnix_proof_existence.proofs.StepsReadRoot.steps_read_root}
-use Rattle.{rnix_proof_uniqueness.proofs.AllReads.one_row, rnix_reader.specs.Placed.texts_in}
+use Rattle.rnix_grammar.specs.{AnnotatedForest.{fault, forget, tokens_in, without_trivia, placed_from}, Layout.{items, with_all_trivia}, Reads.ReadsRoot}
+use Rattle.{rnix_grammar.specs.{Reading.IsReading, Parsed.IsParsed}, rnix_proof_lemmas.specs.{Machine.with_leading, WithoutTrivia.without_trivia_machine}}
+use Rattle.rnix_proof_lemmas.{specs.{WithoutTrivia.{without_trivia_frame, without_trivia_frames}, Document.IsRead}, proofs.ReportLemmas.without_trivia_tokens}
+use Rattle.rnix_proof_lemmas.proofs.{SpelledLemmas.AreRuled, WithoutTriviaLemmas.{runs_without_trivia, with_leading_without_trivia}}
+use Rattle.rnix_proof_rows.proofs.WithAllTrivia.{with_all_trivia_tokens, with_trivia_same, read_with_trivia}
+use Rattle.{rnix_proof_existence.proofs.StepsReadRoot.steps_read_root, rnix_proof_uniqueness.proofs.AllReads.one_row, rnix_reader.specs.Placed.texts_in}
 use Rattle.{rnix_reader.proofs.{EachText.each_read, TextLeft.placed_text}, rnix_parser.proofs.ParsedLemmas.all_follows}
 
 -- the items of a reading are those of the tokens

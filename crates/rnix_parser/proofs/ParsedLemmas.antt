@@ -1,20 +1,17 @@
 -- All that is promised of a text follows from its reading.
-use Rattle.std.proofs.{Common.{◌≡◌, ◌↔◌, ◌≤◌, true, List, [], refl, ap, sym, ◌∙◌, subst}}
-use Rattle.{rnix_kinds.specs.{declared.kinds.SyntaxKind.TheVariants.NODE_ROOT, Lexical.Tokens.Lexeme}, rnix_green.specs.{Forest.Forest, Tree.Tree}}
-use Rattle.rnix_grammar.specs.{Tables.depth_limit, AnnotatedForest.{Token, AnnotatedForest, blank, forget, tokens_in, without_trivia, placed_from}}
-use Rattle.rnix_grammar.specs.{AnnotatedForest.HaveLeafKinds, Layout.items, Trim.{AreFaultsTrimmed, AreNodesTrimmed}, Shape.{IsShaped, IsUnrepeated}}
-use Rattle.rnix_proof_lemmas.specs.RowReports.{reports}
-use Rattle.rnix_grammar.specs.{TriviaBetween.AreTriviaBetween, Named.{is_repeated, Lacks}, Repaired.{repaired, ended_count}, Extensions.has_no_extension}
-use Rattle.rnix_proof_lemmas.specs.Spelled.{AreSpelled}
-use Rattle.rnix_grammar.specs.{Fault.Fault, PathPieces.ArePaths, Nest.nest, Grammar.IsExpression}
-use Rattle.rnix_grammar.specs.{Derivation.IsDerivation, Reads.ReadsRoot, Reading.IsReading, Parsed.IsParsed}
-use Rattle.rnix_proof_rows.proofs.{ReadsFaults.{Errors, reads_errors}, RootReadings.{root_few, root_end_errors, root_begun, root_last}, TreeShapes.root_shaped}
-use Rattle.rnix_proof_rows.proofs.{TreeShapes.without_trivia_reports, TriviaBetweenLemmas.trivia_between, ReadsNest.reads_nested, NamedRows.are_named}
-use Rattle.rnix_proof_rows.proofs.{WithAllTrivia.{without_trivia_items, placed_leaf_kinds, placed_faults_trimmed, placed_names, placed_nodes_trimmed}, ReadsLeafKinds.reads_leaf_kinds}
-use Rattle.{rnix_proof_rows.proofs.{ReadsShapes.{AreErrorFreeRows, repaired_none, root_rows}, ErrorFreeDerivations.derived}, rnix_proof_soundness.proofs.Converse.converse}
-use Rattle.rnix_proof_lemmas.proofs.{ReachableRows.known_row, SpelledLemmas.{AreRuled, spelled_from, without_trivia_spelled}}
-use Rattle.rnix_proof_strict.proofs.GrammarLeaves.{expression_fine}
-use Rattle.rnix_parser.proofs.Found.{derivation_found}
+use Rattle.{std.proofs.Common.{◌≡◌, ◌↔◌, ◌≤◌, true, List, [], refl, ap, sym, ◌∙◌, subst}, rnix_kinds.specs.declared.kinds.SyntaxKind.TheVariants.NODE_ROOT}
+use Rattle.{rnix_kinds.specs.Lexical.Tokens.Lexeme, rnix_green.specs.{Forest.Forest, Tree.Tree}, rnix_grammar.specs.{Tables.depth_limit, AnnotatedForest.Token}}
+use Rattle.rnix_grammar.specs.{AnnotatedForest.{AnnotatedForest, blank, forget, tokens_in, without_trivia, placed_from, HaveLeafKinds}, Layout.items}
+use Rattle.rnix_grammar.specs.{Trim.{AreFaultsTrimmed, AreNodesTrimmed}, Shape.{IsShaped, IsUnrepeated}, TriviaBetween.AreTriviaBetween, Named.is_repeated}
+use Rattle.rnix_grammar.specs.{Named.Lacks, Repaired.{repaired, ended_count}, Extensions.has_no_extension, Fault.Fault, PathPieces.ArePaths, Nest.nest}
+use Rattle.rnix_grammar.specs.{Grammar.IsExpression, Derivation.IsDerivation, Reads.ReadsRoot, Reading.IsReading, Parsed.IsParsed}
+use Rattle.rnix_proof_lemmas.{specs.{RowReports.reports, Spelled.AreSpelled}, proofs.{ReachableRows.known_row, SpelledLemmas.{AreRuled, spelled_from}}}
+use Rattle.{rnix_proof_lemmas.proofs.SpelledLemmas.without_trivia_spelled, rnix_proof_rows.proofs.{ReadsFaults.{Errors, reads_errors}, RootReadings.root_few}}
+use Rattle.rnix_proof_rows.proofs.{RootReadings.{root_end_errors, root_begun, root_last}, TreeShapes.{root_shaped, without_trivia_reports}}
+use Rattle.rnix_proof_rows.proofs.{TriviaBetweenLemmas.trivia_between, ReadsNest.reads_nested, NamedRows.are_named, WithAllTrivia.without_trivia_items}
+use Rattle.rnix_proof_rows.proofs.WithAllTrivia.{placed_leaf_kinds, placed_faults_trimmed, placed_names, placed_nodes_trimmed}
+use Rattle.rnix_proof_rows.proofs.{ReadsLeafKinds.reads_leaf_kinds, ReadsShapes.{AreErrorFreeRows, repaired_none, root_rows}, ErrorFreeDerivations.derived}
+use Rattle.{rnix_proof_soundness.proofs.Converse.converse, rnix_proof_strict.proofs.GrammarLeaves.expression_fine, rnix_parser.proofs.Found.derivation_found}
 
 -- a tree without trivia, and its errors, as they must be to be a derivation
 record IsFit (f : AnnotatedForest) (ts : List Token) (es : List Fault) : Type 0 where

@@ -1,14 +1,13 @@
 -- The tree of a text, without its trivia, is what its items are read as.
-use Rattle.std.proofs.Common.{◌≡◌, ◌↔◌, ◌≤◌, Bool, true, false, List, [], refl, ap, sym, ◌∙◌, subst}
-use Rattle.rnix_kinds.specs.declared.kinds.SyntaxKind.{SyntaxKind, TheVariants.{TOKEN_CUR_POS, TOKEN_IDENT, TOKEN_OR, NODE_CUR_POS, NODE_ERROR, NODE_IDENT, NODE_ROOT}}
-use Rattle.rnix_kinds.specs.{Lexical.Tokens.Lexeme, SyntaxKind.is_trivia}
-use Rattle.rnix_green.specs.{Forest.{Forest, node}, Tree.Tree}
-use Rattle.rnix_grammar.specs.AnnotatedForest.{Token, AnnotatedForest, blank, token, branch, fault, forget, without_trivia, token_if, placed_from, leaf_kind_as, HaveLeafKinds}
-use Rattle.rnix_grammar.specs.{Extensions.has_no_extension, Derivation.{annotate, IsDerivation}, Fault.Fault, Grammar.IsExpression, Layout.items, Nest.nest}
-use Rattle.rnix_grammar.specs.{Parsed.IsParsed, PathPieces.ArePaths, Repaired.{repaired, ended_count}, Named.{is_repeated, Lacks}, Tables.depth_limit}
-use Rattle.rnix_proof_rows.proofs.{ErrorFreeDerivations.annotate_same, ReadsShapes.{AreErrorFreeRows, repaired_none, root_rows}, WithAllTrivia.without_trivia_items}
-use Rattle.rnix_proof_strict.proofs.GrammarLeaves.{expression_fine}
-use Rattle.rnix_parser.specs.Significant.{leaf_unless, significant}
+use Rattle.{std.proofs.Common.{◌≡◌, ◌↔◌, ◌≤◌, Bool, true, false, List, [], refl, ap, sym, ◌∙◌, subst}, rnix_kinds.specs.declared.kinds.SyntaxKind.SyntaxKind}
+use Rattle.rnix_kinds.specs.declared.kinds.SyntaxKind.TheVariants.{TOKEN_CUR_POS, TOKEN_IDENT, TOKEN_OR, NODE_CUR_POS, NODE_ERROR, NODE_IDENT, NODE_ROOT}
+use Rattle.{rnix_kinds.specs.{Lexical.Tokens.Lexeme, SyntaxKind.is_trivia}, rnix_green.specs.{Forest.{Forest, node}, Tree.Tree}}
+use Rattle.rnix_grammar.specs.AnnotatedForest.{Token, AnnotatedForest, blank, token, branch, fault, forget, without_trivia, token_if, placed_from, leaf_kind_as}
+use Rattle.rnix_grammar.specs.{AnnotatedForest.HaveLeafKinds, Extensions.has_no_extension, Derivation.{annotate, IsDerivation}, Fault.Fault}
+use Rattle.rnix_grammar.specs.{Grammar.IsExpression, Layout.items, Nest.nest, Parsed.IsParsed, PathPieces.ArePaths, Repaired.{repaired, ended_count}}
+use Rattle.{rnix_grammar.specs.{Named.{is_repeated, Lacks}, Tables.depth_limit}, rnix_proof_rows.proofs.ErrorFreeDerivations.annotate_same}
+use Rattle.rnix_proof_rows.proofs.{ReadsShapes.{AreErrorFreeRows, repaired_none, root_rows}, WithAllTrivia.without_trivia_items}
+use Rattle.{rnix_proof_strict.proofs.GrammarLeaves.expression_fine, rnix_parser.specs.Significant.{leaf_unless, significant}}
 
 -- a leaf is trivia exactly if its token is
 leaf_trivia : (q k : SyntaxKind) → is_trivia (leaf_kind_as q k) ≡ is_trivia k

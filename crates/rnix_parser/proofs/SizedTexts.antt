@@ -1,7 +1,6 @@
 -- The elements of a text's tree are at most three for each byte, and three more.
-use Rattle.std.{proofs.Common.{◌≤◌, ◌<◌, ◌+◌, ◌*◌, ◌≡◌, ℕ, List, [], ◌∷◌, ◌++◌, length, ap, arith}, specs.{List.All, Prelude.flat_map}}
-use Rattle.std.proofs.lemmas.{List.length-append, List.Elements.{All-head, All-tail}}
-use Rattle.rnix_kinds.specs.Lexical.Tokens.{Lexeme, text_of, AreSound, tokens_of}
+use Rattle.std.proofs.{Common.{◌≤◌, ◌<◌, ◌+◌, ◌*◌, ◌≡◌, ℕ, List, [], ◌∷◌, ◌++◌, length, ap, arith}, lemmas.List.{length-append, Elements.{All-head, All-tail}}}
+use Rattle.{std.specs.{List.All, Prelude.flat_map}, rnix_kinds.specs.Lexical.Tokens.{Lexeme, text_of, AreSound, tokens_of}}
 use Rattle.{rnix_green.specs.{Forest.element_count, Tree.{Tree, forest_of}}, rnix_grammar.specs.{Fault.Fault, Reading.IsReading}}
 use Rattle.rnix_proof_size.proofs.SizedReadings.{sized_by_tokens}
 

@@ -1,10 +1,8 @@
 -- What is printed of a tree that is no deeper than 100 levels is what `dump` prints of it.
 use Rattle.std.proofs.Common.{◌≡◌, ℕ, ◌+◌, ◌-◌, ◌≤◌, true, false, nat_lt, List, [], ◌∷◌, ◌++◌, refl, ap, ◌∙◌, append-nil, arith}
-use Rattle.std.{proofs.lemmas.Bool.Decides.nat_tests, specs.Prelude.{decimal, codes, if◌then◌else◌}}
-use Rattle.rnix_kinds.specs.SyntaxKind.{name_of}
-use Rattle.rnix_green.specs.{Tree.{Located, item_of, extent_of}, Walk.{Event, preorder_of}}
-use Rattle.rnix_tree.{specs.{Lines.{indent, range_end, lines_of}, Walked.event_lines}, proofs.DumpLemmas.finished}
-use Rattle.rnix_print.specs.OutputLines.{margin, walk_lines, tree_lines}
+use Rattle.{std.{proofs.lemmas.Bool.Decides.nat_tests, specs.Prelude.{decimal, codes, if◌then◌else◌}}, rnix_kinds.specs.SyntaxKind.name_of}
+use Rattle.{rnix_green.specs.{Tree.{Located, item_of, extent_of}, Walk.{Event, preorder_of}}, rnix_tree.specs.Lines.{indent, range_end, lines_of}}
+use Rattle.{rnix_tree.{specs.Walked.event_lines, proofs.DumpLemmas.finished}, rnix_print.specs.OutputLines.{margin, walk_lines, tree_lines}}
 
 -- each element that a walk enters is at level 100 or above
 abbrev pub IsIndented : ℕ → List Event → Type 0

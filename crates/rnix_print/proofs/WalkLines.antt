@@ -1,10 +1,9 @@
 -- Lines that a walk prints.
 use Rattle.std.proofs.Common.{◌≡◌, ℕ, ◌+◌, ◌*◌, ◌≤◌, false, nat_lt, List, ◌∷◌, ◌++◌, take, refl, ap, sym, ◌∙◌, arith, append_assoc}
-use Rattle.std.{proofs.lemmas.Bool.Decides.nat_tests, specs.Prelude.{decimal, codes, if◌then◌else◌}}
-use Rattle.rnix_green.specs.{Tree.{Located}, Walk.Event}
+use Rattle.{std.{proofs.lemmas.Bool.Decides.nat_tests, specs.Prelude.{decimal, codes, if◌then◌else◌}}, rnix_green.specs.{Tree.Located, Walk.Event}}
 use Rattle.rnix_tree.specs.{Spots.{event_of, spot_of, place_of}, declared.element.{NodeOrToken.{NodeOrToken, TheVariants.{Node, Token}}, WalkEvent.WalkEvent}}
-use Rattle.rnix_tree.{specs.{declared.element.WalkEvent.TheVariants.Enter, Lines.indent}, proofs.LineLemmas.indent_front}
-use Rattle.rnix_print.specs.OutputLines.{margin, element_line, walk_lines}
+use Rattle.{rnix_tree.{specs.{declared.element.WalkEvent.TheVariants.Enter, Lines.indent}, proofs.LineLemmas.indent_front}, rnix_print.specs.OutputLines.margin}
+use Rattle.rnix_print.specs.OutputLines.{element_line, walk_lines}
 
 -- spaces in front of a line that is not deeper than 100 levels
 pub margin_spaces : (depth : ℕ) → depth ≤ 100 → take (2 * depth) (indent 100) ≡ margin depth

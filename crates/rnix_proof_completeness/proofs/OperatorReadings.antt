@@ -1,21 +1,20 @@
 -- Rows that begin with an operand: operators, calls and selections.
-use Rattle.std.{specs.List.list_all, proofs.Common.{◌≡◌, ℕ, Bool, true, false, List, [], ◌∷◌, ◌++◌, Some, None, refl, ap, sym, ◌∙◌, subst, arith}}
-use Rattle.std.proofs.Common.{◌≤◌, ◌&&◌, ◌||◌, if◌then◌else◌, nat_eq, nat_le}
-use Rattle.rnix_kinds.specs.declared.kinds.SyntaxKind.{SyntaxKind, TheVariants.{TOKEN_CUR_POS, TOKEN_DOT, TOKEN_IDENT, TOKEN_OR, TOKEN_QUESTION}}
-use Rattle.rnix_kinds.specs.declared.kinds.SyntaxKind.TheVariants.{NODE_APPLY, NODE_BIN_OP, NODE_HAS_ATTR, NODE_IDENT, NODE_SELECT}
-use Rattle.rnix_kinds.{specs.SyntaxKind.is_fn_arg, proofs.AllKinds.{all_kinds, implied}}
-use Rattle.rnix_green.specs.Forest.{Forest, empty, leaf, node}
-use Rattle.rnix_grammar.specs.declared.rules.Part.TheVariants.{Argument, Attrpath, Binary, EndOr, Operand, Suffix}
-use Rattle.rnix_grammar.specs.AnnotatedForest.{Token, AnnotatedForest, one_branch, tokens_in, head_kind, leaf_kind_as}
-use Rattle.rnix_grammar.specs.{Beginnings.IsOperandOf, Yield.kind_of_token, Grammar.name, Tables.is_or, TokenKinds.is_or as is_or_token, Operands.follows}
-use Rattle.rnix_grammar.specs.{Levels.{binding_power, max_bp_of, left_of, right_of}, Rows.{fits, is_infix}, TreeLevels.{calls_or, is_atom_row, level_of, row_level}}
-use Rattle.rnix_grammar.specs.Rules.{Row, done, ◌·◌, only, may_end, IsExpected}
-use Rattle.rnix_proof_lemmas.proofs.{Basics.{true_is_not_false, not_if, choice}, EveryKind.at_most as most_of, KindsOfNodes.{fits_expression, keeps_kind, unreported}}
-use Rattle.rnix_proof_lemmas.proofs.{LevelLemmas.{operates, at_most, at_most_true, atom_fits, atom_simple, fits_looser}, PlainTables.{binds_at_most, below}, TokenEnds.left_least}
-use Rattle.rnix_proof_completeness.proofs.OverTokens.{Over, over_leaf, over_node, over_nothing, stands_so, expected_so}
-use Rattle.rnix_proof_completeness.proofs.PartReads.{Follow, Before, room, Rest, Any, Node, node_of, Next, next_leaf, next_end, next_any, anything, finish, finished, leaf_on, item, Placed, node_on}
-use Rattle.rnix_proof_completeness.proofs.GoodOperands.{Good, GoodAtom, good_atom, good_before, good_follows, agree, takes_left, operand_level, binds_at_most_more, wide, next_node, argument_opens}
-use Rattle.rnix_proof_completeness.proofs.GoodOperands.{operand_on, argument_on, first_on, begins_first}
+use Rattle.std.{specs.List.list_all, proofs.Common.{◌≡◌, ℕ, Bool, true, false, List, [], ◌∷◌, ◌++◌, Some, None, refl, ap, sym, ◌∙◌, subst, arith, ◌≤◌, ◌&&◌}}
+use Rattle.{std.proofs.Common.{◌||◌, if◌then◌else◌, nat_eq, nat_le}, rnix_kinds.specs.declared.kinds.SyntaxKind.{SyntaxKind, TheVariants.TOKEN_CUR_POS}}
+use Rattle.rnix_kinds.specs.declared.kinds.SyntaxKind.TheVariants.{TOKEN_DOT, TOKEN_IDENT, TOKEN_OR, TOKEN_QUESTION, NODE_APPLY, NODE_BIN_OP, NODE_HAS_ATTR}
+use Rattle.rnix_kinds.{specs.{declared.kinds.SyntaxKind.TheVariants.{NODE_IDENT, NODE_SELECT}, SyntaxKind.is_fn_arg}, proofs.AllKinds.{all_kinds, implied}}
+use Rattle.{rnix_green.specs.Forest.{Forest, empty, leaf, node}, rnix_grammar.specs.declared.rules.Part.TheVariants.{Argument, Attrpath, Binary, EndOr}}
+use Rattle.rnix_grammar.specs.{declared.rules.Part.TheVariants.{Operand, Suffix}, AnnotatedForest.{Token, AnnotatedForest, one_branch, tokens_in, head_kind}}
+use Rattle.rnix_grammar.specs.{AnnotatedForest.leaf_kind_as, Beginnings.IsOperandOf, Yield.kind_of_token, Grammar.name, Tables.is_or}
+use Rattle.rnix_grammar.specs.{TokenKinds.{is_or as is_or_token}, Operands.follows, Levels.{binding_power, max_bp_of, left_of, right_of}, Rows.{fits, is_infix}}
+use Rattle.rnix_grammar.specs.{TreeLevels.{calls_or, is_atom_row, level_of, row_level}, Rules.{Row, done, ◌·◌, only, may_end, IsExpected}}
+use Rattle.rnix_proof_lemmas.proofs.{Basics.{true_is_not_false, not_if, choice}, EveryKind.{at_most as most_of}, KindsOfNodes.{fits_expression, keeps_kind}}
+use Rattle.rnix_proof_lemmas.proofs.{KindsOfNodes.unreported, LevelLemmas.{operates, at_most, at_most_true, atom_fits, atom_simple, fits_looser}}
+use Rattle.{rnix_proof_lemmas.proofs.{PlainTables.{binds_at_most, below}, TokenEnds.left_least}, rnix_proof_completeness.proofs.OverTokens.{Over, over_leaf}}
+use Rattle.rnix_proof_completeness.proofs.{OverTokens.{over_node, over_nothing, stands_so, expected_so}, PartReads.{Follow, Before, room, Rest, Any, Node}}
+use Rattle.rnix_proof_completeness.proofs.PartReads.{node_of, Next, next_leaf, next_end, next_any, anything, finish, finished, leaf_on, item, Placed, node_on}
+use Rattle.rnix_proof_completeness.proofs.GoodOperands.{Good, GoodAtom, good_atom, good_before, good_follows, agree, takes_left, operand_level}
+use Rattle.rnix_proof_completeness.proofs.GoodOperands.{binds_at_most_more, wide, next_node, argument_opens, operand_on, argument_on, first_on, begins_first}
 
 -- a row may end where the next item is not expected
 pub ends : {p : SyntaxKind} {q : Row} {G : Before} {F : Follow} → may_end q ≡ true → ((n : ℕ) → IsExpected q n [] false)

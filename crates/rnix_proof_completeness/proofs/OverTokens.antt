@@ -1,15 +1,12 @@
 -- A tree of the grammar over its tokens, and how a row of such trees is read, tree by tree.
 use Rattle.std.{specs.List.list_all, proofs.Common.{◌≡◌, ℕ, Bool, true, false, List, [], ◌∷◌, ◌++◌, Some, refl, sym, subst, if◌then◌else◌, nat_eq}}
-use Rattle.rnix_kinds.{specs.declared.kinds.SyntaxKind.SyntaxKind, proofs.AllKinds.{all_kinds, implied}}
-use Rattle.rnix_green.specs.Forest.{Forest, empty, leaf, node}
+use Rattle.{rnix_kinds.{specs.declared.kinds.SyntaxKind.SyntaxKind, proofs.AllKinds.{all_kinds, implied}}, rnix_green.specs.Forest.{Forest, empty, leaf, node}}
+use Rattle.rnix_grammar.specs.AnnotatedForest.{Token, AnnotatedForest, blank, token, branch, fault, ◌⊕◌, one_token, one_branch, tokens_in, forget, head_kind}
+use Rattle.rnix_grammar.specs.{AnnotatedForest.{end_from, leaf_kind}, Beginnings.IsOperandOf, Yield.kind_of_token, Reports.repeats, Rules.{Row, ◌·◌, ◌or◌, row}}
+use Rattle.rnix_grammar.specs.{Rules.{after, expects, expects_item, IsExpected, is_first_expected, level_at, IsFollowed}, Reads.{Reads, IsRoom, IsOver, deeper}}
+use Rattle.rnix_proof_lemmas.{specs.LeafKinds.HaveTokenKinds, proofs.{Basics.not_if, TokenEnds.end_behind}}
 use Rattle.rnix_grammar.specs.declared.rules.Part.TheVariants as p
-use Rattle.rnix_grammar.specs.AnnotatedForest.{Token, AnnotatedForest, blank, token, branch, fault, ◌⊕◌, one_token, one_branch, tokens_in, forget, head_kind, end_from, leaf_kind}
-use Rattle.rnix_grammar.specs.{Beginnings.IsOperandOf, Yield.kind_of_token, Reports.repeats}
-use Rattle.rnix_proof_lemmas.specs.LeafKinds.{HaveTokenKinds}
-use Rattle.rnix_grammar.specs.Rules.{Row, ◌·◌, ◌or◌, row, after, expects, expects_item, IsExpected, is_first_expected, level_at, IsFollowed}
 use Rattle.rnix_grammar.specs.Reads as read
-use Rattle.rnix_grammar.specs.Reads.{Reads, IsRoom, IsOver, deeper}
-use Rattle.rnix_proof_lemmas.proofs.{Basics.not_if, TokenEnds.end_behind}
 
 -- the leaves of a tree stand for tokens, each with the kind and the text that the leaf says
 pub data Over : Forest → AnnotatedForest → Type 0 where

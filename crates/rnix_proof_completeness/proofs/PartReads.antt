@@ -1,16 +1,15 @@
 -- The rest of a row, part by part: what is read there, and what comes next.
 use Rattle.std.{specs.List.list_all, proofs.Common.{◌≡◌, ℕ, suc, Bool, true, false, List, [], ◌∷◌, ◌++◌, Option, Some, None, refl, ap, sym, ◌∙◌, subst, arith}}
-use Rattle.std.proofs.Common.{◌≤◌, ◌+◌, max, if◌then◌else◌, nat_eq}
-use Rattle.rnix_kinds.{specs.declared.kinds.SyntaxKind.{SyntaxKind, TheVariants.NODE_PAT_ENTRY}, proofs.AllKinds.{all_kinds, implied}}
-use Rattle.rnix_green.specs.Forest.{Forest, empty, leaf, node}
+use Rattle.{std.proofs.Common.{◌≤◌, ◌+◌, max, if◌then◌else◌, nat_eq}, rnix_kinds.specs.declared.kinds.SyntaxKind.{SyntaxKind, TheVariants.NODE_PAT_ENTRY}}
+use Rattle.{rnix_kinds.proofs.AllKinds.{all_kinds, implied}, rnix_green.specs.Forest.{Forest, empty, leaf, node}, rnix_grammar.specs.AnnotatedForest.Token}
+use Rattle.rnix_grammar.specs.AnnotatedForest.{AnnotatedForest, blank, ◌⊕◌, one_token, one_branch, tokens_in, head_kind, end_from, leaf_kind_as}
+use Rattle.rnix_grammar.specs.{Beginnings.IsOperandOf, PathPieces.{is_path, is_joined, ArePaths}, Yield.kind_of_token, Reports.repeats, Nest.{nest, nests}}
+use Rattle.rnix_grammar.specs.{Nest.counts_no_child, Tables.depth_limit, Rules.{Row, done, ◌·◌, row, after, may_end, IsExpected, is_first_expected, level_at}}
+use Rattle.{rnix_grammar.specs.{Rules.{counts, IsFollowed}, Reads.{IsRoom, deeper}}, rnix_proof_lemmas.proofs.Basics.{true_is_not_false, choice}}
+use Rattle.rnix_proof_completeness.proofs.OverTokens.{Over, over_nothing, over_leaf, over_node, IsRead, token_read, node_read, stands_so, expected_so, Opens}
+use Rattle.rnix_proof_completeness.proofs.OverTokens.{opened_so}
 use Rattle.rnix_grammar.specs.declared.rules.Part.TheVariants as p
-use Rattle.rnix_grammar.specs.AnnotatedForest.{Token, AnnotatedForest, blank, ◌⊕◌, one_token, one_branch, tokens_in, head_kind, end_from, leaf_kind_as}
-use Rattle.rnix_grammar.specs.{Beginnings.IsOperandOf, PathPieces.{is_path, is_joined, ArePaths}, Yield.kind_of_token, Reports.repeats, Nest.{nest, nests, counts_no_child}, Tables.depth_limit}
-use Rattle.rnix_grammar.specs.Rules.{Row, done, ◌·◌, row, after, may_end, IsExpected, is_first_expected, level_at, counts, IsFollowed}
 use Rattle.rnix_grammar.specs.Reads as read
-use Rattle.rnix_grammar.specs.Reads.{IsRoom, deeper}
-use Rattle.rnix_proof_lemmas.proofs.Basics.{true_is_not_false, choice}
-use Rattle.rnix_proof_completeness.proofs.OverTokens.{Over, over_nothing, over_leaf, over_node, IsRead, token_read, node_read, stands_so, expected_so, Opens, opened_so}
 
 -- how deep the row of a node nests; the name that an entry of a pattern begins with does not count
 abbrev pub depth_in : SyntaxKind → Forest → ℕ

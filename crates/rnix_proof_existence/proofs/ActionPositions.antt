@@ -3,9 +3,7 @@ use Rattle.std.{specs.List.list_all, proofs.Common.{◌≡◌, ℕ, Bool, true, 
 use Rattle.{std.proofs.lemmas.Bool.and_parts, rnix_kinds.{proofs.AllKinds.{all_kinds, every}, specs.declared.kinds.SyntaxKind.SyntaxKind}}
 use Rattle.{rnix_kinds.specs.declared.kinds.SyntaxKind.TheVariants.{NODE_ERROR, NODE_PAT_ENTRY}, rnix_green.specs.Equality.same_kind}
 use Rattle.rnix_grammar.specs.{declared.{position.Position.Position, action.Action.Action, slot_table.TheConstants.SLOTS}, Actions.{left_action, action_at}}
-use Rattle.rnix_proof_lemmas.specs.Machine.{Node}
-use Rattle.rnix_proof_lemmas.proofs.{Basics.true_is_not_false, EveryKind.same, EachIndex.EachSlot}
-use Rattle.rnix_proof_lemmas.specs.SlotRows.{left_at, left_in, kind_at}
+use Rattle.rnix_proof_lemmas.{specs.{Machine.Node, SlotRows.{left_at, left_in, kind_at}}, proofs.{Basics.true_is_not_false, EveryKind.same, EachIndex.EachSlot}}
 use Rattle.{rnix_proof_lemmas.proofs.{EachIndex.each_index, ActionTable.is_waiting}, rnix_proof_existence.proofs.Frames.{is_in_row_of, is_sound}}
 use Rattle.rnix_grammar.specs.declared.position.Position.TheVariants as p
 use Rattle.rnix_grammar.specs.declared.action.Action.TheVariants as a

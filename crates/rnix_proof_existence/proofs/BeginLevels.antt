@@ -5,14 +5,12 @@ use Rattle.rnix_kinds.specs.declared.kinds.SyntaxKind.TheVariants.{TOKEN_L_BRACE
 use Rattle.rnix_kinds.specs.declared.kinds.SyntaxKind.TheVariants.{NODE_BIN_OP, NODE_HAS_ATTR, NODE_IDENT, NODE_SELECT, NODE_UNARY_OP}
 use Rattle.{rnix_kinds.proofs.AllKinds.{all_kinds, implied}, rnix_green.specs.Equality.same_kind, rnix_grammar.specs.declared.begin.Begin.Begin}
 use Rattle.rnix_grammar.specs.{declared.slot_table.TheConstants.{INVERSION, NEGATION}, Begins.{is_pattern, begin_name, begin_let, begin_keyword, begin_scope}}
-use Rattle.rnix_grammar.specs.{Begins.begin_of, Tables.is_cur_pos, TokenKinds.is_or, Operands.first_tree, Rules.{after, done}}
-use Rattle.rnix_proof_lemmas.specs.Machine.{Node}
-use Rattle.rnix_proof_lemmas.specs.SlotRows.{left_at}
-use Rattle.rnix_grammar.specs.{Rules.row as row_of_kind, AnnotatedForest.{Token, AnnotatedForest, token, one_token, one_branch, leaf_kind_as}, Rows.is_atom}
-use Rattle.{rnix_grammar.specs.{Rows.{is_expression, is_keyword_expression, fits}, TreeLevels.{row_level, is_or_row}}, rnix_proof_lemmas.proofs.Basics.{true_is_not_false, not_if}}
-use Rattle.rnix_proof_lemmas.proofs.{Basics.choice, LevelLemmas.{at_most, same_number}, KindsOfNodes.is_error, RowParts.{IsFront, front, is_front}}
-use Rattle.{rnix_proof_lemmas.proofs.FollowLemmas.{followed_by, is_followed}, rnix_proof_existence.proofs.{Frames.{is_in_row_of, is_sound}, Growing.{MayGrow, no_name}}}
-use Rattle.rnix_proof_existence.proofs.Growing.{grows_by}
+use Rattle.rnix_grammar.specs.{Begins.begin_of, Tables.is_cur_pos, TokenKinds.is_or, Operands.first_tree, Rules.{after, done, row as row_of_kind}}
+use Rattle.rnix_grammar.specs.{AnnotatedForest.{Token, AnnotatedForest, token, one_token, one_branch, leaf_kind_as}, Rows.{is_atom, is_expression}}
+use Rattle.{rnix_grammar.specs.{Rows.{is_keyword_expression, fits}, TreeLevels.{row_level, is_or_row}}, rnix_proof_lemmas.specs.Machine.Node}
+use Rattle.rnix_proof_lemmas.{specs.SlotRows.left_at, proofs.{Basics.{true_is_not_false, not_if, choice}, LevelLemmas.{at_most, same_number}}}
+use Rattle.rnix_proof_lemmas.proofs.{KindsOfNodes.is_error, RowParts.{IsFront, front, is_front}, FollowLemmas.{followed_by, is_followed}}
+use Rattle.rnix_proof_existence.proofs.{Frames.{is_in_row_of, is_sound}, Growing.{MayGrow, no_name, grows_by}}
 use Rattle.rnix_grammar.specs.declared.position.Position.TheVariants as p
 use Rattle.rnix_grammar.specs.declared.begin.Begin.TheVariants as b
 

@@ -2,13 +2,11 @@
 use Rattle.std.proofs.{Common.{◌≡◌, ℕ, ◌≤◌, Bool, true, false, List, [], ◌∷◌, refl, sym, subst, if◌then◌else◌, ◌&&◌, nat_le}, lemmas.Bool.and_parts}
 use Rattle.{rnix_kinds.specs.declared.kinds.SyntaxKind.{SyntaxKind, TheVariants.NODE_BIN_OP}, rnix_green.specs.Equality.same_kind}
 use Rattle.rnix_grammar.specs.{declared.position.Position.Position, Tables.depth_limit, Rules.Row, Fault.Fault, Reports.{report, repeats}}
-use Rattle.rnix_proof_lemmas.specs.SlotRows.{left_at, kind_at}
-use Rattle.rnix_grammar.specs.AnnotatedForest.{DoubleBind, AnnotatedForest, blank, ◌⊕◌, one_branch, tokens_in}
-use Rattle.rnix_proof_lemmas.specs.Machine.{Head, Node, SecondBind, Operand, Frame, put}
-use Rattle.rnix_proof_lemmas.proofs.{Basics.true_is_not_false, AnnotatedForestLemmas.{⊕-assoc, ⊕-blank}}
-use Rattle.rnix_proof_lemmas.specs.Machine.{opened, made, kind_of}
-use Rattle.rnix_proof_lemmas.proofs.{KindsOfNodes.is_error, FirstTrees.{IsSingle, a_node}, OpenHeads.is_open, ActionTable.{is_waiting, is_in_row}, RowParts.is_left}
-use Rattle.{rnix_proof_lemmas.proofs.RestAt.rest_at, rnix_proof_existence.proofs.Growing.MayGrow}
+use Rattle.{rnix_grammar.specs.AnnotatedForest.{DoubleBind, AnnotatedForest, blank, ◌⊕◌, one_branch, tokens_in}, rnix_proof_lemmas.specs.SlotRows.left_at}
+use Rattle.rnix_proof_lemmas.specs.{SlotRows.kind_at, Machine.{Head, Node, SecondBind, Operand, Frame, put, opened, made, kind_of}}
+use Rattle.rnix_proof_lemmas.proofs.{Basics.true_is_not_false, AnnotatedForestLemmas.{⊕-assoc, ⊕-blank}, KindsOfNodes.is_error, FirstTrees.{IsSingle, a_node}}
+use Rattle.rnix_proof_lemmas.proofs.{OpenHeads.is_open, ActionTable.{is_waiting, is_in_row}, RowParts.is_left, RestAt.rest_at}
+use Rattle.rnix_proof_existence.proofs.Growing.{MayGrow}
 use Rattle.rnix_grammar.specs.declared.position.Position.TheVariants as p
 
 -- a node of the kind may be open at the position; the level of a right operand is at most 16

@@ -2,26 +2,24 @@
 use Rattle.std.proofs.Common.{◌≡◌, inl, ℕ, suc, ◌≤◌, ◌<◌, Bool, true, false, List, [], ◌∷◌, ◌++◌, Option, Some, refl, ap, sym, ◌∙◌, subst, append_assoc}
 use Rattle.std.proofs.{Common.{append-nil, arith, if◌then◌else◌, nat_le, ◌&&◌}, lemmas.Bool.{and_parts, Decides.nat_tests}}
 use Rattle.rnix_kinds.specs.declared.kinds.SyntaxKind.{SyntaxKind, TheVariants.{NODE_IDENT, NODE_PAT_ENTRY, NODE_ERROR, NODE_LITERAL, TOKEN_AT}}
-use Rattle.rnix_grammar.specs.declared.{position.Position.Position, expected_set.ExpectedSet.ExpectedSet, action.Action.Action, slot_table.TheConstants.{PAT_ENTRY, SECOND_BIND}}
-use Rattle.rnix_grammar.specs.{declared.rules.Part.TheVariants.{BoundAlready, TextEnd}, Fault.{Fault, unexpected_eof, unexpected_eof_wanted}}
-use Rattle.rnix_proof_lemmas.specs.SlotRows.{left_at}
-use Rattle.rnix_grammar.specs.{Tables.{depth_limit, is_wanted, wanted_kinds}, Reports.{report, repeats, repeated}, UnwantedRun.run_of, Actions.action_at}
-use Rattle.rnix_grammar.specs.AnnotatedForest.{Token, Note, Unwanted, Extra, DoubleBind, TooDeep, AnnotatedForest, blank, ◌⊕◌, one_token, one_branch, one_fault}
-use Rattle.rnix_grammar.specs.AnnotatedForest.{row_of, tokens_in, is_some, leaf_kind, end_from, head_kind, touches}
-use Rattle.rnix_proof_lemmas.specs.Machine.{Head, Node, SecondBind, Operand}
-use Rattle.rnix_grammar.specs.Rules.{IsExpected}
-use Rattle.rnix_proof_lemmas.specs.Machine.{Frame, put, opened, made, kind_of, dropped, closed, machine, operand_on, limited, reading}
-use Rattle.rnix_grammar.specs.Rules.{IsFollowed, Row, after, counts, done, run_at, missing, expects_end, is_first_expected, second_name, row as row_of_kind, ◌·◌}
-use Rattle.{rnix_grammar.specs.Reads.{IsOver, IsRoom, IsWrong, Reads, deeper, end, missing_part}, rnix_proof_lemmas.proofs.Basics.{true_is_not_false, not_if}}
-use Rattle.rnix_proof_lemmas.proofs.{Basics.{none_left, none_right, not_nil}, AnnotatedForestLemmas.{⊕-blank, tokens_in-row_of}, EveryKind.same, OpenHeads.is_open}
-use Rattle.rnix_proof_lemmas.proofs.{UnwantedRuns.{parted, run_begins, dropped_all}, LevelLemmas.{at_most, atom_fits}, KindsOfNodes.{is_error, keeps_kind}, RestAt.rest_at}
-use Rattle.rnix_proof_lemmas.proofs.{RowParts.{front, expected_as, expects_at, expects_next, is_left, left_no_operand, left_first_expected, left_followed}, ActionTable.IsNodeHere}
-use Rattle.rnix_proof_lemmas.proofs.{ActionTable.{IsOperandHere, MayEnd, IsActionAt, action_is_at}, ReadsFrom.{leaf_from, name_reads, plain_from, second_from, wrong_from}}
-use Rattle.{rnix_proof_lemmas.proofs.ReadsFrom.past_over, rnix_proof_existence.proofs.Frames.{is_in_row_of, is_sound, in_row, AtOpen, node, sound_open, left_of, grown, stayed}}
-use Rattle.rnix_proof_existence.proofs.{Frames.{waits, landed, alone, Below, above, closing}, ActionPositions.{is_reported, leads, leads_on}, OperandTrees.Takes}
-use Rattle.rnix_proof_existence.proofs.{OperandTrees.{left_takes, placed}, OperandFrames.{item_first, name_first, BeginEnds, operand_begins}, OpenFrames.Outcome}
-use Rattle.rnix_proof_existence.proofs.OpenFrames.{Spans, spanned, spans_made, item, IsRead, EndsOn, RowEnds, Closes, Fronts, IsPreserved, IsPreservedBy, row_fronted, fronted}
-use Rattle.rnix_proof_existence.proofs.OpenFrames.{open_ends}
+use Rattle.rnix_grammar.specs.declared.{position.Position.Position, expected_set.ExpectedSet.ExpectedSet, action.Action.Action}
+use Rattle.rnix_grammar.specs.{declared.{slot_table.TheConstants.{PAT_ENTRY, SECOND_BIND}, rules.Part.TheVariants.{BoundAlready, TextEnd}}, Fault.Fault}
+use Rattle.rnix_grammar.specs.{Fault.{unexpected_eof, unexpected_eof_wanted}, Tables.{depth_limit, is_wanted, wanted_kinds}, Reports.{report, repeats}}
+use Rattle.rnix_grammar.specs.{Reports.repeated, UnwantedRun.run_of, Actions.action_at, AnnotatedForest.{Token, Note, Unwanted, Extra, DoubleBind, TooDeep}}
+use Rattle.rnix_grammar.specs.AnnotatedForest.{AnnotatedForest, blank, ◌⊕◌, one_token, one_branch, one_fault, row_of, tokens_in, is_some, leaf_kind, end_from}
+use Rattle.rnix_grammar.specs.{AnnotatedForest.{head_kind, touches}, Rules.{IsExpected, IsFollowed, Row, after, counts, done, run_at, missing, expects_end}}
+use Rattle.rnix_grammar.specs.{Rules.{is_first_expected, second_name, row as row_of_kind, ◌·◌}, Reads.{IsOver, IsRoom, IsWrong, Reads, deeper, end}}
+use Rattle.{rnix_grammar.specs.Reads.missing_part, rnix_proof_lemmas.specs.{SlotRows.left_at, Machine.{Head, Node, SecondBind, Operand, Frame, put, opened}}}
+use Rattle.rnix_proof_lemmas.{specs.Machine.{made, kind_of, dropped, closed, machine, operand_on, limited, reading}, proofs.Basics.{true_is_not_false, not_if}}
+use Rattle.rnix_proof_lemmas.proofs.{Basics.{none_left, none_right, not_nil}, AnnotatedForestLemmas.{⊕-blank, tokens_in-row_of}, EveryKind.same}
+use Rattle.rnix_proof_lemmas.proofs.{OpenHeads.is_open, UnwantedRuns.{parted, run_begins, dropped_all}, LevelLemmas.{at_most, atom_fits}, KindsOfNodes.is_error}
+use Rattle.rnix_proof_lemmas.proofs.{KindsOfNodes.keeps_kind, RestAt.rest_at, RowParts.{front, expected_as, expects_at, expects_next, is_left, left_no_operand}}
+use Rattle.rnix_proof_lemmas.proofs.{RowParts.{left_first_expected, left_followed}, ActionTable.{IsNodeHere, IsOperandHere, MayEnd, IsActionAt, action_is_at}}
+use Rattle.rnix_proof_lemmas.proofs.ReadsFrom.{leaf_from, name_reads, plain_from, second_from, wrong_from, past_over}
+use Rattle.rnix_proof_existence.proofs.Frames.{is_in_row_of, is_sound, in_row, AtOpen, node, sound_open, left_of, grown, stayed, waits, landed, alone, Below}
+use Rattle.rnix_proof_existence.proofs.{Frames.{above, closing}, ActionPositions.{is_reported, leads, leads_on}, OperandTrees.{Takes, left_takes, placed}}
+use Rattle.rnix_proof_existence.proofs.{OperandFrames.{item_first, name_first, BeginEnds, operand_begins}, OpenFrames.{Outcome, Spans, spanned, spans_made}}
+use Rattle.rnix_proof_existence.proofs.OpenFrames.{item, IsRead, EndsOn, RowEnds, Closes, Fronts, IsPreserved, IsPreservedBy, row_fronted, fronted, open_ends}
 use Rattle.rnix_grammar.specs.declared.position.Position.TheVariants as p
 use Rattle.rnix_grammar.specs.declared.action.Action.TheVariants as a
 

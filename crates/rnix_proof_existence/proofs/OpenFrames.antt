@@ -3,12 +3,11 @@ use Rattle.std.proofs.Common.{◌≡◌, ◌⊎◌, inl, inr, ℕ, ◌≤◌, tr
 use Rattle.{rnix_kinds.specs.declared.kinds.SyntaxKind.{SyntaxKind, TheVariants.NODE_ROOT}, rnix_grammar.specs.declared.position.Position.Position}
 use Rattle.rnix_grammar.specs.{declared.{action.Action.Action, rules.Part.TheVariants.TextEnd}, Fault.Fault, Rows.fits, TreeLevels.{row_level, is_or_row}}
 use Rattle.rnix_grammar.specs.{Beginnings.BeginsAs, Operands.goes_on, AnnotatedForest.{Token, Stray, AnnotatedForest, blank, ◌⊕◌, one_token, one_branch}}
-use Rattle.rnix_grammar.specs.{AnnotatedForest.{one_fault, row_of, tokens_in, leaf_kind, end_from}, Reports.report}
-use Rattle.rnix_proof_lemmas.specs.Machine.{Machine, Head, Node, SecondBind}
-use Rattle.rnix_grammar.specs.{Reads.{IsOver, Reads}, Rules.{Row, done, ◌·◌, row as row_of_kind}}
-use Rattle.rnix_proof_lemmas.specs.Machine.{Operand, Frame, put, kind_of, made, min_bp_of, perform}
-use Rattle.rnix_proof_lemmas.proofs.{Basics.true_is_not_false, AnnotatedForestLemmas.{⊕-assoc, tokens_two, tokens_in-⊕}, TokenEnds.end_behind, OpenHeads.is_open}
-use Rattle.{rnix_proof_lemmas.proofs.RestAt.rest_at, rnix_proof_existence.proofs.{Growing.seen_kind, Frames.{Reading, closing}}}
+use Rattle.rnix_grammar.specs.{AnnotatedForest.{one_fault, row_of, tokens_in, leaf_kind, end_from}, Reports.report, Reads.{IsOver, Reads}, Rules.{Row, done}}
+use Rattle.{rnix_grammar.{specs.{Rules.{◌·◌, row as row_of_kind}}}, rnix_proof_lemmas.specs.Machine.{Machine, Head, Node, SecondBind, Operand, Frame, put}}
+use Rattle.rnix_proof_lemmas.{specs.Machine.{kind_of, made, min_bp_of, perform}, proofs.{Basics.true_is_not_false, AnnotatedForestLemmas.{⊕-assoc, tokens_two}}}
+use Rattle.rnix_proof_lemmas.proofs.{AnnotatedForestLemmas.tokens_in-⊕, TokenEnds.end_behind, OpenHeads.is_open, RestAt.rest_at}
+use Rattle.rnix_proof_existence.proofs.{Growing.seen_kind, Frames.{Reading, closing}}
 
 -- the items from ts up to us are those of a row; the item before them ends at n, and the last of them at m
 pub record Spans (ts : List Token) (n : ℕ) (us : List Token) (m : ℕ) (x : AnnotatedForest) : Type 0 where

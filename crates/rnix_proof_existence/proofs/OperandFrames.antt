@@ -4,19 +4,16 @@ use Rattle.rnix_kinds.specs.declared.kinds.SyntaxKind.{SyntaxKind, TheVariants.{
 use Rattle.rnix_kinds.specs.declared.kinds.SyntaxKind.TheVariants.{NODE_LAMBDA, NODE_LEGACY_LET, NODE_PATTERN, NODE_PAT_BIND}
 use Rattle.rnix_grammar.specs.{declared.{begin.Begin.Begin, slot_table.TheConstants.{BOUND_PATTERN, LAMBDA, LEGACY_LET, PATTERN}}, Fault.Fault, Begins.begin_of}
 use Rattle.rnix_grammar.specs.{Begins.second_kind, AnnotatedForest.{Token, Stray, AnnotatedForest, blank, token, ◌⊕◌, one_token, one_branch, one_fault}}
-use Rattle.rnix_grammar.specs.AnnotatedForest.{leaf_kind, leaf_kind_as, head_kind}
-use Rattle.rnix_proof_lemmas.specs.Machine.{Machine, Node, Operand, Frame, put, opened, begun, machine}
-use Rattle.rnix_grammar.specs.{Reports.{report, repeats}, Tables.depth_limit, Operands.{first_tree}}
-use Rattle.rnix_proof_lemmas.specs.BegunOperands.{kind_of}
-use Rattle.rnix_proof_lemmas.specs.Machine.{operand_on}
-use Rattle.rnix_proof_lemmas.specs.SlotRows.{left_at}
+use Rattle.rnix_grammar.specs.{AnnotatedForest.{leaf_kind, leaf_kind_as, head_kind}, Reports.{report, repeats}, Tables.depth_limit, Operands.first_tree}
 use Rattle.rnix_grammar.specs.{Beginnings.BeginsAs, Reads.{IsOver, Reads, end}, Rules.{Row, after, done, is_first_expected, row as row_of_kind}}
-use Rattle.rnix_proof_lemmas.proofs.{Basics.some_same, FollowLemmas.{atom_is_selection_level, followed_keyword}, FirstTrees.{IsSingle, a_node, an_error}, BeginAlike.beginning_is}
-use Rattle.{rnix_proof_lemmas.proofs.{RowParts.{IsFront, front}, ReadsFrom.{leaf_from, name_reads, plain_from, past_over}}, rnix_proof_existence.proofs.Growing.MayGrow}
-use Rattle.rnix_proof_existence.proofs.{Growing.{atom_grows, grows_by}, Frames.{is_in_row_of, is_sound, AtOpen, an_operand, Reading, node, operand, waits, opens_on}}
-use Rattle.rnix_proof_existence.proofs.{BeginLevels.{BeginsTree, begun_front, own_first, leaf_no_or, begun_grows, begun_tree}, OperandTrees.none_repeated}
-use Rattle.rnix_proof_existence.proofs.OpenFrames.{Outcome, Spans, spanned, spans_two, spans_made, item, a_node as lone_node, an_error as lone_error, IsRead, IsCompleteOperand}
-use Rattle.rnix_proof_existence.proofs.OpenFrames.{RowEnds, Closes, Fronts, EndsOn, EndsAll, row_fronted, open_ends, operand_ends, OperandEnds}
+use Rattle.rnix_proof_lemmas.specs.{Machine.{Machine, Node, Operand, Frame, put, opened, begun, machine, operand_on}, BegunOperands.kind_of, SlotRows.left_at}
+use Rattle.rnix_proof_lemmas.proofs.{Basics.some_same, FollowLemmas.{atom_is_selection_level, followed_keyword}, FirstTrees.{IsSingle, a_node, an_error}}
+use Rattle.rnix_proof_lemmas.proofs.{BeginAlike.beginning_is, RowParts.{IsFront, front}, ReadsFrom.{leaf_from, name_reads, plain_from, past_over}}
+use Rattle.rnix_proof_existence.proofs.{Growing.{MayGrow, atom_grows, grows_by}, Frames.{is_in_row_of, is_sound, AtOpen, an_operand, Reading, node, operand}}
+use Rattle.rnix_proof_existence.proofs.{Frames.{waits, opens_on}, BeginLevels.{BeginsTree, begun_front, own_first, leaf_no_or, begun_grows, begun_tree}}
+use Rattle.rnix_proof_existence.proofs.{OperandTrees.none_repeated, OpenFrames.{Outcome, Spans, spanned, spans_two, spans_made, item, a_node as lone_node}}
+use Rattle.rnix_proof_existence.proofs.OpenFrames.{an_error as lone_error, IsRead, IsCompleteOperand, RowEnds, Closes, Fronts, EndsOn, EndsAll, row_fronted}
+use Rattle.rnix_proof_existence.proofs.OpenFrames.{open_ends, operand_ends, OperandEnds}
 use Rattle.rnix_grammar.specs.declared.position.Position.TheVariants as p
 use Rattle.rnix_grammar.specs.declared.begin.Begin.TheVariants as b
 

@@ -6,19 +6,18 @@ use Rattle.rnix_kinds.{specs.{declared.kinds.SyntaxKind.TheVariants.{NODE_BIN_OP
 use Rattle.rnix_grammar.specs.declared.{position.Position.Position, action.Action.Action, slot_table.TheConstants.{APPLIED, HAS_ATTR, SELECT}}
 use Rattle.rnix_grammar.specs.{declared.rules.Part.TheVariants.{Argument, Binary, Suffix}, Fault.Fault, Levels.{binding_power, right_of, max_bp_of}}
 use Rattle.rnix_grammar.specs.{Actions.{follow, goes_on, more_action}, TokenKinds.is_or, Rows.{is_infix, fits}, AnnotatedForest.{Token, AnnotatedForest, blank}}
-use Rattle.rnix_grammar.specs.AnnotatedForest.{◌⊕◌, one_branch, leaf_kind, leaf_kind_as, head_kind}
-use Rattle.rnix_proof_lemmas.specs.Machine.{Node, Operand, Frame, put, opened}
-use Rattle.rnix_grammar.specs.{Reports.repeats, Operands.{first_tree, follows, goes_on as goes_behind}, TreeLevels.{row_level, operator_in, calls_or}}
-use Rattle.rnix_grammar.specs.{Reads.end, Beginnings.{BeginsAs, IsOperandOf}, Rules.{IsExpected, IsFollowed, Row, after, done}}
-use Rattle.rnix_proof_lemmas.specs.SlotRows.{left_at}
-use Rattle.{rnix_grammar.specs.Rules.{row as row_of_kind, ◌·◌, only}, rnix_proof_lemmas.proofs.Basics.{true_is_not_false, not_if, some_same}}
-use Rattle.rnix_proof_lemmas.proofs.{AnnotatedForestLemmas.⊕-assoc, LevelLemmas.{at_most, at_most_true, fits_looser, right_within, within}, FollowLemmas.FollowedTo}
-use Rattle.rnix_proof_lemmas.proofs.{FollowLemmas.{followed_selection, followed_question}, FirstTrees.{a_node, first_in, single_operator, single_calls}, RowParts.IsFront}
-use Rattle.rnix_proof_lemmas.proofs.{RowParts.front, ReadsFrom.{inner_from, leaf_from, name_reads, past_over}, RestAt.rest_at}
-use Rattle.rnix_proof_existence.proofs.{Growing.{MayGrow, seen_kind, atom_seen, grows_by, call_grows, operator_grows}, OperandTrees.{argument_takes, first_placed}}
-use Rattle.rnix_proof_existence.proofs.{OperandTrees.{placed, none_repeated}, Frames.{is_in_row_of, is_sound, AtOperand, Below, One, an_operand, node, operand, opens_on}}
-use Rattle.rnix_proof_existence.proofs.{Frames.{landed, alone}, OpenFrames.{Outcome, Spans, spanned, spans_two, spans_made, item, a_node as lone_node, IsRead, Grows}}
-use Rattle.rnix_proof_existence.proofs.{OpenFrames.{RowEnds, Closes, EndsOn, IsPreservedBy, row_fronted, open_ends, operand_ends}, OperandFrames.{BeginEnds, operand_begins}}
+use Rattle.rnix_grammar.specs.{AnnotatedForest.{◌⊕◌, one_branch, leaf_kind, leaf_kind_as, head_kind}, Reports.repeats, Operands.{first_tree, follows}}
+use Rattle.rnix_grammar.specs.{Operands.{goes_on as goes_behind}, TreeLevels.{row_level, operator_in, calls_or}, Reads.end, Beginnings.{BeginsAs, IsOperandOf}}
+use Rattle.{rnix_grammar.{specs.{Rules.{IsExpected, IsFollowed, Row, after, done, row as row_of_kind, ◌·◌, only}}}, rnix_proof_lemmas.specs.Machine.Node}
+use Rattle.rnix_proof_lemmas.{specs.{Machine.{Operand, Frame, put, opened}, SlotRows.left_at}, proofs.Basics.{true_is_not_false, not_if, some_same}}
+use Rattle.rnix_proof_lemmas.proofs.{AnnotatedForestLemmas.⊕-assoc, LevelLemmas.{at_most, at_most_true, fits_looser, right_within, within}}
+use Rattle.rnix_proof_lemmas.proofs.{FollowLemmas.{FollowedTo, followed_selection, followed_question}, FirstTrees.{a_node, first_in, single_operator}}
+use Rattle.rnix_proof_lemmas.proofs.{FirstTrees.single_calls, RowParts.{IsFront, front}, ReadsFrom.{inner_from, leaf_from, name_reads, past_over}}
+use Rattle.{rnix_proof_lemmas.proofs.RestAt.rest_at, rnix_proof_existence.proofs.Growing.{MayGrow, seen_kind, atom_seen, grows_by, call_grows, operator_grows}}
+use Rattle.rnix_proof_existence.proofs.{OperandTrees.{argument_takes, first_placed, placed, none_repeated}, Frames.{is_in_row_of, is_sound, AtOperand, Below}}
+use Rattle.rnix_proof_existence.proofs.{Frames.{One, an_operand, node, operand, opens_on, landed, alone}, OpenFrames.{Outcome, Spans, spanned, spans_two}}
+use Rattle.rnix_proof_existence.proofs.OpenFrames.{spans_made, item, a_node as lone_node, IsRead, Grows, RowEnds, Closes, EndsOn, IsPreservedBy, row_fronted}
+use Rattle.rnix_proof_existence.proofs.{OpenFrames.{open_ends, operand_ends}, OperandFrames.{BeginEnds, operand_begins}}
 use Rattle.rnix_grammar.specs.declared.position.Position.TheVariants as p
 use Rattle.rnix_grammar.specs.declared.action.Action.TheVariants as a
 

@@ -1,12 +1,11 @@
 -- What the machine of steps makes of a list of items satisfies the rules of readings.
 use Rattle.std.proofs.Common.{◌≡◌, ℕ, ◌+◌, false, List, [], ◌∷◌, ◌++◌, refl, ap, sym, ◌∙◌, subst, append-nil, arith}
-use Rattle.{rnix_kinds.specs.declared.kinds.SyntaxKind.TheVariants.NODE_ROOT, rnix_grammar.specs.declared.{position.Position.Position, slot_table.TheConstants.ROOT}}
-use Rattle.rnix_grammar.specs.{declared.rules.Part.TheVariants.TextEnd, Fault.Fault, AnnotatedForest.{Token, AnnotatedForest, blank, tokens_in}}
-use Rattle.rnix_grammar.specs.{Reads.{Reads, ReadsRoot, end}, Rules.Row}
-use Rattle.rnix_proof_lemmas.specs.Machine.{Machine, Node, Frame, kind_of, step_on, begins, Runs, rest}
-use Rattle.rnix_proof_lemmas.specs.Machine.{then as further}
-use Rattle.{rnix_grammar.specs.Rules.{done, ◌·◌}, rnix_proof_lemmas.proofs.{AnnotatedForestLemmas.⊕-blank, OpenHeads.is_open, RestAt.rest_at}}
-use Rattle.rnix_proof_existence.proofs.{Frames.{no_frame, Reading, node, operand}, OpenFrames.{Outcome, EndsAll}, NodeSteps.node_step, OperandSteps.operand_step}
+use Rattle.{rnix_kinds.specs.declared.kinds.SyntaxKind.TheVariants.NODE_ROOT, rnix_grammar.specs.declared.position.Position.Position}
+use Rattle.rnix_grammar.specs.{declared.{slot_table.TheConstants.ROOT, rules.Part.TheVariants.TextEnd}, Fault.Fault, AnnotatedForest.{Token, AnnotatedForest}}
+use Rattle.rnix_grammar.specs.{AnnotatedForest.{blank, tokens_in}, Reads.{Reads, ReadsRoot, end}, Rules.{Row, done, ◌·◌}}
+use Rattle.rnix_proof_lemmas.specs.Machine.{Machine, Node, Frame, kind_of, step_on, begins, Runs, rest, then as further}
+use Rattle.{rnix_proof_lemmas.proofs.{AnnotatedForestLemmas.⊕-blank, OpenHeads.is_open, RestAt.rest_at}, rnix_proof_existence.proofs.Frames.{no_frame, Reading}}
+use Rattle.rnix_proof_existence.proofs.{Frames.{node, operand}, OpenFrames.{Outcome, EndsAll}, NodeSteps.node_step, OperandSteps.operand_step}
 use Rattle.rnix_grammar.specs.declared.position.Position.TheVariants as p
 
 -- a step keeps what is known of the frames, and if the outcome is reached after it, then also before it

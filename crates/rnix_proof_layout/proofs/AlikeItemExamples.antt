@@ -1,6 +1,5 @@
 -- Items that are alike, and items that are not.
-use Rattle.std.{proofs.Common.{ℕ, List, [], ◌∷◌, None, refl, sym, length}, specs.Prelude.{codes, ◌+◌}}
-use Rattle.rnix_kinds.specs.declared.kinds.SyntaxKind.{SyntaxKind}
+use Rattle.{std.{proofs.Common.{ℕ, List, [], ◌∷◌, None, refl, sym, length}, specs.Prelude.{codes, ◌+◌}}, rnix_kinds.specs.declared.kinds.SyntaxKind.SyntaxKind}
 use Rattle.rnix_kinds.specs.declared.kinds.SyntaxKind.TheVariants.{TOKEN_IDENT, TOKEN_ADD, TOKEN_INTERPOL_START, TOKEN_INTERPOL_END, TOKEN_PATH_REL}
 use Rattle.{rnix_grammar.specs.AnnotatedForest.Token, rnix_proof_lemmas.proofs.Basics.true_is_not_false, rnix_proof_layout.specs.AlikeItems.AreAlike}
 

@@ -1,11 +1,10 @@
 -- Items that are alike are read as one tree, with the same errors.
-use Rattle.std.{proofs.Common.{◌≡◌, ℕ, List, [], ◌∷◌, ◌++◌, Option, Some, None, refl, ap, sym, ◌∙◌, subst}, proofs.lemmas.List.append-nil}
-use Rattle.rnix_kinds.specs.declared.kinds.SyntaxKind.{SyntaxKind, TheVariants.NODE_ROOT}
-use Rattle.{rnix_green.specs.Range.Extent, rnix_grammar.specs.{Fault.Fault, AnnotatedForest.{Token, AnnotatedForest, blank, tokens_in, forget}}}
-use Rattle.rnix_grammar.specs.{declared.rules.Part.TheVariants.TextEnd, Rules.{done, ◌·◌, row}, Reads.ReadsRoot}
-use Rattle.{rnix_proof_lemmas.proofs.ReachableRows.known_row, rnix_proof_layout.specs.AlikeItems.{AreAlike, AreSameFaults}}
-use Rattle.rnix_proof_layout.proofs.{MovedItems.{at, moved, moved_trees, tokens_moved, forget_moved}, Touch.Touching, JoinedRows.row_joins}
-use Rattle.rnix_proof_layout.proofs.MovedReadings.{moves, IsMoved}
+use Rattle.std.proofs.{Common.{◌≡◌, ℕ, List, [], ◌∷◌, ◌++◌, Option, Some, None, refl, ap, sym, ◌∙◌, subst}, lemmas.List.append-nil}
+use Rattle.{rnix_kinds.specs.declared.kinds.SyntaxKind.{SyntaxKind, TheVariants.NODE_ROOT}, rnix_green.specs.Range.Extent, rnix_grammar.specs.Fault.Fault}
+use Rattle.rnix_grammar.specs.{AnnotatedForest.{Token, AnnotatedForest, blank, tokens_in, forget}, declared.rules.Part.TheVariants.TextEnd, Rules.{done, ◌·◌}}
+use Rattle.{rnix_grammar.specs.{Rules.row, Reads.ReadsRoot}, rnix_proof_lemmas.proofs.ReachableRows.known_row, rnix_proof_layout.specs.AlikeItems.AreAlike}
+use Rattle.rnix_proof_layout.{specs.AlikeItems.AreSameFaults, proofs.{MovedItems.{at, moved, moved_trees, tokens_moved, forget_moved}, Touch.Touching}}
+use Rattle.rnix_proof_layout.proofs.{JoinedRows.row_joins, MovedReadings.{moves, IsMoved}}
 
 -- where some items stand
 abbrev places : List Token → List Extent

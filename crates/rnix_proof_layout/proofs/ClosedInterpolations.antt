@@ -1,13 +1,11 @@
 -- An interpolation that is over ends with its closing token, unless the text has ended.
 use Rattle.std.proofs.Common.{◌≡◌, ℕ, true, false, List, [], ◌∷◌, ◌++◌, Option, Some, ap, sym, ◌∙◌, subst, ◌⊎◌, inl, inr}
 use Rattle.rnix_kinds.specs.declared.kinds.SyntaxKind.{SyntaxKind, TheVariants.{TOKEN_INTERPOL_START, TOKEN_INTERPOL_END, NODE_INTERPOL}}
-use Rattle.rnix_grammar.specs.{declared.rules.Part.TheVariants.{Child, Operand, Wanted}, Fault.{Fault}}
-use Rattle.rnix_grammar.specs.AnnotatedForest.{Token, Note, Stray, Unwanted, Extra, DoubleBind, TooDeep, AnnotatedForest, tokens_in, leaf_kind, row_of}
-use Rattle.rnix_grammar.specs.Rules.{Row, done, ◌·◌, after, may_end}
-use Rattle.rnix_grammar.specs.Reads.{Reads, IsWrong, end, leaf, inner, missing_part, wrong, second}
-use Rattle.rnix_proof_lemmas.proofs.{Basics.{true_is_not_false, none_right, some_same, Where, where_one}, EachKind.each_kind, RowKinds.has_row, ReachableRows.is_viable}
-use Rattle.rnix_proof_lemmas.proofs.ViableRows.{reads_viable, end_viable, reads_row, past_ends}
-use Rattle.rnix_proof_layout.proofs.Touch.{last_kind, last_two}
+use Rattle.rnix_grammar.specs.{declared.rules.Part.TheVariants.{Child, Operand, Wanted}, Fault.Fault, AnnotatedForest.{Token, Note, Stray, Unwanted, Extra}}
+use Rattle.rnix_grammar.specs.{AnnotatedForest.{DoubleBind, TooDeep, AnnotatedForest, tokens_in, leaf_kind, row_of}, Rules.{Row, done, ◌·◌, after, may_end}}
+use Rattle.{rnix_grammar.specs.Reads.{Reads, IsWrong, end, leaf, inner, missing_part, wrong, second}, rnix_proof_lemmas.proofs.Basics.true_is_not_false}
+use Rattle.rnix_proof_lemmas.proofs.{Basics.{none_right, some_same, Where, where_one}, EachKind.each_kind, RowKinds.has_row, ReachableRows.is_viable}
+use Rattle.{rnix_proof_lemmas.proofs.ViableRows.{reads_viable, end_viable, reads_row, past_ends}, rnix_proof_layout.proofs.Touch.{last_kind, last_two}}
 
 -- what is left of the row of an interpolation until it is closed
 pub data IsInside : Row → Type 0 where

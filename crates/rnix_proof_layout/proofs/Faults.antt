@@ -1,14 +1,10 @@
 -- The errors of items at other places.
-use Rattle.std.proofs.Common.{◌≡◌, ℕ, Bool, true, false, List, [], ◌∷◌, ◌++◌, take, drop, length, refl, ap, sym, ◌∙◌}
-use Rattle.std.proofs.Common.{if◌then◌else◌}
-use Rattle.rnix_kinds.specs.declared.kinds.SyntaxKind.{SyntaxKind, TheVariants.{NODE_IDENT, NODE_PAT_ENTRY}}
-use Rattle.rnix_green.specs.Range.{Extent}
-use Rattle.rnix_grammar.specs.{Fault.{Fault, unexpected_eof, unexpected_eof_wanted, duplicated_args}, Repaired.is_ended}
-use Rattle.rnix_grammar.specs.Reports.{first_kind, report, repeats, entry_name, is_same_name, has_entry}
-use Rattle.rnix_grammar.specs.AnnotatedForest.{Token, Note, Stray, Unwanted, Extra, DoubleBind, TooDeep, AnnotatedForest, blank, token, branch, fault, tokens_in}
-use Rattle.rnix_grammar.specs.AnnotatedForest.{extent_of}
-use Rattle.rnix_proof_lemmas.proofs.Basics.{true_is_not_false}
-use Rattle.rnix_proof_layout.specs.AlikeItems.{AreOfSameItems, IsSameFault, AreSameFaults}
+use Rattle.std.proofs.Common.{◌≡◌, ℕ, Bool, true, false, List, [], ◌∷◌, ◌++◌, take, drop, length, refl, ap, sym, ◌∙◌, if◌then◌else◌}
+use Rattle.{rnix_kinds.specs.declared.kinds.SyntaxKind.{SyntaxKind, TheVariants.{NODE_IDENT, NODE_PAT_ENTRY}}, rnix_green.specs.Range.Extent}
+use Rattle.rnix_grammar.specs.{Fault.{Fault, unexpected_eof, unexpected_eof_wanted, duplicated_args}, Repaired.is_ended, Reports.{first_kind, report, repeats}}
+use Rattle.rnix_grammar.specs.{Reports.{entry_name, is_same_name, has_entry}, AnnotatedForest.{Token, Note, Stray, Unwanted, Extra, DoubleBind, TooDeep}}
+use Rattle.rnix_grammar.specs.AnnotatedForest.{AnnotatedForest, blank, token, branch, fault, tokens_in, extent_of}
+use Rattle.{rnix_proof_lemmas.proofs.Basics.true_is_not_false, rnix_proof_layout.specs.AlikeItems.{AreOfSameItems, IsSameFault, AreSameFaults}}
 use Rattle.rnix_proof_layout.proofs.{MovedItems.{at, moved, past, later, moved_trees}, Unplaced.{unplaced, alike}}
 
 -- the second of three lists of items

@@ -1,14 +1,12 @@
 -- Where a row asks whether the next item touches, the item before is in a path, or no item is left.
-use Rattle.std.proofs.Common.{◌≡◌, ℕ, Bool, true, false, List, ◌∷◌, Option, Some, None, refl, ap, sym, ◌∙◌, subst, inl, inr, ◌||◌, nat_eq}
-use Rattle.std.proofs.Common.{if◌then◌else◌}
-use Rattle.std.proofs.lemmas.Bool.{and_parts}
-use Rattle.rnix_kinds.specs.declared.kinds.SyntaxKind.{SyntaxKind, TheVariants.{NODE_IDENT, NODE_CUR_POS, NODE_INTERPOL, NODE_LITERAL, TOKEN_INTERPOL_END}}
-use Rattle.{rnix_kinds.proofs.AllKinds.{every, implied}, rnix_green.specs.Equality.{same_kind, same_kind-decides}}
-use Rattle.rnix_grammar.specs.{declared.rules.Part.TheVariants.{EndOr, PathPieces}, Fault.Fault, TokenKinds.{is_path_piece, is_piece_start}}
-use Rattle.rnix_grammar.specs.AnnotatedForest.{Token, Note, Stray, Unwanted, Extra, DoubleBind, TooDeep, AnnotatedForest, tokens_in, leaf_kind, leaf_kind_as}
-use Rattle.rnix_grammar.specs.{Rules.{Row, ◌·◌, row, after, may_end, run_at, opening, IsExpected}, Reads.{Reads, IsWrong}}
-use Rattle.rnix_proof_lemmas.proofs.{Basics.{true_is_not_false, not_if}, RowKinds.has_row, ReachableRows.{IsKnown, every_known}, ViableRows.reads_row}
-use Rattle.rnix_proof_layout.specs.AlikeItems.{is_in_path}
+use Rattle.std.proofs.Common.{◌≡◌, ℕ, Bool, true, false, List, ◌∷◌, Option, Some, None, refl, ap, sym, ◌∙◌, subst, inl, inr, ◌||◌, nat_eq, if◌then◌else◌}
+use Rattle.{std.proofs.lemmas.Bool.and_parts, rnix_kinds.specs.declared.kinds.SyntaxKind.{SyntaxKind, TheVariants.{NODE_IDENT, NODE_CUR_POS, NODE_INTERPOL}}}
+use Rattle.rnix_kinds.{specs.declared.kinds.SyntaxKind.TheVariants.{NODE_LITERAL, TOKEN_INTERPOL_END}, proofs.AllKinds.{every, implied}}
+use Rattle.{rnix_green.specs.Equality.{same_kind, same_kind-decides}, rnix_grammar.specs.{declared.rules.Part.TheVariants.{EndOr, PathPieces}, Fault.Fault}}
+use Rattle.rnix_grammar.specs.{TokenKinds.{is_path_piece, is_piece_start}, AnnotatedForest.{Token, Note, Stray, Unwanted, Extra, DoubleBind, TooDeep}}
+use Rattle.rnix_grammar.specs.{AnnotatedForest.{AnnotatedForest, tokens_in, leaf_kind, leaf_kind_as}, Rules.{Row, ◌·◌, row, after, may_end, run_at, opening}}
+use Rattle.{rnix_grammar.specs.{Rules.IsExpected, Reads.{Reads, IsWrong}}, rnix_proof_lemmas.proofs.{Basics.{true_is_not_false, not_if}, RowKinds.has_row}}
+use Rattle.{rnix_proof_lemmas.proofs.{ReachableRows.{IsKnown, every_known}, ViableRows.reads_row}, rnix_proof_layout.specs.AlikeItems.is_in_path}
 use Rattle.rnix_proof_layout.proofs.{Touch.{asks_touch, Joins, last_kind}, Moves.joined, ClosedInterpolations.{IsInside, at_start, Closes, closes}}
 
 dead : {A : Type 0} → false ≡ true → A

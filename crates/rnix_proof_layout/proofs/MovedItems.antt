@@ -1,9 +1,8 @@
 -- Items at other places: their kinds and texts stay.
 use Rattle.std.proofs.Common.{◌≡◌, suc, Bool, true, false, List, [], ◌∷◌, ◌++◌, length, refl, ap, sym, ◌∙◌, if◌then◌else◌}
-use Rattle.rnix_kinds.specs.declared.kinds.SyntaxKind.TheVariants.{NODE_ERROR}
-use Rattle.rnix_green.specs.{Range.Extent, Forest.{leaf, node}}
-use Rattle.rnix_grammar.specs.{declared.expected_set.ExpectedSet.ExpectedSet, Tables.is_wanted, UnwantedRun.run_of, Begins.second_kind}
-use Rattle.rnix_grammar.specs.AnnotatedForest.{Token, AnnotatedForest, blank, token, branch, fault, row_of, tokens_in, forget, is_some, head_kind}
+use Rattle.{rnix_kinds.specs.declared.kinds.SyntaxKind.TheVariants.NODE_ERROR, rnix_green.specs.{Range.Extent, Forest.{leaf, node}}}
+use Rattle.rnix_grammar.specs.{declared.expected_set.ExpectedSet.ExpectedSet, Tables.is_wanted, UnwantedRun.run_of, Begins.second_kind, AnnotatedForest.Token}
+use Rattle.rnix_grammar.specs.AnnotatedForest.{AnnotatedForest, blank, token, branch, fault, row_of, tokens_in, forget, is_some, head_kind}
 
 -- the first of some places, or another
 abbrev pub place_or : Extent → List Extent → Extent

@@ -1,17 +1,15 @@
 -- A reading of some items is one of the same items at other places, with the same errors, if they touch alike inside paths.
 use Rattle.std.proofs.Common.{◌≡◌, ℕ, true, false, List, [], ◌∷◌, ◌++◌, Option, Some, refl, ap, sym, ◌∙◌, subst, inl, append_assoc}
-use Rattle.rnix_kinds.specs.declared.kinds.SyntaxKind.{SyntaxKind, TheVariants.NODE_ERROR}
-use Rattle.{rnix_green.specs.Range.Extent, rnix_grammar.specs.{Fault.Fault, Reports.{report, repeats}}}
-use Rattle.rnix_grammar.specs.AnnotatedForest.{Token, Note, DoubleBind, AnnotatedForest, blank, token, branch, fault, ◌⊕◌, one_token, one_branch, one_fault, row_of}
-use Rattle.rnix_grammar.specs.AnnotatedForest.{tokens_in, leaf_kind, head_kind, end_from}
-use Rattle.rnix_grammar.specs.Rules.{Row, done, row, second_name, after, IsExpected, is_first_expected, level_at, IsFollowed}
-use Rattle.rnix_grammar.specs.{Beginnings.IsOperandOf, Reads.{Reads, IsOver, IsWrong, deeper, end, leaf, inner, missing_part, wrong, second}}
-use Rattle.rnix_proof_lemmas.proofs.{AnnotatedForestLemmas.tokens_in-row_of}
-use Rattle.rnix_proof_lemmas.proofs.{ReachableRows.{IsKnown, known_row, known_second, known_after, known_missing, known_past, known_wrong}, MissingFacts.missing_ended}
-use Rattle.rnix_proof_layout.specs.AlikeItems.{AreSameFaults, IsSameFault}
-use Rattle.rnix_proof_layout.proofs.MovedItems.{at, moved, past, later, moved_trees, moved_two, past_two, tokens_moved, tokens_after, row_moved, head_moved}
-use Rattle.rnix_proof_layout.proofs.Unplaced.{unplaced, unplaced-⊕, unplaced_moved, alike, first_expected_same, followed_same}
-use Rattle.rnix_proof_layout.proofs.Touch.{Touching, Joins, last_kind, last_two, touching_after, expected_same}
+use Rattle.{rnix_kinds.specs.declared.kinds.SyntaxKind.{SyntaxKind, TheVariants.NODE_ERROR}, rnix_green.specs.Range.Extent, rnix_grammar.specs.Fault.Fault}
+use Rattle.rnix_grammar.specs.{Reports.{report, repeats}, AnnotatedForest.{Token, Note, DoubleBind, AnnotatedForest, blank, token, branch, fault, ◌⊕◌}}
+use Rattle.rnix_grammar.specs.{AnnotatedForest.{one_token, one_branch, one_fault, row_of, tokens_in, leaf_kind, head_kind, end_from}, Rules.{Row, done, row}}
+use Rattle.rnix_grammar.specs.{Rules.{second_name, after, IsExpected, is_first_expected, level_at, IsFollowed}, Beginnings.IsOperandOf, Reads.{Reads, IsOver}}
+use Rattle.rnix_grammar.specs.Reads.{IsWrong, deeper, end, leaf, inner, missing_part, wrong, second}
+use Rattle.rnix_proof_lemmas.proofs.{AnnotatedForestLemmas.tokens_in-row_of, ReachableRows.{IsKnown, known_row, known_second, known_after, known_missing}}
+use Rattle.{rnix_proof_lemmas.proofs.{ReachableRows.{known_past, known_wrong}, MissingFacts.missing_ended}, rnix_proof_layout.specs.AlikeItems.AreSameFaults}
+use Rattle.rnix_proof_layout.{specs.AlikeItems.IsSameFault, proofs.MovedItems.{at, moved, past, later, moved_trees, moved_two, past_two, tokens_moved}}
+use Rattle.rnix_proof_layout.proofs.{MovedItems.{tokens_after, row_moved, head_moved}, Unplaced.{unplaced, unplaced-⊕, unplaced_moved, alike}}
+use Rattle.rnix_proof_layout.proofs.{Unplaced.{first_expected_same, followed_same}, Touch.{Touching, Joins, last_kind, last_two, touching_after, expected_same}}
 use Rattle.rnix_proof_layout.proofs.{Moves.{operand_at, wrong_same}, Faults.{same_here, report_same, ended_same, same_append, repeats_same}}
 use Rattle.rnix_proof_layout.proofs.JoinedRows.{no_joins, row_joins, leaf_joins, node_joins, wrong_joins}
 

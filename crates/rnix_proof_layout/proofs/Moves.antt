@@ -1,23 +1,13 @@
 -- A reading of some items is one of the same items at other places, if they touch alike inside paths.
-use Rattle.std.proofs.Common.{◌≡◌, ℕ, ◌≤◌, Bool, true, List, [], ◌∷◌, ◌++◌, Option, Some, None, refl, ap, sym, ◌∙◌, subst, if◌then◌else◌}
-use Rattle.std.proofs.Common.{◌&&◌, ◌||◌, nat_le}
-use Rattle.rnix_kinds.specs.declared.kinds.SyntaxKind.{SyntaxKind, TheVariants.{NODE_INTERPOL}}
-use Rattle.rnix_green.specs.Range.{Extent}
-use Rattle.rnix_grammar.specs.{UnwantedRun.run_of}
-use Rattle.rnix_grammar.specs.AnnotatedForest.{Token, Note, Stray, Unwanted, Extra, DoubleBind, TooDeep, AnnotatedForest, blank}
-use Rattle.rnix_grammar.specs.AnnotatedForest.{one_fault}
-use Rattle.rnix_grammar.specs.{AnnotatedForest.{row_of, tokens_in, head_kind}, Beginnings.{first_kind, BeginsAs, IsOperandOf}}
-use Rattle.rnix_grammar.specs.{Operands.{first_tree, follows, goes_on}, TreeLevels.row_level}
-use Rattle.rnix_grammar.specs.Rules.{Row, after, level_at}
-use Rattle.rnix_grammar.specs.{Begins.second_kind, Levels.binding_power}
-use Rattle.rnix_grammar.specs.Reads.{IsWrong}
-use Rattle.{std.specs.List.list_all, rnix_kinds.proofs.AllKinds.{all_kinds, every}, rnix_green.specs.Equality.same_kind}
-use Rattle.{rnix_grammar.specs.TokenKinds.is_path_piece}
-use Rattle.rnix_proof_lemmas.proofs.{ReachableRows.{IsKnown, every_known}}
-use Rattle.rnix_proof_layout.proofs.MovedItems.{moved, past, later, moved_trees, moved_two, tokens_after, row_moved, head_moved, second_moved}
-use Rattle.rnix_proof_layout.proofs.MovedItems.{length_moved, some_moved, run_moved}
-use Rattle.rnix_proof_layout.proofs.Unplaced.{unplaced, unplaced_moved, alike, row_level_same, first_same, follows_same, asked_same}
-use Rattle.rnix_proof_layout.proofs.Touch.{asks_touch}
+use Rattle.std.proofs.Common.{◌≡◌, ℕ, ◌≤◌, Bool, true, List, [], ◌∷◌, ◌++◌, Option, Some, None, refl, ap, sym, ◌∙◌, subst, if◌then◌else◌, ◌&&◌, ◌||◌, nat_le}
+use Rattle.{std.specs.List.list_all, rnix_kinds.{specs.declared.kinds.SyntaxKind.{SyntaxKind, TheVariants.NODE_INTERPOL}, proofs.AllKinds.{all_kinds, every}}}
+use Rattle.{rnix_green.specs.{Range.Extent, Equality.same_kind}, rnix_grammar.specs.{UnwantedRun.run_of, AnnotatedForest.{Token, Note, Stray, Unwanted, Extra}}}
+use Rattle.rnix_grammar.specs.{AnnotatedForest.{DoubleBind, TooDeep, AnnotatedForest, blank, one_fault, row_of, tokens_in, head_kind}, Beginnings.first_kind}
+use Rattle.rnix_grammar.specs.{Beginnings.{BeginsAs, IsOperandOf}, Operands.{first_tree, follows, goes_on}, TreeLevels.row_level, Rules.{Row, after, level_at}}
+use Rattle.rnix_grammar.specs.{Begins.second_kind, Levels.binding_power, Reads.IsWrong, TokenKinds.is_path_piece}
+use Rattle.{rnix_proof_lemmas.proofs.ReachableRows.{IsKnown, every_known}, rnix_proof_layout.proofs.MovedItems.{moved, past, later, moved_trees, moved_two}}
+use Rattle.rnix_proof_layout.proofs.{MovedItems.{tokens_after, row_moved, head_moved, second_moved, length_moved, some_moved, run_moved}, Unplaced.unplaced}
+use Rattle.rnix_proof_layout.proofs.{Unplaced.{unplaced_moved, alike, row_level_same, first_same, follows_same, asked_same}, Touch.asks_touch}
 
 -- the next item goes on with a tree, at other places
 goes_same : (level : ℕ) (x y : AnnotatedForest) (ts : List Token) (ps : List Extent) → unplaced x ≡ unplaced y

@@ -1,12 +1,9 @@
 -- Where it counts whether an item touches the one before: inside paths.
 use Rattle.std.proofs.Common.{◌≡◌, ℕ, Bool, true, false, List, [], ◌∷◌, ◌++◌, Option, Some, refl, ap, sym, ◌∙◌, ◌⊎◌, inl, inr, ◌&&◌, ◌||◌, nat_eq}
-use Rattle.rnix_kinds.specs.declared.kinds.SyntaxKind.{SyntaxKind}
-use Rattle.rnix_green.specs.{Range.Extent, Equality.same_kind}
-use Rattle.rnix_grammar.specs.{declared.rules.Part.TheVariants.{Child, Atom, First, Suffix, Binary, Names, Optional, PathPieces}, TokenKinds.{is_piece_start}}
-use Rattle.rnix_grammar.specs.AnnotatedForest.{Token, end_from}
-use Rattle.rnix_grammar.specs.Rules.{Row, ◌·◌, ◌or◌, begins_attr, opening, expects_item, expects, IsExpected}
-use Rattle.{rnix_proof_lemmas.proofs.Basics.not_nil, rnix_proof_layout.proofs.MovedItems.{at, moved, past, later}}
-use Rattle.rnix_proof_layout.specs.AlikeItems.{is_in_path, may_join}
+use Rattle.{rnix_kinds.specs.declared.kinds.SyntaxKind.SyntaxKind, rnix_green.specs.{Range.Extent, Equality.same_kind}}
+use Rattle.rnix_grammar.specs.{declared.rules.Part.TheVariants.{Child, Atom, First, Suffix, Binary, Names, Optional, PathPieces}, TokenKinds.is_piece_start}
+use Rattle.rnix_grammar.specs.{AnnotatedForest.{Token, end_from}, Rules.{Row, ◌·◌, ◌or◌, begins_attr, opening, expects_item, expects, IsExpected}}
+use Rattle.{rnix_proof_lemmas.proofs.Basics.not_nil, rnix_proof_layout.{proofs.MovedItems.{at, moved, past, later}, specs.AlikeItems.{is_in_path, may_join}}}
 
 -- items touch those before at the old and the new places alike, where it counts
 abbrev pub Touching : Option SyntaxKind → ℕ → ℕ → List Token → List Extent → Type 0

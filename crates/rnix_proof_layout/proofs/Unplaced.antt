@@ -1,15 +1,10 @@
 -- Trees without the ranges of their tokens: what a reading asks of trees does not depend on ranges.
 use Rattle.std.proofs.Common.{◌≡◌, ℕ, List, Option, Some, None, refl, ap, sym, ◌∙◌, if◌then◌else◌, ◌&&◌, ◌||◌}
-use Rattle.rnix_kinds.specs.declared.kinds.SyntaxKind.{SyntaxKind}
-use Rattle.rnix_kinds.specs.declared.kinds.SyntaxKind.TheVariants.{NODE_LAMBDA}
-use Rattle.rnix_kinds.specs.SyntaxKind.{is_fn_arg}
-use Rattle.rnix_green.specs.{Range.Extent}
-use Rattle.rnix_grammar.specs.AnnotatedForest.{Token, AnnotatedForest, blank, token, branch, fault, ◌⊕◌, one_branch, tokens_in}
-use Rattle.rnix_grammar.specs.TreeLevels.{operator_in, prefix_in, is_or_leaf, is_or_row, calls_or, level_of, row_level, is_atom_row}
-use Rattle.rnix_grammar.specs.Operands.{first_tree, follows}
-use Rattle.rnix_grammar.specs.{declared.rules.Part.TheVariants.{Suffix, Binary, Argument}, TokenKinds.is_or}
-use Rattle.rnix_grammar.specs.Rules.{Row, ◌·◌, is_first_expected, level_at, IsFollowed}
-use Rattle.{rnix_grammar.specs.Levels.binding_power, rnix_proof_lemmas.proofs.EachKind.each_kind}
+use Rattle.{rnix_kinds.specs.{declared.kinds.SyntaxKind.{SyntaxKind, TheVariants.NODE_LAMBDA}, SyntaxKind.is_fn_arg}, rnix_green.specs.Range.Extent}
+use Rattle.rnix_grammar.specs.{AnnotatedForest.{Token, AnnotatedForest, blank, token, branch, fault, ◌⊕◌, one_branch, tokens_in}, TreeLevels.operator_in}
+use Rattle.rnix_grammar.specs.{TreeLevels.{prefix_in, is_or_leaf, is_or_row, calls_or, level_of, row_level, is_atom_row}, Operands.{first_tree, follows}}
+use Rattle.rnix_grammar.specs.{declared.rules.Part.TheVariants.{Suffix, Binary, Argument}, TokenKinds.is_or, Rules.{Row, ◌·◌, is_first_expected, level_at}}
+use Rattle.{rnix_grammar.specs.{Rules.IsFollowed, Levels.binding_power}, rnix_proof_lemmas.proofs.EachKind.each_kind}
 use Rattle.rnix_proof_layout.proofs.MovedItems.{moved_trees, later, past}
 
 -- a token at no place

@@ -1,17 +1,14 @@
 -- Each expression of a derivation is a derivation of its own items.
-use Rattle.std.proofs.Common.{◌≡◌, ℕ, suc, ◌≤◌, max, Bool, true, false, List, [], ◌∷◌, ◌++◌, refl, ap, sym, ◌∙◌, subst, append-nil, append_assoc, map, if◌then◌else◌, arith}
-use Rattle.std.{specs.List.All, proofs.lemmas.List.{map-append, Elements.{All-nil, All-cons, All-append}}}
-use Rattle.rnix_kinds.specs.declared.kinds.SyntaxKind.{SyntaxKind, TheVariants.{NODE_PAT_ENTRY, NODE_ROOT}}
-use Rattle.rnix_green.specs.Forest.{Forest, empty, node}
-use Rattle.rnix_grammar.specs.AnnotatedForest.{Token, lexeme_of, AnnotatedForest, blank, token, branch, fault, tokens_in, forget}
-use Rattle.rnix_grammar.specs.{Yield.yield, Derivation.{beyond, annotate, IsDerivation}, Nest.{nest, nests}}
-use Rattle.rnix_grammar.specs.{Rows.is_expression, Levels.expression_level, Tables.depth_limit, PathPieces.{is_path, is_joined, ArePaths}}
-use Rattle.rnix_proof_lemmas.specs.LeafKinds.{HaveTokenKinds}
-use Rattle.rnix_grammar.specs.Grammar as G
-use Rattle.rnix_proof_lemmas.proofs.{Basics.true_is_not_false, AnnotateLemmas.annotate_root}
-use Rattle.rnix_proof_strict.proofs.GrammarLeaves.{expression_fine}
+use Rattle.std.proofs.Common.{◌≡◌, ℕ, suc, ◌≤◌, max, Bool, true, false, List, [], ◌∷◌, ◌++◌, refl, ap, sym, ◌∙◌, subst, append-nil, append_assoc, map}
+use Rattle.std.{proofs.{Common.{if◌then◌else◌, arith}, lemmas.List.{map-append, Elements.{All-nil, All-cons, All-append}}}, specs.List.All}
+use Rattle.{rnix_kinds.specs.declared.kinds.SyntaxKind.{SyntaxKind, TheVariants.{NODE_PAT_ENTRY, NODE_ROOT}}, rnix_green.specs.Forest.{Forest, empty, node}}
+use Rattle.rnix_grammar.specs.{AnnotatedForest.{Token, lexeme_of, AnnotatedForest, blank, token, branch, fault, tokens_in, forget}, Yield.yield}
+use Rattle.rnix_grammar.specs.{Derivation.{beyond, annotate, IsDerivation}, Nest.{nest, nests}, Rows.is_expression, Levels.expression_level, Tables.depth_limit}
+use Rattle.{rnix_grammar.specs.PathPieces.{is_path, is_joined, ArePaths}, rnix_proof_lemmas.{specs.LeafKinds.HaveTokenKinds, proofs.Basics.true_is_not_false}}
+use Rattle.{rnix_proof_lemmas.proofs.AnnotateLemmas.annotate_root, rnix_proof_strict.proofs.GrammarLeaves.expression_fine}
 use Rattle.rnix_proof_locality.specs.{Expressions.{Expression, is_expression_node, expression_if, expressions}, ReadAlone.IsDerived}
 use Rattle.rnix_proof_locality.proofs.{StrictExpressions.{path_begins, IsStrict, AreStrict, strict_kind, root_strict}, PathsAlone.{path_before, paths_before}}
+use Rattle.rnix_grammar.specs.Grammar as G
 
 -- the trees of a row, over its tokens, are the row
 beyond_own : (f : AnnotatedForest) (us : List Token) → HaveTokenKinds f → beyond (forget f) (tokens_in f ++ us) ≡ us

@@ -1,12 +1,10 @@
 -- The expressions of some trees, by their texts without white space.
-use Rattle.std.{proofs.Common.{◌≡◌, ℕ, List, [], ◌∷◌, map, refl, codes}, specs.Prelude.flat_map}
-use Rattle.rnix_kinds.specs.declared.kinds.SyntaxKind.{SyntaxKind}
+use Rattle.{std.{proofs.Common.{◌≡◌, ℕ, List, [], ◌∷◌, map, refl, codes}, specs.Prelude.flat_map}, rnix_kinds.specs.declared.kinds.SyntaxKind.SyntaxKind}
 use Rattle.rnix_kinds.specs.declared.kinds.SyntaxKind.TheVariants.{TOKEN_ADD, TOKEN_ASSIGN, TOKEN_DOT, TOKEN_IDENT, TOKEN_INTERPOL_END, TOKEN_INTERPOL_START}
-use Rattle.rnix_kinds.specs.declared.kinds.SyntaxKind.TheVariants.{TOKEN_L_BRACE, TOKEN_L_PAREN, TOKEN_R_BRACE, TOKEN_R_PAREN, TOKEN_SEMICOLON}
-use Rattle.rnix_kinds.specs.declared.kinds.SyntaxKind.TheVariants.{NODE_APPLY, NODE_ATTR_SET, NODE_ATTRPATH, NODE_ATTRPATH_VALUE, NODE_BIN_OP, NODE_DYNAMIC}
-use Rattle.rnix_kinds.specs.declared.kinds.SyntaxKind.TheVariants.{NODE_IDENT, NODE_PAREN}
-use Rattle.rnix_grammar.specs.AnnotatedForest.{Token, AnnotatedForest, blank, token, branch, one_branch}
-use Rattle.rnix_proof_locality.specs.Expressions.{Expression, own_items, expressions}
+use Rattle.rnix_kinds.specs.declared.kinds.SyntaxKind.TheVariants.{TOKEN_L_BRACE, TOKEN_L_PAREN, TOKEN_R_BRACE, TOKEN_R_PAREN, TOKEN_SEMICOLON, NODE_APPLY}
+use Rattle.rnix_kinds.specs.declared.kinds.SyntaxKind.TheVariants.{NODE_ATTR_SET, NODE_ATTRPATH, NODE_ATTRPATH_VALUE, NODE_BIN_OP, NODE_DYNAMIC, NODE_IDENT}
+use Rattle.{rnix_kinds.specs.declared.kinds.SyntaxKind.TheVariants.NODE_PAREN, rnix_grammar.specs.AnnotatedForest.{Token, AnnotatedForest, blank, token}}
+use Rattle.{rnix_grammar.specs.AnnotatedForest.{branch, one_branch}, rnix_proof_locality.specs.Expressions.{Expression, own_items, expressions}}
 
 -- the texts of the expressions of a tree
 abbrev texts : AnnotatedForest → List (List ℕ)

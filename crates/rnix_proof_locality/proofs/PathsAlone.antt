@@ -1,9 +1,8 @@
 -- Where the pieces of its paths touch, so it is with a row alone, without the items behind it.
-use Rattle.std.proofs.{Common.{◌≡◌, ℕ, Bool, true, false, List, [], ◌∷◌, ◌++◌, refl, sym, subst, append_assoc, if◌then◌else◌, nat_eq}, lemmas.Bool.{and_parts, and_from}}
-use Rattle.rnix_grammar.specs.AnnotatedForest.{Token, AnnotatedForest, blank, token, branch, fault, tokens_in, forget, end_from}
-use Rattle.rnix_grammar.specs.PathPieces.{goes_on_path, joins, joins_first, is_joined, is_path, ArePaths}
-use Rattle.rnix_proof_lemmas.proofs.Basics.{true_is_not_false}
-use Rattle.rnix_proof_locality.proofs.StrictExpressions.{nodes_begin, AreStrict}
+use Rattle.std.proofs.{Common.{◌≡◌, ℕ, Bool, true, false, List, [], ◌∷◌, ◌++◌, refl, sym, subst, append_assoc, if◌then◌else◌, nat_eq}, lemmas.Bool.and_parts}
+use Rattle.{std.proofs.lemmas.Bool.and_from, rnix_grammar.specs.AnnotatedForest.{Token, AnnotatedForest, blank, token, branch, fault, tokens_in, forget}}
+use Rattle.rnix_grammar.specs.{AnnotatedForest.end_from, PathPieces.{goes_on_path, joins, joins_first, is_joined, is_path, ArePaths}}
+use Rattle.{rnix_proof_lemmas.proofs.Basics.true_is_not_false, rnix_proof_locality.proofs.StrictExpressions.{nodes_begin, AreStrict}}
 
 -- no item goes on with a path where fewer items follow
 stops_before : (n : ℕ) (us vs : List Token) → (if goes_on_path n (us ++ vs) then false else true) ≡ true → (if goes_on_path n us then false else true) ≡ true

@@ -1,26 +1,12 @@
 -- A text whose items are like those of an expression that is a derivation of them is read as that expression.
 use Rattle.std.{specs.List.All, proofs.{Common.{◌≡◌, ℕ, List, [], ◌∷◌, None, refl, sym, ◌∙◌, subst, get_or}, lemmas.List.Elements.All-weaker}}
-use Rattle.{rnix_kinds.specs.Lexical.Tokens.tokens_of, rnix_green.specs.{Forest.Forest, Tree.Tree}}
-use Rattle.rnix_grammar.specs.{Fault.Fault, AnnotatedForest.{Token, AnnotatedForest, tokens_in, without_trivia}, Reads.ReadsRoot}
-use Rattle.rnix_grammar.specs.{Derivation.{annotate, IsDerivation}, Parsed.IsParsed}
-use Rattle.rnix_proof_lemmas.proofs.{AnnotateLemmas.{IsAnnotatedRoot, annotate_root}, SpelledLemmas.AreRuled}
-use Rattle.{rnix_proof_strict.proofs.GrammarLeaves.expression_fine, rnix_proof_uniqueness.proofs.AllReads.one_row}
-use Rattle.rnix_proof_completeness.proofs.{GrammarReads.expression_reads, OverTokens.{Over, over_trees}}
-use Rattle.{rnix_proof_layout.specs.AlikeItems.{AreAlike, AreSameFaults}, rnix_proof_layout.proofs.AlikeReadings.alike_readings}
-use Rattle.rnix_parser.{specs.{Significant.significant, ReadAlike.items_of}, proofs.{ParsedLemmas.all_follows, OneReading.reading_items, SignificantTrees.significant_tree}}
-use Rattle.rnix_proof_locality.specs.{Expressions.{Expression, alone, own_items}, ReadAlone.{expressions_in, IsDerived, IsReadAs}}
-use Rattle.rnix_proof_locality.proofs.DerivedExpressions.{derived_expressions}
-
--- a derivation over its items
-over_items : (t : Forest) (ts : List Token) → IsDerivation t ts → IsAnnotatedRoot t ts
-over_items t ts d = annotate_root t ts (expression_fine d.strict).tokens d.yields
-
--- is a reading of them, without errors
-reads_itself : (t : Forest) (ts : List Token) → IsDerivation t ts → ReadsRoot (annotate t ts) []
-reads_itself t ts d =
-    let l = over_items t ts d in
-    let over : Over t (annotate t ts) = subst (λ z. Over z (annotate t ts)) l.forest (over_trees (annotate t ts) l.spelled) in
-    expression_reads d.strict (annotate t ts) over d.joined d.shallow
+use Rattle.{rnix_kinds.specs.Lexical.Tokens.tokens_of, rnix_green.specs.Tree.Tree, rnix_grammar.specs.{Fault.Fault, AnnotatedForest.{Token, AnnotatedForest}}}
+use Rattle.rnix_grammar.specs.{AnnotatedForest.{tokens_in, without_trivia}, Derivation.{annotate, IsDerivation}, Parsed.IsParsed}
+use Rattle.{rnix_proof_lemmas.proofs.SpelledLemmas.AreRuled, rnix_proof_uniqueness.proofs.AllReads.one_row, rnix_proof_layout.specs.AlikeItems.AreAlike}
+use Rattle.{rnix_proof_layout.{specs.AlikeItems.AreSameFaults, proofs.AlikeReadings.alike_readings}, rnix_parser.specs.Significant.significant}
+use Rattle.rnix_parser.{specs.ReadAlike.items_of, proofs.{ParsedLemmas.all_follows, OneReading.reading_items, SignificantTrees.significant_tree}}
+use Rattle.{rnix_parser.proofs.Found.{annotate_derivation, derivation_reads}, rnix_proof_locality.specs.Expressions.{Expression, alone, own_items}}
+use Rattle.rnix_proof_locality.{specs.ReadAlone.{expressions_in, IsDerived, IsReadAs}, proofs.DerivedExpressions.derived_expressions}
 
 -- the same errors as none
 no_errors : (xs ys : List Token) (es : List Fault) → AreSameFaults xs ys [] es → es ≡ []
@@ -30,14 +16,14 @@ no_errors xs ys (e ∷ es) h = absurd h
 -- a text that has the items of a derivation
 pub read_as : (y : List ℕ) → AreRuled (tokens_of y) → (e : Expression) → IsDerived e → IsReadAs y e
 read_as y ruled e d alike u es s =
-    let l = over_items (alone e) (own_items e) d in
+    let l = annotate_derivation (alone e) (own_items e) d in
     let q : IsParsed (tokens_of y) u es = all_follows (tokens_of y) u es ruled s in
     let f : AnnotatedForest = annotate (alone e) (own_items e) in
     let g : AnnotatedForest = without_trivia q.reading.annotated in
     let there : tokens_in g ≡ items_of y = reading_items q.reading in
     let moved : AreAlike None 0 0 (tokens_in f) (tokens_in g) =
     subst (λ (z : List Token). AreAlike None 0 0 z (tokens_in g)) (sym l.tokens) (subst (AreAlike None 0 0 (own_items e)) (sym there) alike) in
-    let same = alike_readings one_row f g [] es (reads_itself (alone e) (own_items e) d) q.reading.reads moved in
+    let same = alike_readings one_row f g [] es (derivation_reads (alone e) (own_items e) d) q.reading.reads moved in
     (no_errors (tokens_in f) (tokens_in g) es same.1, significant_tree q ∙ sym same.0 ∙ l.forest)
 
 pub read_each : (y : List ℕ) → AreRuled (tokens_of y) → (es : List Expression) → All (λ e. IsDerived e → IsReadAs y e) es

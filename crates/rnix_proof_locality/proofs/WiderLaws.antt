@@ -1,19 +1,16 @@
 -- What is not so: the name `or` is not read alone as it is, and not each expression of a broken text is.
-use Rattle.std.proofs.Common.{◌≡◌, ◌≤◌, ◌<◌, ℕ, false, List, [], ◌∷◌, ◌++◌, refl, sym, subst, codes, arith}
-use Rattle.std.specs.{List.All, Str.chars, Char.encode_utf8}
+use Rattle.std.{proofs.Common.{◌≡◌, ◌≤◌, ◌<◌, ℕ, false, List, [], ◌∷◌, ◌++◌, refl, sym, subst, codes, arith}, specs.{List.All, Str.chars, Char.encode_utf8}}
 use Rattle.rnix_kinds.specs.Lexical.{Tokens.{tokens_of, normal_cut, cut_at, tokens_behind}, Texts.{space_len, begins_space, char_len}}
-use Rattle.rnix_kinds.specs.declared.kinds.SyntaxKind.{SyntaxKind}
-use Rattle.rnix_kinds.specs.declared.kinds.SyntaxKind.TheVariants.{TOKEN_ASSIGN, TOKEN_IDENT, TOKEN_INTEGER, TOKEN_L_BRACE, TOKEN_L_PAREN, TOKEN_OR, TOKEN_R_BRACE, TOKEN_SEMICOLON}
-use Rattle.rnix_kinds.specs.declared.kinds.SyntaxKind.TheVariants.{NODE_ATTR_SET, NODE_ATTRPATH, NODE_ATTRPATH_VALUE, NODE_IDENT, NODE_LITERAL, NODE_PAREN}
-use Rattle.rnix_green.specs.Forest.{Forest, empty, leaf, node}
-use Rattle.rnix_grammar.specs.{Fault.Fault, Derivation.{annotate, IsDerivation}, Rows.is_expression, Reads.ReadsRoot, Levels.{expression_level, selection_level}, Tables.{is_or, depth_limit}}
-use Rattle.rnix_grammar.specs.AnnotatedForest.{Token, AnnotatedForest, blank, token, branch, fault, without_trivia}
-use Rattle.rnix_grammar.specs.Grammar as G
-use Rattle.rnix_proof_lemmas.proofs.Basics.{true_is_not_false}
-use Rattle.rnix_proof_uniqueness.proofs.OnlyReading.{Case, IsMade, holds, trees_in, items_of}
-use Rattle.rnix_proof_uniqueness.proofs.Examples as of
-use Rattle.rnix_parser.proofs.OneReading.{has_reading, reading_items}
+use Rattle.rnix_kinds.specs.declared.kinds.SyntaxKind.{SyntaxKind, TheVariants.{TOKEN_ASSIGN, TOKEN_IDENT, TOKEN_INTEGER, TOKEN_L_BRACE, TOKEN_L_PAREN}}
+use Rattle.rnix_kinds.specs.declared.kinds.SyntaxKind.TheVariants.{TOKEN_OR, TOKEN_R_BRACE, TOKEN_SEMICOLON, NODE_ATTR_SET, NODE_ATTRPATH, NODE_ATTRPATH_VALUE}
+use Rattle.{rnix_kinds.specs.declared.kinds.SyntaxKind.TheVariants.{NODE_IDENT, NODE_LITERAL, NODE_PAREN}, rnix_green.specs.Forest.{Forest, empty, leaf, node}}
+use Rattle.rnix_grammar.specs.{Fault.Fault, Derivation.{annotate, IsDerivation}, Rows.is_expression, Reads.ReadsRoot, Levels.expression_level}
+use Rattle.rnix_grammar.specs.{Levels.selection_level, Tables.{is_or, depth_limit}, AnnotatedForest.{Token, AnnotatedForest, blank, token, branch, fault}}
+use Rattle.{rnix_grammar.specs.AnnotatedForest.without_trivia, rnix_proof_lemmas.proofs.Basics.true_is_not_false, rnix_proof_uniqueness.proofs.OnlyReading.Case}
+use Rattle.{rnix_proof_uniqueness.proofs.OnlyReading.{IsMade, holds, trees_in, items_of}, rnix_parser.proofs.OneReading.{has_reading, reading_items}}
 use Rattle.rnix_proof_locality.specs.{Expressions.{Expression, expression_if, expressions}, ReadAlone.IsDerived}
+use Rattle.rnix_grammar.specs.Grammar as G
+use Rattle.rnix_proof_uniqueness.proofs.Examples as of
 
 -- `or` is no expression
 or_atom : {s : List ℕ} → G.Atom NODE_IDENT (leaf TOKEN_IDENT s empty) → is_or s ≡ false

@@ -1,14 +1,10 @@
 -- What follows `{` and a name or `}`, whether a pattern or a set has begun: no error at these items.
 use Rattle.std.proofs.Common.{◌≡◌, ℕ, Bool, true, false, List, [], ◌∷◌, refl, sym, ◌∙◌, subst, ◌⊎◌, inl, inr, if◌then◌else◌}
 use Rattle.rnix_kinds.specs.declared.kinds.SyntaxKind.{SyntaxKind, TheVariants.{TOKEN_IDENT, TOKEN_R_BRACE, NODE_ATTR_SET}}
-use Rattle.rnix_grammar.specs.declared.{slot_table.TheConstants.SET, begin.Begin.Begin}
-use Rattle.rnix_grammar.specs.{Fault.Fault, AnnotatedForest.Token, Levels.selection_level}
-use Rattle.rnix_proof_lemmas.specs.FrameKinds.{AreStacked}
-use Rattle.rnix_proof_lemmas.specs.Machine.{Frame, Machine, begun, step, Runs}
-use Rattle.rnix_proof_lemmas.specs.Machine.{rest as here, then as further}
-use Rattle.rnix_proof_lemmas.proofs.{Basics.not_nil, StackedFrames.step_stacked}
-use Rattle.{rnix_proof_prefix.specs.Prefix.BeginAllFrom}
-use Rattle.rnix_proof_prefix.proofs.{Late.{AreFrom, AreLate, HasLate}, LateSteps.late_runs}
+use Rattle.rnix_grammar.specs.{declared.{slot_table.TheConstants.SET, begin.Begin.Begin}, Fault.Fault, AnnotatedForest.Token, Levels.selection_level}
+use Rattle.rnix_proof_lemmas.{specs.{FrameKinds.AreStacked, Machine.{Frame, Machine, begun, step, Runs, rest as here, then as further}}, proofs.Basics.not_nil}
+use Rattle.{rnix_proof_lemmas.proofs.StackedFrames.step_stacked, rnix_proof_prefix.{specs.Prefix.BeginAllFrom, proofs.Late.{AreFrom, AreLate, HasLate}}}
+use Rattle.rnix_proof_prefix.proofs.LateSteps.{late_runs}
 use Rattle.rnix_grammar.specs.declared.begin.Begin.TheVariants as b
 
 -- all errors of what is read from here to the end of the text begin at a byte or behind it

@@ -1,18 +1,16 @@
 -- No step takes an error back, nor closes a frame that has one to report without its report: where the end has none, there was none before.
 use Rattle.std.proofs.Common.{◌≡◌, ℕ, suc, Bool, true, false, List, [], ◌∷◌, ◌++◌, Option, refl, ap, sym, ◌∙◌, subst, if◌then◌else◌, nat_le}
 use Rattle.rnix_kinds.specs.declared.kinds.SyntaxKind.{SyntaxKind, TheVariants.{NODE_APPLY, NODE_IDENT, NODE_PAT_ENTRY}}
-use Rattle.rnix_grammar.specs.declared.{slot_table.TheConstants.APPLIED, action.Action.Action, begin.Begin.Begin}
-use Rattle.rnix_grammar.specs.{Fault.{Fault, unexpected_eof, unexpected_eof_wanted, too_deep}, Tables.{depth_limit, wanted_kinds}, Actions.action_at, Begins.{begin_of, second_kind}}
-use Rattle.rnix_grammar.specs.AnnotatedForest.{Token, Stray, Unwanted, Extra, DoubleBind, TooDeep, AnnotatedForest, blank, token, branch, fault, ◌⊕◌, one_branch, one_fault}
-use Rattle.rnix_grammar.specs.{AnnotatedForest.{row_of, tokens_in, head_kind, touches}, Reports.{report, repeated, repeated_if}, UnwantedRun.run_of}
-use Rattle.rnix_proof_lemmas.specs.Machine.{Head, Node, SecondBind, Operand, Frame, Machine, put, opened, leaf, kind_of, made, min_bp_of, machine, closed, entry_closed}
-use Rattle.rnix_proof_lemmas.specs.Machine.{begun, limited, operand_on, reading, perform, step_on, step, Runs}
-use Rattle.rnix_proof_lemmas.specs.Machine.{rest as here, then as further}
-use Rattle.rnix_proof_lemmas.specs.Allowed.{Allowed}
-use Rattle.rnix_proof_lemmas.specs.FrameKinds.{FrameKind, Entry, SecondBindFrame, frame_kind, frame_kind_of_head, IsStackedOn, AreStacked}
-use Rattle.rnix_proof_lemmas.proofs.{AllowedLemmas.allowed, StackedFrames.step_stacked, Basics.{true_is_not_false, not_nil, none_left, none_right}}
-use Rattle.rnix_proof_prefix.proofs.Late.{row_below, IsLate, AreLate, head_frame, head_entry}
-use Rattle.rnix_proof_prefix.specs.Prefix.{BeginAllFrom}
+use Rattle.rnix_grammar.specs.{declared.{slot_table.TheConstants.APPLIED, action.Action.Action, begin.Begin.Begin}, Fault.{Fault, unexpected_eof}}
+use Rattle.rnix_grammar.specs.{Fault.{unexpected_eof_wanted, too_deep}, Tables.{depth_limit, wanted_kinds}, Actions.action_at, Begins.{begin_of, second_kind}}
+use Rattle.rnix_grammar.specs.AnnotatedForest.{Token, Stray, Unwanted, Extra, DoubleBind, TooDeep, AnnotatedForest, blank, token, branch, fault, ◌⊕◌}
+use Rattle.rnix_grammar.specs.{AnnotatedForest.{one_branch, one_fault, row_of, tokens_in, head_kind, touches}, Reports.{report, repeated, repeated_if}}
+use Rattle.{rnix_grammar.specs.UnwantedRun.run_of, rnix_proof_lemmas.specs.Machine.{Head, Node, SecondBind, Operand, Frame, Machine, put, opened, leaf}}
+use Rattle.rnix_proof_lemmas.specs.Machine.{kind_of, made, min_bp_of, machine, closed, entry_closed, begun, limited, operand_on, reading, perform, step_on}
+use Rattle.rnix_proof_lemmas.specs.{Machine.{step, Runs, rest as here, then as further}, Allowed.Allowed, FrameKinds.{FrameKind, Entry, SecondBindFrame}}
+use Rattle.rnix_proof_lemmas.{specs.FrameKinds.{frame_kind, frame_kind_of_head, IsStackedOn, AreStacked}, proofs.AllowedLemmas.allowed}
+use Rattle.rnix_proof_lemmas.proofs.{StackedFrames.step_stacked, Basics.{true_is_not_false, not_nil, none_left, none_right}}
+use Rattle.rnix_proof_prefix.{proofs.Late.{row_below, IsLate, AreLate, head_frame, head_entry}, specs.Prefix.BeginAllFrom}
 use Rattle.rnix_grammar.specs.declared.position.Position.TheVariants as p
 use Rattle.rnix_grammar.specs.declared.action.Action.TheVariants as a
 use Rattle.rnix_grammar.specs.declared.begin.Begin.TheVariants as b

@@ -1,16 +1,13 @@
 -- What open frames still have to report, and where these errors begin.
 use Rattle.std.proofs.Common.{◌≡◌, ℕ, ◌≤◌, Bool, true, false, List, [], ◌∷◌, ◌++◌, Some, refl, ap, sym, ◌∙◌, subst}
-use Rattle.rnix_kinds.specs.declared.kinds.SyntaxKind.{SyntaxKind}
-use Rattle.rnix_kinds.specs.declared.kinds.SyntaxKind.TheVariants.{NODE_IDENT, NODE_PAT_ENTRY, NODE_ROOT}
-use Rattle.rnix_grammar.specs.{declared.{position.Position.Position, expected_set.ExpectedSet.ExpectedSet}, Fault.{Fault}, Tables.{stops}, UnwantedRun.run_of, Layout.tail_of}
-use Rattle.rnix_grammar.specs.AnnotatedForest.{Token, Note, Stray, Unwanted, Extra, DoubleBind, TooDeep, AnnotatedForest, blank, token, branch, fault, ◌⊕◌, one_branch}
-use Rattle.rnix_grammar.specs.AnnotatedForest.{tokens_in, head_kind}
-use Rattle.rnix_grammar.specs.Reports.{report, entry_name, has_entry, repeated_if, repeated}
-use Rattle.rnix_proof_lemmas.specs.Machine.{Head, Node, SecondBind, Operand, Frame, Machine, leaf, dropped}
-use Rattle.rnix_proof_lemmas.specs.Allowed.{is_there}
-use Rattle.rnix_proof_lemmas.specs.FrameKinds.{FrameKind, Entry, SecondBindFrame, NodeFrame, frame_kind, frame_kind_of_head, frame_kind_of_node, IsStackedOn}
-use Rattle.rnix_proof_lemmas.proofs.{Basics.{true_is_not_false, choice}, AnnotatedForestLemmas.tokens_in-⊕, UnwantedRuns.run_begins}
-use Rattle.rnix_proof_prefix.specs.Prefix.{BeginsFrom, BeginAllFrom}
+use Rattle.rnix_kinds.specs.declared.kinds.SyntaxKind.{SyntaxKind, TheVariants.{NODE_IDENT, NODE_PAT_ENTRY, NODE_ROOT}}
+use Rattle.rnix_grammar.specs.{declared.{position.Position.Position, expected_set.ExpectedSet.ExpectedSet}, Fault.Fault, Tables.stops, UnwantedRun.run_of}
+use Rattle.rnix_grammar.specs.{Layout.tail_of, AnnotatedForest.{Token, Note, Stray, Unwanted, Extra, DoubleBind, TooDeep, AnnotatedForest, blank, token}}
+use Rattle.rnix_grammar.specs.{AnnotatedForest.{branch, fault, ◌⊕◌, one_branch, tokens_in, head_kind}, Reports.{report, entry_name, has_entry, repeated_if}}
+use Rattle.{rnix_grammar.specs.Reports.repeated, rnix_proof_lemmas.specs.Machine.{Head, Node, SecondBind, Operand, Frame, Machine, leaf, dropped}}
+use Rattle.rnix_proof_lemmas.specs.{Allowed.is_there, FrameKinds.{FrameKind, Entry, SecondBindFrame, NodeFrame, frame_kind, frame_kind_of_head}}
+use Rattle.rnix_proof_lemmas.{specs.FrameKinds.{frame_kind_of_node, IsStackedOn}, proofs.Basics.{true_is_not_false, choice}}
+use Rattle.{rnix_proof_lemmas.proofs.{AnnotatedForestLemmas.tokens_in-⊕, UnwantedRuns.run_begins}, rnix_proof_prefix.specs.Prefix.{BeginsFrom, BeginAllFrom}}
 
 -- all tokens begin at a byte or behind it
 abbrev pub AreFrom : ℕ → List Token → Type 0

@@ -1,19 +1,16 @@
 -- Each step reports errors, and opens frames that have some to report, at the items that are left.
 use Rattle.std.proofs.Common.{ℕ, suc, ◌≤◌, Bool, true, false, List, [], ◌∷◌, ◌++◌, Option, ap, ◌∙◌, if◌then◌else◌, nat_le}
 use Rattle.rnix_kinds.specs.declared.kinds.SyntaxKind.{SyntaxKind, TheVariants.{NODE_ERROR, NODE_APPLY}}
-use Rattle.rnix_grammar.specs.declared.{position.Position.Position, slot_table.TheConstants.APPLIED, action.Action.Action, begin.Begin.Begin}
-use Rattle.rnix_grammar.specs.{Fault.{Fault, unexpected_eof, unexpected_eof_wanted, too_deep}, Tables.{depth_limit, wanted_kinds}, Actions.action_at, Begins.{begin_of, second_kind}}
-use Rattle.rnix_grammar.specs.AnnotatedForest.{Token, Stray, Unwanted, Extra, DoubleBind, TooDeep, AnnotatedForest, blank, ◌⊕◌, one_branch, one_fault, row_of}
-use Rattle.rnix_grammar.specs.{AnnotatedForest.{tokens_in, head_kind, touches}, Reports.{report, repeated}, UnwantedRun.run_of}
-use Rattle.rnix_proof_lemmas.specs.Machine.{Node, Operand, Frame, Machine, put, opened, leaf, kind_of, made, min_bp_of, closed, entry_closed}
-use Rattle.rnix_proof_lemmas.specs.Machine.{begun, limited, operand_on, reading, perform, step_on, step, Runs}
-use Rattle.rnix_proof_lemmas.specs.Machine.{rest as here, then as further}
-use Rattle.rnix_proof_lemmas.specs.Allowed.{Allowed, is_there}
-use Rattle.rnix_proof_lemmas.specs.FrameKinds.{IsStackedOn, AreStacked}
-use Rattle.rnix_proof_lemmas.proofs.{AllowedLemmas.allowed, StackedFrames.{BeginsInner, begin_inner, step_stacked}}
-use Rattle.{rnix_proof_prefix.specs.Prefix.{BeginAllFrom}}
-use Rattle.rnix_proof_prefix.proofs.Late.{AreFrom, from_tail, from_dropped, starts_there, starts_run, report_from, more_from, row_below, AreLate}
-use Rattle.rnix_proof_prefix.proofs.Late.{HasLate, late_more, plain_late, entry_late, second_late, head_frame, entry_reports, second_reports}
+use Rattle.rnix_grammar.specs.{declared.{position.Position.Position, slot_table.TheConstants.APPLIED, action.Action.Action, begin.Begin.Begin}, Fault.Fault}
+use Rattle.rnix_grammar.specs.{Fault.{unexpected_eof, unexpected_eof_wanted, too_deep}, Tables.{depth_limit, wanted_kinds}, Actions.action_at, Begins.begin_of}
+use Rattle.rnix_grammar.specs.{Begins.second_kind, AnnotatedForest.{Token, Stray, Unwanted, Extra, DoubleBind, TooDeep, AnnotatedForest, blank, ◌⊕◌}}
+use Rattle.rnix_grammar.specs.{AnnotatedForest.{one_branch, one_fault, row_of, tokens_in, head_kind, touches}, Reports.{report, repeated}, UnwantedRun.run_of}
+use Rattle.rnix_proof_lemmas.specs.Machine.{Node, Operand, Frame, Machine, put, opened, leaf, kind_of, made, min_bp_of, closed, entry_closed, begun, limited}
+use Rattle.rnix_proof_lemmas.specs.{Machine.{operand_on, reading, perform, step_on, step, Runs, rest as here, then as further}, Allowed.{Allowed, is_there}}
+use Rattle.rnix_proof_lemmas.{specs.FrameKinds.{IsStackedOn, AreStacked}, proofs.{AllowedLemmas.allowed, StackedFrames.{BeginsInner, begin_inner}}}
+use Rattle.{rnix_proof_lemmas.proofs.StackedFrames.step_stacked, rnix_proof_prefix.{specs.Prefix.BeginAllFrom, proofs.Late.{AreFrom, from_tail, from_dropped}}}
+use Rattle.rnix_proof_prefix.proofs.Late.{starts_there, starts_run, report_from, more_from, row_below, AreLate, HasLate, late_more, plain_late, entry_late}
+use Rattle.rnix_proof_prefix.proofs.Late.{second_late, head_frame, entry_reports, second_reports}
 use Rattle.rnix_grammar.specs.declared.position.Position.TheVariants as p
 use Rattle.rnix_grammar.specs.declared.action.Action.TheVariants as a
 use Rattle.rnix_grammar.specs.declared.begin.Begin.TheVariants as b

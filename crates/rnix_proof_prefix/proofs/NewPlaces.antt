@@ -1,11 +1,10 @@
 -- Items that begin like others are read alike at other places: the shared ones where the others are, and those behind them somewhere after.
-use Rattle.std.proofs.Common.{◌≡◌, ℕ, zero, suc, Bool, true, false, List, [], ◌∷◌, ◌++◌, take, Option, Some, None, refl, ap, sym, ◌∙◌, subst, arith, nat_eq, append-nil}
-use Rattle.std.proofs.{lemmas.Bool.Decides.nat_tests}
-use Rattle.rnix_kinds.specs.declared.kinds.SyntaxKind.{SyntaxKind, TheVariants.NODE_ROOT}
+use Rattle.std.proofs.Common.{◌≡◌, ℕ, zero, suc, Bool, true, false, List, [], ◌∷◌, ◌++◌, take, Option, Some, None, refl, ap, sym, ◌∙◌, subst, arith, nat_eq}
+use Rattle.{std.proofs.{Common.append-nil, lemmas.Bool.Decides.nat_tests}, rnix_kinds.specs.declared.kinds.SyntaxKind.{SyntaxKind, TheVariants.NODE_ROOT}}
 use Rattle.{rnix_green.specs.Range.Extent, rnix_grammar.specs.{Fault.Fault, AnnotatedForest.{Token, AnnotatedForest, blank, tokens_in}, Reads.ReadsRoot}}
-use Rattle.rnix_grammar.specs.{declared.rules.Part.TheVariants.TextEnd, Rules.{done, ◌·◌, row}}
-use Rattle.{rnix_proof_lemmas.proofs.ReachableRows.known_row, rnix_proof_layout.specs.AlikeItems.{may_join, AreAlike, AreSameFaults}}
-use Rattle.rnix_proof_layout.proofs.{MovedItems.{at, moved, moved_trees, tokens_moved}, Touch.Touching, JoinedRows.row_joins, MovedReadings.{moves, IsMoved}}
+use Rattle.{rnix_grammar.specs.{declared.rules.Part.TheVariants.TextEnd, Rules.{done, ◌·◌, row}}, rnix_proof_lemmas.proofs.ReachableRows.known_row}
+use Rattle.rnix_proof_layout.{specs.AlikeItems.{may_join, AreAlike, AreSameFaults}, proofs.{MovedItems.{at, moved, moved_trees, tokens_moved}, Touch.Touching}}
+use Rattle.rnix_proof_layout.proofs.{JoinedRows.row_joins, MovedReadings.{moves, IsMoved}}
 
 -- where an item is placed behind another: there or one byte on, as it touches that or not
 abbrev beside : Bool → ℕ → ℕ

@@ -1,8 +1,6 @@
 -- The items of a text in order: each begins where another ended or behind it.
-use Rattle.std.proofs.Common.{ℕ, ◌≤◌, ◌+◌, true, false, List, [], ◌∷◌, ◌++◌, length, arith}
-use Rattle.rnix_kinds.specs.{Lexical.Tokens.Lexeme, SyntaxKind.is_trivia}
-use Rattle.rnix_grammar.specs.{AnnotatedForest.{Token, placed_from, end_from}, Layout.{items, item_if}}
-use Rattle.rnix_proof_prefix.proofs.Late.{AreFrom}
+use Rattle.{std.proofs.Common.{ℕ, ◌≤◌, ◌+◌, true, false, List, [], ◌∷◌, ◌++◌, length, arith}, rnix_kinds.specs.{Lexical.Tokens.Lexeme, SyntaxKind.is_trivia}}
+use Rattle.{rnix_grammar.specs.{AnnotatedForest.{Token, placed_from, end_from}, Layout.{items, item_if}}, rnix_proof_prefix.proofs.Late.AreFrom}
 
 -- no token begins before the end of the one before it, or ends before it begins
 abbrev pub AreOrdered : ℕ → List Token → Type 0

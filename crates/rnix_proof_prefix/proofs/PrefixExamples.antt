@@ -1,10 +1,9 @@
 -- What is not so: the items `{` and `...` may have an error, and items that touch otherwise inside paths are not the same.
 use Rattle.std.{proofs.Common.{◌≡◌, ℕ, zero, suc, ◌≤◌, false, List, [], ◌∷◌, ◌++◌, refl, arith}, specs.Prelude.{codes, map, ◌+◌}}
-use Rattle.rnix_kinds.specs.declared.kinds.SyntaxKind.{SyntaxKind, TheVariants.{TOKEN_L_BRACE, TOKEN_ELLIPSIS, TOKEN_R_BRACE, TOKEN_COLON, TOKEN_IDENT, TOKEN_PATH_REL, TOKEN_INTERPOL_START, TOKEN_INTERPOL_END}}
-use Rattle.rnix_grammar.specs.AnnotatedForest.{Token, lexeme_of, end_from}
-use Rattle.rnix_proof_lemmas.specs.Machine.{Machine, begins, step, Runs}
-use Rattle.rnix_proof_lemmas.specs.Machine.{rest as here, then as further}
-use Rattle.rnix_proof_prefix.{specs.Prefix.BeginAllFrom, proofs.{Late.AreFrom, CleanSteps.HasNone}}
+use Rattle.rnix_kinds.specs.declared.kinds.SyntaxKind.{SyntaxKind, TheVariants.{TOKEN_L_BRACE, TOKEN_ELLIPSIS, TOKEN_R_BRACE, TOKEN_COLON, TOKEN_IDENT}}
+use Rattle.rnix_kinds.specs.declared.kinds.SyntaxKind.TheVariants.{TOKEN_PATH_REL, TOKEN_INTERPOL_START, TOKEN_INTERPOL_END}
+use Rattle.{rnix_grammar.specs.AnnotatedForest.{Token, lexeme_of, end_from}, rnix_proof_lemmas.{specs.{Machine.{Machine, begins, step, Runs, rest as here}}}}
+use Rattle.{rnix_proof_lemmas.{specs.{Machine.{then as further}}}, rnix_proof_prefix.{specs.Prefix.BeginAllFrom, proofs.{Late.AreFrom, CleanSteps.HasNone}}}
 
 -- an item at a place
 abbrev item : SyntaxKind → List ℕ → ℕ → ℕ → Token

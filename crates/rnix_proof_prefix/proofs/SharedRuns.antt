@@ -1,11 +1,8 @@
 -- A list of items has no error at those that it shares with a list that is read without errors.
-use Rattle.std.proofs.Common.{◌≡◌, inl, inr, ℕ, false, List, [], ◌∷◌, ◌++◌, refl, ap, sym, ◌∙◌, subst, arith}
-use Rattle.rnix_grammar.specs.{Fault.Fault, Actions.action_at, AnnotatedForest.{Token, head_kind, touches}}
-use Rattle.rnix_proof_lemmas.specs.Machine.{Frame, Machine, machine, step_on, step, begins, Runs}
-use Rattle.rnix_proof_lemmas.specs.Machine.{rest as here, then as further}
-use Rattle.rnix_proof_lemmas.specs.FrameKinds.{AreStacked}
-use Rattle.rnix_proof_lemmas.proofs.{Basics.not_nil, StackedFrames.{step_stacked, begins_stacked}}
-use Rattle.rnix_proof_prefix.specs.Prefix.{BeginAllFrom, end_undecided}
+use Rattle.{std.proofs.Common.{◌≡◌, inl, inr, ℕ, false, List, [], ◌∷◌, ◌++◌, refl, ap, sym, ◌∙◌, subst, arith}, rnix_grammar.specs.Fault.Fault}
+use Rattle.{rnix_grammar.specs.{Actions.action_at, AnnotatedForest.{Token, head_kind, touches}}, rnix_proof_lemmas.specs.Machine.{Frame, Machine, machine}}
+use Rattle.rnix_proof_lemmas.{specs.{Machine.{step_on, step, begins, Runs, rest as here, then as further}, FrameKinds.AreStacked}, proofs.Basics.not_nil}
+use Rattle.{rnix_proof_lemmas.proofs.StackedFrames.{step_stacked, begins_stacked}, rnix_proof_prefix.specs.Prefix.{BeginAllFrom, end_undecided}}
 use Rattle.rnix_proof_prefix.proofs.{Late.{AreFrom, AreLate, HasLate}, LateSteps.{late_step, late_runs}, CleanSteps.{HasNone, clean_step, clean_runs, all_late}}
 use Rattle.rnix_proof_prefix.proofs.{BraceSteps.IsApart, SharedSteps.{IsShared, Goes, perform_shared}}
 

@@ -1,14 +1,13 @@
 -- Two lists of items that begin with the same items are read by the same steps, as long as one of these is left; or an error is reported.
-use Rattle.std.proofs.Common.{◌≡◌, ◌⊎◌, inl, inr, ℕ, suc, Bool, true, false, List, [], ◌∷◌, ◌++◌, Option, Some, refl, ap, sym, ◌∙◌, subst}
-use Rattle.std.proofs.Common.{if◌then◌else◌, nat_le, nat_eq}
-use Rattle.rnix_kinds.specs.declared.kinds.SyntaxKind.{SyntaxKind, TheVariants.{TOKEN_COLON, TOKEN_AT, TOKEN_IDENT, TOKEN_L_BRACE, TOKEN_R_BRACE}}
-use Rattle.rnix_kinds.specs.declared.kinds.SyntaxKind.TheVariants.{TOKEN_ELLIPSIS, TOKEN_LET, NODE_APPLY}
-use Rattle.rnix_grammar.specs.declared.{slot_table.TheConstants.APPLIED, action.Action.Action, begin.Begin.Begin}
-use Rattle.rnix_grammar.specs.{Fault.{Fault, too_deep}, Tables.{is_cur_pos, depth_limit}, Begins.{is_pattern, begin_name, begin_let, begin_of, second_kind}}
-use Rattle.rnix_grammar.specs.{AnnotatedForest.{Token, Stray, Unwanted, Extra, blank, head_kind}, Reports.report, UnwantedRun.run_of, Layout.tail_of}
-use Rattle.rnix_proof_lemmas.specs.Machine.{Node, Operand, Frame, Machine, put, opened, min_bp_of, machine, closed, entry_closed, begun, limited, operand_on, reading, perform}
-use Rattle.rnix_proof_lemmas.proofs.{Basics.{choice, true_is_not_false, not_nil, none_right}, StackedFrames.{BeginsInner, begin_inner}}
-use Rattle.rnix_proof_prefix.specs.Prefix.{BeginAllFrom, are_undecided, end_undecided}
+use Rattle.std.proofs.Common.{◌≡◌, ◌⊎◌, inl, inr, ℕ, suc, Bool, true, false, List, [], ◌∷◌, ◌++◌, Option, Some, refl, ap, sym, ◌∙◌, subst, if◌then◌else◌}
+use Rattle.{std.proofs.Common.{nat_le, nat_eq}, rnix_kinds.specs.declared.kinds.SyntaxKind.{SyntaxKind, TheVariants.{TOKEN_COLON, TOKEN_AT, TOKEN_IDENT}}}
+use Rattle.rnix_kinds.specs.declared.kinds.SyntaxKind.TheVariants.{TOKEN_L_BRACE, TOKEN_R_BRACE, TOKEN_ELLIPSIS, TOKEN_LET, NODE_APPLY}
+use Rattle.rnix_grammar.specs.{declared.{slot_table.TheConstants.APPLIED, action.Action.Action, begin.Begin.Begin}, Fault.{Fault, too_deep}, Tables.is_cur_pos}
+use Rattle.rnix_grammar.specs.{Tables.depth_limit, Begins.{is_pattern, begin_name, begin_let, begin_of, second_kind}, AnnotatedForest.{Token, Stray, Unwanted}}
+use Rattle.rnix_grammar.specs.{AnnotatedForest.{Extra, blank, head_kind}, Reports.report, UnwantedRun.run_of, Layout.tail_of}
+use Rattle.rnix_proof_lemmas.specs.Machine.{Node, Operand, Frame, Machine, put, opened, min_bp_of, machine, closed, entry_closed, begun, limited, operand_on}
+use Rattle.rnix_proof_lemmas.{specs.Machine.{reading, perform}, proofs.{Basics.{choice, true_is_not_false, not_nil, none_right}, StackedFrames.BeginsInner}}
+use Rattle.{rnix_proof_lemmas.proofs.StackedFrames.begin_inner, rnix_proof_prefix.specs.Prefix.{BeginAllFrom, are_undecided, end_undecided}}
 use Rattle.rnix_proof_prefix.proofs.{Late.{AreFrom, AreLate}, LateSteps.begun_late, BraceSteps.{IsApart, late_apart, braces, opened_apart}}
 use Rattle.rnix_grammar.specs.declared.position.Position.TheVariants as p
 use Rattle.rnix_grammar.specs.declared.action.Action.TheVariants as a

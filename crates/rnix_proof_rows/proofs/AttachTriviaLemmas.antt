@@ -1,13 +1,11 @@
 -- Rows with their trivia, as the items of the rows and the tokens make them.
-use Rattle.std.proofs.Common.{◌≡◌, true, false, List, [], ◌∷◌, ◌++◌, refl, ap, sym, ◌∙◌, subst}
-use Rattle.{rnix_kinds.specs.{declared.kinds.SyntaxKind.SyntaxKind, SyntaxKind.is_trivia}, rnix_grammar.specs.AnnotatedForest.{Token, Note, TooDeep}}
-use Rattle.rnix_grammar.specs.AnnotatedForest.{AnnotatedForest, blank, token, branch, fault, ◌⊕◌, one_branch, one_fault, without_trivia, token_if, leaf_kind}
-use Rattle.rnix_grammar.specs.{AnnotatedForest.head_kind, Layout.{from_item, from_item_if, trivia_if, trivia_before, items, tail_of, is_last, trivia_after}}
-use Rattle.rnix_grammar.specs.Layout.{rest_after, left_after, with_trivia}
-use Rattle.rnix_proof_lemmas.specs.Allowed.{is_there}
-use Rattle.rnix_proof_lemmas.specs.Machine.{with_leading, after_item, leaf_in, leaf, run_row, run_rest}
-use Rattle.rnix_proof_lemmas.proofs.{Basics.true_is_not_false, AnnotatedForestLemmas.{⊕-assoc, ⊕-blank}, LayoutLemmas.{trivia-from_item, from_item-from_item}}
-use Rattle.rnix_proof_lemmas.proofs.{LayoutLemmas.{items_head, items-view, from_item_item}, WithoutTriviaLemmas.{with_leading_without_trivia, added_without_trivia, run_bared}}
+use Rattle.{std.proofs.Common.{◌≡◌, true, false, List, [], ◌∷◌, ◌++◌, refl, ap, sym, ◌∙◌, subst}, rnix_kinds.specs.declared.kinds.SyntaxKind.SyntaxKind}
+use Rattle.{rnix_kinds.specs.SyntaxKind.is_trivia, rnix_grammar.specs.AnnotatedForest.{Token, Note, TooDeep, AnnotatedForest, blank, token, branch, fault, ◌⊕◌}}
+use Rattle.rnix_grammar.specs.{AnnotatedForest.{one_branch, one_fault, without_trivia, token_if, leaf_kind, head_kind}, Layout.{from_item, from_item_if}}
+use Rattle.rnix_grammar.specs.Layout.{trivia_if, trivia_before, items, tail_of, is_last, trivia_after, rest_after, left_after, with_trivia}
+use Rattle.rnix_proof_lemmas.{specs.{Allowed.is_there, Machine.{with_leading, after_item, leaf_in, leaf, run_row, run_rest}}, proofs.Basics.true_is_not_false}
+use Rattle.rnix_proof_lemmas.proofs.{AnnotatedForestLemmas.{⊕-assoc, ⊕-blank}, LayoutLemmas.{trivia-from_item, from_item-from_item, items_head, items-view}}
+use Rattle.rnix_proof_lemmas.proofs.{LayoutLemmas.from_item_item, WithoutTriviaLemmas.{with_leading_without_trivia, added_without_trivia, run_bared}}
 
 -- what is left behind two rows
 pub left_after-⊕ : (f g : AnnotatedForest) (ts : List Token) → left_after (f ⊕ g) ts ≡ left_after g (left_after f ts)

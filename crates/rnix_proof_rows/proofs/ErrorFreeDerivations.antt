@@ -1,13 +1,11 @@
 -- What is read without an error and an accepted extension is a derivation of its items.
 use Rattle.std.proofs.Common.{◌≡◌, ◌≤◌, ℕ, Bool, true, false, List, [], ◌∷◌, ◌++◌, refl, ap, sym, ◌∙◌, subst, append-nil, append_assoc, map, if◌then◌else◌}
-use Rattle.std.proofs.lemmas.List.{map-append}
-use Rattle.rnix_kinds.specs.declared.kinds.SyntaxKind.{SyntaxKind, TheVariants.{TOKEN_CUR_POS, TOKEN_IDENT, TOKEN_OR, NODE_CUR_POS, NODE_IDENT, NODE_ROOT}}
-use Rattle.rnix_grammar.specs.AnnotatedForest.{Token, lexeme_of, AnnotatedForest, blank, token, branch, fault, tokens_in, forget, leaf_kind_as, HaveLeafKinds}
-use Rattle.rnix_grammar.specs.{Yield.{kind_of_token, yield}, Tables.{is_or, depth_limit}, Grammar.IsExpression, Derivation.beyond}
-use Rattle.rnix_proof_lemmas.specs.Spelled.{is_spelled, AreSpelled}
-use Rattle.rnix_grammar.specs.{Derivation.{annotate, IsDerivation}, PathPieces.ArePaths, Nest.nest}
-use Rattle.rnix_proof_lemmas.proofs.{Basics.true_is_not_false, SpelledLemmas.{spelled_first, spelled_rest}}
-use Rattle.rnix_proof_rows.proofs.ReadsShapes.{AreErrorFreeRows}
+use Rattle.{std.proofs.lemmas.List.map-append, rnix_kinds.specs.declared.kinds.SyntaxKind.{SyntaxKind, TheVariants.{TOKEN_CUR_POS, TOKEN_IDENT, TOKEN_OR}}}
+use Rattle.{rnix_kinds.specs.declared.kinds.SyntaxKind.TheVariants.{NODE_CUR_POS, NODE_IDENT, NODE_ROOT}, rnix_grammar.specs.AnnotatedForest.{Token, lexeme_of}}
+use Rattle.rnix_grammar.specs.AnnotatedForest.{AnnotatedForest, blank, token, branch, fault, tokens_in, forget, leaf_kind_as, HaveLeafKinds}
+use Rattle.rnix_grammar.specs.{Yield.{kind_of_token, yield}, Tables.{is_or, depth_limit}, Grammar.IsExpression, Derivation.{beyond, annotate, IsDerivation}}
+use Rattle.{rnix_grammar.specs.{PathPieces.ArePaths, Nest.nest}, rnix_proof_lemmas.{specs.Spelled.{is_spelled, AreSpelled}, proofs.Basics.true_is_not_false}}
+use Rattle.{rnix_proof_lemmas.proofs.SpelledLemmas.{spelled_first, spelled_rest}, rnix_proof_rows.proofs.ReadsShapes.AreErrorFreeRows}
 
 -- the trees of a row without error nodes, over its tokens, are the row
 pub beyond_row : (f : AnnotatedForest) (us : List Token) → AreErrorFreeRows f → beyond (forget f) (tokens_in f ++ us) ≡ us

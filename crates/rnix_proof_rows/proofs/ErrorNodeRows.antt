@@ -1,12 +1,11 @@
 -- What the error nodes of a row that is read hold, and in which nodes they stand.
-use Rattle.std.proofs.Common.{◌≡◌, ℕ, Bool, true, false, List, [], ◌∷◌, ◌++◌, refl, sym, subst}
-use Rattle.rnix_kinds.specs.declared.kinds.SyntaxKind.{SyntaxKind, TheVariants.{NODE_ERROR, NODE_PATTERN, NODE_ROOT}}
-use Rattle.rnix_grammar.specs.{declared.rules.Part.TheVariants.{BoundAlready, TextEnd}, Fault.Fault, Rules.{Row, done, ◌·◌}}
-use Rattle.rnix_grammar.specs.AnnotatedForest.{Token, Note, Stray, Unwanted, Extra, DoubleBind, TooDeep, AnnotatedForest, row_of, tokens_in, leaf_kind}
-use Rattle.rnix_grammar.specs.{Reads.{Reads, ReadsRoot, end, leaf, missing_part, wrong, second, inner, IsWrong}}
-use Rattle.rnix_grammar.specs.{ErrorNodes.{AreUnwanted, IsErrorNode, AreErrorNodes}}
-use Rattle.rnix_proof_lemmas.proofs.{Basics.{Where, where_one}, UnwantedRuns.parted, AnnotatedForestLemmas.tokens_in-row_of}
-use Rattle.rnix_proof_lemmas.proofs.ReachableRows.{IsKnown, each_known, known_row, known_second, known_after, known_missing, known_past, known_wrong}
+use Rattle.{std.proofs.Common.{◌≡◌, ℕ, Bool, true, false, List, [], ◌∷◌, ◌++◌, refl, sym, subst}, rnix_kinds.specs.declared.kinds.SyntaxKind.SyntaxKind}
+use Rattle.rnix_kinds.specs.declared.kinds.SyntaxKind.TheVariants.{NODE_ERROR, NODE_PATTERN, NODE_ROOT}
+use Rattle.rnix_grammar.specs.{declared.rules.Part.TheVariants.{BoundAlready, TextEnd}, Fault.Fault, Rules.{Row, done, ◌·◌}, AnnotatedForest.{Token, Note}}
+use Rattle.rnix_grammar.specs.{AnnotatedForest.{Stray, Unwanted, Extra, DoubleBind, TooDeep, AnnotatedForest, row_of, tokens_in, leaf_kind}, Reads.Reads}
+use Rattle.rnix_grammar.specs.{Reads.{ReadsRoot, end, leaf, missing_part, wrong, second, inner, IsWrong}, ErrorNodes.{AreUnwanted, IsErrorNode, AreErrorNodes}}
+use Rattle.rnix_proof_lemmas.proofs.{Basics.{Where, where_one}, UnwantedRuns.parted, AnnotatedForestLemmas.tokens_in-row_of, ReachableRows.IsKnown}
+use Rattle.rnix_proof_lemmas.proofs.ReachableRows.{each_known, known_row, known_second, known_after, known_missing, known_past, known_wrong}
 use Rattle.rnix_proof_rows.proofs.RowsWithoutAttrpath.{is_bound, row_some}
 
 -- the end of the text is in the root alone, and a second name in a pattern

@@ -1,21 +1,20 @@
 -- What the first item of an operand is, by the kind of the operand's first tree; so it is of each node that is read.
-use Rattle.std.specs.List.{list_all}
-use Rattle.std.proofs.Common.{◌≡◌, ℕ, Bool, true, false, List, [], ◌∷◌, ◌++◌, Option, Some, None, refl, ap, sym, ◌∙◌, subst, append-nil, if◌then◌else◌, nat_eq}
-use Rattle.std.proofs.Common.{nat_le, take, drop}
-use Rattle.rnix_kinds.specs.declared.kinds.SyntaxKind.{SyntaxKind, TheVariants.{TOKEN_AT, TOKEN_COLON, TOKEN_IDENT, TOKEN_INVERT, TOKEN_SUB, TOKEN_LET}}
-use Rattle.rnix_kinds.specs.declared.kinds.SyntaxKind.TheVariants.{TOKEN_WITH, TOKEN_ASSERT, TOKEN_IF, TOKEN_L_BRACE, NODE_APPLY, NODE_BIN_OP, NODE_CUR_POS}
-use Rattle.rnix_kinds.specs.declared.kinds.SyntaxKind.TheVariants.{NODE_HAS_ATTR, NODE_IDENT, NODE_IDENT_PARAM, NODE_LAMBDA, NODE_PATTERN, NODE_PAT_BIND}
-use Rattle.rnix_kinds.specs.declared.kinds.SyntaxKind.TheVariants.{NODE_PAT_ENTRY, NODE_SELECT, NODE_UNARY_OP, NODE_WITH, NODE_ASSERT, NODE_IF_ELSE}
-use Rattle.{rnix_kinds.{specs.SyntaxKind.is_token, proofs.AllKinds.{all_kinds, implied}}, rnix_green.specs.Equality.same_kind}
-use Rattle.rnix_grammar.specs.declared.rules.Part.TheVariants.{Child, Atom, First, Suffix, Binary, Argument, Optional}
-use Rattle.rnix_grammar.specs.{AnnotatedForest.{Token, AnnotatedForest, blank, branch, one_branch, tokens_in, head_kind}, Begins.{second_kind, is_pattern}}
-use Rattle.rnix_grammar.specs.Beginnings.{first_kind_of_name, first_kind_of_let, kind_if, first_kind, BeginsAs, IsOperandOf}
-use Rattle.rnix_grammar.specs.{Levels.{expression_level, inversion_level, negation_level, selection_level}, AllowedNames.{is_position, is_name_at, is_named_by}}
-use Rattle.rnix_grammar.specs.{Operands.first_tree, Tables.is_cur_pos, TokenKinds.is_or, TreeLevels.is_or_row}
-use Rattle.rnix_grammar.specs.Rules.{Row, never, done, ◌·◌, ◌or◌, row, after, expects_item, IsExpected, is_first_expected, level_at}
-use Rattle.rnix_proof_lemmas.proofs.{Basics.{true_is_not_false, not_if, choice, Where, where_one}, EachKind.{Each, each_kind}, FirstTrees.{a_node, first_in}}
-use Rattle.{rnix_proof_lemmas.proofs.ReachableRows.{IsKnown, is_viable, known_rows, EachRow, each_parts, each_known, every_known}}
-use Rattle.{rnix_proof_rows.proofs.RowsWithoutAttrpath.{is_free, is_same, same_true}}
+use Rattle.std.{specs.List.list_all, proofs.Common.{◌≡◌, ℕ, Bool, true, false, List, [], ◌∷◌, ◌++◌, Option, Some, None, refl, ap, sym, ◌∙◌, subst, append-nil}}
+use Rattle.{std.proofs.Common.{if◌then◌else◌, nat_eq, nat_le, take, drop}, rnix_kinds.specs.declared.kinds.SyntaxKind.{SyntaxKind, TheVariants.TOKEN_AT}}
+use Rattle.rnix_kinds.specs.declared.kinds.SyntaxKind.TheVariants.{TOKEN_COLON, TOKEN_IDENT, TOKEN_INVERT, TOKEN_SUB, TOKEN_LET, TOKEN_WITH, TOKEN_ASSERT}
+use Rattle.rnix_kinds.specs.declared.kinds.SyntaxKind.TheVariants.{TOKEN_IF, TOKEN_L_BRACE, NODE_APPLY, NODE_BIN_OP, NODE_CUR_POS, NODE_HAS_ATTR, NODE_IDENT}
+use Rattle.rnix_kinds.specs.declared.kinds.SyntaxKind.TheVariants.{NODE_IDENT_PARAM, NODE_LAMBDA, NODE_PATTERN, NODE_PAT_BIND, NODE_PAT_ENTRY, NODE_SELECT}
+use Rattle.rnix_kinds.specs.{declared.kinds.SyntaxKind.TheVariants.{NODE_UNARY_OP, NODE_WITH, NODE_ASSERT, NODE_IF_ELSE}, SyntaxKind.is_token}
+use Rattle.{rnix_kinds.proofs.AllKinds.{all_kinds, implied}, rnix_green.specs.Equality.same_kind, rnix_grammar.specs.declared.rules.Part.TheVariants.Child}
+use Rattle.rnix_grammar.specs.{declared.rules.Part.TheVariants.{Atom, First, Suffix, Binary, Argument, Optional}, AnnotatedForest.{Token, AnnotatedForest}}
+use Rattle.rnix_grammar.specs.{AnnotatedForest.{blank, branch, one_branch, tokens_in, head_kind}, Begins.{second_kind, is_pattern}}
+use Rattle.rnix_grammar.specs.{Beginnings.{first_kind_of_name, first_kind_of_let, kind_if, first_kind, BeginsAs, IsOperandOf}, Levels.expression_level}
+use Rattle.rnix_grammar.specs.{Levels.{inversion_level, negation_level, selection_level}, AllowedNames.{is_position, is_name_at, is_named_by}}
+use Rattle.rnix_grammar.specs.{Operands.first_tree, Tables.is_cur_pos, TokenKinds.is_or, TreeLevels.is_or_row, Rules.{Row, never, done, ◌·◌, ◌or◌, row, after}}
+use Rattle.{rnix_grammar.specs.Rules.{expects_item, IsExpected, is_first_expected, level_at}, rnix_proof_lemmas.proofs.Basics.{true_is_not_false, not_if}}
+use Rattle.rnix_proof_lemmas.proofs.{Basics.{choice, Where, where_one}, EachKind.{Each, each_kind}, FirstTrees.{a_node, first_in}, ReachableRows.IsKnown}
+use Rattle.rnix_proof_lemmas.proofs.ReachableRows.{is_viable, known_rows, EachRow, each_parts, each_known, every_known}
+use Rattle.rnix_proof_rows.proofs.RowsWithoutAttrpath.{is_free, is_same, same_true}
 
 -- the first item of a pattern that stands before a function's body
 abbrev pub begins_pattern : SyntaxKind → Bool

@@ -1,20 +1,17 @@
 -- Names stand where they may: a node that is read as one begins with a token that the rest of its row has for names.
-use Rattle.std.specs.List.{list_all}
-use Rattle.std.proofs.Common.{◌≡◌, ℕ, Bool, true, false, List, [], ◌∷◌, ◌++◌, Option, Some, None, refl, ap, sym, ◌∙◌, subst, append_assoc, if◌then◌else◌, ◌&&◌}
-use Rattle.std.proofs.lemmas.Bool.{and_parts}
-use Rattle.rnix_kinds.specs.declared.kinds.SyntaxKind.{SyntaxKind}
+use Rattle.std.{specs.List.list_all, proofs.Common.{◌≡◌, ℕ, Bool, true, false, List, [], ◌∷◌, ◌++◌, Option, Some, None, refl, ap, sym, ◌∙◌, subst}}
+use Rattle.{std.proofs.{Common.{append_assoc, if◌then◌else◌, ◌&&◌}, lemmas.Bool.and_parts}, rnix_kinds.specs.declared.kinds.SyntaxKind.SyntaxKind}
 use Rattle.rnix_kinds.specs.declared.kinds.SyntaxKind.TheVariants.{TOKEN_AT, TOKEN_IDENT, NODE_CUR_POS, NODE_IDENT, NODE_LITERAL, NODE_PATTERN, NODE_PAT_BIND}
-use Rattle.rnix_kinds.specs.declared.kinds.SyntaxKind.TheVariants.{NODE_ROOT}
-use Rattle.{rnix_kinds.proofs.AllKinds.{all_kinds, every}, rnix_green.specs.Equality.{same_kind, same_kind-decides}}
-use Rattle.rnix_grammar.specs.declared.rules.Part.TheVariants.{Child, EndOr}
-use Rattle.rnix_grammar.specs.{Fault.Fault, AnnotatedForest.{Token, Note, Stray, Unwanted, Extra, DoubleBind, TooDeep, AnnotatedForest, blank, token, branch, fault}}
-use Rattle.rnix_grammar.specs.{AnnotatedForest.{tokens_in, leaf_kind, leaf_kind_as, one_branch}, BehindErrors.after_error}
-use Rattle.rnix_grammar.specs.{Named.{AreNamed, begins_with_token, is_name_allowed}, AllowedNames.is_named_in}
-use Rattle.rnix_grammar.specs.{Reads.{Reads, ReadsRoot, end, leaf, missing_part, wrong, second, inner, IsWrong}, Reports.only_token, Operands.first_tree}
-use Rattle.rnix_grammar.specs.Rules.{Row, done, ◌·◌, row, only, after, may_end, run_at, IsExpected, is_first_expected}
-use Rattle.rnix_proof_lemmas.proofs.{Basics.{true_is_not_false, not_if, Where, where_one}, EveryKind.never, AfterErrors.wrong_goes}
-use Rattle.rnix_proof_lemmas.proofs.ReachableRows.{IsKnown, is_viable, every_known, known_row, known_after, known_missing, known_past, known_wrong}
-use Rattle.{rnix_proof_lemmas.proofs.ViableRows.{end_viable, reads_viable}, rnix_proof_rows.proofs.{RowsWithoutAttrpath.{missing_no_attrpath, HasNoNode, no_attrpath_row}, ReadsLeafKinds.{child_is, no_wrong}}}
+use Rattle.{rnix_kinds.{specs.declared.kinds.SyntaxKind.TheVariants.NODE_ROOT, proofs.AllKinds.{all_kinds, every}}, rnix_green.specs.Equality.same_kind}
+use Rattle.{rnix_green.specs.Equality.same_kind-decides, rnix_grammar.specs.{declared.rules.Part.TheVariants.{Child, EndOr}, Fault.Fault}}
+use Rattle.rnix_grammar.specs.AnnotatedForest.{Token, Note, Stray, Unwanted, Extra, DoubleBind, TooDeep, AnnotatedForest, blank, token, branch, fault}
+use Rattle.rnix_grammar.specs.{AnnotatedForest.{tokens_in, leaf_kind, leaf_kind_as, one_branch}, BehindErrors.after_error, Named.{AreNamed, begins_with_token}}
+use Rattle.rnix_grammar.specs.{Named.is_name_allowed, AllowedNames.is_named_in, Reads.{Reads, ReadsRoot, end, leaf, missing_part, wrong, second, inner}}
+use Rattle.rnix_grammar.specs.{Reads.IsWrong, Reports.only_token, Operands.first_tree, Rules.{Row, done, ◌·◌, row, only, after, may_end, run_at, IsExpected}}
+use Rattle.{rnix_grammar.specs.Rules.is_first_expected, rnix_proof_lemmas.proofs.{Basics.{true_is_not_false, not_if, Where, where_one}, EveryKind.never}}
+use Rattle.rnix_proof_lemmas.proofs.{AfterErrors.wrong_goes, ReachableRows.{IsKnown, is_viable, every_known, known_row, known_after, known_missing, known_past}}
+use Rattle.rnix_proof_lemmas.proofs.{ReachableRows.known_wrong, ViableRows.{end_viable, reads_viable}}
+use Rattle.rnix_proof_rows.proofs.{RowsWithoutAttrpath.{missing_no_attrpath, HasNoNode, no_attrpath_row}, ReadsLeafKinds.{child_is, no_wrong}}
 use Rattle.rnix_proof_rows.proofs.FirstItems.{begins_pattern, MayBegin, Names, is_first, Fronts, Known, node_known}
 
 -- the first of some items passes a test

@@ -1,16 +1,15 @@
 -- The errors of a row are, one by one, those of its error nodes and of its entries that repeat a name, as these close.
 use Rattle.std.proofs.Common.{◌≡◌, ℕ, ◌+◌, Bool, true, false, List, [], ◌∷◌, length, Option, Some, None, refl, ap, sym, ◌∙◌, arith, subst, if◌then◌else◌}
-use Rattle.std.proofs.Common.{bytes_eq, ◌||◌}
-use Rattle.rnix_kinds.specs.{declared.kinds.SyntaxKind.{SyntaxKind, TheVariants.{NODE_ERROR, NODE_PAT_ENTRY}}, SyntaxKind.is_trivia}
-use Rattle.{rnix_green.specs.{Forest.{text_of, element_count}, Tree.{Tree, Item, item}}, rnix_grammar.specs.{Fault.duplicated_args, AnnotatedForest.{Token, Note}}}
-use Rattle.rnix_grammar.specs.AnnotatedForest.{AnnotatedForest, blank, token, branch, fault, ◌⊕◌, one_token, one_branch, one_fault, tokens_in, forget}
-use Rattle.rnix_grammar.specs.{AnnotatedForest.{without_trivia, token_if, HaveLeafKinds, extent_of as place_of}, Reports.{entry_name, is_same_name, has_entry}}
-use Rattle.rnix_grammar.specs.{Reports.{repeated_if, repeats}, Shape.{reports_within, name_if, with_name}, Tables.is_among, Ranges.{is_error_node, IsEntryName}}
-use Rattle.{rnix_grammar.specs.Ranges.{is_among_if, is_at_fault, at_fault_from, AreErrorsOf}, rnix_proof_lemmas.proofs.LayoutLemmas.without_trivia-⊕}
-use Rattle.{rnix_proof_lemmas.proofs.EntryNames.{name_of_items, has_branch, has-⊕, if_not}, rnix_proof_rows.proofs.TreeShapes.{Lists, without_trivia_name, repeats_named}}
-use Rattle.rnix_proof_rows.proofs.{TreeShapes.text_in as name_of, PlacedTokens.{ArePlaced, text_in, placed_first, placed_rest, forget-length}, RowsIn.IsRowIn}
-use Rattle.rnix_proof_rows.proofs.{RowsIn.{row_first, row_inside, row_behind_leaf, row_behind_node}, ErrorElements.{errors-++, IsSound, report_error, row_name}}
-use Rattle.rnix_proof_rows.proofs.ErrorElements.{none_some}
+use Rattle.{std.proofs.Common.{bytes_eq, ◌||◌}, rnix_kinds.specs.declared.kinds.SyntaxKind.{SyntaxKind, TheVariants.{NODE_ERROR, NODE_PAT_ENTRY}}}
+use Rattle.{rnix_kinds.specs.SyntaxKind.is_trivia, rnix_green.specs.{Forest.{text_of, element_count}, Tree.{Tree, Item, item}}}
+use Rattle.rnix_grammar.specs.{Fault.duplicated_args, AnnotatedForest.{Token, Note, AnnotatedForest, blank, token, branch, fault, ◌⊕◌, one_token, one_branch}}
+use Rattle.rnix_grammar.specs.AnnotatedForest.{one_fault, tokens_in, forget, without_trivia, token_if, HaveLeafKinds, extent_of as place_of}
+use Rattle.rnix_grammar.specs.{Reports.{entry_name, is_same_name, has_entry, repeated_if, repeats}, Shape.{reports_within, name_if, with_name}, Tables.is_among}
+use Rattle.rnix_grammar.specs.Ranges.{is_error_node, IsEntryName, is_among_if, is_at_fault, at_fault_from, AreErrorsOf}
+use Rattle.rnix_proof_lemmas.proofs.{LayoutLemmas.without_trivia-⊕, EntryNames.{name_of_items, has_branch, has-⊕, if_not}}
+use Rattle.rnix_proof_rows.proofs.{TreeShapes.{Lists, without_trivia_name, repeats_named, text_in as name_of}, PlacedTokens.{ArePlaced, text_in, placed_first}}
+use Rattle.rnix_proof_rows.proofs.{PlacedTokens.{placed_rest, forget-length}, RowsIn.{IsRowIn, row_first, row_inside, row_behind_leaf, row_behind_node}}
+use Rattle.rnix_proof_rows.proofs.ErrorElements.{errors-++, IsSound, report_error, row_name, none_some}
 
 -- one or the other
 swapped : (x y : Bool) → (if x then true else (if y then true else false)) ≡ (if y then true else x)

@@ -2,11 +2,10 @@
 use Rattle.std.proofs.{Common.{◌≡◌, ℕ, ◌+◌, true, false, List, refl, ap, sym, ◌∙◌, subst, if◌then◌else◌, ◌==◌, nat_lt}, lemmas.Bool.and_parts}
 use Rattle.rnix_kinds.specs.{declared.kinds.SyntaxKind.{SyntaxKind, TheVariants.{NODE_ERROR, NODE_ROOT}}, SyntaxKind.is_token, Lexical.Tokens.Lexeme}
 use Rattle.{rnix_kinds.proofs.AllKinds.implied, rnix_green.specs.{Forest.{Forest, empty, leaf, node, element_count}, Tree.{Tree, forest_of, part_of}}}
-use Rattle.rnix_grammar.specs.{Fault.Fault, AnnotatedForest.{AnnotatedForest, blank, token, branch, fault, forget, tokens_in, HaveLeafKinds}, CompleteRows.is_row}
-use Rattle.rnix_grammar.specs.{Shape.{item_kinds, AreRows, IsShaped}, Derivation.has_tokens_alone}
-use Rattle.rnix_proof_lemmas.specs.Spelled.{AreSpelled}
-use Rattle.{rnix_grammar.specs.Parsed.IsParsed, rnix_proof_lemmas.proofs.{Basics.{choice, not_if}, EntryNames.both_true, SpelledLemmas.{AreRuled, spelled_from}}}
-use Rattle.rnix_proof_lemmas.proofs.{RowKinds.has_row, ViableRows.complete_has_row, SpelledLemmas.{spelled_first, spelled_rest}}
+use Rattle.rnix_grammar.specs.{Fault.Fault, AnnotatedForest.{AnnotatedForest, blank, token, branch, fault, forget, tokens_in, HaveLeafKinds}}
+use Rattle.rnix_grammar.specs.{CompleteRows.is_row, Shape.{item_kinds, AreRows, IsShaped}, Derivation.has_tokens_alone, Parsed.IsParsed}
+use Rattle.rnix_proof_lemmas.{specs.Spelled.AreSpelled, proofs.{Basics.{choice, not_if}, EntryNames.both_true, SpelledLemmas.{AreRuled, spelled_from}}}
+use Rattle.rnix_proof_lemmas.proofs.{SpelledLemmas.{spelled_first, spelled_rest}, RowKinds.has_row, ViableRows.complete_has_row}
 use Rattle.rnix_proof_rows.proofs.ReadsLeafKinds.{remapped_is_token, spelled_token}
 
 -- each node has a row of its kind

@@ -1,14 +1,13 @@
 -- In a repaired row, but for numbers that stand for no token, each node's children begin a row of its kind.
-use Rattle.std.proofs.{Common.{◌≡◌, ℕ, true, false, List, [], ◌∷◌, ◌++◌, refl, ap, sym, ◌∙◌, subst, if◌then◌else◌}}
+use Rattle.std.proofs.Common.{◌≡◌, ℕ, true, false, List, [], ◌∷◌, ◌++◌, refl, ap, sym, ◌∙◌, subst, if◌then◌else◌}
 use Rattle.{rnix_kinds.specs.declared.kinds.SyntaxKind.SyntaxKind, rnix_green.specs.Forest.{Forest, empty}, rnix_grammar.specs.Fault.Fault}
 use Rattle.rnix_grammar.specs.AnnotatedForest.{Token, Note, Stray, TooDeep, AnnotatedForest, blank, token, branch, fault, row_of, tokens_in, is_some, leaf_kind}
-use Rattle.rnix_grammar.specs.{Rules.{Row, row, after, may_end}, CompleteRows.{after_all, IsBeginning}}
-use Rattle.rnix_grammar.specs.{Reads.{Reads, end, leaf, missing_part, wrong, second, inner, IsWrong}}
-use Rattle.{rnix_grammar.specs.Repaired.{repair, repaired_nonempty, kinds_of, AreBegun}, rnix_proof_lemmas.proofs.AnnotatedForestLemmas.tokens_in-row_of}
-use Rattle.rnix_proof_lemmas.proofs.{Basics.{not_nil, none_left, none_right}}
-use Rattle.rnix_proof_lemmas.proofs.{ReachableRows.{IsKnown, is_viable, known_row, known_after, known_missing, known_past, known_wrong}}
-use Rattle.{rnix_proof_lemmas.proofs.ViableRows.{end_viable, reads_viable}, rnix_proof_rows.proofs.RowsWithoutAttrpath.{missing_no_attrpath, HasNoNode, no_attrpath_row, wrong_empty}}
-use Rattle.rnix_proof_rows.proofs.RepairedRows.{IsCompletable, completed, Simulates, simulates_self, simulates_same, simulates_both, simulates_completable, second_simulates}
+use Rattle.rnix_grammar.specs.{Rules.{Row, row, after, may_end}, CompleteRows.{after_all, IsBeginning}, Reads.{Reads, end, leaf, missing_part, wrong, second}}
+use Rattle.rnix_grammar.specs.{Reads.{inner, IsWrong}, Repaired.{repair, repaired_nonempty, kinds_of, AreBegun}}
+use Rattle.rnix_proof_lemmas.proofs.{AnnotatedForestLemmas.tokens_in-row_of, Basics.{not_nil, none_left, none_right}, ReachableRows.{IsKnown, is_viable}}
+use Rattle.rnix_proof_lemmas.proofs.{ReachableRows.{known_row, known_after, known_missing, known_past, known_wrong}, ViableRows.{end_viable, reads_viable}}
+use Rattle.rnix_proof_rows.proofs.{RowsWithoutAttrpath.{missing_no_attrpath, HasNoNode, no_attrpath_row, wrong_empty}, RepairedRows.{IsCompletable, completed}}
+use Rattle.rnix_proof_rows.proofs.RepairedRows.{Simulates, simulates_self, simulates_same, simulates_both, simulates_completable, second_simulates}
 use Rattle.rnix_proof_rows.proofs.RepairedRows.{after_repair, wrong_simulates}
 
 -- a row of error nodes without tokens holds nothing

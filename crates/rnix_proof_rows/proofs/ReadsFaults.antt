@@ -1,16 +1,13 @@
 -- The errors of a row that is read.
 use Rattle.std.proofs.Common.{◌≡◌, ◌⊎◌, inl, inr, ℕ, true, false, List, [], ◌∷◌, ◌++◌, Option, Some, None, refl, ap, sym, ◌∙◌, subst, append_assoc}
-use Rattle.std.proofs.Common.{if◌then◌else◌}
-use Rattle.{rnix_kinds.specs.declared.kinds.SyntaxKind.{SyntaxKind, TheVariants.NODE_PAT_ENTRY}, rnix_grammar.specs.Fault.{Fault, duplicated_args}}
-use Rattle.rnix_grammar.specs.AnnotatedForest.{Token, Note, Stray, Unwanted, Extra, DoubleBind, TooDeep, AnnotatedForest, blank, branch, fault, ◌⊕◌, one_token}
-use Rattle.rnix_grammar.specs.AnnotatedForest.{one_fault, row_of}
-use Rattle.rnix_grammar.specs.{AnnotatedForest.{tokens_in, extent_of}, AnnotatedForest.leaf_kind, Reports.{report, repeated_if, entry_name, has_entry, repeats}}
-use Rattle.rnix_grammar.specs.Rules.{Row}
-use Rattle.rnix_grammar.specs.{Reads.{Reads, end, leaf, missing_part, wrong, second, inner, IsWrong}, Repaired.{is_ended, others, is_misplaced}}
-use Rattle.rnix_grammar.specs.Repaired.{NoneMisplaced, NoErrorAfterEnd, IsNamedList, AreNamedLists}
-use Rattle.rnix_proof_lemmas.specs.RowReports.{reports_behind}
-use Rattle.rnix_proof_lemmas.proofs.{AnnotatedForestLemmas.tokens_in-row_of, MissingFacts.missing_ended, Basics.{true_is_not_false, not_nil, none_right, none_left}}
-use Rattle.rnix_proof_lemmas.proofs.ReachableRows.{IsKnown, known_row, known_second, known_after, known_missing, known_past, known_wrong}
+use Rattle.{std.proofs.Common.if◌then◌else◌, rnix_kinds.specs.declared.kinds.SyntaxKind.{SyntaxKind, TheVariants.NODE_PAT_ENTRY}}
+use Rattle.rnix_grammar.specs.{Fault.{Fault, duplicated_args}, AnnotatedForest.{Token, Note, Stray, Unwanted, Extra, DoubleBind, TooDeep, AnnotatedForest}}
+use Rattle.rnix_grammar.specs.{AnnotatedForest.{blank, branch, fault, ◌⊕◌, one_token, one_fault, row_of, tokens_in, extent_of, leaf_kind}, Reports.report}
+use Rattle.rnix_grammar.specs.{Reports.{repeated_if, entry_name, has_entry, repeats}, Rules.Row, Reads.{Reads, end, leaf, missing_part, wrong, second, inner}}
+use Rattle.rnix_grammar.specs.{Reads.IsWrong, Repaired.{is_ended, others, is_misplaced, NoneMisplaced, NoErrorAfterEnd, IsNamedList, AreNamedLists}}
+use Rattle.rnix_proof_lemmas.{specs.RowReports.reports_behind, proofs.{AnnotatedForestLemmas.tokens_in-row_of, MissingFacts.missing_ended}}
+use Rattle.rnix_proof_lemmas.proofs.{Basics.{true_is_not_false, not_nil, none_right, none_left}, ReachableRows.{IsKnown, known_row, known_second, known_after}}
+use Rattle.rnix_proof_lemmas.proofs.ReachableRows.{known_missing, known_past, known_wrong}
 
 -- the others of two lists
 pub others-++ : (es fs : List Fault) → others (es ++ fs) ≡ others es ++ others fs

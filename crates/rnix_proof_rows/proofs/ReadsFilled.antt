@@ -1,17 +1,16 @@
 -- Which nodes of a row that is read have trees: those inside error nodes, and all where there is no error; which error nodes have tokens.
-use Rattle.std.{specs.List.list_all, proofs.Common.{◌≡◌, ℕ, Bool, true, false, List, [], ◌∷◌, ◌++◌, refl, ap, sym, ◌∙◌, ◌&&◌}}
-use Rattle.std.proofs.{Common.if◌then◌else◌, lemmas.Bool.and_from}
-use Rattle.rnix_kinds.specs.{declared.kinds.SyntaxKind.{SyntaxKind, TheVariants.{NODE_ERROR, NODE_IDENT, NODE_LITERAL}}, SyntaxKind.is_trivia}
-use Rattle.{rnix_kinds.proofs.AllKinds.{all_kinds, implied}, rnix_green.specs.Equality.{same_kind, same_kind-decides}}
-use Rattle.rnix_grammar.specs.{declared.rules.Part.TheVariants.{BoundAlready, TextEnd}, Fault.Fault}
-use Rattle.rnix_grammar.specs.{AnnotatedForest.{Token, Note, AnnotatedForest, blank, token, branch, fault}}
-use Rattle.rnix_grammar.specs.AnnotatedForest.{row_of, forget, tokens_in, is_some, Stray, Unwanted, Extra, DoubleBind, TooDeep, without_trivia, token_if, leaf_kind}
-use Rattle.rnix_grammar.specs.{Layout.{is_last, items}, Repaired.kinds_of, Rules.{Row, never, done, ◌·◌, row, after, counts}, CompleteRows.is_row}
-use Rattle.rnix_grammar.specs.{Reads.{Reads, end, leaf, missing_part, wrong, second, inner, IsWrong}, Named.begins_with_token, Ranges.is_error_node}
-use Rattle.rnix_proof_lemmas.proofs.{Basics.{true_is_not_false, not_if, Where, where_one}, RowKinds.has_row, ReportLemmas.without_trivia_tokens}
-use Rattle.rnix_proof_lemmas.proofs.ReachableRows.{IsKnown, is_viable, each_known, known_row, known_second, known_after, known_missing, known_wrong}
-use Rattle.{rnix_proof_lemmas.proofs.ViableRows.{end_viable, reads_viable, reads_row}, rnix_proof_rows.proofs.RowsWithoutAttrpath.{begins_with_child, row_some}}
-use Rattle.rnix_proof_rows.proofs.{AttachTriviaLemmas.HasTree, RepairedRows.start_half, ReadsShapes.AreErrorFreeRows}
+use Rattle.std.{specs.List.list_all, proofs.Common.{◌≡◌, ℕ, Bool, true, false, List, [], ◌∷◌, ◌++◌, refl, ap, sym, ◌∙◌, ◌&&◌, if◌then◌else◌}}
+use Rattle.{std.proofs.lemmas.Bool.and_from, rnix_kinds.specs.declared.kinds.SyntaxKind.{SyntaxKind, TheVariants.{NODE_ERROR, NODE_IDENT, NODE_LITERAL}}}
+use Rattle.{rnix_kinds.{specs.SyntaxKind.is_trivia, proofs.AllKinds.{all_kinds, implied}}, rnix_green.specs.Equality.{same_kind, same_kind-decides}}
+use Rattle.rnix_grammar.specs.{declared.rules.Part.TheVariants.{BoundAlready, TextEnd}, Fault.Fault, AnnotatedForest.{Token, Note, AnnotatedForest, blank}}
+use Rattle.rnix_grammar.specs.AnnotatedForest.{token, branch, fault, row_of, forget, tokens_in, is_some, Stray, Unwanted, Extra, DoubleBind, TooDeep}
+use Rattle.rnix_grammar.specs.{AnnotatedForest.{without_trivia, token_if, leaf_kind}, Layout.{is_last, items}, Repaired.kinds_of, Rules.{Row, never, done, ◌·◌}}
+use Rattle.rnix_grammar.specs.{Rules.{row, after, counts}, CompleteRows.is_row, Reads.{Reads, end, leaf, missing_part, wrong, second, inner, IsWrong}}
+use Rattle.{rnix_grammar.specs.{Named.begins_with_token, Ranges.is_error_node}, rnix_proof_lemmas.proofs.Basics.{true_is_not_false, not_if, Where, where_one}}
+use Rattle.rnix_proof_lemmas.proofs.{RowKinds.has_row, ReportLemmas.without_trivia_tokens, ReachableRows.{IsKnown, is_viable, each_known, known_row}}
+use Rattle.rnix_proof_lemmas.proofs.{ReachableRows.{known_second, known_after, known_missing, known_wrong}, ViableRows.{end_viable, reads_viable, reads_row}}
+use Rattle.rnix_proof_rows.proofs.{RowsWithoutAttrpath.{begins_with_child, row_some}, AttachTriviaLemmas.HasTree, RepairedRows.start_half}
+use Rattle.rnix_proof_rows.proofs.ReadsShapes.{AreErrorFreeRows}
 
 -- each node of a row has trees, and none is that of what is too deep
 abbrev pub AreFilled : AnnotatedForest → Type 0

@@ -2,17 +2,13 @@
 use Rattle.std.proofs.Common.{◌≡◌, ℕ, Bool, true, false, List, refl, ap, ◌∙◌, [], ◌∷◌, ◌++◌, sym, subst}
 use Rattle.rnix_kinds.specs.declared.kinds.SyntaxKind.{SyntaxKind, TheVariants.{TOKEN_CUR_POS, TOKEN_IDENT, TOKEN_OR, NODE_CUR_POS, NODE_IDENT, NODE_ERROR}}
 use Rattle.rnix_kinds.specs.{declared.kinds.SyntaxKind.TheVariants.{NODE_LITERAL, NODE_PAT_ENTRY}, SyntaxKind.is_token}
-use Rattle.rnix_grammar.specs.AnnotatedForest.{Note, Stray, Unwanted, Extra, DoubleBind, TooDeep, AnnotatedForest, blank, token, branch, fault}
-use Rattle.rnix_grammar.specs.{AnnotatedForest.{tokens_in, leaf_kind_as, leaf_kind, HaveLeafKinds, Token, row_of}}
-use Rattle.rnix_grammar.specs.{Rules.{Row, done, ◌·◌, row, only, after, may_end}}
-use Rattle.rnix_grammar.specs.{Repaired.{repaired, repair}, Derivation.has_tokens_alone, Fault.Fault}
-use Rattle.rnix_proof_lemmas.specs.Spelled.{is_spelled, AreSpelled}
-use Rattle.rnix_grammar.specs.declared.rules.Part.TheVariants.{Child}
-use Rattle.rnix_grammar.specs.{Reads.{Reads, end, leaf, missing_part, wrong, second, inner, IsWrong}}
-use Rattle.rnix_grammar.specs.{Trim.{is_single_token, begins_with_node, HasSingleTokenName, AreNamesSingleTokens}}
-use Rattle.rnix_proof_lemmas.proofs.{Basics.true_is_not_false, EntryNames.both_true, SpelledLemmas.{spelled_first, spelled_rest}, RowKinds.has_row}
-use Rattle.{rnix_green.specs.Equality.{same_kind, same_kind-decides}}
-use Rattle.{rnix_proof_lemmas.proofs.{ReachableRows.is_viable, ViableRows.{end_viable, reads_viable, reads_row, past_ends}}}
+use Rattle.rnix_grammar.specs.AnnotatedForest.{Note, Stray, Unwanted, Extra, DoubleBind, TooDeep, AnnotatedForest, blank, token, tokens_in, leaf_kind_as}
+use Rattle.rnix_grammar.specs.{AnnotatedForest.{leaf_kind, HaveLeafKinds, Token, row_of}, Rules.{Row, done, ◌·◌, row, only, after, may_end}, Fault.Fault}
+use Rattle.rnix_grammar.specs.{declared.rules.Part.TheVariants.Child, Reads.{Reads, end, leaf, missing_part, wrong, second, inner, IsWrong}}
+use Rattle.{rnix_grammar.specs.Trim.{is_single_token, begins_with_node, HasSingleTokenName, AreNamesSingleTokens}, rnix_proof_lemmas.specs.Spelled.is_spelled}
+use Rattle.rnix_proof_lemmas.{specs.Spelled.AreSpelled, proofs.{Basics.true_is_not_false, SpelledLemmas.{spelled_first, spelled_rest}, RowKinds.has_row}}
+use Rattle.rnix_proof_lemmas.proofs.{ReachableRows.is_viable, ViableRows.{end_viable, reads_viable, reads_row, past_ends}}
+use Rattle.rnix_green.specs.Equality.{same_kind, same_kind-decides}
 
 -- a token's leaf has the kind of a token
 pub remapped_is_token : (p k : SyntaxKind) → is_token k ≡ true → is_token (leaf_kind_as p k) ≡ true

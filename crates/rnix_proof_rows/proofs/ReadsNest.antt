@@ -1,18 +1,15 @@
 -- What is read nests no deeper than may be, error nodes aside, and what is nested too deep is inside as many counted positions as may be.
-use Rattle.std.specs.List.{list_all}
-use Rattle.std.{proofs.Common.{◌≡◌, ℕ, suc, ◌+◌, ◌<◌, ◌≤◌, Bool, true, false, List, [], ◌∷◌, ◌++◌, refl, ap, sym, ◌∙◌, subst, arith, max, ◌&&◌, if◌then◌else◌}}
-use Rattle.std.proofs.lemmas.Bool.{and_from}
-use Rattle.{rnix_kinds.{specs.declared.kinds.SyntaxKind.{SyntaxKind, TheVariants.{NODE_PAT_ENTRY, NODE_ROOT}}, proofs.AllKinds.{all_kinds, every, implied}}}
-use Rattle.rnix_grammar.specs.{Fault.Fault, Tables.depth_limit, AnnotatedForest.{Token, Note, TooDeep, AnnotatedForest, blank, token, branch, fault}}
-use Rattle.rnix_grammar.specs.{AnnotatedForest.{forget, tokens_in, leaf_kind}, BehindErrors.after_error, Nesting.{depth_of, IsLimited, AreLimited}}
-use Rattle.rnix_grammar.specs.{Nest.{nest, nests}}
-use Rattle.rnix_grammar.specs.{Reads.{Reads, ReadsRoot, end, leaf, missing_part, wrong, second, inner, deeper, IsWrong}}
-use Rattle.rnix_grammar.specs.{Rules.{Row, row, after, may_end, counts}}
-use Rattle.{rnix_green.specs.{Forest.{Forest, node}}, rnix_grammar.specs.{Repaired.kinds_of, CompleteRows.after_all}}
+use Rattle.std.{specs.List.list_all, proofs.Common.{◌≡◌, ℕ, suc, ◌+◌, ◌<◌, ◌≤◌, Bool, true, false, List, [], ◌∷◌, ◌++◌, refl, ap, sym, ◌∙◌, subst, arith, max}}
+use Rattle.{std.proofs.{Common.{◌&&◌, if◌then◌else◌}, lemmas.Bool.and_from}, rnix_kinds.specs.declared.kinds.SyntaxKind.SyntaxKind}
+use Rattle.rnix_kinds.{specs.declared.kinds.SyntaxKind.TheVariants.{NODE_PAT_ENTRY, NODE_ROOT}, proofs.AllKinds.{all_kinds, every, implied}}
+use Rattle.rnix_grammar.specs.{Fault.Fault, Tables.depth_limit, AnnotatedForest.{Token, Note, TooDeep, AnnotatedForest, blank, token, branch, fault, forget}}
+use Rattle.rnix_grammar.specs.{AnnotatedForest.{tokens_in, leaf_kind}, BehindErrors.after_error, Nesting.{depth_of, IsLimited, AreLimited}, Nest.{nest, nests}}
+use Rattle.rnix_grammar.specs.{Reads.{Reads, ReadsRoot, end, leaf, missing_part, wrong, second, inner, deeper, IsWrong}, Rules.{Row, row, after, may_end}}
+use Rattle.{rnix_grammar.specs.{Rules.counts, Repaired.kinds_of, CompleteRows.after_all}, rnix_green.specs.Forest.{Forest, node}}
 use Rattle.rnix_proof_lemmas.proofs.{Basics.{true_is_not_false, not_if}, EveryKind.only, RowKinds.has_row, EntryNodes.is_formal, AfterErrors.wrong_goes}
-use Rattle.rnix_proof_lemmas.proofs.{ReachableRows.{IsKnown, is_viable, every_known, known_row, known_after, known_missing, known_past, known_wrong}}
-use Rattle.rnix_proof_lemmas.proofs.{ViableRows.{end_viable, later_viable, complete_has_row}}
-use Rattle.rnix_proof_rows.proofs.{RowsWithoutAttrpath.{begins_with_child, missing_no_attrpath, HasNoNode, no_attrpath_row}, ReadsShapes.{AreErrorFreeRows, IsErrorFree}}
+use Rattle.rnix_proof_lemmas.proofs.ReachableRows.{IsKnown, is_viable, every_known, known_row, known_after, known_missing, known_past, known_wrong}
+use Rattle.{rnix_proof_lemmas.proofs.ViableRows.{end_viable, later_viable, complete_has_row}, rnix_proof_rows.proofs.RowsWithoutAttrpath.begins_with_child}
+use Rattle.rnix_proof_rows.proofs.{RowsWithoutAttrpath.{missing_no_attrpath, HasNoNode, no_attrpath_row}, ReadsShapes.{AreErrorFreeRows, IsErrorFree}}
 
 -- over what is nested too deep it is inside as many counted positions as may be
 wrong_limited : (n : Note) (d : ℕ) (q r : Row) (ts us : List Token) → IsWrong n d q r ts us → IsLimited d n

@@ -1,20 +1,18 @@
 -- The rows of a forest without trivia that is read, and of its repaired tree.
-use Rattle.std.specs.List.{list_all}
-use Rattle.std.{proofs.Common.{◌≡◌, ◌⊎◌, inl, inr, ℕ, ◌+◌, ◌≤◌, Bool, true, false, List, [], ◌∷◌, ◌++◌, Option, Some, None, refl, ap, sym, ◌∙◌, subst, arith}}
-use Rattle.std.proofs.{Common.{if◌then◌else◌, ◌&&◌, ◌||◌}, lemmas.Bool.{and_parts}}
-use Rattle.rnix_kinds.{specs.declared.kinds.SyntaxKind.{SyntaxKind, TheVariants.{NODE_PATTERN}}, proofs.AllKinds.{all_kinds, implied}}
-use Rattle.{rnix_green.specs.Forest.Forest, rnix_grammar.specs.{Fault.Fault, ErrorNodes.AreErrorNodes}}
-use Rattle.rnix_grammar.specs.{AnnotatedForest.{Token, Note, Stray, DoubleBind, AnnotatedForest, tokens_in, row_of, leaf_kind}, Reports.{report, repeats}}
-use Rattle.rnix_grammar.specs.{Rules.{Row, row, after, may_end, missing, counts}, CompleteRows.after_all}
-use Rattle.rnix_grammar.specs.{Reads.{Reads, end, leaf, missing_part, wrong, second, inner, IsWrong}}
-use Rattle.rnix_grammar.specs.{Repaired.{repair, repaired, kinds_of, incomplete, is_ended, ended_count}}
-use Rattle.rnix_proof_lemmas.proofs.{Basics.{true_is_not_false, not_if, not_nil, none_left, none_right}, AnnotatedForestLemmas.tokens_in-row_of}
-use Rattle.rnix_proof_lemmas.proofs.MissingFacts.{missing_ended}
-use Rattle.rnix_proof_lemmas.proofs.ReachableRows.{IsKnown, is_viable, every_known, known_row, known_second, known_after, known_missing, known_past, known_wrong}
-use Rattle.rnix_proof_lemmas.proofs.{ViableRows.{end_viable, reads_viable, reads_row}, RowKinds.has_row}
-use Rattle.rnix_proof_rows.proofs.{RowsWithoutAttrpath.{is_bound, wrong_empty}, ReadsFaults.{HasEnded, NeitherEndNorMisplaced, plain_report, neither_second, neither_repeats, reads_errors}}
-use Rattle.rnix_proof_rows.proofs.RepairedRows.{needs_token, needs_token_half, needs_token_goes, pattern_owes, Simulates, simulates_self, simulates_same, simulates_both, second_simulates}
-use Rattle.rnix_proof_rows.proofs.RepairedRows.{after_repair, after_repair_all, known_after_repair, needs_token_after_repair, wrong_simulates}
+use Rattle.std.{specs.List.list_all, proofs.Common.{◌≡◌, ◌⊎◌, inl, inr, ℕ, ◌+◌, ◌≤◌, Bool, true, false, List, [], ◌∷◌, ◌++◌, Option, Some, None, refl, ap, sym}}
+use Rattle.{std.proofs.{Common.{◌∙◌, subst, arith, if◌then◌else◌, ◌&&◌, ◌||◌}, lemmas.Bool.and_parts}, rnix_kinds.specs.declared.kinds.SyntaxKind.SyntaxKind}
+use Rattle.{rnix_kinds.{specs.declared.kinds.SyntaxKind.TheVariants.NODE_PATTERN, proofs.AllKinds.{all_kinds, implied}}, rnix_green.specs.Forest.Forest}
+use Rattle.rnix_grammar.specs.{Fault.Fault, ErrorNodes.AreErrorNodes, AnnotatedForest.{Token, Note, Stray, DoubleBind, AnnotatedForest, tokens_in, row_of}}
+use Rattle.rnix_grammar.specs.{AnnotatedForest.leaf_kind, Reports.{report, repeats}, Rules.{Row, row, after, may_end, missing, counts}, CompleteRows.after_all}
+use Rattle.rnix_grammar.specs.{Reads.{Reads, end, leaf, missing_part, wrong, second, inner, IsWrong}, Repaired.{repair, repaired, kinds_of, incomplete}}
+use Rattle.{rnix_grammar.specs.Repaired.{is_ended, ended_count}, rnix_proof_lemmas.proofs.Basics.{true_is_not_false, not_if, not_nil, none_left, none_right}}
+use Rattle.rnix_proof_lemmas.proofs.{AnnotatedForestLemmas.tokens_in-row_of, MissingFacts.missing_ended, ReachableRows.{IsKnown, is_viable, every_known}}
+use Rattle.rnix_proof_lemmas.proofs.{ReachableRows.{known_row, known_second, known_after, known_missing, known_past, known_wrong}, ViableRows.end_viable}
+use Rattle.{rnix_proof_lemmas.proofs.{ViableRows.{reads_viable, reads_row}, RowKinds.has_row}, rnix_proof_rows.proofs.RowsWithoutAttrpath.is_bound}
+use Rattle.rnix_proof_rows.proofs.{RowsWithoutAttrpath.wrong_empty, ReadsFaults.{HasEnded, NeitherEndNorMisplaced, plain_report, neither_second}}
+use Rattle.rnix_proof_rows.proofs.{ReadsFaults.{neither_repeats, reads_errors}, RepairedRows.{needs_token, needs_token_half, needs_token_goes, pattern_owes}}
+use Rattle.rnix_proof_rows.proofs.RepairedRows.{Simulates, simulates_self, simulates_same, simulates_both, second_simulates, after_repair, after_repair_all}
+use Rattle.rnix_proof_rows.proofs.RepairedRows.{known_after_repair, needs_token_after_repair, wrong_simulates}
 
 -- what holds no token pays none
 pub needs_token_rest : {p i : SyntaxKind} {d n : ℕ} {q q' : Row} {b : AnnotatedForest} {us : List Token} {f : AnnotatedForest} {es : List Fault}

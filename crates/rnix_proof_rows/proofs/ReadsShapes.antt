@@ -1,18 +1,16 @@
 -- A row that is read has no error exactly if each of its nodes has its shape, and nothing in it is reported.
-use Rattle.std.specs.List.{list_all}
-use Rattle.std.{proofs.Common.{◌≡◌, ◌↔◌, inl, inr, ℕ, ◌+◌, Bool, true, false, List, [], ◌∷◌, ◌++◌, refl, ap, sym, ◌∙◌, arith, if◌then◌else◌, ◌&&◌}}
-use Rattle.rnix_kinds.{specs.declared.kinds.SyntaxKind.{SyntaxKind, TheVariants.{NODE_ROOT, NODE_PATTERN, NODE_PAT_BIND}}, proofs.AllKinds.{all_kinds, every}}
-use Rattle.{rnix_green.specs.Forest.{node, leaf as leaf_in}, rnix_grammar.specs.{declared.rules.Part.TheVariants.EndOr, Fault.Fault}}
-use Rattle.rnix_grammar.specs.AnnotatedForest.{Token, AnnotatedForest, blank, token, branch, fault, forget, DoubleBind, tokens_in, leaf_kind}
-use Rattle.rnix_grammar.specs.{Rules.{Row, ◌·◌, row, after, may_end}, CompleteRows.{after_all, is_row}}
-use Rattle.rnix_grammar.specs.{Reads.{Reads, ReadsRoot, end, leaf, missing_part, wrong, second, inner}}
-use Rattle.rnix_grammar.specs.{Named.{AreNamed, begins_with_token, is_bind_at, is_name_allowed}, ErrorNodes.AreErrorNodes, Reports.{report, repeats}}
-use Rattle.rnix_grammar.specs.Repaired.{repaired, kinds_of, incomplete, is_ended, ended_count, others}
-use Rattle.rnix_proof_lemmas.specs.RowReports.{reports_behind, reports}
-use Rattle.rnix_proof_lemmas.proofs.{Basics.{true_is_not_false, not_nil, none_left, none_right, Where, where_one}, EachKind.each_kind, EntryNames.both_true}
-use Rattle.rnix_proof_lemmas.proofs.{ReachableRows.{IsKnown, is_viable, every_known, known_row, known_after}, ViableRows.{end_viable, reads_viable}}
-use Rattle.rnix_proof_rows.proofs.{NamedRows.{are_named, is_end_or}, ErrorNodeRows.root_error_nodes, ReadsFaults.reads_errors, ReadsRows.{half, reads_counts}}
-use Rattle.rnix_proof_rows.proofs.RepairedRows.{simulates_self}
+use Rattle.std.{specs.List.list_all, proofs.Common.{◌≡◌, ◌↔◌, inl, inr, ℕ, ◌+◌, Bool, true, false, List, [], ◌∷◌, ◌++◌, refl, ap, sym, ◌∙◌, arith}}
+use Rattle.{std.proofs.Common.{if◌then◌else◌, ◌&&◌}, rnix_kinds.specs.declared.kinds.SyntaxKind.{SyntaxKind, TheVariants.{NODE_ROOT, NODE_PATTERN}}}
+use Rattle.{rnix_kinds.{specs.declared.kinds.SyntaxKind.TheVariants.NODE_PAT_BIND, proofs.AllKinds.{all_kinds, every}}, rnix_green.specs.Forest.node}
+use Rattle.{rnix_green.{specs.{Forest.{leaf as leaf_in}}}, rnix_grammar.specs.{declared.rules.Part.TheVariants.EndOr, Fault.Fault, AnnotatedForest.Token}}
+use Rattle.rnix_grammar.specs.{AnnotatedForest.{AnnotatedForest, blank, token, branch, fault, forget, DoubleBind, tokens_in, leaf_kind}, Rules.{Row, ◌·◌, row}}
+use Rattle.rnix_grammar.specs.{Rules.{after, may_end}, CompleteRows.{after_all, is_row}, Reads.{Reads, ReadsRoot, end, leaf, missing_part, wrong, second}}
+use Rattle.rnix_grammar.specs.{Reads.inner, Named.{AreNamed, begins_with_token, is_bind_at, is_name_allowed}, ErrorNodes.AreErrorNodes, Reports.report}
+use Rattle.rnix_grammar.specs.{Reports.repeats, Repaired.{repaired, kinds_of, incomplete, is_ended, ended_count, others}}
+use Rattle.rnix_proof_lemmas.{specs.RowReports.{reports_behind, reports}, proofs.Basics.{true_is_not_false, not_nil, none_left, none_right, Where, where_one}}
+use Rattle.rnix_proof_lemmas.proofs.{EachKind.each_kind, EntryNames.both_true, ReachableRows.{IsKnown, is_viable, every_known, known_row, known_after}}
+use Rattle.{rnix_proof_lemmas.proofs.ViableRows.{end_viable, reads_viable}, rnix_proof_rows.proofs.NamedRows.{are_named, is_end_or}}
+use Rattle.rnix_proof_rows.proofs.{ErrorNodeRows.root_error_nodes, ReadsFaults.reads_errors, ReadsRows.{half, reads_counts}, RepairedRows.simulates_self}
 
 -- behind the first child
 abbrev pub not_first : Bool → Bool

@@ -1,14 +1,13 @@
 -- Which rows owe a token, and how a repaired row comes as far as the row that is read: after a run of unwanted tokens another row may be left, where
 -- the same goes on.
-use Rattle.std.specs.List.{list_all}
-use Rattle.std.{proofs.Common.{◌≡◌, ℕ, zero, suc, Bool, true, false, List, [], ◌∷◌, Option, Some, None, refl, ap, sym, ◌∙◌, subst, ◌||◌, if◌then◌else◌}}
-use Rattle.rnix_kinds.specs.{declared.kinds.SyntaxKind.{SyntaxKind, TheVariants.{NODE_LITERAL, NODE_PATTERN, TOKEN_STRING_END}}, SyntaxKind.is_token}
-use Rattle.{rnix_kinds.proofs.AllKinds.{all_kinds, implied}, rnix_green.specs.Forest.Forest, rnix_grammar.specs.declared.rules.Part.Part}
-use Rattle.rnix_grammar.specs.declared.rules.Part.TheVariants.{Child, Suffix, Binary, Many, Entries, Wanted, Formals, FormalsAfterComma, Comma, BoundAlready}
-use Rattle.rnix_grammar.specs.{AnnotatedForest.{Token, Note, Stray, Unwanted, Extra, DoubleBind, TooDeep}, Reads.IsWrong, Repaired.{repair, kinds_of}}
-use Rattle.rnix_grammar.specs.{Rules.{Row, never, done, ◌·◌, row, after, may_end, run_at}, CompleteRows.after_all}
-use Rattle.rnix_proof_lemmas.proofs.{Basics.{true_is_not_false, Where, where_one}, EachKind.{Each, each_kind}, RowKinds.has_row}
-use Rattle.rnix_proof_lemmas.proofs.ReachableRows.{IsKnown, is_viable, each_known, every_known, known_after}
+use Rattle.std.{specs.List.list_all, proofs.Common.{◌≡◌, ℕ, zero, suc, Bool, true, false, List, [], ◌∷◌, Option, Some, None, refl, ap, sym, ◌∙◌, subst, ◌||◌}}
+use Rattle.{std.proofs.Common.if◌then◌else◌, rnix_kinds.specs.declared.kinds.SyntaxKind.{SyntaxKind, TheVariants.{NODE_LITERAL, NODE_PATTERN}}}
+use Rattle.rnix_kinds.{specs.{declared.kinds.SyntaxKind.TheVariants.TOKEN_STRING_END, SyntaxKind.is_token}, proofs.AllKinds.{all_kinds, implied}}
+use Rattle.{rnix_green.specs.Forest.Forest, rnix_grammar.specs.declared.rules.Part.{Part, TheVariants.{Child, Suffix, Binary, Many, Entries, Wanted, Formals}}}
+use Rattle.rnix_grammar.specs.{declared.rules.Part.TheVariants.{FormalsAfterComma, Comma, BoundAlready}, AnnotatedForest.{Token, Note, Stray, Unwanted, Extra}}
+use Rattle.rnix_grammar.specs.{AnnotatedForest.{DoubleBind, TooDeep}, Reads.IsWrong, Repaired.{repair, kinds_of}, Rules.{Row, never, done, ◌·◌, row, after}}
+use Rattle.{rnix_grammar.specs.{Rules.{may_end, run_at}, CompleteRows.after_all}, rnix_proof_lemmas.proofs.Basics.{true_is_not_false, Where, where_one}}
+use Rattle.rnix_proof_lemmas.proofs.{EachKind.{Each, each_kind}, RowKinds.has_row, ReachableRows.{IsKnown, is_viable, each_known, every_known, known_after}}
 use Rattle.rnix_proof_lemmas.proofs.ViableRows.{later_viable}
 
 -- some kinds complete a row

@@ -1,13 +1,11 @@
 -- What holds of the repaired tree of a whole text; behind an incomplete node no item stands.
 use Rattle.std.proofs.Common.{◌≡◌, ◌↔◌, inl, inr, ℕ, ◌+◌, ◌≤◌, true, false, List, [], ◌++◌, refl, ap, arith}
 use Rattle.{rnix_kinds.specs.declared.kinds.SyntaxKind.{SyntaxKind, TheVariants.{NODE_ROOT, NODE_PATTERN}}, rnix_green.specs.Forest.{empty, node}}
-use Rattle.rnix_grammar.specs.{Fault.Fault, AnnotatedForest.{Token, AnnotatedForest, tokens_in}, ErrorNodes.AreErrorNodes}
-use Rattle.rnix_grammar.specs.Unfinished.{AreIncompleteLast}
-use Rattle.rnix_grammar.specs.{Repaired.{repaired, repaired_nonempty, kinds_of, incomplete, AreBegun, ended_count}, Rules.{Row, row, may_end}, CompleteRows.{is_row}}
-use Rattle.{rnix_grammar.specs.Reads.{Reads, ReadsRoot, end, leaf, missing_part, wrong, second, inner}, rnix_proof_rows.proofs.ErrorNodeRows.root_error_nodes}
-use Rattle.rnix_proof_lemmas.proofs.ReachableRows.{known_row}
-use Rattle.rnix_proof_rows.proofs.{RepairedRows.simulates_self, ReadsFaults.reads_errors, ReadsRows.{Counts, ended_or, half, reads_counts}}
-use Rattle.rnix_proof_rows.proofs.{ReadsBegun.{beginning, reads_begun}}
+use Rattle.rnix_grammar.specs.{Fault.Fault, AnnotatedForest.{Token, AnnotatedForest, tokens_in}, ErrorNodes.AreErrorNodes, Unfinished.AreIncompleteLast}
+use Rattle.rnix_grammar.specs.{Repaired.{repaired, repaired_nonempty, kinds_of, incomplete, AreBegun, ended_count}, Rules.{Row, row, may_end}}
+use Rattle.rnix_grammar.specs.{CompleteRows.is_row, Reads.{Reads, ReadsRoot, end, leaf, missing_part, wrong, second, inner}}
+use Rattle.rnix_proof_rows.proofs.{ErrorNodeRows.root_error_nodes, RepairedRows.simulates_self, ReadsFaults.reads_errors, ReadsRows.{Counts, ended_or, half}}
+use Rattle.{rnix_proof_rows.proofs.{ReadsRows.reads_counts, ReadsBegun.{beginning, reads_begun}}, rnix_proof_lemmas.proofs.ReachableRows.known_row}
 
 -- what is counted in a complete row
 row_counts : {k : SyntaxKind} {d n : ℕ} {s : Row} {b : AnnotatedForest} {us : List Token} {c : AnnotatedForest} {es : List Fault}

@@ -1,16 +1,15 @@
 -- Which rows have items: each that begins with a child that is there whenever its node is. Where no item is left, no node but error nodes is read,
 -- if no attribute path may be.
 use Rattle.std.{specs.List.list_all, proofs.Common.{◌≡◌, ℕ, Bool, true, false, List, [], ◌∷◌, ◌++◌, Option, Some, None, refl, ap, sym, ◌∙◌, subst, arith}}
-use Rattle.std.proofs.{Common.{if◌then◌else◌, ◌&&◌}, lemmas.Bool.{and_from}}
-use Rattle.rnix_kinds.{specs.declared.kinds.SyntaxKind.{SyntaxKind, TheVariants.NODE_LITERAL}, proofs.AllKinds.{all_kinds, implied}}
-use Rattle.rnix_grammar.specs.{Fault.Fault, declared.rules.Part.TheVariants.{Child, Atom, First, Suffix, Binary, Argument, Attrpath, BoundAlready}}
-use Rattle.rnix_grammar.specs.AnnotatedForest.{Token, Note, Stray, Unwanted, Extra, DoubleBind, TooDeep, AnnotatedForest, blank, token, branch, fault, one_branch}
-use Rattle.rnix_grammar.specs.{AnnotatedForest.{is_some, row_of, tokens_in}, Beginnings.{BeginsAs, IsOperandOf}}
-use Rattle.rnix_grammar.specs.{Reads.{Reads, end, leaf, missing_part, wrong, second, inner, IsWrong}}
-use Rattle.rnix_grammar.specs.Rules.{Row, never, done, ◌·◌, ◌or◌, row, after, may_end, missing, expects_end, IsExpected, is_first_expected, level_at, counts}
+use Rattle.{std.proofs.{Common.{if◌then◌else◌, ◌&&◌}, lemmas.Bool.and_from}, rnix_kinds.specs.declared.kinds.SyntaxKind.{SyntaxKind, TheVariants.NODE_LITERAL}}
+use Rattle.{rnix_kinds.proofs.AllKinds.{all_kinds, implied}, rnix_grammar.specs.{Fault.Fault, declared.rules.Part.TheVariants.{Child, Atom, First, Suffix}}}
+use Rattle.rnix_grammar.specs.{declared.rules.Part.TheVariants.{Binary, Argument, Attrpath, BoundAlready}, AnnotatedForest.{Token, Note, Stray, Unwanted}}
+use Rattle.rnix_grammar.specs.AnnotatedForest.{Extra, DoubleBind, TooDeep, AnnotatedForest, blank, token, branch, fault, one_branch, is_some, row_of, tokens_in}
+use Rattle.rnix_grammar.specs.{Beginnings.{BeginsAs, IsOperandOf}, Reads.{Reads, end, leaf, missing_part, wrong, second, inner, IsWrong}, Rules.{Row, never}}
+use Rattle.rnix_grammar.specs.Rules.{done, ◌·◌, ◌or◌, row, after, may_end, missing, expects_end, IsExpected, is_first_expected, level_at, counts}
 use Rattle.rnix_proof_lemmas.proofs.{Basics.{true_is_not_false, not_nil, none_left, none_right}, AnnotatedForestLemmas.tokens_in-row_of, UnwantedRuns.some_left}
-use Rattle.rnix_proof_lemmas.proofs.{ReachableRows.{IsKnown, is_viable, every_known, known_row, known_missing, known_past, known_wrong}}
-use Rattle.rnix_proof_lemmas.proofs.{ViableRows.{end_viable, reads_viable}}
+use Rattle.rnix_proof_lemmas.proofs.{ReachableRows.{IsKnown, is_viable, every_known, known_row, known_missing, known_past, known_wrong}, ViableRows.end_viable}
+use Rattle.rnix_proof_lemmas.proofs.ViableRows.{reads_viable}
 
 -- a row begins with a child that is there whenever its node is, or there is none
 abbrev pub begins_with_child : Row → Bool

@@ -3,16 +3,15 @@ use Rattle.std.proofs.Common.{◌≡◌, ◌↔◌, ℕ, Bool, true, false, List
 use Rattle.rnix_kinds.specs.declared.kinds.SyntaxKind.{SyntaxKind, TheVariants.{NODE_ROOT, NODE_ERROR, NODE_IDENT, NODE_PAT_BIND, NODE_PAT_ENTRY}}
 use Rattle.{rnix_kinds.specs.SyntaxKind.is_trivia, rnix_green.specs.Forest.Forest, rnix_grammar.specs.{Fault.{Fault, duplicated_args}, AnnotatedForest.Token}}
 use Rattle.rnix_grammar.specs.AnnotatedForest.{AnnotatedForest, blank, token, branch, fault, ◌⊕◌, one_token, one_branch, one_fault, forget, without_trivia}
-use Rattle.rnix_grammar.specs.{AnnotatedForest.{token_if, leaf_kind, HaveLeafKinds, tokens_in, extent_of}, Reports.{repeated_if, entry_name}}
-use Rattle.rnix_grammar.specs.{Reports.{only_token, is_same_name, has_entry, repeats}, Rules.may_end, CompleteRows.is_row, Reads.ReadsRoot}
-use Rattle.rnix_grammar.specs.Named.{begins_with_token}
+use Rattle.rnix_grammar.specs.{AnnotatedForest.{token_if, leaf_kind, HaveLeafKinds, tokens_in, extent_of}, Reports.{repeated_if, entry_name, only_token}}
+use Rattle.rnix_grammar.specs.{Reports.{is_same_name, has_entry, repeats}, Rules.may_end, CompleteRows.is_row, Reads.ReadsRoot, Named.begins_with_token}
 use Rattle.rnix_grammar.specs.{Repaired.kinds_of, Trim.{AreNodesTrimmed, AreFaultsTrimmed}, Shape.{item_kinds, begins_with_leaf, is_bind_formed}}
 use Rattle.rnix_grammar.specs.Shape.{are_binds_formed, AreRows, IsShaped, leaf_text, text_if, name_in, name_if, with_name, entry_names, AreNew, AreUnrepeated}
-use Rattle.{rnix_grammar.specs.{Shape.{IsUnrepeated, reports_within}, Tables.is_among}, rnix_proof_lemmas.proofs.ViableRows.nowhere}
-use Rattle.rnix_proof_lemmas.specs.RowReports.{reports_behind}
-use Rattle.rnix_proof_lemmas.proofs.{Basics.{true_is_not_false, none_left, none_right}, EntryNames.{name_of_items, has_branch, either_assoc, has-⊕, if_not}}
+use Rattle.{rnix_grammar.specs.{Shape.{IsUnrepeated, reports_within}, Tables.is_among}, rnix_proof_lemmas.proofs.{ViableRows.nowhere, Basics.true_is_not_false}}
+use Rattle.rnix_proof_lemmas.proofs.{Basics.{none_left, none_right}, EntryNames.{name_of_items, has_branch, either_assoc, has-⊕, if_not}}
 use Rattle.rnix_proof_lemmas.proofs.{AnnotatedForestLemmas.⊕-blank, LayoutLemmas.without_trivia-⊕, ReportLemmas.{without_trivia_tokens, same_report}}
-use Rattle.rnix_proof_rows.proofs.{WithTriviaEdges.remapped_is_trivia, ReadsShapes.{is_item_bind_formed, are_item_binds_formed, AreErrorFreeRows, IsErrorFree, root_rows}}
+use Rattle.{rnix_proof_lemmas.specs.RowReports.reports_behind, rnix_proof_rows.proofs.{WithTriviaEdges.remapped_is_trivia, ReadsShapes.is_item_bind_formed}}
+use Rattle.rnix_proof_rows.proofs.ReadsShapes.{are_item_binds_formed, AreErrorFreeRows, IsErrorFree, root_rows}
 
 -- a leaf is trivia exactly if its token is
 leaf_trivia : (p k : SyntaxKind) (t : Token) → k ≡ leaf_kind p t → is_trivia t.kind ≡ is_trivia k

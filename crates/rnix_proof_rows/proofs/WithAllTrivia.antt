@@ -1,17 +1,15 @@
 -- What is so of a whole text's trees, where their items and the tokens determine where the trivia are, and if its items stand.
-use Rattle.std.proofs.Common.{◌≡◌, true, List, [], ◌++◌, ap, sym, ◌∙◌, append-nil, subst}
-use Rattle.{rnix_kinds.specs.{declared.kinds.SyntaxKind.{SyntaxKind, TheVariants.NODE_ROOT}, Lexical.Tokens.Lexeme}, rnix_green.specs.Tree.Tree}
+use Rattle.{std.proofs.Common.{◌≡◌, true, List, [], ◌++◌, ap, sym, ◌∙◌, append-nil, subst}, rnix_kinds.specs.declared.kinds.SyntaxKind.SyntaxKind}
+use Rattle.{rnix_kinds.specs.{declared.kinds.SyntaxKind.TheVariants.NODE_ROOT, Lexical.Tokens.Lexeme}, rnix_green.specs.Tree.Tree}
 use Rattle.rnix_grammar.specs.{Fault.Fault, AnnotatedForest.{Token, AnnotatedForest, tokens_in, without_trivia, placed_from, HaveLeafKinds, forget}}
-use Rattle.rnix_grammar.specs.Layout.{trivia_before, from_item, items, left_after, with_trivia, with_all_trivia}
-use Rattle.rnix_proof_lemmas.specs.Document.{IsRead}
-use Rattle.rnix_proof_lemmas.specs.Machine.{with_leading}
-use Rattle.rnix_grammar.specs.{Reads.ReadsRoot, Trim.{AreFaultsTrimmed, AreNamesSingleTokens, AreNodesTrimmed}}
-use Rattle.rnix_proof_lemmas.specs.Spelled.{AreSpelled}
-use Rattle.rnix_proof_lemmas.proofs.{AnnotatedForestLemmas.tokens_in-⊕, LayoutLemmas.{items-view, IsBared, bared, with_trivia_tokens, trivia_tokens, nothing_from}}
-use Rattle.rnix_proof_lemmas.proofs.{LayoutLemmas.{leaf_kind-⊕, trivia_leaf_kinds, with_trivia_leaf_kinds}, ReportLemmas.without_trivia_tokens, EdgeLemmas.faults_trimmed-⊕}
-use Rattle.{rnix_proof_lemmas.proofs.EdgeLemmas.faults_trimmed_trivia, rnix_proof_rows.proofs.{WithTrivia.root_row_with_trivia, ReadsShapes.root_rows}}
-use Rattle.rnix_proof_rows.proofs.{ReadsFilled.reads_filled, ReadsLeafKinds.{reads_leaf_kinds, reads_single_names}, WithTriviaEdges.{edged-⊕, edged_trivia}}
-use Rattle.rnix_proof_rows.proofs.{WithTriviaEdges.{with_trivia_edged, with_trivia_trimmed, nodes_trimmed}, WithTriviaNames.{bare-⊕, trivia_names, with_trivia_names}}
+use Rattle.rnix_grammar.specs.{Layout.{trivia_before, from_item, items, left_after, with_trivia, with_all_trivia}, Reads.ReadsRoot, Trim.AreFaultsTrimmed}
+use Rattle.{rnix_grammar.specs.Trim.{AreNamesSingleTokens, AreNodesTrimmed}, rnix_proof_lemmas.specs.{Document.IsRead, Machine.with_leading}}
+use Rattle.rnix_proof_lemmas.{specs.Spelled.AreSpelled, proofs.{AnnotatedForestLemmas.tokens_in-⊕, LayoutLemmas.{items-view, IsBared, bared}}}
+use Rattle.rnix_proof_lemmas.proofs.LayoutLemmas.{with_trivia_tokens, trivia_tokens, nothing_from, leaf_kind-⊕, trivia_leaf_kinds, with_trivia_leaf_kinds}
+use Rattle.rnix_proof_lemmas.proofs.{ReportLemmas.without_trivia_tokens, EdgeLemmas.{faults_trimmed-⊕, faults_trimmed_trivia}}
+use Rattle.rnix_proof_rows.proofs.{WithTrivia.root_row_with_trivia, ReadsShapes.root_rows, ReadsFilled.reads_filled, ReadsLeafKinds.reads_leaf_kinds}
+use Rattle.rnix_proof_rows.proofs.{ReadsLeafKinds.reads_single_names, WithTriviaEdges.{edged-⊕, edged_trivia, with_trivia_edged, with_trivia_trimmed}}
+use Rattle.rnix_proof_rows.proofs.{WithTriviaEdges.nodes_trimmed, WithTriviaNames.{bare-⊕, trivia_names, with_trivia_names}}
 
 -- all items, with nothing behind them
 pub all_items : (f : AnnotatedForest) (ts : List Token) → items ts ≡ tokens_in f → items ts ≡ tokens_in f ++ []

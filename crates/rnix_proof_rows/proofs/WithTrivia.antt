@@ -1,25 +1,20 @@
 -- Where the trivia of the open rows are is determined by their items and the tokens.
 use Rattle.std.proofs.Common.{◌≡◌, ℕ, suc, Bool, true, false, List, [], ◌∷◌, ◌++◌, Option, refl, sym, ap, ◌∙◌, subst, if◌then◌else◌, nat_le}
 use Rattle.rnix_kinds.specs.declared.kinds.SyntaxKind.{SyntaxKind, TheVariants.{NODE_ERROR, NODE_IDENT, NODE_IDENT_PARAM, NODE_APPLY, NODE_LEGACY_LET}}
-use Rattle.rnix_grammar.specs.declared.{position.Position.Position, slot_table.TheConstants.APPLIED}
-use Rattle.rnix_kinds.specs.declared.kinds.SyntaxKind.TheVariants.{NODE_PATTERN, NODE_PAT_BIND}
-use Rattle.rnix_grammar.specs.{declared.{expected_set.ExpectedSet.ExpectedSet, action.Action.Action, begin.Begin.Begin}, Fault.Fault, Tables.depth_limit, Actions.action_at}
-use Rattle.rnix_grammar.specs.{Begins.{begin_of, second_kind}, AnnotatedForest.{Token, Stray, Unwanted, Extra, DoubleBind, TooDeep, AnnotatedForest, blank, ◌⊕◌}}
-use Rattle.rnix_grammar.specs.{AnnotatedForest.{one_branch, one_fault, without_trivia, head_kind, touches}, Layout.{from_item, tail_of, trivia_before, items}}
-use Rattle.rnix_grammar.specs.{Layout.{left_after, with_all_trivia}, Reports.repeated}
-use Rattle.rnix_proof_lemmas.specs.Machine.{Head, Node, SecondBind, Operand, Frame, Machine, put, opened}
-use Rattle.rnix_proof_lemmas.specs.Machine.{with_leading, after_item, leaf, run_row, dropped, run_rest, made, kind_of, min_bp_of, closed, entry_closed, limited, begun, operand_on}
-use Rattle.rnix_grammar.specs.UnwantedRun.{run_of}
-use Rattle.rnix_proof_lemmas.specs.FrameKinds.{OperandFrame, frame_kind, IsStackedOn}
-use Rattle.rnix_proof_lemmas.specs.Machine.{reading, perform, step_on, step, begins, Runs, rest}
-use Rattle.rnix_proof_lemmas.specs.Machine.{then as further}
-use Rattle.rnix_proof_lemmas.proofs.{AnnotatedForestLemmas.⊕-assoc, LayoutLemmas.without_trivia-⊕}
-use Rattle.rnix_proof_lemmas.specs.Allowed.{Allowed, is_there}
-use Rattle.rnix_proof_lemmas.specs.FrameKinds.{AreStacked}
-use Rattle.rnix_proof_lemmas.proofs.{WithoutTriviaLemmas.{items_behind, with_leading_without_trivia, run_prefix, all_prefix}, AllowedLemmas.allowed, StackedFrames.BeginsInner}
-use Rattle.{rnix_proof_lemmas.proofs.StackedFrames.{begin_inner, step_stacked, begins_stacked}, rnix_proof_rows.proofs.AttachTriviaLemmas.{HasTree, tree_behind, HasNoLeadingTrivia, from_no_leading_trivia}}
-use Rattle.rnix_proof_rows.proofs.AttachTriviaLemmas.{no_leading_trivia, HasTrivia, with_trivia_blank, with_trivia_added, tree_added, with_trivia_branch, with_trivia_fault}
-use Rattle.rnix_proof_rows.proofs.AttachTriviaLemmas.{with_trivia_last, with_trivia_leaf, tree_leaf, with_trivia_run}
+use Rattle.{rnix_kinds.specs.declared.kinds.SyntaxKind.TheVariants.{NODE_PATTERN, NODE_PAT_BIND}, rnix_grammar.specs.declared.position.Position.Position}
+use Rattle.rnix_grammar.specs.declared.{slot_table.TheConstants.APPLIED, expected_set.ExpectedSet.ExpectedSet, action.Action.Action, begin.Begin.Begin}
+use Rattle.rnix_grammar.specs.{Fault.Fault, Tables.depth_limit, Actions.action_at, Begins.{begin_of, second_kind}, AnnotatedForest.{Token, Stray, Unwanted}}
+use Rattle.rnix_grammar.specs.AnnotatedForest.{Extra, DoubleBind, TooDeep, AnnotatedForest, blank, ◌⊕◌, one_branch, one_fault, without_trivia, head_kind}
+use Rattle.rnix_grammar.specs.{AnnotatedForest.touches, Layout.{from_item, tail_of, trivia_before, items, left_after, with_all_trivia}, Reports.repeated}
+use Rattle.{rnix_grammar.specs.UnwantedRun.run_of, rnix_proof_lemmas.specs.Machine.{Head, Node, SecondBind, Operand, Frame, Machine, put, opened, with_leading}}
+use Rattle.rnix_proof_lemmas.specs.Machine.{after_item, leaf, run_row, dropped, run_rest, made, kind_of, min_bp_of, closed, entry_closed, limited, begun}
+use Rattle.rnix_proof_lemmas.specs.{Machine.{operand_on, reading, perform, step_on, step, begins, Runs, rest, then as further}, FrameKinds.OperandFrame}
+use Rattle.rnix_proof_lemmas.{specs.{FrameKinds.{frame_kind, IsStackedOn, AreStacked}, Allowed.{Allowed, is_there}}, proofs.AnnotatedForestLemmas.⊕-assoc}
+use Rattle.rnix_proof_lemmas.proofs.{LayoutLemmas.without_trivia-⊕, WithoutTriviaLemmas.{items_behind, with_leading_without_trivia, run_prefix, all_prefix}}
+use Rattle.rnix_proof_lemmas.proofs.{AllowedLemmas.allowed, StackedFrames.{BeginsInner, begin_inner, step_stacked, begins_stacked}}
+use Rattle.rnix_proof_rows.proofs.AttachTriviaLemmas.{HasTree, tree_behind, HasNoLeadingTrivia, from_no_leading_trivia, no_leading_trivia, HasTrivia}
+use Rattle.rnix_proof_rows.proofs.AttachTriviaLemmas.{with_trivia_blank, with_trivia_added, tree_added, with_trivia_branch, with_trivia_fault, with_trivia_last}
+use Rattle.rnix_proof_rows.proofs.AttachTriviaLemmas.{with_trivia_leaf, tree_leaf, with_trivia_run}
 use Rattle.rnix_grammar.specs.declared.position.Position.TheVariants as p
 use Rattle.rnix_grammar.specs.declared.action.Action.TheVariants as a
 use Rattle.rnix_grammar.specs.declared.begin.Begin.TheVariants as b

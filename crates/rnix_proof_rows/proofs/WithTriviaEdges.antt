@@ -1,14 +1,13 @@
 -- What is given trivia from an item on begins and ends with items, as a row of tokens and as trees.
 use Rattle.std.proofs.Common.{◌≡◌, Bool, true, false, List, [], ◌∷◌, ◌++◌, refl, ap, sym, ◌∙◌, subst, append_assoc}
 use Rattle.rnix_kinds.specs.declared.kinds.SyntaxKind.{SyntaxKind, TheVariants.{TOKEN_IDENT, TOKEN_OR, NODE_IDENT, NODE_CUR_POS, NODE_ERROR}}
-use Rattle.{rnix_kinds.specs.SyntaxKind.is_trivia, rnix_grammar.specs.AnnotatedForest.{Token, AnnotatedForest, blank, token, branch, fault, ◌⊕◌}}
-use Rattle.rnix_grammar.specs.{AnnotatedForest.{tokens_in, forget, leaf_kind_as, HaveLeafKinds}, Layout.{from_item, from_item_if, tail_of, items}}
-use Rattle.rnix_grammar.specs.{Layout.{trivia_if, trivia_before, is_last, trivia_after, rest_after, left_after, with_trivia}, Trim.BeginsWithItem}
-use Rattle.rnix_grammar.specs.Trim.{EndsWithItem, leaf_kinds, token_kinds, AreFaultsTrimmed, AreNodesTrimmed}
-use Rattle.rnix_proof_lemmas.proofs.LayoutLemmas.{IsFirst, first_item, IsBared, bared, items-from_item, items-rest_after, with_trivia_tokens}
-use Rattle.rnix_proof_lemmas.proofs.EdgeLemmas.{IsSome, some, some_before, some_behind, ends_behind, ends_both, begins_part, token_kinds-++, kinds_in, kinds_in-⊕}
-use Rattle.rnix_proof_lemmas.proofs.EdgeLemmas.{faults_trimmed-⊕}
-use Rattle.{rnix_proof_lemmas.proofs.EdgeLemmas.faults_trimmed_trivia, rnix_proof_rows.proofs.AttachTriviaLemmas.HasTree}
+use Rattle.{rnix_kinds.specs.SyntaxKind.is_trivia, rnix_grammar.specs.AnnotatedForest.{Token, AnnotatedForest, blank, token, branch, fault, ◌⊕◌, tokens_in}}
+use Rattle.rnix_grammar.specs.{AnnotatedForest.{forget, leaf_kind_as, HaveLeafKinds}, Layout.{from_item, from_item_if, tail_of, items, trivia_if}}
+use Rattle.rnix_grammar.specs.{Layout.{trivia_before, is_last, trivia_after, rest_after, left_after, with_trivia}, Trim.{BeginsWithItem, EndsWithItem}}
+use Rattle.{rnix_grammar.specs.Trim.{leaf_kinds, token_kinds, AreFaultsTrimmed, AreNodesTrimmed}, rnix_proof_lemmas.proofs.LayoutLemmas.{IsFirst, first_item}}
+use Rattle.rnix_proof_lemmas.proofs.{LayoutLemmas.{IsBared, bared, items-from_item, items-rest_after, with_trivia_tokens}, EdgeLemmas.{IsSome, some}}
+use Rattle.rnix_proof_lemmas.proofs.EdgeLemmas.{some_before, some_behind, ends_behind, ends_both, begins_part, token_kinds-++, kinds_in, kinds_in-⊕}
+use Rattle.{rnix_proof_lemmas.proofs.EdgeLemmas.{faults_trimmed-⊕, faults_trimmed_trivia}, rnix_proof_rows.proofs.AttachTriviaLemmas.HasTree}
 use Rattle.rnix_proof_rows.proofs.{ReadsFilled.{AreFilled, AreFaultsFilled, rows_filled}, ReadsShapes.AreErrorFreeRows}
 
 -- a row begins and ends with items, or is empty

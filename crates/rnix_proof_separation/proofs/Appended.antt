@@ -1,11 +1,10 @@
 -- A text that begins with a token: its bytes and its runs, whatever follows.
-use Rattle.std.proofs.Common.{◌≡◌, ℕ, suc, ◌+◌, ◌<◌, ◌≤◌, Bool, true, false, not, ◌&&◌, ◌||◌, ◌==◌, List, [], ◌∷◌, ◌++◌, length, get_or, drop}
-use Rattle.std.proofs.Common.{refl, sym, ap, ◌∙◌, inl, inr, ◌⊎◌, arith, add-zero, add-one, get_or-drop, length-drop, eqb-true, eq-eqb, cond}
-use Rattle.std.proofs.lemmas.{List.{get_or_append_left, get_or-append-add, drop-append-le, get_or_past}, List.Sums.{prefix_len_passes, prefix_len_stops}}
-use Rattle.std.proofs.lemmas.{Bool.{cases_lt, and_parts, both_ways, not-true, or_left, cond-true, cond-false, agree_below_at}, Bool.Decides.nat_tests}
-use Rattle.std.specs.{Prelude.codes, List.{prefix_len, list_all}}
-use Rattle.rnix_kinds.specs.declared.tokenizer.text.Class.TheVariants.{Digit, Name, Path, Step, Scheme, Angle, Uri}
-use Rattle.rnix_kinds.specs.Lexical.{Texts.{occurs_at, begins, run_end, is_blank}, Classes.class_test}
+use Rattle.std.proofs.Common.{◌≡◌, ℕ, suc, ◌+◌, ◌<◌, ◌≤◌, Bool, true, false, not, ◌&&◌, ◌||◌, ◌==◌, List, [], ◌∷◌, ◌++◌, length, get_or, drop, refl, sym, ap}
+use Rattle.std.proofs.{Common.{◌∙◌, inl, inr, ◌⊎◌, arith, add-zero, add-one, get_or-drop, length-drop, eqb-true, eq-eqb, cond}, lemmas.List.get_or_append_left}
+use Rattle.std.proofs.lemmas.{List.{get_or-append-add, drop-append-le, get_or_past, Sums.{prefix_len_passes, prefix_len_stops}}, Bool.{cases_lt, cases_Bool}}
+use Rattle.std.proofs.lemmas.Bool.{and_parts, and_from, both_ways, not-true, not_from_false, ne_eqb, or_left, cond-true, cond-false, agree_below}
+use Rattle.std.{proofs.lemmas.Bool.{agree_below_at, Decides.nat_tests}, specs.{Prelude.codes, List.{prefix_len, list_all}}}
+use Rattle.rnix_kinds.specs.Lexical.Texts.{occurs_at, begins, run_end, is_blank}
 
 -- a choice of which the test is known
 pub if_true : {A : Type 0} (b : Bool) (x y z : A) → b ≡ true → x ≡ z → cond b x y ≡ z
@@ -13,6 +12,11 @@ if_true b x y z e f = cond-true b x y e ∙ f
 
 pub if_false : {A : Type 0} (b : Bool) (x y z : A) → b ≡ false → y ≡ z → cond b x y ≡ z
 if_false b x y z e f = cond-false b x y e ∙ f
+
+-- the two cases of a test
+pub either : {P : Type 0} (b : Bool) → (b ≡ true → P) → (b ≡ false → P) → P
+either true pass fail = pass refl
+either false pass fail = fail refl
 
 -- a byte of the token is the same before all that follows
 pub same_byte : (t s r : List ℕ) (i : ℕ) → i < length t → get_or (t ++ s) i 0 ≡ get_or (t ++ r) i 0
@@ -37,33 +41,26 @@ pub no_run : (p : ℕ → Bool) (r : List ℕ) → p (get_or r 0 0) ≡ false �
 no_run p [] out = refl
 no_run p (b ∷ r) out = cond-false (p b) _ _ out
 
-inside_step : (p : ℕ → Bool) (x : ℕ) (t s r : List ℕ) (b : Bool) → p x ≡ b → prefix_len p (x ∷ (t ++ s)) < suc (length t)
-    → (prefix_len p (t ++ s) < length t → prefix_len p (t ++ r) ≡ prefix_len p (t ++ s)) → prefix_len p (x ∷ (t ++ r)) ≡ prefix_len p (x ∷ (t ++ s))
-inside_step p x t s r true e h more =
-    let here : prefix_len p (x ∷ (t ++ s)) ≡ 1 + prefix_len p (t ++ s) = cond-true (p x) _ _ e in
-    let there : prefix_len p (x ∷ (t ++ r)) ≡ 1 + prefix_len p (t ++ r) = cond-true (p x) _ _ e in
-    let inner = more (omega arith) in
-    omega arith
-inside_step p x t s r false e h more = cond-false (p x) _ _ e ∙ sym (cond-false (p x) _ _ e)
+run_next : (p : ℕ → Bool) (b : ℕ) (xs : List ℕ) → p b ≡ true → prefix_len p (b ∷ xs) ≡ 1 + prefix_len p xs
+run_next p b xs e = cond-true (p b) _ _ e
+
+-- runs are alike, if they are alike after a byte of the run
+run_step : (p : ℕ → Bool) (b : ℕ) (xs ys : List ℕ) → (p b ≡ true → prefix_len p ys ≡ prefix_len p xs) → prefix_len p (b ∷ ys) ≡ prefix_len p (b ∷ xs)
+run_step p b xs ys more =
+    elim (cases_Bool (p b)) [
+      | inl e ↦ run_next p b ys e ∙ (ap (λ k. 1 + k) (more e) ∙ sym (run_next p b xs e))
+      | inr e ↦ cond-false (p b) _ _ e ∙ sym (cond-false (p b) _ _ e)
+    ]
 
 -- a run that ends inside the token ends there before all that follows
 pub run_inside : (p : ℕ → Bool) (t s r : List ℕ) → prefix_len p (t ++ s) < length t → prefix_len p (t ++ r) ≡ prefix_len p (t ++ s)
 run_inside p [] s r h = absurd (omega arith)
-run_inside p (x ∷ t) s r h = inside_step p x t s r (p x) refl h (run_inside p t s r)
-
-stopped_step : (p : ℕ → Bool) (x : ℕ) (t s r : List ℕ) (b : Bool) → p x ≡ b → prefix_len p (x ∷ (t ++ s)) ≤ suc (length t)
-    → (prefix_len p (t ++ s) ≤ length t → prefix_len p (t ++ r) ≡ prefix_len p (t ++ s)) → prefix_len p (x ∷ (t ++ r)) ≡ prefix_len p (x ∷ (t ++ s))
-stopped_step p x t s r true e h more =
-    let here : prefix_len p (x ∷ (t ++ s)) ≡ 1 + prefix_len p (t ++ s) = cond-true (p x) _ _ e in
-    let there : prefix_len p (x ∷ (t ++ r)) ≡ 1 + prefix_len p (t ++ r) = cond-true (p x) _ _ e in
-    let inner = more (omega arith) in
-    omega arith
-stopped_step p x t s r false e h more = cond-false (p x) _ _ e ∙ sym (cond-false (p x) _ _ e)
+run_inside p (b ∷ t) s r h = run_step p b (t ++ s) (t ++ r) (λ e. run_inside p t s r (omega (arith, run_next p b (t ++ s) e)))
 
 -- and one that ends with it at the latest ends there before what is not of the run
 pub run_stopped : (p : ℕ → Bool) (t s r : List ℕ) → prefix_len p (t ++ s) ≤ length t → prefix_len p r ≡ 0 → prefix_len p (t ++ r) ≡ prefix_len p (t ++ s)
 run_stopped p [] s r h stop = omega arith
-run_stopped p (x ∷ t) s r h stop = stopped_step p x t s r (p x) refl h (λ inner. run_stopped p t s r inner stop)
+run_stopped p (b ∷ t) s r h stop = run_step p b (t ++ s) (t ++ r) (λ e. run_stopped p t s r (omega (arith, run_next p b (t ++ s) e)) stop)
 
 -- the same from a place inside the token on
 pub end_stopped : (p : ℕ → Bool) (i : ℕ) (t s r : List ℕ) → i ≤ length t → run_end p i (t ++ s) ≤ length t → prefix_len p r ≡ 0
@@ -148,6 +145,10 @@ stands_within (b ∷ c ∷ w) i t r other h e =
 abbrev pub is_edge : ℕ → Bool
 is_edge b = is_blank b || b == 0
 
+-- or `$`
+abbrev pub is_next : ℕ → Bool
+is_next b = is_edge b || b == 36
+
 -- white space follows, or nothing
 abbrev pub IsApart : List ℕ → Type 0
 IsApart r = (r ≡ []) ⊎ (is_blank (get_or r 0 0) ≡ true)
@@ -156,42 +157,22 @@ pub apart_edge : (r : List ℕ) → IsApart r → is_edge (get_or r 0 0) ≡ tru
 apart_edge r (inl e) = ap (λ x. is_edge (get_or x 0 0)) e
 apart_edge r (inr e) = or_left _ _ e
 
--- no run of a token goes on with such a byte
-pub edge_digit : (b : ℕ) → is_edge b ≡ true → class_test Digit b ≡ false
-edge_digit b e = grind (arith, nat_tests)
+next_low : (b : ℕ) → is_next b ≡ true → b < 37
+next_low b e = grind (arith, nat_tests)
 
-pub edge_name : (b : ℕ) → is_edge b ≡ true → class_test Name b ≡ false
-edge_name b e = grind (arith, nat_tests)
-
-pub edge_path : (b : ℕ) → is_edge b ≡ true → class_test Path b ≡ false
-edge_path b e = grind (arith, nat_tests)
-
-pub edge_step : (b : ℕ) → is_edge b ≡ true → class_test Step b ≡ false
-edge_step b e = grind (arith, nat_tests)
-
-pub edge_scheme : (b : ℕ) → is_edge b ≡ true → class_test Scheme b ≡ false
-edge_scheme b e = grind (arith, nat_tests)
-
-pub edge_angle : (b : ℕ) → is_edge b ≡ true → class_test Angle b ≡ false
-edge_angle b e = grind (arith, nat_tests)
+-- a test that no such byte passes
+pub next_out : (p : ℕ → Bool) → agree_below (λ b. is_next b && p b) (λ b. false) 37 ≡ true → (b : ℕ) → is_next b ≡ true → p b ≡ false
+next_out p none b e = ap (λ k. k && p b) (sym e) ∙ agree_below_at (λ c. is_next c && p c) (λ c. false) 37 b none (next_low b e)
 
 edge_low : (b : ℕ) → is_edge b ≡ true → b < 33
 edge_low b e = grind (arith, nat_tests)
 
-pub edge_uri : (b : ℕ) → is_edge b ≡ true → class_test Uri b ≡ false
-edge_uri b e =
-    ap (λ k. k && class_test Uri b) (sym e) ∙ agree_below_at (λ c. is_edge c && class_test Uri c) (λ c. false) 33 b refl (edge_low b e)
+pub edge_out : (p : ℕ → Bool) → agree_below (λ b. is_edge b && p b) (λ b. false) 33 ≡ true → (b : ℕ) → is_edge b ≡ true → p b ≡ false
+edge_out p none b e = ap (λ k. k && p b) (sym e) ∙ agree_below_at (λ c. is_edge c && p c) (λ c. false) 33 b none (edge_low b e)
 
--- it is no other byte
-pub edge_not : (b c : ℕ) → is_edge b ≡ true → is_edge c ≡ false → (b == c) ≡ false
-edge_not b c e f = grind (arith, nat_tests)
-
-ink_step : (b c : ℕ) → not (is_edge b) ≡ true → is_edge c ≡ true → not (b == c) ≡ true
-ink_step b c e f = grind (arith, nat_tests)
-
--- and in no word without white space
-pub ink_other : (w : List ℕ) (c : ℕ) → list_all (λ b. not (is_edge b)) w ≡ true → is_edge c ≡ true → list_all (λ b. not (b == c)) w ≡ true
-ink_other [] c e f = refl
-ink_other (b ∷ w) c e f =
-    let parts = and_parts (not (is_edge b)) (list_all (λ d. not (is_edge d)) w) e in
-    ap (λ k. k && list_all (λ d. not (d == c)) w) (ink_step b c parts.0 f) ∙ ink_other w c parts.1 f
+-- a byte that passes a test is in no word of other bytes
+pub not_in_word : (p : ℕ → Bool) (w : List ℕ) (c : ℕ) → list_all (λ b. not (p b)) w ≡ true → p c ≡ true → list_all (λ b. not (b == c)) w ≡ true
+not_in_word p [] c e f = refl
+not_in_word p (b ∷ w) c e f =
+    let parts = and_parts (not (p b)) (list_all (λ d. not (p d)) w) e in
+    and_from _ _ (not_from_false _ (ne_eqb b c (λ same. both_ways (p b) (not-true _ parts.0) (ap p same ∙ f)))) (not_in_word p w c parts.1 f)

@@ -1,12 +1,10 @@
--- An operator, a bracket or `...` is the same before white space.
-use Rattle.std.proofs.Common.{◌≡◌, ℕ, suc, ◌+◌, ◌<◌, ◌≤◌, Bool, true, false, not, ◌&&◌, ◌==◌, nat_lt, List, [], ◌∷◌, ◌++◌, length, get_or}
-use Rattle.std.proofs.Common.{Some, None, refl, sym, ap, ◌∙◌, subst, inl, inr, arith, cond, eqb-true}
-use Rattle.std.proofs.lemmas.{Option.{same_Some, none-some}, Bool.{cases_lt, and_parts, both_ways, false_from_ne_true, not-true, eq-eqb}}
-use Rattle.std.specs.{Prelude.codes, List.list_all}
-use Rattle.rnix_kinds.specs.declared.{kinds.SyntaxKind.{SyntaxKind, TheVariants.TOKEN_ELLIPSIS}, tokenizer.rule.{Cut.Cut}}
-use Rattle.rnix_kinds.specs.Lexical.{Texts.{occurs_at, begins}, Plain.plain, Operators.{operators, first_row, operator, ellipsis}}
-use Rattle.rnix_proof_separation.proofs.Appended.{if_true, if_false, stands_inside, stands_within, is_edge, ink_other}
-use Rattle.rnix_proof_separation.proofs.KeptNumbers.{IsPlainCut}
+-- An operator or a bracket is the same before white space.
+use Rattle.std.proofs.Common.{◌≡◌, ℕ, suc, ◌+◌, ◌<◌, ◌≤◌, Bool, true, false, not, ◌&&◌, ◌==◌, nat_lt, List, [], ◌∷◌, ◌++◌, length, get_or, Option, Some, refl}
+use Rattle.std.proofs.{Common.{sym, ap, ◌∙◌, subst, inl, inr, arith, eqb-true}, lemmas.{Option.{same_Some, none-some}, Bool.{cases_lt, cond_both, and_parts}}}
+use Rattle.std.{proofs.lemmas.Bool.{both_ways, false_from_ne_true, not-true, eq-eqb}, specs.List.list_all}
+use Rattle.rnix_kinds.specs.{declared.{kinds.SyntaxKind.SyntaxKind, tokenizer.rule.Cut.Cut}, Lexical.{Texts.{occurs_at, begins}, Plain.plain}}
+use Rattle.{rnix_kinds.specs.Lexical.Operators.{operators, first_row, operator}, rnix_proof_separation.proofs.Appended.{if_true, if_false, stands_inside}}
+use Rattle.rnix_proof_separation.proofs.{Appended.{stands_within, is_edge, not_in_word}, KeptNumbers.IsPlainCut}
 
 -- the words of the rows pass the test
 abbrev pub all_words : (List ℕ → Bool) → List (List ℕ × SyntaxKind) → Bool
@@ -18,10 +16,8 @@ row_holds : (rows : List (List ℕ × SyntaxKind)) (x : List ℕ) (cut : Cut) (P
 row_holds [] x cut P test ok each is = absurd (none-some cut is)
 row_holds (row ∷ rows) x cut P test ok each is =
     let parts = and_parts (test row.0) (all_words test rows) ok in
-    elim (begins row.0 x) as (λ b. begins row.0 x ≡ b → cond b (Some (plain row.1 (length row.0))) (first_row rows x) ≡ Some cut → P cut) [
-      | true ↦ λ e f. subst P (same_Some (plain row.1 (length row.0)) cut f) (each row.0 row.1 parts.0 e)
-      | false ↦ λ e f. row_holds rows x cut P test parts.1 each f
-    ] refl is
+    cond_both (begins row.0 x) _ _ (λ (o : Option Cut). o ≡ Some cut → P cut)
+    (λ e f. subst P (same_Some (plain row.1 (length row.0)) cut f) (each row.0 row.1 parts.0 e)) (λ e f. row_holds rows x cut P test parts.1 each f) is
 
 abbrev has_no_slash : List ℕ → Bool
 has_no_slash w = list_all (λ b. not (b == 47)) w
@@ -70,30 +66,21 @@ module _ (t s r : List ℕ) where
   pub word_kept : (w : List ℕ) → length w ≤ length t → begins w (t ++ s) ≡ true → begins w (t ++ r) ≡ true
   word_kept w len e = sym (stands_inside w 0 t s r (omega arith)) ∙ e
 
-  pub word_none : (w : List ℕ) → list_all (λ b. not (b == get_or r 0 0)) w ≡ true → begins w (t ++ s) ≡ false → begins w (t ++ r) ≡ false
-  word_none w other e =
+  pub word_none : (p : ℕ → Bool) (w : List ℕ) → list_all (λ b. not (p b)) w ≡ true → p (get_or r 0 0) ≡ true → begins w (t ++ s) ≡ false
+      → begins w (t ++ r) ≡ false
+  word_none p w ok next e =
       false_from_ne_true (begins w (t ++ r)) (λ h. both_ways (begins w (t ++ s)) e
-      (stands_inside w 0 t s r (stands_within w 0 t r other (omega arith) h) ∙ h))
+      (stands_inside w 0 t s r (stands_within w 0 t r (not_in_word p w (get_or r 0 0) ok next) (omega arith) h) ∙ h))
 
   row_kept : (rows : List (List ℕ × SyntaxKind)) → all_words (λ w. list_all (λ b. not (is_edge b)) w) rows ≡ true → is_edge (get_or r 0 0) ≡ true
       → (cut : Cut) → cut.len ≡ length t → first_row rows (t ++ s) ≡ Some cut → first_row rows (t ++ r) ≡ Some cut
   row_kept [] ok edge cut len is = absurd (none-some cut is)
   row_kept (row ∷ rows) ok edge cut len is =
       let parts = and_parts (list_all (λ b. not (is_edge b)) row.0) (all_words (λ w. list_all (λ b. not (is_edge b)) w) rows) ok in
-      elim (begins row.0 (t ++ s)) as (λ b. begins row.0 (t ++ s) ≡ b → cond b (Some (plain row.1 (length row.0))) (first_row rows (t ++ s)) ≡ Some cut
-      → first_row (row ∷ rows) (t ++ r) ≡ Some cut) [
-        | true ↦ λ e f. if_true (begins row.0 (t ++ r)) _ _ _
-            (word_kept row.0 (omega (arith, ap (λ (c : Cut). c.len) (same_Some (plain row.1 (length row.0)) cut f), len)) e) f
-        | false ↦ λ e f. if_false (begins row.0 (t ++ r)) _ _ _ (word_none row.0 (ink_other row.0 (get_or r 0 0) parts.0 edge) e)
-            (row_kept rows parts.1 edge cut len f)
-      ] refl is
+      cond_both (begins row.0 (t ++ s)) _ _ (λ (o : Option Cut). o ≡ Some cut → first_row (row ∷ rows) (t ++ r) ≡ Some cut)
+      (λ e f. if_true (begins row.0 (t ++ r)) _ _ _
+      (word_kept row.0 (omega (arith, ap (λ (c : Cut). c.len) (same_Some (plain row.1 (length row.0)) cut f), len)) e) f)
+      (λ e f. if_false (begins row.0 (t ++ r)) _ _ _ (word_none is_edge row.0 parts.0 edge e) (row_kept rows parts.1 edge cut len f)) is
 
   pub operator_kept : is_edge (get_or r 0 0) ≡ true → (cut : Cut) → cut.len ≡ length t → operator (t ++ s) ≡ Some cut → operator (t ++ r) ≡ Some cut
   operator_kept edge cut len is = row_kept operators refl edge cut len is
-
-  pub ellipsis_kept : length t ≡ 3 → begins (codes "...") (t ++ s) ≡ true → ellipsis (t ++ r) ≡ Some (plain TOKEN_ELLIPSIS 3)
-  ellipsis_kept len e = if_true (begins (codes "...") (t ++ r)) _ _ _ (word_kept (codes "...") (omega arith) e) refl
-
-  pub ellipsis_none : (46 == get_or r 0 0) ≡ false → begins (codes "...") (t ++ s) ≡ false → ellipsis (t ++ r) ≡ None
-  ellipsis_none other e =
-      if_false (begins (codes "...") (t ++ r)) _ _ _ (word_none (codes "...") (ap (λ b. not b && (not b && (not b && true))) other) e) refl

@@ -1,18 +1,16 @@
--- A path, a slash or a search path is the same before white space, and a path that `${` follows before `${`.
-use Rattle.std.proofs.Common.{◌≡◌, ℕ, ◌+◌, ◌-◌, ◌<◌, ◌≤◌, Bool, true, false, not, ◌&&◌, ◌==◌, nat_lt, List, [], ◌∷◌, ◌++◌, length, get_or}
-use Rattle.std.proofs.Common.{take, drop, Some, None, refl, sym, ap, ◌∙◌, subst, inl, inr, arith, cond, add-zero, get_or-drop, length-drop, length-append, ◌⊎◌, eqb-true, eq-eqb}
-use Rattle.std.proofs.lemmas.{List.{take_at, get_or_append_left}, List.Sums.{prefix_len_passes, prefix_len-le-length}}
-use Rattle.std.proofs.lemmas.Bool.{cases_lt, and_parts, and_from, and_left, and_right, or_parts, both_ways, not-true, not_from_false, lt-ltb, ne_eqb, cond_both}
+-- A path is the same before white space, and a path that `${` follows before `${`.
+use Rattle.std.proofs.Common.{◌≡◌, ℕ, ◌+◌, ◌-◌, ◌<◌, ◌≤◌, ◌⊎◌, Bool, true, false, not, ◌&&◌, ◌==◌, nat_lt, List, [], ◌∷◌, ◌++◌, length, get_or, take, drop}
+use Rattle.std.proofs.Common.{Option, Some, None, refl, sym, ap, ◌∙◌, subst, inl, inr, arith, cond, add-zero, get_or-drop, length-drop, length-append, eqb-true}
+use Rattle.std.proofs.{Common.eq-eqb, lemmas.{List.{take_at, get_or_append_left, Sums.{prefix_len_passes, prefix_len-le-length}}, Bool.{cases_lt, and_parts}}}
+use Rattle.std.proofs.lemmas.Bool.{and_from, and_left, and_right, or_left, or_parts, both_ways, not-true, not_from_false, lt-ltb, ne_eqb, cond_both}
 use Rattle.std.{proofs.lemmas.Bool.Decides.nat_tests, specs.{Prelude.codes, List.prefix_len, Char.is_whitespace, Str.chars}}
-use Rattle.rnix_kinds.specs.declared.{kinds.SyntaxKind.TheVariants.TOKEN_ERROR, tokenizer.text.Class.TheVariants.Step}
-use Rattle.rnix_kinds.specs.declared.tokenizer.rule.{Cut.Cut, PathStart.{PathStart, TheVariants.Relative}, Mode.TheVariants.Path}
-use Rattle.rnix_kinds.specs.declared.tokenizer.rule.Change.{Change, TheVariants.{Stay, Open}}
-use Rattle.rnix_kinds.specs.Lexical.{PathKinds.kind_of_path, Texts.{occurs_at, begins, run_end, begins_space}, Classes.{class_test, is_path}}
-use Rattle.rnix_kinds.specs.Lexical.Paths.{is_broken, segment_to, segment, first_segment, goes_on_as_path, relative}
-use Rattle.rnix_kinds.{specs.Lexical.Tokens.IsPathBegun, proofs.LexicalLemmas.WordsLemmas.within_from_byte}
+use Rattle.rnix_kinds.specs.declared.{kinds.SyntaxKind.TheVariants.TOKEN_ERROR, tokenizer.{text.Class.TheVariants.Step, rule.{Cut.Cut, PathStart.PathStart}}}
+use Rattle.rnix_kinds.specs.declared.tokenizer.rule.{PathStart.TheVariants.Relative, Mode.TheVariants.Path, Change.{Change, TheVariants.{Stay, Open}}}
+use Rattle.rnix_kinds.specs.Lexical.{PathKinds.kind_of_path, Texts.{occurs_at, begins, run_end, begins_space}, Classes.{class_test, is_path}, Paths.is_broken}
+use Rattle.rnix_kinds.{specs.Lexical.Paths.{segment_to, segment, first_segment, goes_on_as_path, relative}, proofs.LexicalLemmas.WordsLemmas.within_from_byte}
 use Rattle.rnix_proof_separation.proofs.Appended.{if_true, if_false, same_byte, next_byte_at, dollar_after, no_run, run_inside, run_stopped, end_stopped}
-use Rattle.rnix_proof_separation.proofs.Appended.{run_longer, is_edge, apart_edge, edge_path, edge_step, edge_not}
-use Rattle.rnix_proof_separation.{specs.Separated.is_error, proofs.{KeptCuts.{Fits, IsQuiet, Keeps, no_error_if}, KeptNumbers.HasNoSlash}}
+use Rattle.rnix_proof_separation.proofs.{Appended.{run_longer, is_edge, is_next, apart_edge, next_out, edge_out}, KeptNumbers.HasNoSlash, KeptCuts.Fits}
+use Rattle.rnix_proof_separation.{proofs.KeptCuts.{Keeps, dollar_first, dollar_next, behind_next, no_error_if}, specs.Separated.is_error}
 
 -- a segment of n bytes, by whether `${` follows it
 abbrev segment_cut : PathStart → Change → Change → ℕ → Bool → List ℕ → Cut
@@ -24,18 +22,13 @@ pub segment_len : (start : PathStart) (going ended : Change) (from : ℕ) (x : L
 segment_len start going ended from x =
     cond_both (occurs_at (codes "${") (run_end is_path from x) x) _ _ (λ (c : Cut). c.len ≡ run_end is_path from x) (λ e. refl) (λ e. refl)
 
-dollar_first : (r : List ℕ) → begins (codes "${") r ≡ true → get_or r 0 0 ≡ 36
-dollar_first r e = eqb-true (get_or r 0 0) 36 (and_parts (get_or r 0 0 == 36) _ e).0
+edge_no_dollar : (r : List ℕ) → is_edge (get_or r 0 0) ≡ true → begins (codes "${") r ≡ false
+edge_no_dollar r edge = and_left _ _ (edge_out (λ b. b == 36) refl (get_or r 0 0) edge)
 
-pub dollar_no_path : (r : List ℕ) → begins (codes "${") r ≡ true → is_path (get_or r 0 0) ≡ false
-dollar_no_path r e = ap is_path (dollar_first r e)
-
-pub edge_no_dollar : (r : List ℕ) → is_edge (get_or r 0 0) ≡ true → begins (codes "${") r ≡ false
-edge_no_dollar r edge = and_left _ _ (edge_not (get_or r 0 0) 36 edge refl)
-
-module _ (t s : List ℕ) (start : PathStart) (going ended : Change) (from : ℕ) (h : from ≤ length t) where
-  segment_end : Fits t (segment start going ended from (t ++ s)) → run_end is_path from (t ++ s) ≡ length t
-  segment_end fits = sym (segment_len start going ended from (t ++ s)) ∙ fits.0
+module _ (t s : List ℕ) (start : PathStart) (going ended : Change) (from : ℕ) (h : from ≤ length t)
+    (fits : Fits t (segment start going ended from (t ++ s))) where
+  segment_end : run_end is_path from (t ++ s) ≡ length t
+  segment_end = sym (segment_len start going ended from (t ++ s)) ∙ fits.0
 
   -- the token is a segment by what follows it
   segment_at : (r : List ℕ) → run_end is_path from (t ++ r) ≡ length t
@@ -45,53 +38,54 @@ module _ (t s : List ℕ) (start : PathStart) (going ended : Change) (from : ℕ
       ∙ (ap (λ d. segment_cut start going ended (length t) d (take (length t) (t ++ r))) (dollar_after t r)
       ∙ ap (segment_cut start going ended (length t) (begins (codes "${") r)) (take_at t r (length t) refl))
 
-  pub segment_is : Fits t (segment start going ended from (t ++ s))
-      → segment start going ended from (t ++ s) ≡ segment_cut start going ended (length t) (begins (codes "${") s) t
-  segment_is fits = segment_at s (segment_end fits)
+  segment_kept : (r : List ℕ) (dollar : Bool) → is_next (get_or r 0 0) ≡ true → begins (codes "${") r ≡ dollar
+      → segment start going ended from (t ++ r) ≡ segment_cut start going ended (length t) dollar t
+  segment_kept r dollar next e =
+      let out = no_run is_path r (next_out is_path refl (get_or r 0 0) next) in
+      segment_at r (end_stopped is_path from t s r h (omega (arith, segment_end)) out ∙ segment_end)
+      ∙ ap (λ d. segment_cut start going ended (length t) d t) e
 
-  pub segment_kept : (r : List ℕ) → is_path (get_or r 0 0) ≡ false → begins (codes "${") r ≡ begins (codes "${") s
-      → Fits t (segment start going ended from (t ++ s)) → segment start going ended from (t ++ r) ≡ segment start going ended from (t ++ s)
-  segment_kept r out same fits =
-      let end = segment_end fits in
-      segment_at r (end_stopped is_path from t s r h (omega arith) (no_run is_path r out) ∙ end)
-      ∙ (ap (λ d. segment_cut start going ended (length t) d t) same ∙ sym (segment_is fits))
+  pub segment_dollar : (r : List ℕ) → begins (codes "${") r ≡ true
+      → segment start going ended from (t ++ r) ≡ segment_cut start going ended (length t) true t
+  segment_dollar r e = segment_kept r true (dollar_next r e) e
 
-  -- without `${` the segment is whole
-  pub segment_whole : Fits t (segment start going ended from (t ++ s)) → begins (codes "${") s ≡ false → is_broken t ≡ false
-  segment_whole fits e =
-      no_error_if (is_broken t) (kind_of_path start)
-      (subst (λ (c : Cut). is_error c.kind ≡ false) (segment_is fits ∙ ap (λ d. segment_cut start going ended (length t) d t) e) fits.1)
+  pub segment_edge : (r : List ℕ) → is_edge (get_or r 0 0) ≡ true → segment start going ended from (t ++ r) ≡ segment_cut start going ended (length t) false t
+  segment_edge r edge = segment_kept r false (or_left _ _ edge) (edge_no_dollar r edge)
 
-  pub change_going : Fits t (segment start going ended from (t ++ s)) → begins (codes "${") s ≡ true → (segment start going ended from (t ++ s)).change ≡ going
-  change_going fits e = ap (λ (c : Cut). c.change) (segment_is fits ∙ ap (λ d. segment_cut start going ended (length t) d t) e)
+  -- `${` follows the segment, or it is whole
+  pub segment_cases : (P : Cut → Type 0) → (begins (codes "${") s ≡ true → P (segment_cut start going ended (length t) true t))
+      → (begins (codes "${") s ≡ false → is_broken t ≡ false → P (segment_cut start going ended (length t) false t))
+      → P (segment start going ended from (t ++ s))
+  segment_cases P dollar whole =
+      let is = segment_at s segment_end in
+      subst P (sym is) (cond_both (begins (codes "${") s) _ _ P dollar (λ e. whole e (no_error_if (is_broken t) (kind_of_path start)
+      (subst (λ (c : Cut). is_error c.kind ≡ false) (is ∙ ap (λ d. segment_cut start going ended (length t) d t) e) fits.1))))
 
-  pub change_ended : Fits t (segment start going ended from (t ++ s)) → begins (codes "${") s ≡ false → (segment start going ended from (t ++ s)).change ≡ ended
-  change_ended fits e = ap (λ (c : Cut). c.change) (segment_is fits ∙ ap (λ d. segment_cut start going ended (length t) d t) e)
+-- a rule that gives the segment which begins a path
+pub path_keeps : (rule : List ℕ → Option Cut) (t s : List ℕ) (start : PathStart) (from : ℕ) → from ≤ length t → Fits t (first_segment start from (t ++ s))
+    → ((r : List ℕ) → is_next (get_or r 0 0) ≡ true → (is_broken t ≡ false) ⊎ (begins (codes "${") r ≡ true)
+    → rule (t ++ r) ≡ Some (first_segment start from (t ++ r)))
+    → Keeps rule t s (Some (first_segment start from (t ++ s))) (first_segment start from (t ++ s)).change
+path_keeps rule t s start from h fits goes =
+    segment_cases t s start (Open (Path start)) Stay from h fits (λ (c : Cut). Keeps rule t s (Some c) c.change)
+    (λ e. record {
+      quiet = tt;
+      dollar = λ begun. e;
+      same = λ r d. goes r (dollar_next r d) (inr d) ∙ ap Some (segment_dollar t s start (Open (Path start)) Stay from h fits r d);
+    })
+    (λ e whole. record {
+      quiet = tt;
+      dollar = λ begun. absurd begun;
+      same = λ r behind. goes r (behind_next t r behind) (inl whole)
+          ∙ ap Some (segment_edge t s start (Open (Path start)) Stay from h fits r (apart_edge r behind.0));
+    })
 
--- the segment that begins a path
-module _ (t s : List ℕ) (start : PathStart) (from : ℕ) (h : from ≤ length t) (fits : Fits t (first_segment start from (t ++ s))) where
-  first_by : (b : Bool) → begins (codes "${") s ≡ b
-      → Keeps (first_segment start from) t s (first_segment start from (t ++ s)) (first_segment start from (t ++ s)).change
-  first_by true e = record {
-    quiet = subst IsQuiet (sym (change_going t s start (Open (Path start)) Stay from h fits e)) tt;
-    dollar = λ begun. e;
-    apart = λ r behind not_begun. absurd (not_begun (subst IsPathBegun (sym (change_going t s start (Open (Path start)) Stay from h fits e)) tt));
-    begun = λ r begun d. segment_kept t s start (Open (Path start)) Stay from h r (dollar_no_path r d) (d ∙ sym e) fits;
-  }
-  first_by false e = record {
-    quiet = subst IsQuiet (sym (change_ended t s start (Open (Path start)) Stay from h fits e)) tt;
-    dollar = λ begun. absurd (subst IsPathBegun (change_ended t s start (Open (Path start)) Stay from h fits e) begun);
-    apart = λ r behind not_begun. let edge = apart_edge r behind.0 in
-        segment_kept t s start (Open (Path start)) Stay from h r (edge_path (get_or r 0 0) edge) (edge_no_dollar r edge ∙ sym e) fits;
-    begun = λ r begun d. absurd (subst IsPathBegun (change_ended t s start (Open (Path start)) Stay from h fits e) begun);
-  }
-
-  pub first_keeps : Keeps (first_segment start from) t s (first_segment start from (t ++ s)) (first_segment start from (t ++ s)).change
-  first_keeps = first_by (begins (codes "${") s) refl
-
--- a path character is no white space
-path_low : (b : ℕ) → is_path b ≡ true → (b < 128) × (is_whitespace b ≡ false)
-path_low b e = (grind (arith, nat_tests), grind (arith, nat_tests))
+-- a token that ends with a slash is no whole segment
+pub slash_last : (t s : List ℕ) (n : ℕ) → n + 1 ≡ length t → get_or (t ++ s) n 0 ≡ 47 → is_broken t ≡ false → ⊥
+slash_last t s n e slash whole =
+    let last : length t - 1 ≡ n = omega arith in
+    let here : get_or t (length t - 1) 0 ≡ 47 = ap (λ k. get_or t k 0) last ∙ (sym (get_or_append_left t s 0 n (omega arith)) ∙ slash) in
+    both_ways _ (or_parts (get_or t (length t - 1) 0 == 47) _ whole).0 (eq-eqb (get_or t (length t - 1) 0) 47 here)
 
 chars_ascii : (b : ℕ) (text : List ℕ) → b < 128 → chars (b ∷ text) ≡ b ∷ chars text
 unfolding chars
@@ -121,99 +115,57 @@ goes_on_from x n slash next =
 
 goes_on_parts : (x : List ℕ) (n : ℕ) → goes_on_as_path n x ≡ true → (get_or x n 0 ≡ 47) × ((get_or x (n + 1) 0 == 47) ≡ false)
 goes_on_parts x n on =
-    let a = and_parts (get_or x n 0 == 47 && nat_lt (n + 1) (length x) && not (get_or x (n + 1) 0 == 47) && not (get_or x (n + 1) 0 == 42))
-    (not (begins_space (drop (n + 1) x))) on in
-    let b = and_parts (get_or x n 0 == 47 && nat_lt (n + 1) (length x) && not (get_or x (n + 1) 0 == 47)) (not (get_or x (n + 1) 0 == 42)) a.0 in
-    let c = and_parts (get_or x n 0 == 47 && nat_lt (n + 1) (length x)) (not (get_or x (n + 1) 0 == 47)) b.0 in
-    let d = and_parts (get_or x n 0 == 47) (nat_lt (n + 1) (length x)) c.0 in
-    (eqb-true (get_or x n 0) 47 d.0, not-true (get_or x (n + 1) 0 == 47) c.1)
+    let a = and_parts _ (not (get_or x (n + 1) 0 == 42)) (and_parts _ (not (begins_space (drop (n + 1) x))) on).0 in
+    let c = and_parts _ (not (get_or x (n + 1) 0 == 47)) a.0 in
+    (eqb-true (get_or x n 0) 47 (and_parts (get_or x n 0 == 47) (nat_lt (n + 1) (length x)) c.0).0, not-true (get_or x (n + 1) 0 == 47) c.1)
 
 -- what begins a relative path
 abbrev pub is_relative : List ℕ → Bool
 is_relative x = nat_lt 0 (prefix_len (class_test Step) x) && goes_on_as_path (prefix_len (class_test Step) x) x
 
-on : (x : List ℕ) → is_relative x ≡ true
-    → (get_or x (prefix_len (class_test Step) x) 0 ≡ 47) × ((get_or x (prefix_len (class_test Step) x + 1) 0 == 47) ≡ false)
-on x is =
-    let n = prefix_len (class_test Step) x in
-    goes_on_parts x n (and_parts (nat_lt 0 n) (goes_on_as_path n x) is).1
-
-step_is_path : (b : ℕ) → class_test Step b ≡ true → is_path b ≡ true
-step_is_path b e = (and_parts (is_path b) _ e).0
-
 next_path : (b : ℕ) → is_path b ≡ true → (b == 47) ≡ false → IsNext b
 next_path b e f = (grind (arith, nat_tests), grind (arith, nat_tests), grind (arith, nat_tests), f, grind (arith, nat_tests))
 
-next_dollar : (b : ℕ) → b ≡ 36 → IsNext b
-next_dollar b e = subst IsNext (sym e) (omega arith, omega arith, refl, refl, refl)
-
 module _ (t s : List ℕ) (is : is_relative (t ++ s) ≡ true) (fits : Fits t (first_segment Relative 0 (t ++ s))) where
-  -- the place of the first slash, what precedes it, and what follows it
-  pub slash_at : get_or (t ++ s) (prefix_len (class_test Step) (t ++ s)) 0 ≡ 47
-  slash_at = (on (t ++ s) is).0
+  parts : (get_or (t ++ s) (prefix_len (class_test Step) (t ++ s)) 0 ≡ 47) × ((get_or (t ++ s) (prefix_len (class_test Step) (t ++ s) + 1) 0 == 47) ≡ false)
+  parts = goes_on_parts (t ++ s) (prefix_len (class_test Step) (t ++ s)) (and_parts (nat_lt 0 (prefix_len (class_test Step) (t ++ s))) _ is).1
 
-  slash_next : (get_or (t ++ s) (prefix_len (class_test Step) (t ++ s) + 1) 0 == 47) ≡ false
-  slash_next = (on (t ++ s) is).1
+  -- the first slash, and its place
+  pub slash_at : get_or (t ++ s) (prefix_len (class_test Step) (t ++ s)) 0 ≡ 47
+  slash_at = parts.0
 
   pub slash_inside : prefix_len (class_test Step) (t ++ s) < length t
   slash_inside =
-      let path : is_path (get_or (t ++ s) (prefix_len (class_test Step) (t ++ s)) 0) ≡ true = ap is_path slash_at in
-      omega (arith, run_longer is_path (class_test Step) (t ++ s) step_is_path refl path, segment_len Relative (Open (Path Relative)) Stay 0 (t ++ s), fits.0)
+      let longer = run_longer is_path (class_test Step) (t ++ s) (λ b e. (and_parts (is_path b) _ e).0) refl (ap is_path slash_at) in
+      omega (arith, longer, segment_len Relative (Open (Path Relative)) Stay 0 (t ++ s), fits.0)
 
-  -- the text goes on as a path, if there is more of the token, or `$`
-  goes_on_more : (r : List ℕ) → prefix_len (class_test Step) (t ++ s) + 1 < length t → IsNext (get_or (t ++ r) (prefix_len (class_test Step) (t ++ s) + 1) 0)
-  goes_on_more r more =
-      let size : prefix_len (class_test Step) (t ++ s) + 1 < prefix_len is_path (t ++ s) =
-      omega (arith, segment_len Relative (Open (Path Relative)) Stay 0 (t ++ s), fits.0) in
-      subst IsNext (same_byte t s r _ more) (next_path (get_or (t ++ s) (prefix_len (class_test Step) (t ++ s) + 1) 0)
-      (prefix_len_passes is_path (t ++ s) (prefix_len (class_test Step) (t ++ s) + 1) 0 size) slash_next)
-
-  goes_on : (r : List ℕ) → (prefix_len (class_test Step) (t ++ s) + 1 < length t) ⊎ (get_or r 0 0 ≡ 36)
-      → IsNext (get_or (t ++ r) (prefix_len (class_test Step) (t ++ s) + 1) 0)
-  goes_on r (inl more) = goes_on_more r more
-  goes_on r (inr dollar) =
+  -- the byte after it
+  goes_on : (r : List ℕ) → (is_broken t ≡ false) ⊎ (begins (codes "${") r ≡ true) → IsNext (get_or (t ++ r) (prefix_len (class_test Step) (t ++ s) + 1) 0)
+  goes_on r which =
       elim (cases_lt (prefix_len (class_test Step) (t ++ s) + 1) (length t)) [
-        | inl more ↦ goes_on_more r more
-        | inr past ↦ (let end : prefix_len (class_test Step) (t ++ s) + 1 ≡ length t = omega (arith, slash_inside) in
-            next_dollar _ (next_byte_at t r _ end ∙ dollar))
+        | inl more ↦ (
+            let size : prefix_len (class_test Step) (t ++ s) + 1 < prefix_len is_path (t ++ s) =
+            omega (arith, segment_len Relative (Open (Path Relative)) Stay 0 (t ++ s), fits.0) in
+            subst IsNext (same_byte t s r _ more) (next_path (get_or (t ++ s) (prefix_len (class_test Step) (t ++ s) + 1) 0)
+            (prefix_len_passes is_path (t ++ s) (prefix_len (class_test Step) (t ++ s) + 1) 0 size) parts.1))
+        | inr past ↦ last (omega (arith, slash_inside)) which
       ]
+    where
+      last : prefix_len (class_test Step) (t ++ s) + 1 ≡ length t → (is_broken t ≡ false) ⊎ (begins (codes "${") r ≡ true)
+          → IsNext (get_or (t ++ r) (prefix_len (class_test Step) (t ++ s) + 1) 0)
+      last end (inl whole) = absurd (slash_last t s (prefix_len (class_test Step) (t ++ s)) end slash_at whole)
+      last end (inr d) = subst IsNext (sym (next_byte_at t r _ end ∙ dollar_first r d)) (omega arith, omega arith, refl, refl, refl)
 
-  relative_on : (r : List ℕ) → (prefix_len (class_test Step) (t ++ s) + 1 < length t) ⊎ (get_or r 0 0 ≡ 36) → is_relative (t ++ r) ≡ true
-  relative_on r more =
+  relative_on : (r : List ℕ) → (is_broken t ≡ false) ⊎ (begins (codes "${") r ≡ true) → is_relative (t ++ r) ≡ true
+  relative_on r which =
       ap (λ k. nat_lt 0 k && goes_on_as_path k (t ++ r)) (run_inside (class_test Step) t s r slash_inside)
       ∙ and_from (nat_lt 0 (prefix_len (class_test Step) (t ++ s))) (goes_on_as_path (prefix_len (class_test Step) (t ++ s)) (t ++ r))
-      (and_parts (nat_lt 0 (prefix_len (class_test Step) (t ++ s))) (goes_on_as_path (prefix_len (class_test Step) (t ++ s)) (t ++ s)) is).0
-      (goes_on_from (t ++ r) (prefix_len (class_test Step) (t ++ s)) (same_byte t r s (prefix_len (class_test Step) (t ++ s)) slash_inside ∙ slash_at)
-      (goes_on r more))
-
-  -- a path that is whole has more than the slash
-  slash_more : begins (codes "${") s ≡ false → prefix_len (class_test Step) (t ++ s) + 1 < length t
-  slash_more e =
-      elim (cases_lt (prefix_len (class_test Step) (t ++ s) + 1) (length t)) [
-        | inl more ↦ more
-        | inr past ↦ (
-            let whole = (or_parts (get_or t (length t - 1) 0 == 47) _ (segment_whole t s Relative (Open (Path Relative)) Stay 0 (omega arith) fits e)).0 in
-            let last : length t - 1 ≡ prefix_len (class_test Step) (t ++ s) = omega (arith, slash_inside) in
-            let slash : get_or t (length t - 1) 0 ≡ 47 =
-            ap (λ k. get_or t k 0) last ∙ (sym (get_or_append_left t s 0 _ slash_inside) ∙ slash_at) in
-            absurd (both_ways _ whole (eq-eqb (get_or t (length t - 1) 0) 47 slash)))
-      ]
-
-  no_dollar : (b : Bool) → begins (codes "${") s ≡ b → ¬ (IsPathBegun (first_segment Relative 0 (t ++ s)).change) → b ≡ false
-  no_dollar true e not_begun =
-      absurd (not_begun (subst IsPathBegun (sym (change_going t s Relative (Open (Path Relative)) Stay 0 (omega arith) fits e)) tt))
-  no_dollar false e not_begun = refl
+      (and_parts (nat_lt 0 (prefix_len (class_test Step) (t ++ s))) _ is).0
+      (goes_on_from (t ++ r) (prefix_len (class_test Step) (t ++ s)) (same_byte t r s _ slash_inside ∙ slash_at) (goes_on r which))
 
   pub relative_keeps : Keeps relative t s (Some (first_segment Relative 0 (t ++ s))) (first_segment Relative 0 (t ++ s)).change
   relative_keeps =
-      let first = first_keeps t s Relative 0 (omega arith) fits in
-      record {
-        quiet = first.quiet;
-        dollar = first.dollar;
-        apart = λ r behind not_begun. if_true (is_relative (t ++ r)) _ _ _ (relative_on r (inl (slash_more (no_dollar _ refl not_begun))))
-            (ap Some (first.apart r behind not_begun));
-        begun = λ r begun d. if_true (is_relative (t ++ r)) _ _ _ (relative_on r (inr (dollar_first r d))) (ap Some (first.begun r begun d));
-      }
+      path_keeps relative t s Relative 0 (omega arith) fits (λ r next which. if_true (is_relative (t ++ r)) _ _ _ (relative_on r which) refl)
 
 -- no path begins where the bytes before the first slash are not followed by one
 pub relative_not : (x : List ℕ) → (get_or x (prefix_len (class_test Step) x) 0 == 47) ≡ false → relative x ≡ None
@@ -223,13 +175,12 @@ relative_not x other = if_false (is_relative x) _ _ _ (and_right _ _ (and_left _
 pub relative_none : (t r : List ℕ) → is_edge (get_or r 0 0) ≡ true → HasNoSlash (length t) (t ++ r) → relative (t ++ r) ≡ None
 relative_none t r edge free =
     let n = prefix_len (class_test Step) (t ++ r) in
-    let stop = no_run (class_test Step) r (edge_step (get_or r 0 0) edge) in
+    let stop = no_run (class_test Step) r (edge_out (class_test Step) refl (get_or r 0 0) edge) in
     let short : prefix_len (class_test Step) (t ++ []) ≤ length t = omega (arith, prefix_len-le-length (class_test Step) (t ++ []), length-append t []) in
-    let size : prefix_len (class_test Step) (t ++ r) ≤ length t = omega (arith, run_stopped (class_test Step) t [] r short stop) in
-    let other : (get_or (t ++ r) (prefix_len (class_test Step) (t ++ r)) 0 == 47) ≡ false =
-    elim (cases_lt (prefix_len (class_test Step) (t ++ r)) (length t)) [
+    let size : n ≤ length t = omega (arith, run_stopped (class_test Step) t [] r short stop) in
+    relative_not (t ++ r)
+    (elim (cases_lt n (length t)) [
       | inl inside ↦ ne_eqb _ 47 (free _ inside)
-      | inr past ↦ (let end : prefix_len (class_test Step) (t ++ r) ≡ length t = omega arith in
-          ap (λ b. b == 47) (next_byte_at t r _ end) ∙ edge_not (get_or r 0 0) 47 edge refl)
-    ] in
-    relative_not (t ++ r) other
+      | inr past ↦ (let end : n ≡ length t = omega arith in
+          ap (λ b. b == 47) (next_byte_at t r _ end) ∙ edge_out (λ b. b == 47) refl (get_or r 0 0) edge)
+    ])

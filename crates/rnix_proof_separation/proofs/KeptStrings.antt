@@ -1,14 +1,12 @@
 -- Content and the end of a string are the same before what follows them in the string, and after it.
-use Rattle.std.proofs.Common.{◌≡◌, ℕ, zero, suc, ◌+◌, ◌<◌, ◌≤◌, Bool, true, false, ◌&&◌, ◌||◌, ◌==◌, nat_lt, List, [], ◌∷◌, ◌++◌, length, get_or, drop}
-use Rattle.std.proofs.Common.{refl, sym, ap, ◌∙◌, subst, arith, cond, length-append}
-use Rattle.std.proofs.lemmas.{List.drop_at, Bool.{and_left, eqb-false, ne_eqb, le-ltb, lt-ltb, ltb-false, true≢false, Decides.nat_tests}}
-use Rattle.std.specs.Prelude.{codes}
-use Rattle.rnix_kinds.specs.declared.kinds.SyntaxKind.TheVariants.{TOKEN_ERROR, TOKEN_INTERPOL_START, TOKEN_STRING_CONTENT, TOKEN_STRING_END}
-use Rattle.rnix_kinds.specs.declared.tokenizer.rule.{Cut.Cut, Change.TheVariants.{Stay, Open, Close}, Mode.TheVariants.Interpolation}
-use Rattle.rnix_kinds.specs.Lexical.{Texts.begins, Plain.plain, Strings.{piece_len, content_from, content_len, string_cut}}
-use Rattle.rnix_kinds.proofs.LexicalLemmas.StringsLemmas.{content_len-stop, content_len-stops, content_len-le}
-use Rattle.rnix_proof_separation.proofs.{Appended.{if_true, if_false, same_byte, next_byte_at, is_edge}, KeptCuts.Fits, KeptOperators.word_kept}
-use Rattle.rnix_proof_separation.specs.Separated.{is_error}
+use Rattle.std.proofs.Common.{◌≡◌, ℕ, zero, suc, ◌+◌, ◌<◌, ◌≤◌, Bool, true, false, ◌&&◌, ◌||◌, ◌==◌, nat_lt, List, [], ◌∷◌, ◌++◌, length, get_or, drop, refl}
+use Rattle.std.proofs.{Common.{sym, ap, ◌∙◌, arith, cond, length-append}, lemmas.{List.drop_at, Bool.{and_left, cond_both, eqb-false, ne_eqb, le-ltb, lt-ltb}}}
+use Rattle.std.{proofs.lemmas.Bool.{ltb-false, true≢false, Decides.nat_tests}, specs.Prelude.codes}
+use Rattle.rnix_kinds.specs.declared.{kinds.SyntaxKind.TheVariants.{TOKEN_INTERPOL_START, TOKEN_STRING_CONTENT, TOKEN_STRING_END}, tokenizer.rule.Cut.Cut}
+use Rattle.rnix_kinds.specs.{declared.tokenizer.rule.{Change.TheVariants.{Stay, Open, Close}, Mode.TheVariants.Interpolation}, Lexical.Texts.begins}
+use Rattle.rnix_kinds.specs.Lexical.{Plain.plain, Strings.{piece_len, content_from, content_len, string_cut}}
+use Rattle.{rnix_kinds.proofs.LexicalLemmas.StringsLemmas.{content_len-stop, content_len-stops, content_len-le}, rnix_proof_separation.proofs.Appended.if_true}
+use Rattle.rnix_proof_separation.proofs.{Appended.{if_false, same_byte, next_byte_at, is_edge}, KeptCuts.Fits, KeptOperators.word_kept}
 
 -- the length of a piece by its first three bytes
 abbrev piece_of : Bool → ℕ → ℕ → ℕ → ℕ
@@ -124,6 +122,10 @@ stop_opened m t s r len e =
 abbrev pub GoesOn : Bool → List ℕ → List ℕ → Type 0
 GoesOn m s r = piece_len m s ≡ 0 → 0 < length s → (get_or r 0 0 ≡ get_or s 0 0) × (piece_len m r ≡ 0) × (0 < length r)
 
+-- a cut is the same before what goes on as it should
+abbrev pub IsStringAgain : Bool → List ℕ → List ℕ → List ℕ → Cut → Type 0
+IsStringAgain m t s r cut = (cut.change ≡ Stay → GoesOn m s r) → (cut.change ≡ Close → is_edge (get_or r 0 0) ≡ true) → string_cut m (t ++ r) ≡ cut
+
 module _ (m : Bool) (t s r : List ℕ) (some : 0 < length t) where
   appended : (x : List ℕ) → 0 < length (t ++ x)
   appended x = omega (arith, length-append t x)
@@ -140,30 +142,18 @@ module _ (m : Bool) (t s r : List ℕ) (some : 0 < length t) where
       if_false (content_len m (t ++ r) == length (t ++ r)) _ _ _ (ne_eqb _ _ (λ e. omega arith))
       (if_true (nat_lt 0 (content_len m (t ++ r))) _ _ _ (lt-ltb 0 _ (omega arith)) (ap (plain TOKEN_STRING_CONTENT) (same ∙ sym len)))
 
-  string_cases : (cut : Cut) → (a : Bool) → (content_len m (t ++ s) == length (t ++ s)) ≡ a → (b : Bool) → nat_lt 0 (content_len m (t ++ s)) ≡ b
-      → (d : Bool) → begins (codes "${") (t ++ s) ≡ d
-      → cond a (plain TOKEN_ERROR (content_len m (t ++ s))) (cond b (plain TOKEN_STRING_CONTENT (content_len m (t ++ s))) (cond d opened (closed m))) ≡ cut
-      → Fits t cut → (cut.change ≡ Stay → GoesOn m s r) → (cut.change ≡ Close → is_edge (get_or r 0 0) ≡ true) → string_cut m (t ++ r) ≡ cut
-  string_cases cut true e b f d g is fits on apart = absurd (true≢false (subst (λ (c : Cut). is_error c.kind ≡ false) (sym is) fits.1))
-  string_cases cut false e true f d g is fits on apart =
-      let other = eqb-false (content_len m (t ++ s)) (length (t ++ s)) e in
-      let before : content_len m (t ++ s) < length (t ++ s) = omega (arith, content_len-le m (t ++ s)) in
-      content_same before (ap (λ (c : Cut). c.len) is ∙ fits.0) (on (sym (ap (λ (c : Cut). c.change) is))) ∙ is
-  string_cases cut false e false f true g is fits on apart =
-      let len : 2 ≡ length t = ap (λ (c : Cut). c.len) is ∙ fits.0 in
-      let kept = stop_opened m t s r (omega arith) g in
-      string_stop m (t ++ r) (appended r) kept.0 ∙ if_true (begins (codes "${") (t ++ r)) _ _ _ kept.1 is
-  string_cases cut false e false f false g is fits on apart =
-      let len : length t ≡ cond m 2 1 = sym (ap (λ (c : Cut). c.len) is ∙ fits.0) in
-      let none : content_len m (t ++ s) ≡ 0 = omega (arith, ltb-false 0 (content_len m (t ++ s)) f) in
+  -- a token inside a string
+  pub string_kept : Fits t (string_cut m (t ++ s)) → IsStringAgain m t s r (string_cut m (t ++ s))
+  string_kept =
+      cond_both (content_len m (t ++ s) == length (t ++ s)) _ _ (λ (c : Cut). Fits t c → IsStringAgain m t s r c) (λ e fits. absurd (true≢false fits.1))
+      (λ e. cond_both (nat_lt 0 (content_len m (t ++ s))) _ _ (λ (c : Cut). Fits t c → IsStringAgain m t s r c)
+      (λ f fits on apart. let other = eqb-false (content_len m (t ++ s)) (length (t ++ s)) e in
+      content_same (omega (arith, content_len-le m (t ++ s))) fits.0 (on refl))
+      (λ f. cond_both (begins (codes "${") (t ++ s)) opened (closed m) (λ (c : Cut). Fits t c → IsStringAgain m t s r c)
+      (λ g fits on apart. let kept = stop_opened m t s r (omega (arith, fits.0)) g in
+      string_stop m (t ++ r) (appended r) kept.0 ∙ if_true (begins (codes "${") (t ++ r)) _ _ _ kept.1 refl)
+      (λ g fits on apart. let none : content_len m (t ++ s) ≡ 0 = omega (arith, ltb-false 0 (content_len m (t ++ s)) f) in
       let stop : piece_len m (t ++ s) ≡ 0 =
       ap (λ k. piece_len m (drop k (t ++ s))) (sym none) ∙ content_len-stops m (t ++ s) (omega (arith, appended s)) in
-      let kept = stop_closed m t s r len stop g (apart (sym (ap (λ (c : Cut). c.change) is))) in
-      string_stop m (t ++ r) (appended r) kept.0 ∙ if_false (begins (codes "${") (t ++ r)) _ _ _ kept.1 is
-
-  -- a token inside a string
-  pub string_kept : (cut : Cut) → string_cut m (t ++ s) ≡ cut → Fits t cut → (cut.change ≡ Stay → GoesOn m s r)
-      → (cut.change ≡ Close → is_edge (get_or r 0 0) ≡ true) → string_cut m (t ++ r) ≡ cut
-  string_kept cut is fits on apart =
-      string_cases cut (content_len m (t ++ s) == length (t ++ s)) refl (nat_lt 0 (content_len m (t ++ s))) refl (begins (codes "${") (t ++ s)) refl is fits
-      on apart
+      let kept = stop_closed m t s r (sym fits.0) stop g (apart refl) in
+      string_stop m (t ++ r) (appended r) kept.0 ∙ if_false (begins (codes "${") (t ++ r)) _ _ _ kept.1 refl)))

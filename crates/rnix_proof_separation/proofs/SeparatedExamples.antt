@@ -1,13 +1,12 @@
 -- Texts that are separated, and what is not so: errors may be cut otherwise, and a comment goes on to the end of its line.
 use Rattle.std.{proofs.{lemmas.Bool.eqb-false, Common.{◌≡◌, ℕ, true, List, [], ◌∷◌, refl, ap, inl, inr, lit<, length}}, specs.{Prelude.codes, Str.chars}}
 use Rattle.rnix_kinds.specs.declared.kinds.SyntaxKind.TheVariants.{TOKEN_ADD, TOKEN_COMMENT, TOKEN_ERROR, TOKEN_IDENT, TOKEN_INTERPOL_END, TOKEN_INTERPOL_START}
-use Rattle.rnix_kinds.specs.declared.kinds.SyntaxKind.TheVariants.{TOKEN_L_BRACK, TOKEN_L_PAREN, TOKEN_PATH_REL, TOKEN_R_PAREN, TOKEN_STRING_END, TOKEN_STRING_START}
-use Rattle.rnix_kinds.specs.declared.tokenizer.rule.{Cut.Cut, PathStart.TheVariants.Relative, Mode.TheVariants.{Quoted, Interpolation, Path}}
-use Rattle.rnix_kinds.specs.declared.tokenizer.rule.Change.TheVariants.{Open, Close}
-use Rattle.rnix_kinds.specs.Lexical.{Texts.{space_len, begins_space}, Plain.plain, Strings.content_from}
-use Rattle.rnix_kinds.specs.Lexical.Tokens.{normal_cut, cut_at, tokens_behind, tokens_of}
-use lib.Utf8.{encode}
+use Rattle.rnix_kinds.specs.declared.kinds.SyntaxKind.TheVariants.{TOKEN_L_BRACK, TOKEN_L_PAREN, TOKEN_PATH_REL, TOKEN_R_PAREN, TOKEN_STRING_END}
+use Rattle.rnix_kinds.specs.declared.{kinds.SyntaxKind.TheVariants.TOKEN_STRING_START, tokenizer.rule.{Cut.Cut, PathStart.TheVariants.Relative}}
+use Rattle.rnix_kinds.specs.declared.tokenizer.rule.{Mode.TheVariants.{Quoted, Interpolation, Path}, Change.TheVariants.{Open, Close}}
+use Rattle.rnix_kinds.specs.Lexical.{Texts.{space_len, begins_space}, Plain.plain, Strings.content_from, Tokens.{normal_cut, cut_at, tokens_behind, tokens_of}}
 use Rattle.rnix_proof_separation.specs.Separated.{solids, AreSeparated, none, space, token, IsSeparated}
+use lib.Utf8.{encode}
 
 -- a token that opens or closes a mode
 abbrev dollar : Cut

@@ -1,23 +1,21 @@
 -- The tokens of a text that are written with white space between them are cut again.
-use Rattle.std.proofs.Common.{◌≡◌, ℕ, ◌<◌, ◌≤◌, Bool, true, false, not, ◌&&◌, ◌||◌, ◌==◌, ◌⊎◌, List, [], ◌∷◌, ◌++◌, length, get_or, take, drop, IsUtf8}
-use Rattle.std.proofs.Common.{Option, Some, None, refl, sym, ap, ◌∙◌, subst, inl, inr, arith, cond, eq-eqb, length-append, length-take-le, take-append-drop}
-use Rattle.std.proofs.lemmas.{List.{take_at, drop_at}, Str.IsUtf8-drop, Bool.{cases_Bool, true≢false, both_ways, and_parts, and_left, or_left, or_right, not-true}}
-use Rattle.std.{proofs.lemmas.Bool.Decides.nat_tests, specs.{Prelude.codes, List.{prefix_len}}}
-use Rattle.rnix_kinds.specs.declared.kinds.SyntaxKind.TheVariants.{TOKEN_WHITESPACE}
-use Rattle.rnix_kinds.specs.declared.tokenizer.{text.Class.TheVariants.Line, rule.{Cut.Cut, PathStart.PathStart}}
-use Rattle.rnix_kinds.specs.declared.tokenizer.rule.{Mode.{Mode, TheVariants.{Quoted, Interpolation, Path}}, Change.{Change, TheVariants.{Stay, Open, Close, Count}}}
-use Rattle.rnix_kinds.specs.Lexical.{Texts.{begins, is_blank}, Classes.{class_test, is_path}, Plain.plain, Strings.{piece_len}, Paths.{segment, path_goes_on, path_cut}}
-use Rattle.rnix_kinds.specs.Lexical.Tokens.{cut_at, normal_cut, top, without_ended_paths, changed, tokens_under, tokens_of, IsCutOf, IsPathGoingOn}
+use Rattle.std.proofs.Common.{◌≡◌, ℕ, ◌<◌, ◌≤◌, Bool, true, false, not, ◌&&◌, ◌==◌, ◌⊎◌, List, [], ◌∷◌, ◌++◌, length, get_or, take, drop, IsUtf8, Option, Some}
+use Rattle.std.proofs.Common.{None, refl, sym, ap, ◌∙◌, subst, inl, inr, arith, cond, eq-eqb, length-append, length-take-le, take-append-drop}
+use Rattle.std.proofs.lemmas.{List.{take_at, drop_at}, Str.IsUtf8-drop, Bool.{cases_Bool, cond_both, true≢false, both_ways, and_parts, and_left, or_left}}
+use Rattle.std.{proofs.lemmas.Bool.{or_right, not-true, Decides.nat_tests}, specs.{Prelude.codes, List.prefix_len}}
+use Rattle.rnix_kinds.specs.declared.{kinds.SyntaxKind.TheVariants.TOKEN_WHITESPACE, tokenizer.{text.Class.TheVariants.Line, rule.Cut.Cut}}
+use Rattle.rnix_kinds.specs.declared.tokenizer.rule.{PathStart.PathStart, Mode.{Mode, TheVariants.{Quoted, Interpolation, Path}}, Change.Change}
+use Rattle.rnix_kinds.specs.{declared.tokenizer.rule.Change.TheVariants.{Stay, Open, Close, Count}, Lexical.{Texts.{begins, is_blank}, Classes.class_test}}
+use Rattle.rnix_kinds.specs.Lexical.{Classes.is_path, Plain.plain, Strings.piece_len, Paths.{path_goes_on, path_cut}, Tokens.{cut_at, normal_cut, top}}
+use Rattle.rnix_kinds.specs.Lexical.Tokens.{without_ended_paths, changed, tokens_under, tokens_of, IsCutOf, IsPathGoingOn}
 use Rattle.rnix_kinds.proofs.LexicalLemmas.{CutLemmas.cut_good, TokensLemmas.{tokens_under-nil, tokens_under-cut, tokens_under-settled, IsPathGoingOn-settled}}
-use Rattle.rnix_kinds.proofs.LexicalLemmas.TokensLemmas.{settled_stays}
-use Rattle.rnix_proof_separation.specs.Separated.{is_white_space, is_error, solids, have_no_error, is_inside, ends_token, may_touch, NeedsNoGap, is_normal, IsGap, AreSeparated, none, space, token}
-use Rattle.rnix_proof_separation.specs.Separated.{IsSeparated}
-use Rattle.rnix_proof_separation.proofs.{Appended.{apart_edge, is_edge, same_byte, no_run, if_true, if_false, edge_path}, KeptCuts.{Fits, IsBehind, Keeps}}
-use Rattle.rnix_proof_separation.proofs.{KeptNormal.{IsKept, normal_kept}, KeptStrings.{GoesOn, string_kept, string_stop, opened, closed, stop_opened, stop_closed}}
-use Rattle.rnix_proof_separation.proofs.KeptPaths.{segment_kept, change_going, change_ended, dollar_no_path, edge_no_dollar}
-use Rattle.rnix_proof_separation.proofs.{KeptOperators.word_kept, Stacks.{AreNested, nested_changed, nested_settled, normal_settled, inside_settled, outside_settled}}
-use Rattle.rnix_proof_separation.proofs.Touching.{touch_kept}
-use Rattle.rnix_proof_separation.proofs.Stacks.{blanks, string_solid, path_solid}
+use Rattle.{rnix_kinds.proofs.LexicalLemmas.TokensLemmas.settled_stays, rnix_proof_separation.specs.Separated.{is_white_space, is_error, solids, have_no_error}}
+use Rattle.rnix_proof_separation.specs.Separated.{is_inside, ends_token, may_touch, NeedsNoGap, is_normal, IsGap, AreSeparated, none, space, token, IsSeparated}
+use Rattle.rnix_proof_separation.proofs.{Appended.{apart_edge, is_edge, same_byte, no_run, if_true, if_false}, KeptCuts.{Fits, IsBehind, Keeps}}
+use Rattle.rnix_proof_separation.proofs.{KeptNormal.{IsKept, normal_kept}, KeptPaths.{segment_cases, segment_dollar, segment_edge}, KeptStrings.GoesOn}
+use Rattle.rnix_proof_separation.proofs.{KeptStrings.{IsStringAgain, string_kept, string_stop, opened, closed, stop_opened, stop_closed}, Touching.touch_kept}
+use Rattle.rnix_proof_separation.proofs.{KeptOperators.word_kept, Stacks.{AreNested, nested_changed, nested_settled, normal_settled, inside_settled}}
+use Rattle.rnix_proof_separation.proofs.Stacks.{outside_settled, blanks, IsInnerCut, string_inner, path_inner}
 
 -- what follows where a string or a path is open begins as before
 abbrev Continues : Option Mode → List ℕ → List ℕ → Type 0
@@ -26,18 +24,13 @@ Continues (Some (Path start)) s r = begins (codes "${") s ≡ true → begins (c
 Continues mode s r = Unit {0}
 
 -- what follows a token, by the modes that are open after it
-record Follows (modes : List Mode) (t s r : List ℕ) : Type 0 where
+record Follows (Outside : Type 0) (modes : List Mode) (s r : List ℕ) : Type 0 where
   inside : is_inside (top modes) ≡ true → Continues (top modes) s r
-  outside : is_inside (top modes) ≡ false → IsBehind t r
+  outside : is_inside (top modes) ≡ false → Outside
 
 -- white space follows, or a byte that may touch the token
 abbrev IsLoose : Bool → List ℕ → List ℕ → Type 0
 IsLoose normal t r = IsBehind t r ⊎ ((normal && may_touch t (get_or r 0 0)) ≡ true)
-
--- the same, where a byte may touch the token
-record Continued (normal : Bool) (modes : List Mode) (t s r : List ℕ) : Type 0 where
-  inside : is_inside (top modes) ≡ true → Continues (top modes) s r
-  outside : is_inside (top modes) ≡ false → IsLoose normal t r
 
 -- inside strings and paths no byte may
 touchless : (t r : List ℕ) → IsLoose false t r → IsBehind t r
@@ -49,28 +42,28 @@ goes_on_dollar s e = or_left _ _ e
 
 -- a token after which no string is open
 quiet_kept : (f : List ℕ → Cut) (o : List Mode) (t s r : List ℕ) (a : Cut) (change : Change) → is_inside (top o) ≡ false → Keeps f t s a change
-    → Follows (without_ended_paths (changed change o) s) t s r → f (t ++ r) ≡ a
+    → Follows (IsBehind t r) (without_ended_paths (changed change o) s) s r → f (t ++ r) ≡ a
 quiet_kept f o t s r a Stay normal keeps follows =
-    keeps.apart r (follows.outside (ap (λ m. is_inside (top m)) (normal_settled o s normal) ∙ normal)) (λ e. e)
-quiet_kept f [] t s r a (Count n) normal keeps follows = keeps.apart r (follows.outside refl) (λ e. e)
-quiet_kept f (mode ∷ o) t s r a (Count n) normal keeps follows = keeps.apart r (follows.outside refl) (λ e. e)
+    keeps.same r (follows.outside (ap (λ m. is_inside (top m)) (normal_settled o s normal) ∙ normal))
+quiet_kept f [] t s r a (Count n) normal keeps follows = keeps.same r (follows.outside refl)
+quiet_kept f (mode ∷ o) t s r a (Count n) normal keeps follows = keeps.same r (follows.outside refl)
 quiet_kept f o t s r a (Open (Path start)) normal keeps follows =
     let dollar = keeps.dollar tt in
     let stays = settled_stays (Path start ∷ o) s (goes_on_dollar s dollar) in
-    let after = subst (λ (m : List Mode). Follows m t s r) stays follows in
-    keeps.begun r tt (after.inside refl dollar)
+    let after = subst (λ (m : List Mode). Follows (IsBehind t r) m s r) stays follows in
+    keeps.same r (after.inside refl dollar)
 quiet_kept f o t s r a (Open (Quoted m)) normal keeps follows = absurd keeps.quiet
 quiet_kept f o t s r a (Open (Interpolation n)) normal keeps follows = absurd keeps.quiet
 quiet_kept f o t s r a Close normal keeps follows = absurd keeps.quiet
 
 normal_same : (o : List Mode) (t s r : List ℕ) (cut : Cut) → is_inside (top o) ≡ false → IsKept (normal_cut (top o)) t s cut
-    → Follows (without_ended_paths (changed cut.change o) s) t s r → normal_cut (top o) (t ++ r) ≡ cut
+    → Follows (IsBehind t r) (without_ended_paths (changed cut.change o) s) s r → normal_cut (top o) (t ++ r) ≡ cut
 normal_same o t s r cut normal (inl same) follows = same r
 normal_same o t s r cut normal (inr keeps) follows = quiet_kept (normal_cut (top o)) o t s r cut cut.change normal keeps follows
 
 loose_same : (o : List Mode) (t s r : List ℕ) (cut : Cut) → is_inside (top o) ≡ false → IsKept (normal_cut (top o)) t s cut
     → (may_touch t (get_or r 0 0) ≡ true → normal_cut (top o) (t ++ r) ≡ cut) → (normal : Bool)
-    → Continued normal (without_ended_paths (changed cut.change o) s) t s r → normal_cut (top o) (t ++ r) ≡ cut
+    → Follows (IsLoose normal t r) (without_ended_paths (changed cut.change o) s) s r → normal_cut (top o) (t ++ r) ≡ cut
 loose_same o t s r cut outer kept touch normal after =
     elim (cases_Bool (is_inside (top (without_ended_paths (changed cut.change o) s)))) [
       | inl e ↦ normal_same o t s r cut outer kept (record { inside = after.inside; outside = λ h. absurd (both_ways _ h e) })
@@ -85,40 +78,44 @@ path_no_dollar : (b : ℕ) → is_path b ≡ true → (b == 36) ≡ false
 path_no_dollar b e = grind (arith, nat_tests)
 
 -- a token inside a path
-module _ (start : PathStart) (t s r : List ℕ) (some : 0 < length t) where
-  piece_kept : (cut : Cut) → (b : Bool) → begins (codes "${") s ≡ b → segment start Stay Close 0 (t ++ s) ≡ cut → Fits t cut
-      → (cut.change ≡ Stay → begins (codes "${") s ≡ true → begins (codes "${") r ≡ true) → (cut.change ≡ Close → is_edge (get_or r 0 0) ≡ true)
-      → segment start Stay Close 0 (t ++ r) ≡ cut
-  piece_kept cut b e is fits on apart =
-      let here = subst (Fits t) (sym is) fits in
-      elim b as (λ c. begins (codes "${") s ≡ c → segment start Stay Close 0 (t ++ r) ≡ cut) [
-        | true ↦ λ f. let dollar = on (ap (λ (c : Cut). c.change) (sym is) ∙ change_going t s start Stay Close 0 (omega arith) here f) f in
-            segment_kept t s start Stay Close 0 (omega arith) r (dollar_no_path r dollar) (dollar ∙ sym f) here ∙ is
-        | false ↦ λ f. let edge = apart (ap (λ (c : Cut). c.change) (sym is) ∙ change_ended t s start Stay Close 0 (omega arith) here f) in
-            segment_kept t s start Stay Close 0 (omega arith) r (edge_path (get_or r 0 0) edge) (edge_no_dollar r edge ∙ sym f) here ∙ is
-      ] e
+abbrev IsPathAgain : PathStart → List ℕ → List ℕ → List ℕ → Cut → Type 0
+IsPathAgain start t s r cut =
+    (cut.change ≡ Stay → begins (codes "${") s ≡ true → begins (codes "${") r ≡ true) → (cut.change ≡ Close → is_edge (get_or r 0 0) ≡ true)
+    → (path_cut start (t ++ r) ≡ cut) × (path_goes_on (t ++ r) ≡ true)
 
-  path_kept : (cut : Cut) → (a : Bool) → begins (codes "${") (t ++ s) ≡ a → cond a opened (segment start Stay Close 0 (t ++ s)) ≡ cut → Fits t cut
-      → path_goes_on (t ++ s) ≡ true → (cut.change ≡ Stay → begins (codes "${") s ≡ true → begins (codes "${") r ≡ true)
-      → (cut.change ≡ Close → is_edge (get_or r 0 0) ≡ true) → (path_cut start (t ++ r) ≡ cut) × (path_goes_on (t ++ r) ≡ true)
-  path_kept cut true e is fits going on apart =
-      let len : 2 ≡ length t = ap (λ (c : Cut). c.len) is ∙ fits.0 in
-      let dollar = word_kept t s r (codes "${") (omega arith) e in
-      (if_true (begins (codes "${") (t ++ r)) _ _ _ dollar is, goes_on_dollar (t ++ r) dollar)
-  path_kept cut false e is fits going on apart =
-      let first : is_path (get_or (t ++ r) 0 0) ≡ true = ap is_path (same_byte t r s 0 some) ∙ right_part _ _ e going in (
-        if_false (begins (codes "${") (t ++ r)) _ _ _ (and_left _ _ (path_no_dollar (get_or (t ++ r) 0 0) first))
-            (piece_kept cut (begins (codes "${") s) refl is fits on apart),
-        or_right _ _ first,
-      )
-    where
-      right_part : (a b : Bool) → a ≡ false → (a || b) ≡ true → b ≡ true
-      right_part true b f h = absurd (true≢false f)
-      right_part false b f h = h
+path_kept : (start : PathStart) (t s r : List ℕ) → 0 < length t → path_goes_on (t ++ s) ≡ true → Fits t (path_cut start (t ++ s))
+    → IsPathAgain start t s r (path_cut start (t ++ s))
+path_kept start t s r some going =
+    cond_both (begins (codes "${") (t ++ s)) _ _ (λ (c : Cut). Fits t c → IsPathAgain start t s r c)
+    (λ e fits on apart. let dollar = word_kept t s r (codes "${") (omega (arith, fits.0)) e in
+    (if_true (begins (codes "${") (t ++ r)) _ _ _ dollar refl, goes_on_dollar (t ++ r) dollar))
+    (λ e fits. let first : is_path (get_or (t ++ r) 0 0) ≡ true = ap is_path (same_byte t r s 0 some) ∙ (rw e at going) in
+    let other = and_left (get_or (t ++ r) 0 0 == 36) _ (path_no_dollar (get_or (t ++ r) 0 0) first) in
+    segment_cases t s start Stay Close 0 (omega arith) fits (IsPathAgain start t s r)
+    (λ d on apart. (
+      if_false (begins (codes "${") (t ++ r)) _ _ _ other (segment_dollar t s start Stay Close 0 (omega arith) fits r (on refl d)),
+      or_right _ _ first,
+    ))
+    (λ d whole on apart. (
+      if_false (begins (codes "${") (t ++ r)) _ _ _ other (segment_edge t s start Stay Close 0 (omega arith) fits r (apart refl)),
+      or_right _ _ first,
+    )))
+
+-- no path and no string is open where a change closes the last one
+closed_outside : (change : Change) (mode : Mode) (o : List Mode) (s : List ℕ) → is_inside (top o) ≡ false → change ≡ Close
+    → is_inside (top (without_ended_paths (changed change (mode ∷ o)) s)) ≡ false
+closed_outside change mode o s normal e =
+    ap (λ c. is_inside (top (without_ended_paths (changed c (mode ∷ o)) s))) e ∙ (ap (λ p. is_inside (top p)) (normal_settled o s normal) ∙ normal)
+
+closed_apart : (mode : Mode) (o : List Mode) (t s r : List ℕ) (change : Change) → is_inside (top o) ≡ false
+    → Follows (IsLoose false t r) (without_ended_paths (changed change (mode ∷ o)) s) s r → change ≡ Close → is_edge (get_or r 0 0) ≡ true
+closed_apart mode o t s r change normal follows e =
+    apart_edge r (touchless t r (follows.outside (closed_outside change mode o s normal e))).0
 
 -- a token is cut again, under the same modes
 step_kept : (o : List Mode) (t s r : List ℕ) (cut : Cut) → AreNested o → IsPathGoingOn (top o) (t ++ s) → 0 < length t → cut_at (top o) (t ++ s) ≡ cut
-    → Fits t cut → is_white_space cut.kind ≡ false → Continued (is_normal o (changed cut.change o)) (without_ended_paths (changed cut.change o) s) t s r
+    → Fits t cut → is_white_space cut.kind ≡ false
+    → Follows (IsLoose (is_normal o (changed cut.change o)) t r) (without_ended_paths (changed cut.change o) s) s r
     → (cut_at (top o) (t ++ r) ≡ cut) × (without_ended_paths o (t ++ r) ≡ o)
 unfolding cut_at
 step_kept [] t s r cut nested going some is fits solid follows = (
@@ -132,19 +129,16 @@ step_kept (Interpolation n ∷ o) t s r cut nested going some is fits solid foll
   refl,
 )
 step_kept (Quoted m ∷ o) t s r cut nested going some is fits solid follows = (
-  string_kept m t s r some cut is fits
-      (λ e. (subst (λ (c : Change). Continued false (without_ended_paths (changed c (Quoted m ∷ o)) s) t s r) e follows).inside refl)
-      (λ e. let after = subst (λ (c : Change). Continued false (without_ended_paths (changed c (Quoted m ∷ o)) s) t s r) e follows in
-      apart_edge r (touchless t r (after.outside (ap (λ p. is_inside (top p)) (normal_settled o s (nested.0 refl)) ∙ nested.0 refl))).0),
+  subst (IsStringAgain m t s r) is (string_kept m t s r some (subst (Fits t) (sym is) fits))
+      (λ e. (subst (λ (c : Change). Follows (IsLoose false t r) (without_ended_paths (changed c (Quoted m ∷ o)) s) s r) e follows).inside refl)
+      (closed_apart (Quoted m) o t s r cut.change (nested.0 refl) follows),
   refl,
 )
 step_kept (Path k ∷ o) t s r cut nested going some is fits solid follows =
-    let kept = path_kept k t s r some cut (begins (codes "${") (t ++ s)) refl is fits going
-    (λ e f. let after = subst (λ (c : Change). Continued false (without_ended_paths (changed c (Path k ∷ o)) s) t s r) e follows in
-    let stays = settled_stays (Path k ∷ o) s (goes_on_dollar s f) in
-    (subst (λ (p : List Mode). Continued false p t s r) stays after).inside refl f)
-    (λ e. let after = subst (λ (c : Change). Continued false (without_ended_paths (changed c (Path k ∷ o)) s) t s r) e follows in
-    apart_edge r (touchless t r (after.outside (ap (λ p. is_inside (top p)) (normal_settled o s (nested.0 refl)) ∙ nested.0 refl))).0) in
+    let kept = subst (IsPathAgain k t s r) is (path_kept k t s r some going (subst (Fits t) (sym is) fits))
+    (λ e f. let after = subst (λ (c : Change). Follows (IsLoose false t r) (without_ended_paths (changed c (Path k ∷ o)) s) s r) e follows in
+    (subst (λ (p : List Mode). Follows (IsLoose false t r) p s r) (settled_stays (Path k ∷ o) s (goes_on_dollar s f)) after).inside refl f)
+    (closed_apart (Path k) o t s r cut.change (nested.0 refl) follows) in
     (kept.0, settled_stays (Path k ∷ o) (t ++ r) kept.1)
 
 feed_blank : (b : ℕ) → (b == 10) ≡ true → (is_blank b ≡ true) × (class_test Line b ≡ false)
@@ -177,33 +171,23 @@ gap_behind normal t gap rest (blank, inr first) =
     inl (inr (ap is_blank same ∙ feed.0), λ h. no_run (class_test Line) (gap ++ rest) (ap (class_test Line) same ∙ feed.1 h))
 
 -- a token inside a string with which no piece begins
-module _ (m : Bool) (s gap rest : List ℕ) where
-  stop_cases : (cut : Cut) (b : Bool) → begins (codes "${") s ≡ b → cond b opened (closed m) ≡ cut → IsUtf8 s → 0 < length s → piece_len m s ≡ 0
-      → cut.len ≤ length s → (cut.change ≡ Close → is_edge (get_or (gap ++ rest) 0 0) ≡ true)
-      → piece_len m (take cut.len s ++ (gap ++ rest)) ≡ 0
-  stop_cases cut true e is utf8 some stop size apart =
-      let split = take-append-drop cut.len s in
-      let len : 2 ≡ cut.len = ap (λ (c : Cut). c.len) is in
-      (stop_opened m (take cut.len s) (drop cut.len s) (gap ++ rest) (omega (arith, length-take-le cut.len s size))
-      (ap (begins (codes "${")) split ∙ e)).0
-  stop_cases cut false e is utf8 some stop size apart =
-      let split = take-append-drop cut.len s in
-      let len : length (take cut.len s) ≡ cond m 2 1 = length-take-le cut.len s size ∙ sym (ap (λ (c : Cut). c.len) is) in
-      (stop_closed m (take cut.len s) (drop cut.len s) (gap ++ rest) len (ap (piece_len m) split ∙ stop) (ap (begins (codes "${")) split ∙ e)
-      (apart (sym (ap (λ (c : Cut). c.change) is)))).0
+abbrev IsStop : Bool → List ℕ → List ℕ → Cut → Type 0
+IsStop m s r cut = cut.len ≤ length s → (cut.change ≡ Close → is_edge (get_or r 0 0) ≡ true) → piece_len m (take cut.len s ++ r) ≡ 0
 
--- no path and no string is open where a change closes the last one
-closed_outside : (change : Change) (mode : Mode) (o : List Mode) (s : List ℕ) → is_inside (top o) ≡ false → change ≡ Close
-    → is_inside (top (without_ended_paths (changed change (mode ∷ o)) s)) ≡ false
-closed_outside change mode o s normal e =
-    ap (λ c. is_inside (top (without_ended_paths (changed c (mode ∷ o)) s))) e ∙ (ap (λ p. is_inside (top p)) (normal_settled o s normal) ∙ normal)
+stop_kept : (m : Bool) (s r : List ℕ) → piece_len m s ≡ 0 → IsStop m s r (cond (begins (codes "${") s) opened (closed m))
+stop_kept m s r stop =
+    cond_both (begins (codes "${") s) opened (closed m) (IsStop m s r)
+    (λ e size apart. (stop_opened m (take 2 s) (drop 2 s) r (omega (arith, length-take-le 2 s size))
+    (ap (begins (codes "${")) (take-append-drop 2 s) ∙ e)).0)
+    (λ e size apart. (stop_closed m (take (cond m 2 1) s) (drop (cond m 2 1) s) r (length-take-le (cond m 2 1) s size)
+    (ap (piece_len m) (take-append-drop (cond m 2 1) s) ∙ stop) (ap (begins (codes "${")) (take-append-drop (cond m 2 1) s) ∙ e) (apart refl)).0)
 
 -- the next token inside a string
 next_string : (m : Bool) (o : List Mode) (s new : List ℕ) → AreSeparated (Quoted m ∷ o) s new → IsUtf8 s → is_inside (top o) ≡ false → GoesOn m s new
 unfolding cut_at
 next_string m o _ _ (none _) utf8 normal = λ stop some. absurd (omega arith)
 next_string m o _ _ (space _ s n new some e more) utf8 normal =
-    absurd (true≢false (subst (λ (c : Cut). is_white_space c.kind ≡ false) e (string_solid m s)))
+    absurd (true≢false (subst IsInnerCut e (string_inner m s)).1)
 next_string m o _ _ (token _ s cut gap rest some e solid isgap more) utf8 normal = λ stop more_text.
     let good = subst (IsCutOf (Some (Quoted m)) s) e (cut_good (Some (Quoted m)) s utf8 some tt) in
     let size : cut.len ≤ length s = good.boundary.0 in
@@ -212,7 +196,7 @@ next_string m o _ _ (token _ s cut gap rest some e solid isgap more) utf8 normal
     let front = same_byte (take cut.len s) (gap ++ rest) (drop cut.len s) 0 (omega arith) in
     let whole = length-append (take cut.len s) (gap ++ rest) in (
       front ∙ ap (λ x. get_or x 0 0) (take-append-drop cut.len s),
-      stop_cases m s gap rest cut (begins (codes "${") s) refl (sym (string_stop m s some stop) ∙ e) utf8 some stop size
+      subst (IsStop m s (gap ++ rest)) (sym (string_stop m s some stop) ∙ e) (stop_kept m s (gap ++ rest) stop) size
           (λ f. apart_edge (gap ++ rest) (touchless (take cut.len s) (gap ++ rest) (gap_behind false (take cut.len s) gap rest
           (subst (λ b. IsGap b false (take cut.len s) gap rest) (closed_outside cut.change (Quoted m) o (drop cut.len s) normal f) isgap))).0),
       omega arith,
@@ -226,7 +210,7 @@ next_path k o _ _ (none _) utf8 dollar = absurd (true≢false (sym dollar))
 next_path k o _ _ (space _ s n new some e more) utf8 dollar =
     let stays = settled_stays (Path k ∷ o) s (goes_on_dollar s dollar) in
     let here : path_cut k s ≡ plain TOKEN_WHITESPACE n = ap (λ p. cut_at (top p) s) (sym stays) ∙ e in
-    absurd (true≢false (subst (λ (c : Cut). is_white_space c.kind ≡ false) here (path_solid k s)))
+    absurd (true≢false (subst IsInnerCut here (path_inner k s)).1)
 next_path k o _ _ (token _ s cut gap rest some e solid isgap more) utf8 dollar =
     let stays = settled_stays (Path k ∷ o) s (goes_on_dollar s dollar) in
     let here : path_cut k s ≡ cut = ap (λ p. cut_at (top p) s) (sym stays) ∙ e in
@@ -254,7 +238,8 @@ continues (Path k ∷ modes) s new separated utf8 nested =
     ]
 
 follows_gap : (normal : Bool) (modes : List Mode) (t s gap rest : List ℕ) → AreSeparated modes s rest → IsUtf8 s → AreNested modes
-    → IsGap (is_inside (top (without_ended_paths modes s))) normal t gap rest → Continued normal (without_ended_paths modes s) t s (gap ++ rest)
+    → IsGap (is_inside (top (without_ended_paths modes s))) normal t gap rest
+    → Follows (IsLoose normal t (gap ++ rest)) (without_ended_paths modes s) s (gap ++ rest)
 follows_gap normal modes t s gap rest separated utf8 nested isgap = record {
   inside = λ h. let nothing : gap ≡ [] = subst (λ b. IsGap b normal t gap rest) h isgap in
       subst (λ g. Continues (top (without_ended_paths modes s)) s (g ++ rest)) (sym nothing) (continues modes s rest separated utf8 nested);
@@ -290,8 +275,8 @@ space_outside : (o : List Mode) (x : List ℕ) (n : ℕ) → cut_at (top o) x �
 unfolding cut_at
 space_outside [] x n e = refl
 space_outside (Interpolation k ∷ o) x n e = refl
-space_outside (Quoted m ∷ o) x n e = absurd (true≢false (subst (λ (c : Cut). is_white_space c.kind ≡ false) e (string_solid m x)))
-space_outside (Path k ∷ o) x n e = absurd (true≢false (subst (λ (c : Cut). is_white_space c.kind ≡ false) e (path_solid k x)))
+space_outside (Quoted m ∷ o) x n e = absurd (true≢false (subst IsInnerCut e (string_inner m x)).1)
+space_outside (Path k ∷ o) x n e = absurd (true≢false (subst IsInnerCut e (path_inner k x)).1)
 
 -- the token and the tokens after it, before new text
 new_tokens : (o : List Mode) (t r : List ℕ) (cut : Cut) → cut_at (top o) (t ++ r) ≡ cut → without_ended_paths o (t ++ r) ≡ o → length t ≡ cut.len → 0 < cut.len

@@ -1,17 +1,15 @@
 -- The modes that are open: strings and paths are open only directly inside normal text.
-use Rattle.std.proofs.Common.{◌≡◌, ℕ, suc, ◌<◌, Bool, true, false, ◌==◌, nat_lt, List, [], ◌∷◌, ◌++◌, length, take, drop}
-use Rattle.std.proofs.Common.{Some, refl, sym, ap, ◌∙◌, subst, inl, inr, arith, cond}
-use Rattle.std.proofs.lemmas.Bool.{true≢false, both_ways, cond_both, cond-false, cases_lt, and_parts, and_left, or_from, lt-ltb, Decides.nat_tests}
-use Rattle.std.specs.{Prelude.codes, List.list_all, Char.is_whitespace}
-use Rattle.rnix_kinds.specs.declared.kinds.SyntaxKind.{TheVariants.{TOKEN_ERROR, TOKEN_WHITESPACE}}
-use Rattle.rnix_kinds.specs.declared.tokenizer.rule.{Cut.Cut, PathStart.{PathStart, TheVariants.{Root, Relative, Home as FromHome}}}
-use Rattle.rnix_kinds.specs.declared.tokenizer.rule.Mode.{Mode, TheVariants.{Quoted, Interpolation, Path}}
-use Rattle.rnix_kinds.specs.declared.tokenizer.rule.Change.{Change, TheVariants.{Stay, Open, Close, Count}}
-use Rattle.rnix_kinds.specs.Lexical.{PathKinds.kind_of_path, Texts.{begins, is_blank, space_len, occurs_at, run_end}, Classes.is_path, Plain.{plain, space}}
+use Rattle.std.proofs.Common.{◌≡◌, ℕ, suc, ◌<◌, Bool, true, false, ◌==◌, nat_lt, List, [], ◌∷◌, ◌++◌, length, take, drop, Some, refl, sym, ap, ◌∙◌, subst, inl}
+use Rattle.std.proofs.{Common.{inr, arith, cond}, lemmas.Bool.{true≢false, both_ways, cond_both, cond-false, cases_lt, and_parts, and_left, or_from, lt-ltb}}
+use Rattle.std.{proofs.lemmas.Bool.Decides.nat_tests, specs.{Prelude.codes, List.list_all, Char.is_whitespace}}
+use Rattle.rnix_kinds.specs.declared.{kinds.SyntaxKind.TheVariants.{TOKEN_ERROR, TOKEN_WHITESPACE}, tokenizer.rule.{Cut.Cut, PathStart.PathStart}}
+use Rattle.rnix_kinds.specs.declared.tokenizer.rule.{PathStart.{TheVariants.{Root, Relative, Home as FromHome}}, Mode.{Mode, TheVariants.Quoted}}
+use Rattle.rnix_kinds.specs.declared.tokenizer.rule.{Mode.TheVariants.{Interpolation, Path}, Change.{Change, TheVariants.{Stay, Open, Close, Count}}}
+use Rattle.rnix_kinds.specs.Lexical.{PathKinds.kind_of_path, Texts.{begins, is_blank, space_len, occurs_at, run_end}, Classes.is_path, Plain.plain}
 use Rattle.rnix_kinds.specs.Lexical.{Strings.{string_cut, content_len}, Paths.{is_broken, path_goes_on, path_cut}, Tokens.{top, without_ended_paths, changed}}
-use Rattle.rnix_kinds.specs.Lexical.Tokens.{cut_at, normal_cut, tokens_under}
-use Rattle.rnix_kinds.proofs.LexicalLemmas.{FirstBytes.normal-blank, WordsLemmas.{space_len-stop, space_len-step}, TokensLemmas.{tokens_under-cut}}
-use Rattle.rnix_proof_separation.specs.Separated.{is_white_space, solids, is_inside}
+use Rattle.rnix_kinds.{specs.Lexical.Tokens.{cut_at, normal_cut, tokens_under}, proofs.LexicalLemmas.{FirstBytes.normal-blank, WordsLemmas.space_len-stop}}
+use Rattle.{rnix_kinds.proofs.LexicalLemmas.{WordsLemmas.space_len-step, TokensLemmas.tokens_under-cut}, rnix_proof_separation.specs.Separated.is_white_space}
+use Rattle.rnix_proof_separation.specs.Separated.{solids, is_inside}
 
 -- normal rules apply directly around each string and each path
 abbrev pub AreNested : List Mode → Type 0
@@ -25,38 +23,26 @@ IsInner Close = Unit {0}
 IsInner (Open mode) = is_inside (Some mode) ≡ false
 IsInner (Count braces) = ⊥
 
-string_inner : (m : Bool) (x : List ℕ) → IsInner (string_cut m x).change
+-- a token there, which is no white space
+abbrev pub IsInnerCut : Cut → Type 0
+IsInnerCut cut = IsInner cut.change × (is_white_space cut.kind ≡ false)
+
+pub string_inner : (m : Bool) (x : List ℕ) → IsInnerCut (string_cut m x)
 string_inner m x =
-    cond_both (content_len m x == length x) _ _ (λ (c : Cut). IsInner c.change) (λ e. tt)
-    (λ e. cond_both (nat_lt 0 (content_len m x)) _ _ (λ (c : Cut). IsInner c.change) (λ f. tt)
-    (λ f. cond_both (begins (codes "${") x) _ _ (λ (c : Cut). IsInner c.change) (λ g. refl) (λ g. tt)))
+    cond_both (content_len m x == length x) _ _ IsInnerCut (λ e. (tt, refl)) (λ e. cond_both (nat_lt 0 (content_len m x)) _ _ IsInnerCut (λ f. (tt, refl))
+    (λ f. cond_both (begins (codes "${") x) _ _ IsInnerCut (λ g. (refl, refl)) (λ g. (tt, refl))))
 
-path_inner : (start : PathStart) (x : List ℕ) → IsInner (path_cut start x).change
+path_kind_solid : (start : PathStart) (broken : Bool) → is_white_space (cond broken TOKEN_ERROR (kind_of_path start)) ≡ false
+path_kind_solid start true = refl
+path_kind_solid Root false = refl
+path_kind_solid Relative false = refl
+path_kind_solid FromHome false = refl
+
+pub path_inner : (start : PathStart) (x : List ℕ) → IsInnerCut (path_cut start x)
 path_inner start x =
-    cond_both (begins (codes "${") x) _ _ (λ (c : Cut). IsInner c.change) (λ e. refl)
-    (λ e. cond_both (occurs_at (codes "${") (run_end is_path 0 x) x) _ _ (λ (c : Cut). IsInner c.change) (λ f. tt) (λ f. tt))
-
--- no white space is cut there
-pub string_solid : (m : Bool) (x : List ℕ) → is_white_space (string_cut m x).kind ≡ false
-string_solid m x =
-    cond_both (content_len m x == length x) _ _ (λ (c : Cut). is_white_space c.kind ≡ false) (λ e. refl)
-    (λ e. cond_both (nat_lt 0 (content_len m x)) _ _ (λ (c : Cut). is_white_space c.kind ≡ false) (λ f. refl)
-    (λ f. cond_both (begins (codes "${") x) _ _ (λ (c : Cut). is_white_space c.kind ≡ false) (λ g. refl) (λ g. refl)))
-
-path_kind_solid : (start : PathStart) → is_white_space (kind_of_path start) ≡ false
-path_kind_solid Root = refl
-path_kind_solid Relative = refl
-path_kind_solid FromHome = refl
-
-pub path_solid : (start : PathStart) (x : List ℕ) → is_white_space (path_cut start x).kind ≡ false
-path_solid start x =
-    cond_both (begins (codes "${") x) _ _ (λ (c : Cut). is_white_space c.kind ≡ false) (λ e. refl)
-    (λ e. cond_both (occurs_at (codes "${") (run_end is_path 0 x) x) _ _ (λ (c : Cut). is_white_space c.kind ≡ false) (λ f. path_kind_solid start)
-    (λ f. broken (is_broken (take (run_end is_path 0 x) x))))
-  where
-    broken : (b : Bool) → is_white_space (cond b TOKEN_ERROR (kind_of_path start)) ≡ false
-    broken true = refl
-    broken false = path_kind_solid start
+    cond_both (begins (codes "${") x) _ _ IsInnerCut (λ e. (refl, refl))
+    (λ e. cond_both (occurs_at (codes "${") (run_end is_path 0 x) x) _ _ IsInnerCut (λ f. (tt, path_kind_solid start false))
+    (λ f. (tt, path_kind_solid start (is_broken (take (run_end is_path 0 x) x)))))
 
 nested_normal : (change : Change) (o : List Mode) → AreNested o → is_inside (top o) ≡ false → AreNested (changed change o)
 nested_normal Stay o nested normal = nested
@@ -79,9 +65,9 @@ unfolding cut_at
 nested_changed [] x cut nested is = nested_normal cut.change [] nested refl
 nested_changed (Interpolation n ∷ o) x cut nested is = nested_normal cut.change (Interpolation n ∷ o) nested refl
 nested_changed (Quoted m ∷ o) x cut nested is =
-    nested_inner cut.change (Quoted m ∷ o) nested (subst (λ (c : Cut). IsInner c.change) is (string_inner m x))
+    nested_inner cut.change (Quoted m ∷ o) nested (subst IsInnerCut is (string_inner m x)).0
 nested_changed (Path k ∷ o) x cut nested is =
-    nested_inner cut.change (Path k ∷ o) nested (subst (λ (c : Cut). IsInner c.change) is (path_inner k x))
+    nested_inner cut.change (Path k ∷ o) nested (subst IsInnerCut is (path_inner k x)).0
 
 -- the modes without a path that has ended
 pub normal_settled : (o : List Mode) (x : List ℕ) → is_inside (top o) ≡ false → without_ended_paths o x ≡ o

@@ -1,13 +1,12 @@
 -- Bounds on the nodes of what is left of a row, by twice its tokens: where more items follow, and where none do. They are tables that the proof
 -- needs; which rows fit them is computed.
 use Rattle.std.proofs.Common.{◌≡◌, ℕ, ◌+◌, ◌-◌, Bool, true, ◌||◌, ◌&&◌, max, min, if◌then◌else◌, nat_le, refl, ap, sym}
-use Rattle.rnix_kinds.specs.{declared.kinds.SyntaxKind.SyntaxKind, SyntaxKind.is_token}
-use Rattle.rnix_kinds.specs.declared.kinds.SyntaxKind.TheVariants.{NODE_IDENT, NODE_IDENT_PARAM, NODE_INTERPOL, NODE_PATTERN, NODE_PAT_BIND}
-use Rattle.rnix_green.specs.Equality.{same_kind}
-use Rattle.rnix_grammar.specs.{declared.rules.Part.Part, Rules.{Row, never, done, ◌·◌, ◌or◌, may_end}, Tables.depth_limit}
-use Rattle.rnix_grammar.specs.declared.rules.Part.TheVariants.{Child, Atom, First, Suffix, Binary, Argument, Operand, Many, Entries, Wanted, Attr, Attrpath}
-use Rattle.rnix_grammar.specs.declared.rules.Part.TheVariants.{Names, Pieces, PathPieces, Formals, FormalsAfterComma, Comma, Optional, EndOr}
-use Rattle.{rnix_proof_lemmas.proofs.Basics.true_is_not_false, rnix_proof_rows.proofs.RowsWithoutAttrpath.begins_with_child}
+use Rattle.rnix_kinds.specs.declared.kinds.SyntaxKind.{SyntaxKind, TheVariants.{NODE_IDENT, NODE_IDENT_PARAM, NODE_INTERPOL, NODE_PATTERN, NODE_PAT_BIND}}
+use Rattle.{rnix_kinds.specs.SyntaxKind.is_token, rnix_green.specs.Equality.same_kind, rnix_grammar.specs.declared.rules.Part.{Part, TheVariants.{Child, Atom}}}
+use Rattle.rnix_grammar.specs.declared.rules.Part.TheVariants.{First, Suffix, Binary, Argument, Operand, Many, Entries, Wanted, Attr, Attrpath, Names, Pieces}
+use Rattle.rnix_grammar.specs.{declared.rules.Part.TheVariants.{PathPieces, Formals, FormalsAfterComma, Comma, Optional, EndOr}, Rules.{Row, never, done, ◌·◌}}
+use Rattle.{rnix_grammar.specs.{Rules.{◌or◌, may_end}, Tables.depth_limit}, rnix_proof_lemmas.proofs.Basics.true_is_not_false}
+use Rattle.rnix_proof_rows.proofs.RowsWithoutAttrpath.{begins_with_child}
 
 -- no operand that counts may stand inside so many counted places
 abbrev pub is_full : ℕ → Bool

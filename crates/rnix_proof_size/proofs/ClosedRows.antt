@@ -1,14 +1,10 @@
 -- The nodes of a row that is read before more items are at most twice its items, less the row's surplus.
-use Rattle.std.proofs.Common.{◌≡◌, ◌≤◌, ℕ, suc, ◌+◌, ◌*◌, true, List, [], ◌∷◌, ◌++◌, length, refl, ap, sym, ◌∙◌, subst, arith}
-use Rattle.std.proofs.lemmas.List.{length-append}
-use Rattle.rnix_kinds.specs.declared.kinds.SyntaxKind.{SyntaxKind, TheVariants.NODE_LITERAL}
-use Rattle.rnix_grammar.specs.Fault.{Fault}
-use Rattle.rnix_grammar.specs.AnnotatedForest.{Token, Note, Stray, Unwanted, Extra, DoubleBind, TooDeep, AnnotatedForest}
-use Rattle.rnix_grammar.specs.{AnnotatedForest.{is_some, row_of, tokens_in, leaf_kind}, Rules.{Row, row, after, may_end}}
-use Rattle.rnix_grammar.specs.Reads.{Reads, end, leaf, missing_part, wrong, second, inner, IsWrong}
-use Rattle.rnix_proof_lemmas.proofs.{AnnotatedForestLemmas.tokens_in-row_of, Basics.true_is_not_false}
-use Rattle.rnix_proof_lemmas.proofs.{ReachableRows.{IsKnown, is_viable, known_row, known_second, known_after, known_past, known_wrong}}
-use Rattle.rnix_proof_lemmas.proofs.ViableRows.{end_viable, reads_viable, reads_row}
+use Rattle.std.proofs.{Common.{◌≡◌, ◌≤◌, ℕ, suc, ◌+◌, ◌*◌, true, List, [], ◌∷◌, ◌++◌, length, refl, ap, sym, ◌∙◌, subst, arith}, lemmas.List.length-append}
+use Rattle.{rnix_kinds.specs.declared.kinds.SyntaxKind.{SyntaxKind, TheVariants.NODE_LITERAL}, rnix_grammar.specs.{Fault.Fault, AnnotatedForest.{Token, Note}}}
+use Rattle.rnix_grammar.specs.{AnnotatedForest.{Stray, Unwanted, Extra, DoubleBind, TooDeep, AnnotatedForest, is_some, row_of, tokens_in, leaf_kind}, Rules.Row}
+use Rattle.rnix_grammar.specs.{Rules.{row, after, may_end}, Reads.{Reads, end, leaf, missing_part, wrong, second, inner, IsWrong}}
+use Rattle.rnix_proof_lemmas.proofs.{AnnotatedForestLemmas.tokens_in-row_of, Basics.true_is_not_false, ReachableRows.{IsKnown, is_viable, known_row}}
+use Rattle.rnix_proof_lemmas.proofs.{ReachableRows.{known_second, known_after, known_past, known_wrong}, ViableRows.{end_viable, reads_viable, reads_row}}
 use Rattle.rnix_proof_size.proofs.{Counts.{nodes, nodes_row}, Bounds.{surplus, ended_surplus}, NodeBounds.{leaf_kept, node_kept, run_kept}}
 
 -- some items behind others are some

@@ -1,10 +1,8 @@
 -- How many nodes stand in a row, with and without its trivia.
-use Rattle.std.proofs.Common.{◌≡◌, ◌≤◌, ℕ, suc, ◌+◌, Bool, true, false, List, [], ◌∷◌, ◌++◌, length, refl, ap, ◌∙◌, arith}
-use Rattle.std.proofs.lemmas.List.{length-append}
-use Rattle.rnix_kinds.specs.{declared.kinds.SyntaxKind.{SyntaxKind}, Lexical.Tokens.Lexeme, SyntaxKind.is_trivia}
-use Rattle.rnix_green.specs.Forest.{element_count}
-use Rattle.rnix_grammar.specs.{AnnotatedForest.{Token, AnnotatedForest, blank, token, branch, fault, row_of, tokens_in, forget}, Layout.{items, item_if}}
-use Rattle.rnix_grammar.specs.AnnotatedForest.{without_trivia, token_if, placed_from}
+use Rattle.std.proofs.{Common.{◌≡◌, ◌≤◌, ℕ, suc, ◌+◌, Bool, true, false, List, [], ◌∷◌, ◌++◌, length, refl, ap, ◌∙◌, arith}, lemmas.List.length-append}
+use Rattle.{rnix_kinds.specs.{declared.kinds.SyntaxKind.SyntaxKind, Lexical.Tokens.Lexeme, SyntaxKind.is_trivia}, rnix_green.specs.Forest.element_count}
+use Rattle.rnix_grammar.specs.AnnotatedForest.{Token, AnnotatedForest, blank, token, branch, fault, row_of, tokens_in, forget, without_trivia, token_if}
+use Rattle.rnix_grammar.specs.{AnnotatedForest.placed_from, Layout.{items, item_if}}
 
 -- the nodes of a row, at every depth
 abbrev pub nodes : AnnotatedForest → ℕ

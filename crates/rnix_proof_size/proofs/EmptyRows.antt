@@ -1,15 +1,14 @@
 -- The nodes of a row without tokens at the end of the text: what is nested too deep, and attribute paths.
 use Rattle.std.proofs.Common.{◌≡◌, ◌≤◌, ℕ, suc, ◌+◌, Bool, true, false, List, [], ◌++◌, refl, ap, sym, ◌∙◌, subst, arith}
-use Rattle.rnix_kinds.specs.declared.kinds.SyntaxKind.{SyntaxKind, TheVariants.NODE_LITERAL}
-use Rattle.rnix_grammar.specs.{declared.rules.Part.TheVariants.{Operand, Many}, Fault.Fault}
-use Rattle.rnix_grammar.specs.AnnotatedForest.{Token, Note, Stray, Unwanted, Extra, DoubleBind, TooDeep, AnnotatedForest, row_of, tokens_in}
-use Rattle.rnix_grammar.specs.Rules.{Row, ◌·◌, row, after, may_end, counts, expects_end, IsExpected}
+use Rattle.{rnix_kinds.specs.declared.kinds.SyntaxKind.{SyntaxKind, TheVariants.NODE_LITERAL}, rnix_grammar.specs.declared.rules.Part.TheVariants.Operand}
+use Rattle.rnix_grammar.specs.{declared.rules.Part.TheVariants.Many, Fault.Fault, AnnotatedForest.{Token, Note, Stray, Unwanted, Extra, DoubleBind, TooDeep}}
+use Rattle.rnix_grammar.specs.{AnnotatedForest.{AnnotatedForest, row_of, tokens_in}, Rules.{Row, ◌·◌, row, after, may_end, counts, expects_end, IsExpected}}
 use Rattle.rnix_grammar.specs.Reads.{Reads, end, leaf, missing_part, wrong, second, inner, deeper, IsWrong}
 use Rattle.rnix_proof_lemmas.proofs.{AnnotatedForestLemmas.tokens_in-row_of, Basics.{true_is_not_false, not_nil, none_left, none_right}, RowKinds.has_row}
-use Rattle.rnix_proof_lemmas.proofs.{ReachableRows.{IsKnown, is_viable, known_row, known_second, known_after, known_missing, known_wrong}}
-use Rattle.rnix_proof_lemmas.proofs.ViableRows.{end_viable, reads_viable, reads_row}
-use Rattle.rnix_proof_rows.proofs.RowsWithoutAttrpath.{has_no_attrpath, HasNoNode, no_attrpath_row, row_some}
-use Rattle.rnix_proof_size.proofs.{Counts.{nodes, nodes_row}, Bounds.{is_full, spare}, NodeBounds.{missing_spare, deep_spare, path_spare}, ClosedRows.nothing}
+use Rattle.rnix_proof_lemmas.proofs.ReachableRows.{IsKnown, is_viable, known_row, known_second, known_after, known_missing, known_wrong}
+use Rattle.{rnix_proof_lemmas.proofs.ViableRows.{end_viable, reads_viable, reads_row}, rnix_proof_rows.proofs.RowsWithoutAttrpath.{has_no_attrpath, HasNoNode}}
+use Rattle.{rnix_proof_rows.proofs.RowsWithoutAttrpath.{no_attrpath_row, row_some}, rnix_proof_size.proofs.{Counts.{nodes, nodes_row}, Bounds.{is_full, spare}}}
+use Rattle.rnix_proof_size.proofs.{NodeBounds.{missing_spare, deep_spare, path_spare}, ClosedRows.nothing}
 
 -- an error node without items
 empty_node : {i : SyntaxKind} (note : Note) (d n : ℕ) (q r : Row) (vs : List Token) → IsKnown i q → IsExpected q n [] false → IsWrong note d q r [] vs

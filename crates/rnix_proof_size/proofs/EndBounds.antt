@@ -1,13 +1,11 @@
 -- How the bounds go along a row at the end of the text: the last child that has tokens, and those before it.
 use Rattle.std.proofs.Common.{◌≡◌, ◌≤◌, ◌<◌, ℕ, suc, ◌+◌, Bool, true, false, ◌&&◌, List, Some, if◌then◌else◌, nat_le, refl, ap, sym, ◌∙◌}
-use Rattle.std.proofs.lemmas.Bool.{and_from, and_parts, lt-leb}
-use Rattle.rnix_kinds.specs.declared.kinds.SyntaxKind.{SyntaxKind, TheVariants.NODE_LITERAL}
-use Rattle.rnix_kinds.proofs.AllKinds.{implied}
-use Rattle.rnix_grammar.specs.{declared.rules.Part.TheVariants.{BoundAlready, TextEnd}, Tables.depth_limit}
-use Rattle.rnix_grammar.specs.Rules.{Row, done, ◌·◌, row, second_name, after, run_at, counts}
-use Rattle.rnix_proof_lemmas.proofs.{Basics.true_is_not_false, RowKinds.has_row, ReachableRows.{IsKnown, is_viable, every_known}}
-use Rattle.rnix_proof_rows.proofs.RowsWithoutAttrpath.{begins_with_child, is_same, same_true}
-use Rattle.rnix_proof_size.proofs.{Bounds.{surplus, spare, excess, is_full}, NodeBounds.{at_most, is_false, both_answers, each_child, each_node, behind}}
+use Rattle.{std.proofs.lemmas.Bool.{and_from, and_parts, lt-leb}, rnix_kinds.specs.declared.kinds.SyntaxKind.{SyntaxKind, TheVariants.NODE_LITERAL}}
+use Rattle.{rnix_kinds.proofs.AllKinds.implied, rnix_grammar.specs.{declared.rules.Part.TheVariants.{BoundAlready, TextEnd}, Tables.depth_limit, Rules.Row}}
+use Rattle.{rnix_grammar.specs.Rules.{done, ◌·◌, row, second_name, after, run_at, counts}, rnix_proof_lemmas.proofs.Basics.true_is_not_false}
+use Rattle.rnix_proof_lemmas.proofs.{RowKinds.has_row, ReachableRows.{IsKnown, is_viable, every_known}}
+use Rattle.{rnix_proof_rows.proofs.RowsWithoutAttrpath.{begins_with_child, is_same, same_true}, rnix_proof_size.proofs.Bounds.{surplus, spare, excess, is_full}}
+use Rattle.rnix_proof_size.proofs.NodeBounds.{at_most, is_false, both_answers, each_child, each_node, behind}
 
 -- unless a test holds
 abbrev unless : Bool → Bool → Bool

@@ -1,19 +1,15 @@
 -- The nodes of a row with tokens at the end of the text.
 use Rattle.std.proofs.Common.{◌≡◌, ◌≤◌, ℕ, suc, ◌+◌, ◌*◌, Bool, true, false, List, [], ◌∷◌, ◌++◌, length, refl, ap, sym, ◌∙◌, subst, append-nil, arith}
-use Rattle.std.proofs.lemmas.List.{length-append}
-use Rattle.rnix_kinds.specs.declared.kinds.SyntaxKind.{SyntaxKind}
-use Rattle.rnix_grammar.specs.{declared.rules.Part.TheVariants.{BoundAlready}, Fault.Fault}
-use Rattle.rnix_grammar.specs.AnnotatedForest.{Token, Note, Stray, Unwanted, Extra, DoubleBind, TooDeep, AnnotatedForest}
-use Rattle.rnix_grammar.specs.{AnnotatedForest.{is_some, row_of, tokens_in, leaf_kind}}
-use Rattle.rnix_grammar.specs.Rules.{Row, done, ◌·◌, row, second_name, after, may_end, counts}
-use Rattle.rnix_grammar.specs.Reads.{Reads, end, leaf, missing_part, wrong, second, inner, deeper, IsWrong}
-use Rattle.rnix_proof_lemmas.proofs.{Basics.true_is_not_false, UnwantedRuns.some_left}
-use Rattle.rnix_proof_lemmas.proofs.{ReachableRows.{IsKnown, is_viable, known_row, known_second, known_after, known_wrong}}
-use Rattle.rnix_proof_lemmas.proofs.ViableRows.{end_viable, reads_viable, reads_row, past_ends}
-use Rattle.rnix_proof_rows.proofs.RowsWithoutAttrpath.{begins_with_child, no_attrpath_row, row_some}
-use Rattle.rnix_proof_size.proofs.{Counts.{nodes, nodes_row}, Bounds.{is_full, surplus, spare, excess}, EmptyRows.empty}
-use Rattle.rnix_proof_size.proofs.ClosedRows.{nothing, some_length, row_tokens, closed}
-use Rattle.rnix_proof_size.proofs.EndBounds.{Goes, NodeGoes, leaf_goes, run_goes, stray_goes, deep_goes, extra_goes, second_goes, node_goes, room_inside, room_here}
+use Rattle.{std.proofs.lemmas.List.length-append, rnix_kinds.specs.declared.kinds.SyntaxKind.SyntaxKind}
+use Rattle.rnix_grammar.specs.{declared.rules.Part.TheVariants.BoundAlready, Fault.Fault, AnnotatedForest.{Token, Note, Stray, Unwanted, Extra, DoubleBind}}
+use Rattle.rnix_grammar.specs.{AnnotatedForest.{TooDeep, AnnotatedForest, is_some, row_of, tokens_in, leaf_kind}, Rules.{Row, done, ◌·◌, row, second_name}}
+use Rattle.rnix_grammar.specs.{Rules.{after, may_end, counts}, Reads.{Reads, end, leaf, missing_part, wrong, second, inner, deeper, IsWrong}}
+use Rattle.rnix_proof_lemmas.proofs.{Basics.true_is_not_false, UnwantedRuns.some_left, ReachableRows.{IsKnown, is_viable, known_row, known_second, known_after}}
+use Rattle.rnix_proof_lemmas.proofs.{ReachableRows.known_wrong, ViableRows.{end_viable, reads_viable, reads_row, past_ends}}
+use Rattle.{rnix_proof_rows.proofs.RowsWithoutAttrpath.{begins_with_child, no_attrpath_row, row_some}, rnix_proof_size.proofs.Counts.{nodes, nodes_row}}
+use Rattle.rnix_proof_size.proofs.{Bounds.{is_full, surplus, spare, excess}, EmptyRows.empty, ClosedRows.{nothing, some_length, row_tokens, closed}}
+use Rattle.rnix_proof_size.proofs.EndBounds.{Goes, NodeGoes, leaf_goes, run_goes, stray_goes, deep_goes, extra_goes, second_goes, node_goes, room_inside}
+use Rattle.rnix_proof_size.proofs.EndBounds.{room_here}
 
 -- what follows in a row: no token, or some
 record Tail (w : Bool) (r : Row) (f : AnnotatedForest) : Type 0 where

@@ -1,13 +1,9 @@
 -- How the bounds go along a row: each child, each run and each missing part keeps them. Shown by computation over all that can be left of a row.
-use Rattle.std.specs.List.{list_all}
-use Rattle.std.proofs.Common.{◌≡◌, ◌≤◌, ℕ, suc, ◌+◌, Bool, true, false, ◌&&◌, List, Option, Some, None, if◌then◌else◌, nat_le, refl, ap, sym, ◌∙◌, arith}
-use Rattle.std.proofs.lemmas.Bool.{and_from, and_parts, Decides.nat_tests}
-use Rattle.rnix_kinds.specs.declared.kinds.SyntaxKind.{SyntaxKind, TheVariants.{NODE_LITERAL}}
-use Rattle.rnix_kinds.proofs.AllKinds.{all_kinds, implied}
-use Rattle.rnix_grammar.specs.{Fault.Fault}
-use Rattle.rnix_grammar.specs.Rules.{Row, row, after, missing, run_at, counts, expects_end}
-use Rattle.rnix_proof_lemmas.proofs.{RowKinds.has_row, ReachableRows.{IsKnown, is_viable, every_known}}
-use Rattle.rnix_proof_rows.proofs.RowsWithoutAttrpath.{has_no_attrpath}
+use Rattle.std.{specs.List.list_all, proofs.Common.{◌≡◌, ◌≤◌, ℕ, suc, ◌+◌, Bool, true, false, ◌&&◌, List, Option, Some, None, if◌then◌else◌, nat_le, refl, ap}}
+use Rattle.{std.proofs.{Common.{sym, ◌∙◌, arith}, lemmas.Bool.{and_from, and_parts, Decides.nat_tests}}, rnix_kinds.specs.declared.kinds.SyntaxKind.SyntaxKind}
+use Rattle.{rnix_kinds.{specs.declared.kinds.SyntaxKind.TheVariants.NODE_LITERAL, proofs.AllKinds.{all_kinds, implied}}, rnix_grammar.specs.Fault.Fault}
+use Rattle.{rnix_grammar.specs.Rules.{Row, row, after, missing, run_at, counts, expects_end}, rnix_proof_lemmas.proofs.RowKinds.has_row}
+use Rattle.{rnix_proof_lemmas.proofs.ReachableRows.{IsKnown, is_viable, every_known}, rnix_proof_rows.proofs.RowsWithoutAttrpath.has_no_attrpath}
 use Rattle.rnix_proof_size.proofs.Bounds.{surplus, spare}
 
 -- a test fails

@@ -1,11 +1,9 @@
 -- The elements of a reading are at most three for each token, and three more.
 use Rattle.std.proofs.Common.{◌≡◌, ◌≤◌, suc, ◌+◌, ◌*◌, List, [], ◌∷◌, length, refl, ap, ◌∙◌, arith}
-use Rattle.rnix_kinds.specs.{declared.kinds.SyntaxKind.TheVariants.NODE_ROOT, Lexical.Tokens.Lexeme}
-use Rattle.rnix_green.specs.{Forest.{element_count}, Tree.{Tree, forest_of}}
-use Rattle.rnix_grammar.specs.{Fault.Fault, AnnotatedForest.{Token, AnnotatedForest, forget, tokens_in, is_some, without_trivia, placed_from}, Layout.items}
-use Rattle.rnix_grammar.specs.{Reads.ReadsRoot, Reading.IsReading}
-use Rattle.rnix_proof_lemmas.proofs.{ReachableRows.known_row, ReportLemmas.without_trivia_tokens}
-use Rattle.rnix_proof_rows.proofs.RowsWithoutAttrpath.{no_attrpath_row}
+use Rattle.{rnix_kinds.specs.{declared.kinds.SyntaxKind.TheVariants.NODE_ROOT, Lexical.Tokens.Lexeme}, rnix_green.specs.{Forest.element_count, Tree.Tree}}
+use Rattle.{rnix_green.specs.Tree.forest_of, rnix_grammar.specs.{Fault.Fault, AnnotatedForest.{Token, AnnotatedForest, forget, tokens_in, is_some}}}
+use Rattle.rnix_grammar.specs.{AnnotatedForest.{without_trivia, placed_from}, Layout.items, Reads.ReadsRoot, Reading.IsReading}
+use Rattle.{rnix_proof_lemmas.proofs.{ReachableRows.known_row, ReportLemmas.without_trivia_tokens}, rnix_proof_rows.proofs.RowsWithoutAttrpath.no_attrpath_row}
 use Rattle.rnix_proof_size.proofs.{Counts.{nodes, elements, nodes_without_trivia, length_placed, length_items}, EmptyRows.empty, LastRows.last}
 
 -- the nodes below the root are at most twice the items, and two more

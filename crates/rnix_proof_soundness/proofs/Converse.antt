@@ -1,23 +1,18 @@
 -- A text that is read without errors of its end, repeated names and accepted extensions is an expression of the strict grammar, once its errors are repaired.
 use Rattle.std.proofs.Common.{◌≡◌, true, Some, None, Option, refl, ap, sym, ◌∙◌, subst, ℕ, Bool, false, List, [], ◌∷◌, ◌++◌, if◌then◌else◌, ◌&&◌, ◌||◌, ◌+◌}
-use Rattle.std.{proofs.{Common.arith, lemmas.Bool.and_parts}, specs.Str.bytes_eq}
-use Rattle.rnix_kinds.specs.{declared.kinds.SyntaxKind.{SyntaxKind, TheVariants.{TOKEN_OR, NODE_PAT_ENTRY, NODE_ROOT}}, SyntaxKind.{is_fn_arg}}
-use Rattle.rnix_kinds.proofs.AllKinds.{implied}
-use Rattle.rnix_green.specs.Forest.{Forest, node}
-use Rattle.rnix_grammar.specs.Rules.{Row, ◌·◌, row, after, may_end, missing, is_first_expected, IsExpected, IsFollowed}
-use Rattle.rnix_proof_lemmas.specs.LeafKinds.{is_node}
-use Rattle.rnix_grammar.specs.{Fault.{Fault, duplicated_args}, Grammar.{IsExpression, expression}, Operands.follows, TokenKinds.is_or}
+use Rattle.{std.{proofs.{Common.arith, lemmas.Bool.and_parts}, specs.Str.bytes_eq}, rnix_kinds.specs.declared.kinds.SyntaxKind.SyntaxKind}
+use Rattle.rnix_kinds.{specs.{declared.kinds.SyntaxKind.TheVariants.{TOKEN_OR, NODE_PAT_ENTRY, NODE_ROOT}, SyntaxKind.is_fn_arg}, proofs.AllKinds.implied}
+use Rattle.{rnix_green.specs.Forest.{Forest, node}, rnix_grammar.specs.Rules.{Row, ◌·◌, row, after, may_end, missing, is_first_expected, IsExpected}}
+use Rattle.rnix_grammar.specs.{Rules.IsFollowed, Fault.{Fault, duplicated_args}, Grammar.{IsExpression, expression}, Operands.follows, TokenKinds.is_or}
 use Rattle.rnix_grammar.specs.AnnotatedForest.{Token, Note, Stray, Extra, DoubleBind, AnnotatedForest, blank, token, branch, fault, ◌⊕◌, one_token, one_branch}
-use Rattle.rnix_grammar.specs.{AnnotatedForest.{one_fault, row_of, tokens_in, extent_of, head_kind}, Tables.is_among, Extensions.{is_extension, has_no_extension}}
-use Rattle.rnix_grammar.specs.Reports.{report, repeated, repeated_if, entry_name, is_same_name, has_entry, repeats}
-use Rattle.rnix_grammar.specs.{Repaired.{repaired, repair, is_ended, ended_count}, BehindErrors.after_error}
-use Rattle.rnix_grammar.specs.Reads.{Reads, ReadsRoot, end, leaf as leaf_node_made, missing_part, wrong, second, inner, IsWrong}
-use Rattle.rnix_grammar.specs.{TreeLevels.{is_atom_row}, Named.{AreNamed, is_repeated, Lacks}}
-use Rattle.rnix_proof_lemmas.specs.Spelled.{AreSpelled}
-use Rattle.rnix_proof_lemmas.proofs.{Basics.true_is_not_false, SpelledLemmas.{spelled_first, spelled_rest}, EntryNames.{has-⊕, if_not}, AfterErrors.wrong_goes}
-use Rattle.rnix_proof_lemmas.proofs.{ViableRows.reads_row, RowKinds.has_row}
-use Rattle.rnix_proof_soundness.proofs.{RowViews.{entry_text, ends, stands, View, view}, RowForms.are_entries_new, TokenDependentForms.{sound_made, sound_tokens}}
-use Rattle.rnix_proof_soundness.proofs.SoundRows.{Skips, IsEntry, Tokens, Calls, IsSound, repaired_nonempty}
+use Rattle.rnix_grammar.specs.{AnnotatedForest.{one_fault, row_of, tokens_in, extent_of, head_kind}, Tables.is_among, Extensions.is_extension}
+use Rattle.rnix_grammar.specs.{Extensions.has_no_extension, Reports.{report, repeated, repeated_if, entry_name, is_same_name, has_entry, repeats}}
+use Rattle.rnix_grammar.specs.{Repaired.{repaired, repair, is_ended, ended_count}, BehindErrors.after_error, Reads.{Reads, ReadsRoot, end}}
+use Rattle.rnix_grammar.specs.{Reads.{leaf as leaf_node_made, missing_part, wrong, second, inner, IsWrong}, TreeLevels.is_atom_row, Named.AreNamed}
+use Rattle.{rnix_grammar.specs.Named.{is_repeated, Lacks}, rnix_proof_lemmas.{specs.{LeafKinds.is_node, Spelled.AreSpelled}, proofs.Basics.true_is_not_false}}
+use Rattle.rnix_proof_lemmas.proofs.{SpelledLemmas.{spelled_first, spelled_rest}, EntryNames.{has-⊕, if_not}, AfterErrors.wrong_goes, ViableRows.reads_row}
+use Rattle.{rnix_proof_lemmas.proofs.RowKinds.has_row, rnix_proof_soundness.proofs.{RowViews.{entry_text, ends, stands, View, view}, RowForms.are_entries_new}}
+use Rattle.rnix_proof_soundness.proofs.{TokenDependentForms.{sound_made, sound_tokens}, SoundRows.{Skips, IsEntry, Tokens, Calls, IsSound, repaired_nonempty}}
 use Rattle.rnix_grammar.specs.declared.rules.Part.TheVariants as p
 
 -- errors of two rows

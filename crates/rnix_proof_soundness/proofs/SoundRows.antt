@@ -1,23 +1,18 @@
 -- What is known of a row that is read: its tokens are spelled, its names stand where they may, and its nodes are what they are in the grammar.
-use Rattle.std.proofs.Common.{◌≡◌, ⊎_elim, ℕ, ◌≤◌, Bool, true, false, List, Option, Some, None, refl, ap, sym, ◌∙◌, subst, codes, arith}
-use Rattle.std.{proofs.{Common.{if◌then◌else◌, ◌||◌, nat_eq, nat_le}, lemmas.Bool.{and_parts, or_cases, Decides.nat_tests}}}
-use Rattle.rnix_kinds.specs.declared.kinds.SyntaxKind.{SyntaxKind, TheVariants.{TOKEN_CUR_POS, TOKEN_IDENT, TOKEN_INTEGER, TOKEN_OR, TOKEN_R_BRACE}}
-use Rattle.rnix_kinds.specs.declared.kinds.SyntaxKind.TheVariants.{NODE_CUR_POS, NODE_IDENT, NODE_LAMBDA, NODE_LITERAL, NODE_PAT_BIND, NODE_PAT_ENTRY}
-use Rattle.rnix_kinds.{specs.SyntaxKind.is_token}
-use Rattle.rnix_green.specs.{Equality.same_kind, Forest.{Forest, empty, leaf, node}}
-use Rattle.rnix_grammar.specs.{Rows.{is_attr, is_expression}, Rules.{Row, never, done, ◌·◌, ◌or◌, after, only, may_end, run_at, level_at}}
-use Rattle.rnix_proof_lemmas.specs.LeafKinds.{is_node}
-use Rattle.rnix_grammar.specs.{BehindErrors.{after_run, after_error}, Beginnings.IsOperandOf, Levels.selection_level, Rules.IsFollowed}
-use Rattle.rnix_grammar.specs.AnnotatedForest.{Token, Note, Stray, Unwanted, Extra, DoubleBind, TooDeep, AnnotatedForest, blank, token, branch, fault, ◌⊕◌}
-use Rattle.rnix_grammar.specs.AnnotatedForest.{one_token, one_branch, one_fault, leaf_kind, leaf_kind_as}
+use Rattle.std.proofs.Common.{◌≡◌, ⊎_elim, ℕ, ◌≤◌, Bool, true, false, List, Option, Some, None, refl, ap, sym, ◌∙◌, subst, codes, arith, if◌then◌else◌, ◌||◌}
+use Rattle.{std.proofs.{Common.{nat_eq, nat_le}, lemmas.Bool.{and_parts, or_cases, Decides.nat_tests}}, rnix_kinds.specs.declared.kinds.SyntaxKind.SyntaxKind}
+use Rattle.rnix_kinds.specs.declared.kinds.SyntaxKind.TheVariants.{TOKEN_CUR_POS, TOKEN_IDENT, TOKEN_INTEGER, TOKEN_OR, TOKEN_R_BRACE, NODE_CUR_POS, NODE_IDENT}
+use Rattle.rnix_kinds.specs.{declared.kinds.SyntaxKind.TheVariants.{NODE_LAMBDA, NODE_LITERAL, NODE_PAT_BIND, NODE_PAT_ENTRY}, SyntaxKind.is_token}
+use Rattle.{rnix_green.specs.{Equality.same_kind, Forest.{Forest, empty, leaf, node}}, rnix_grammar.specs.{Rows.{is_attr, is_expression}, Rules.{Row, never}}}
+use Rattle.rnix_grammar.specs.{Rules.{done, ◌·◌, ◌or◌, after, only, may_end, run_at, level_at, IsFollowed}, BehindErrors.{after_run, after_error}}
+use Rattle.rnix_grammar.specs.{Beginnings.IsOperandOf, Levels.selection_level, AnnotatedForest.{Token, Note, Stray, Unwanted, Extra, DoubleBind, TooDeep}}
+use Rattle.rnix_grammar.specs.AnnotatedForest.{AnnotatedForest, blank, token, branch, fault, ◌⊕◌, one_token, one_branch, one_fault, leaf_kind, leaf_kind_as}
 use Rattle.rnix_grammar.specs.{AllowedNames.{is_name_at, is_named_in, is_plain}, Named.{begins_with_token, is_repeated, is_name_allowed, Lacks}}
-use Rattle.rnix_proof_lemmas.specs.Spelled.{is_spelled}
-use Rattle.rnix_grammar.specs.{Extensions.{holds_no_lambda, is_extension}, Repaired.{repaired}, Reports.{entry_name, only_token, repeats}}
-use Rattle.rnix_grammar.specs.{TreeLevels.{is_atom_row, is_or_row, level_of}, TokenKinds.is_or, Grammar.{Strict, looser, literal, atom}}
-use Rattle.rnix_proof_lemmas.proofs.{Basics.{not_if, true_is_not_false}, EveryKind.whenever_two, LevelLemmas.at_most}
-use Rattle.rnix_proof_soundness.proofs.{RowViews.{begins_with_leaf, entry_text, Offers, Asks, binds, names_or, GrammarRow, ended, leaf_node_made, node_started, passed, alike, lost}}
-use Rattle.rnix_proof_soundness.proofs.RowForms.{tightest, is_value, IsMade}
-use Rattle.rnix_grammar.specs.declared.rules.Part.{Part}
+use Rattle.rnix_grammar.specs.{Extensions.{holds_no_lambda, is_extension}, Repaired.repaired, Reports.{entry_name, only_token, repeats}, TreeLevels.is_atom_row}
+use Rattle.rnix_grammar.specs.{TreeLevels.{is_or_row, level_of}, TokenKinds.is_or, Grammar.{Strict, looser, literal, atom}, declared.rules.Part.Part}
+use Rattle.rnix_proof_lemmas.{specs.{LeafKinds.is_node, Spelled.is_spelled}, proofs.{Basics.{not_if, true_is_not_false}, EveryKind.whenever_two}}
+use Rattle.{rnix_proof_lemmas.proofs.LevelLemmas.at_most, rnix_proof_soundness.proofs.RowViews.{begins_with_leaf, entry_text, Offers, Asks, binds, names_or}}
+use Rattle.rnix_proof_soundness.proofs.{RowViews.{GrammarRow, ended, leaf_node_made, node_started, passed, alike, lost}, RowForms.{tightest, is_value, IsMade}}
 use Rattle.rnix_grammar.specs.Tables as tables
 use Rattle.rnix_grammar.specs.declared.rules.Part.TheVariants as p
 

@@ -1,27 +1,23 @@
 -- What names, selections, calls and operators are in the grammar: their names and levels depend on their tokens.
-use Rattle.std.{specs.List.list_all, proofs.{Common.{◌≡◌, ℕ, ◌≤◌, inl, inr, Bool, true, false, List, [], Some, None, refl, ap, sym, ◌∙◌, subst, arith}}}
-use Rattle.std.proofs.{Common.{if◌then◌else◌, ◌||◌, ◌&&◌, nat_eq, nat_le}, lemmas.Bool.or_right}
-use Rattle.rnix_kinds.specs.declared.kinds.SyntaxKind.{SyntaxKind}
+use Rattle.std.{specs.List.list_all, proofs.Common.{◌≡◌, ℕ, ◌≤◌, inl, inr, Bool, true, false, List, [], Some, None, refl, ap, sym, ◌∙◌, subst, arith}}
+use Rattle.{std.proofs.{Common.{if◌then◌else◌, ◌||◌, ◌&&◌, nat_eq, nat_le}, lemmas.Bool.or_right}, rnix_kinds.specs.declared.kinds.SyntaxKind.SyntaxKind}
 use Rattle.rnix_kinds.specs.declared.kinds.SyntaxKind.TheVariants.{TOKEN_CUR_POS, TOKEN_DOT, TOKEN_IDENT, TOKEN_INVERT, TOKEN_OR, TOKEN_QUESTION, TOKEN_SUB}
 use Rattle.rnix_kinds.specs.declared.kinds.SyntaxKind.TheVariants.{NODE_APPLY, NODE_BIN_OP, NODE_CUR_POS, NODE_HAS_ATTR, NODE_IDENT, NODE_LAMBDA, NODE_LITERAL}
 use Rattle.rnix_kinds.specs.declared.kinds.SyntaxKind.TheVariants.{NODE_PAT_BIND, NODE_PAT_ENTRY, NODE_PATTERN, NODE_SELECT, NODE_UNARY_OP}
-use Rattle.rnix_kinds.{specs.SyntaxKind.is_token, proofs.AllKinds.{all_kinds, implied}}
-use Rattle.rnix_green.specs.Forest.{Forest, empty, leaf, node}
+use Rattle.{rnix_kinds.{specs.SyntaxKind.is_token, proofs.AllKinds.{all_kinds, implied}}, rnix_green.specs.Forest.{Forest, empty, leaf, node}}
 use Rattle.rnix_grammar.specs.AnnotatedForest.{Token, Note, Stray, Unwanted, Extra, DoubleBind, TooDeep, AnnotatedForest, blank, token, branch, fault, ◌⊕◌}
 use Rattle.rnix_grammar.specs.{AnnotatedForest.{one_token, one_branch, one_fault, leaf_kind_as}, Beginnings.IsOperandOf, BehindErrors.{after_run, after_error}}
-use Rattle.rnix_grammar.specs.Rows.{fits, is_atom, is_expression, is_infix, is_simple}
-use Rattle.rnix_grammar.specs.{Levels.{application_level, binding_power, has_attr_level, left_of, negation_level, inversion_level, right_of, selection_level}}
-use Rattle.rnix_grammar.specs.Rules.{Row, never, done, ◌·◌, row, after, only, may_end, run_at}
-use Rattle.rnix_grammar.specs.{AllowedNames.{is_name_at, is_plain, is_position}, Named.{begins_with_token, is_name_allowed}, Operands.follows}
-use Rattle.rnix_proof_lemmas.specs.Spelled.{is_spelled}
+use Rattle.rnix_grammar.specs.{Rows.{fits, is_atom, is_expression, is_infix, is_simple}, Levels.{application_level, binding_power, has_attr_level, left_of}}
+use Rattle.rnix_grammar.specs.{Levels.{negation_level, inversion_level, right_of, selection_level}, Rules.{Row, never, done, ◌·◌, row, after, only, may_end}}
+use Rattle.rnix_grammar.specs.{Rules.run_at, AllowedNames.{is_name_at, is_plain, is_position}, Named.{begins_with_token, is_name_allowed}, Operands.follows}
 use Rattle.rnix_grammar.specs.TreeLevels.{calls_or, is_atom_row, is_or_leaf, is_or_row, level_of, operator_in, prefix_in, row_level}
 use Rattle.rnix_grammar.specs.{Extensions.{holds_no_lambda, is_extension}, Repaired.{repair, repaired}, Tables.is_cur_pos, TokenKinds.is_or}
-use Rattle.rnix_proof_lemmas.proofs.{Basics.{choice, not_if, true_is_not_false}, EveryKind.{never as no_kind_both}, LevelLemmas.at_most}
-use Rattle.rnix_proof_lemmas.proofs.{ReachableRows.is_viable, KindsOfNodes.fits_expression}
-use Rattle.rnix_proof_soundness.proofs.RowViews.{begins_with_leaf, IsIn, Ends, ends, leads, heads, FirstNode, stands, View, view}
-use Rattle.rnix_proof_soundness.proofs.RowForms.{are_entries_new, is_closed, depends_on_tokens, is_value, IsMade, made, of_strict}
-use Rattle.rnix_proof_soundness.proofs.SoundRows.{leaf_is_token, IsName, name, IsEntry, Tokens, IsLeaf, IsChild, Skips, IsSound, no_part, nowhere, zero, named_value}
-use Rattle.rnix_proof_soundness.proofs.SoundRows.{repaired_nonempty, level_operand}
+use Rattle.rnix_proof_lemmas.{specs.Spelled.is_spelled, proofs.{Basics.{choice, not_if, true_is_not_false}, EveryKind.{never as no_kind_both}}}
+use Rattle.rnix_proof_lemmas.proofs.{LevelLemmas.at_most, ReachableRows.is_viable, KindsOfNodes.fits_expression}
+use Rattle.rnix_proof_soundness.proofs.{RowViews.{begins_with_leaf, IsIn, Ends, ends, leads, heads, FirstNode, stands, View, view}, RowForms.are_entries_new}
+use Rattle.rnix_proof_soundness.proofs.{RowForms.{is_closed, depends_on_tokens, is_value, IsMade, made, of_strict}, SoundRows.{leaf_is_token, IsName, name}}
+use Rattle.rnix_proof_soundness.proofs.SoundRows.{IsEntry, Tokens, IsLeaf, IsChild, Skips, IsSound, no_part, nowhere, zero, named_value, repaired_nonempty}
+use Rattle.rnix_proof_soundness.proofs.SoundRows.{level_operand}
 use Rattle.rnix_grammar.specs.Grammar as G
 use Rattle.rnix_grammar.specs.Tables as tables
 use Rattle.rnix_grammar.specs.declared.rules.Part.TheVariants as p

@@ -1,15 +1,13 @@
 -- Which names may stand where, how error nodes are repaired, and how deep trees nest.
 use Rattle.{std.proofs.Common.{◌≡◌, ℕ, true, false, List, [], ◌∷◌, map, refl, codes}, rnix_kinds.specs.declared.kinds.SyntaxKind.SyntaxKind}
-use Rattle.rnix_kinds.specs.declared.kinds.SyntaxKind.TheVariants.{TOKEN_IDENT, TOKEN_INTEGER, TOKEN_ADD, TOKEN_SUB, TOKEN_MUL}
-use Rattle.rnix_kinds.specs.declared.kinds.SyntaxKind.TheVariants.{TOKEN_COLON, TOKEN_QUESTION, TOKEN_DOT, TOKEN_OR}
-use Rattle.rnix_kinds.specs.declared.kinds.SyntaxKind.TheVariants.{TOKEN_L_BRACE, TOKEN_R_BRACE, TOKEN_L_BRACK, TOKEN_R_BRACK, TOKEN_L_PAREN, TOKEN_R_PAREN}
-use Rattle.rnix_kinds.specs.declared.kinds.SyntaxKind.TheVariants.{TOKEN_INTERPOL_START, TOKEN_INTERPOL_END, NODE_APPLY, NODE_ATTRPATH}
-use Rattle.rnix_kinds.specs.declared.kinds.SyntaxKind.TheVariants.{NODE_BIN_OP, NODE_CUR_POS, NODE_DYNAMIC, NODE_IDENT, NODE_IDENT_PARAM}
-use Rattle.rnix_kinds.specs.declared.kinds.SyntaxKind.TheVariants.{NODE_LAMBDA, NODE_LIST, NODE_LITERAL, NODE_PAREN, NODE_PATTERN}
-use Rattle.rnix_kinds.specs.declared.kinds.SyntaxKind.TheVariants.{NODE_PAT_ENTRY, NODE_ROOT, NODE_SELECT, NODE_UNARY_OP}
-use Rattle.{rnix_green.specs.Forest.{Forest, empty, leaf, node}, rnix_grammar.specs.declared.rules.Part.TheVariants.{Argument, Names, Wanted}}
-use Rattle.rnix_grammar.specs.AnnotatedForest.{Token, AnnotatedForest, Stray, Extra, one_token, one_fault}
-use Rattle.rnix_grammar.specs.{Rules.{done, ◌·◌, row}, Repaired.repaired, Nest.nest, AllowedNames.is_named}
+use Rattle.rnix_kinds.specs.declared.kinds.SyntaxKind.TheVariants.{TOKEN_IDENT, TOKEN_INTEGER, TOKEN_ADD, TOKEN_SUB, TOKEN_MUL, TOKEN_COLON, TOKEN_QUESTION}
+use Rattle.rnix_kinds.specs.declared.kinds.SyntaxKind.TheVariants.{TOKEN_DOT, TOKEN_OR, TOKEN_L_BRACE, TOKEN_R_BRACE, TOKEN_L_BRACK, TOKEN_R_BRACK}
+use Rattle.rnix_kinds.specs.declared.kinds.SyntaxKind.TheVariants.{TOKEN_L_PAREN, TOKEN_R_PAREN, TOKEN_INTERPOL_START, TOKEN_INTERPOL_END, NODE_APPLY}
+use Rattle.rnix_kinds.specs.declared.kinds.SyntaxKind.TheVariants.{NODE_ATTRPATH, NODE_BIN_OP, NODE_CUR_POS, NODE_DYNAMIC, NODE_IDENT, NODE_IDENT_PARAM}
+use Rattle.rnix_kinds.specs.declared.kinds.SyntaxKind.TheVariants.{NODE_LAMBDA, NODE_LIST, NODE_LITERAL, NODE_PAREN, NODE_PATTERN, NODE_PAT_ENTRY, NODE_ROOT}
+use Rattle.{rnix_kinds.specs.declared.kinds.SyntaxKind.TheVariants.{NODE_SELECT, NODE_UNARY_OP}, rnix_green.specs.Forest.{Forest, empty, leaf, node}}
+use Rattle.rnix_grammar.specs.{declared.rules.Part.TheVariants.{Argument, Names, Wanted}, AnnotatedForest.{Token, AnnotatedForest, Stray, Extra, one_token}}
+use Rattle.rnix_grammar.specs.{AnnotatedForest.one_fault, Rules.{done, ◌·◌, row}, Repaired.repaired, Nest.nest, AllowedNames.is_named}
 
 -- trees, each in front of some others
 abbrev named : List ℕ → Forest → Forest

@@ -1,12 +1,11 @@
 -- The leaves of an expression of the strict grammar are tokens, and none of its trees is an accepted extension.
-use Rattle.std.{proofs.{Common.{◌≡◌, ℕ, ◌≤◌, Bool, true, false, List, refl, ap, ◌∙◌, arith}, lemmas.Bool.{and_from, Decides.nat_tests}}}
-use Rattle.std.proofs.Common.{◌&&◌, if◌then◌else◌, nat_le}
-use Rattle.rnix_kinds.specs.declared.kinds.SyntaxKind.{SyntaxKind, TheVariants.{NODE_DYNAMIC, NODE_LAMBDA, NODE_LIST, NODE_PATTERN, NODE_ROOT, NODE_STRING}}
-use Rattle.rnix_kinds.specs.declared.kinds.SyntaxKind.TheVariants.{NODE_ATTRPATH, NODE_PAT_ENTRY, NODE_ATTRPATH_VALUE, NODE_INHERIT, NODE_INTERPOL}
-use Rattle.rnix_kinds.{specs.SyntaxKind.is_token, proofs.AllKinds.implied}
-use Rattle.rnix_green.specs.Forest.{Forest, empty, leaf, node}
-use Rattle.rnix_grammar.specs.{Extensions.{has_no_extension, holds_no_lambda, is_extension}, Derivation.has_tokens_alone}
-use Rattle.rnix_grammar.specs.{Levels.{expression_level, left_of, right_of}, Rows.{is_infix, is_plain_literal}, TokenKinds.is_path_piece}
+use Rattle.std.proofs.{Common.{◌≡◌, ℕ, ◌≤◌, Bool, true, false, List, refl, ap, ◌∙◌, arith, ◌&&◌, if◌then◌else◌, nat_le}, lemmas.Bool.and_from}
+use Rattle.{std.proofs.lemmas.Bool.Decides.nat_tests, rnix_kinds.specs.declared.kinds.SyntaxKind.{SyntaxKind, TheVariants.{NODE_DYNAMIC, NODE_LAMBDA}}}
+use Rattle.rnix_kinds.specs.declared.kinds.SyntaxKind.TheVariants.{NODE_LIST, NODE_PATTERN, NODE_ROOT, NODE_STRING, NODE_ATTRPATH, NODE_PAT_ENTRY}
+use Rattle.rnix_kinds.specs.{declared.kinds.SyntaxKind.TheVariants.{NODE_ATTRPATH_VALUE, NODE_INHERIT, NODE_INTERPOL}, SyntaxKind.is_token}
+use Rattle.{rnix_kinds.proofs.AllKinds.implied, rnix_green.specs.Forest.{Forest, empty, leaf, node}, rnix_grammar.specs.Extensions.has_no_extension}
+use Rattle.rnix_grammar.specs.{Extensions.{holds_no_lambda, is_extension}, Derivation.has_tokens_alone, Levels.{expression_level, left_of, right_of}}
+use Rattle.rnix_grammar.specs.{Rows.{is_infix, is_plain_literal}, TokenKinds.is_path_piece}
 use Rattle.rnix_grammar.specs.Grammar as G
 
 -- a row below a node whose leaves are tokens, and none of whose trees is an accepted extension

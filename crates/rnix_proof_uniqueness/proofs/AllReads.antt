@@ -1,15 +1,12 @@
 -- Each reading of some items is what the steps make of them; so there is one reading.
-use Rattle.std.proofs.Common.{◌≡◌, ℕ, suc, false, List, [], ◌∷◌, refl, ap, sym, ◌∙◌, true, zero, ◌<◌, ◌++◌, subst, append-nil, arith}
-use Rattle.{rnix_kinds.specs.declared.kinds.SyntaxKind.{TheVariants.NODE_ROOT, SyntaxKind}, rnix_grammar.specs.{Fault.Fault, AnnotatedForest.Token}}
-use Rattle.rnix_grammar.specs.AnnotatedForest.{AnnotatedForest, blank, tokens_in, end_from}
-use Rattle.rnix_proof_lemmas.specs.Machine.{Node, Frame, Machine, machine, opened, begins, step}
-use Rattle.rnix_grammar.specs.declared.{slot_table.TheConstants.ROOT, position.Position.Position}
-use Rattle.rnix_proof_lemmas.specs.Machine.{Runs}
-use Rattle.rnix_proof_lemmas.specs.Machine.{rest as here, then as further}
-use Rattle.rnix_grammar.specs.{declared.rules.Part.TheVariants.TextEnd, Rules.{Row, done, ◌·◌}, Reads.ReadsRoot}
-use Rattle.rnix_proof_lemmas.specs.SlotRows.{left_at, left_in}
-use Rattle.{rnix_proof_lemmas.proofs.{Basics.{Where, where_one}, EachIndex.each_index, RestAt.rest_at}, rnix_proof_uniqueness.proofs.ReadingHeights.{height, IsLower}}
-use Rattle.rnix_proof_uniqueness.proofs.{ReadingHeights.{AllRows, Trees}, TreeReads.tree_runs, OneAction.{is_at, is_text_end}, RowReads.row_next, StepReads.ReadsTo}
+use Rattle.std.proofs.Common.{◌≡◌, ℕ, suc, false, List, [], ◌∷◌, refl, ap, sym, ◌∙◌, zero, ◌<◌, ◌++◌, subst, append-nil, arith}
+use Rattle.{rnix_kinds.specs.declared.kinds.SyntaxKind.{SyntaxKind, TheVariants.NODE_ROOT}, rnix_grammar.specs.{Fault.Fault, AnnotatedForest.Token}}
+use Rattle.rnix_grammar.specs.{AnnotatedForest.{AnnotatedForest, blank, tokens_in, end_from}, declared.slot_table.TheConstants.ROOT}
+use Rattle.rnix_grammar.specs.{declared.{position.Position.Position, rules.Part.TheVariants.TextEnd}, Rules.{Row, done, ◌·◌}, Reads.ReadsRoot}
+use Rattle.rnix_proof_lemmas.specs.{Machine.{Node, Frame, Machine, machine, opened, begins, step, Runs, rest as here, then as further}, SlotRows.left_at}
+use Rattle.rnix_proof_lemmas.{specs.SlotRows.left_in, proofs.{Basics.{Where, where_one}, EachIndex.each_index, RestAt.rest_at}}
+use Rattle.rnix_proof_uniqueness.proofs.{ReadingHeights.{height, IsLower, AllRows, Trees}, TreeReads.tree_runs, OneAction.is_text_end, RowReads.row_next}
+use Rattle.rnix_proof_uniqueness.proofs.StepReads.{ReadsTo}
 use Rattle.rnix_grammar.specs.declared.position.Position.TheVariants as p
 
 -- from where no step changes anything, all steps lead back

@@ -5,20 +5,16 @@ use Rattle.rnix_kinds.specs.declared.kinds.SyntaxKind.TheVariants.{NODE_LEGACY_L
 use Rattle.{rnix_kinds.specs.declared.kinds.SyntaxKind.TheVariants.{NODE_PATTERN, NODE_PAT_BIND}, rnix_grammar.specs.{Fault.Fault, Begins.begin_of}}
 use Rattle.rnix_grammar.specs.{Begins.second_kind, AnnotatedForest.{Token, Stray, AnnotatedForest, blank, token, ◌⊕◌, one_token, one_branch, one_fault, row_of}}
 use Rattle.rnix_grammar.specs.{AnnotatedForest.{tokens_in, leaf_kind, head_kind, end_from, branch, leaf_kind_as}, Reports.{report, repeats}}
-use Rattle.rnix_proof_lemmas.specs.Machine.{Operand}
-use Rattle.rnix_grammar.specs.declared.rules.Part.TheVariants.{Child}
-use Rattle.rnix_proof_lemmas.specs.Machine.{Frame, machine, opened, begun, Node, operand_on, Runs}
-use Rattle.rnix_proof_lemmas.specs.Machine.{rest as here}
-use Rattle.rnix_grammar.specs.{declared.slot_table.TheConstants.{LEGACY_LET, BOUND_PATTERN, LAMBDA, PATTERN}, Reads.{IsOver, end}, Rules.Row}
-use Rattle.rnix_proof_lemmas.specs.SlotRows.{left_at}
-use Rattle.rnix_grammar.specs.{Rules.{after, row as row_of_kind, ◌·◌, done}, declared.{position.Position.Position, begin.Begin.Begin}}
-use Rattle.rnix_proof_lemmas.specs.BegunOperands.{kind_of}
-use Rattle.rnix_proof_lemmas.proofs.{EveryKind.{only, only_both}, FollowLemmas.{FollowedTo, atom_is_selection_level, followed_atom, followed_keyword}, Basics.true_is_not_false}
-use Rattle.{rnix_proof_lemmas.proofs.{TokenEnds.end_behind, RestAt.rest_at}, rnix_proof_uniqueness.proofs.StepReads.{runs_to, runs_from, IsOperandRead, ReadsTree}}
-use Rattle.rnix_proof_uniqueness.proofs.{StepReads.runs_on, ViableReadings.is_viable, OneAction.{is_inner, is_closed}, ReadingHeights.{Complete, AllRows, KindReads, front_of}}
-use Rattle.rnix_proof_uniqueness.proofs.ReadingHeights.{complete_done, complete_to, has_no_node_next, item_next, Front, by_leaf, by_stray, by_node, complete_viable, Item, Name}
-use Rattle.rnix_proof_uniqueness.proofs.{ReadingHeights.{item_alone, item_or_name}, RowTrees.{operand_read, read_on, ReadOn, node_read}, OperandBegins.begins_with_item}
-use Rattle.rnix_proof_uniqueness.proofs.OperandBegins.{BegunByItem, led_leaf, led_node, begins_led, begins_special, followed_item_begun, BegunBy, begin_for}
+use Rattle.rnix_grammar.specs.declared.{rules.Part.TheVariants.Child, slot_table.TheConstants.{LEGACY_LET, BOUND_PATTERN, LAMBDA, PATTERN}}
+use Rattle.rnix_grammar.specs.{declared.{position.Position.Position, begin.Begin.Begin}, Reads.end, Rules.{after, row as row_of_kind, ◌·◌, done}}
+use Rattle.rnix_proof_lemmas.specs.{Machine.{Operand, Frame, machine, opened, begun, Node, operand_on, Runs, rest as here}, SlotRows.left_at}
+use Rattle.rnix_proof_lemmas.{specs.BegunOperands.kind_of, proofs.{EveryKind.{only, only_both}, FollowLemmas.{FollowedTo, atom_is_selection_level}}}
+use Rattle.rnix_proof_lemmas.proofs.{FollowLemmas.{followed_atom, followed_keyword}, Basics.true_is_not_false, TokenEnds.end_behind, ReachableRows.is_viable}
+use Rattle.rnix_proof_uniqueness.proofs.{StepReads.{runs_to, runs_from, IsOperandRead, ReadsTree, runs_on}, OneAction.{is_inner, is_closed}}
+use Rattle.rnix_proof_uniqueness.proofs.ReadingHeights.{Complete, AllRows, KindReads, front_of, complete_done, complete_to, has_no_node_next, item_next, Front}
+use Rattle.rnix_proof_uniqueness.proofs.ReadingHeights.{by_leaf, by_stray, by_node, complete_viable, Item, Name, item_alone, item_or_name}
+use Rattle.rnix_proof_uniqueness.proofs.{RowTrees.{operand_read, read_on, ReadOn, node_read}, OperandBegins.{begins_with_item, BegunByItem, led_leaf, led_node}}
+use Rattle.rnix_proof_uniqueness.proofs.OperandBegins.{begins_led, begins_special, followed_item_begun, BegunBy, begin_for}
 use Rattle.rnix_grammar.specs.declared.position.Position.TheVariants as p
 use Rattle.rnix_grammar.specs.declared.begin.Begin.TheVariants as b
 

@@ -4,13 +4,13 @@ use Rattle.{std.{proofs.lemmas.Bool.and_parts, specs.{List.{list_all, list_any},
 use Rattle.rnix_kinds.specs.declared.kinds.SyntaxKind.{SyntaxKind, TheVariants.{NODE_BIN_OP, NODE_ERROR, NODE_IDENT, NODE_LITERAL, NODE_PAT_ENTRY, NODE_ROOT}}
 use Rattle.rnix_kinds.specs.declared.kinds.SyntaxKind.TheVariants.{TOKEN_IDENT, NODE_DYNAMIC, NODE_INHERIT, NODE_INHERIT_FROM, NODE_INTERPOL, NODE_PAT_BIND}
 use Rattle.{rnix_kinds.specs.declared.kinds.SyntaxKind.TheVariants.NODE_STRING, rnix_green.specs.Equality.same_kind}
-use Rattle.rnix_grammar.specs.declared.{position.Position.Position, action.Action.Action, slot_table.TheConstants.SLOTS, rules.Part.TheVariants.{BoundAlready, TextEnd}}
-use Rattle.rnix_grammar.specs.{Actions.{left_action, action_at}, AnnotatedForest.{Token, blank, head_kind, leaf_kind_as}}
-use Rattle.rnix_proof_lemmas.specs.SlotRows.{left_at, left_in, kind_at}
-use Rattle.rnix_grammar.specs.{AnnotatedForest.touches, Rules.{Row, never, ◌·◌, row, after, may_end, missing, is_there, run_at, is_first_expected, level_at}}
-use Rattle.{rnix_grammar.specs.Rules.IsExpected, rnix_proof_lemmas.proofs.{Basics.true_is_not_false, EachIndex.each_index, EveryKind.same, ActionTable.is_waiting}}
-use Rattle.rnix_proof_lemmas.proofs.{ActionTable.{IsActionAt, action_is_at}, RestAt.rest_at, RowParts.{is_front, is_left, expects_next, expects_at}}
-use Rattle.rnix_proof_uniqueness.proofs.ViableReadings.{is_viable, as_expected}
+use Rattle.rnix_grammar.specs.declared.{position.Position.Position, action.Action.Action, slot_table.TheConstants.SLOTS, rules.Part.TheVariants.BoundAlready}
+use Rattle.rnix_grammar.specs.{declared.rules.Part.TheVariants.TextEnd, Actions.{left_action, action_at}, AnnotatedForest.{Token, blank, head_kind}}
+use Rattle.rnix_grammar.specs.{AnnotatedForest.{leaf_kind_as, touches}, Rules.{Row, never, ◌·◌, row, after, may_end, missing, is_there, run_at}}
+use Rattle.{rnix_grammar.specs.Rules.{is_first_expected, level_at, IsExpected}, rnix_proof_lemmas.specs.SlotRows.{left_at, left_in, kind_at}}
+use Rattle.rnix_proof_lemmas.proofs.{Basics.true_is_not_false, EachIndex.each_index, EveryKind.same, ActionTable.{is_waiting, IsActionAt, action_is_at}}
+use Rattle.rnix_proof_lemmas.proofs.{RestAt.rest_at, RowParts.{is_left, expects_next, expects_at}, ReachableRows.is_viable}
+use Rattle.rnix_proof_uniqueness.proofs.ViableReadings.{as_expected}
 use Rattle.rnix_grammar.specs.declared.position.Position.TheVariants as p
 use Rattle.rnix_grammar.specs.declared.action.Action.TheVariants as a
 

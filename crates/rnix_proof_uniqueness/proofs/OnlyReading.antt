@@ -2,10 +2,8 @@
 use Rattle.{std.proofs.Common.{◌≡◌, ℕ, zero, suc, false, List, [], ◌∷◌, refl, sym, subst}, rnix_kinds.specs.declared.kinds.SyntaxKind.SyntaxKind}
 use Rattle.{rnix_kinds.specs.{declared.kinds.SyntaxKind.TheVariants.{NODE_ROOT, NODE_ERROR}, Lexical.Tokens.tokens_of}, rnix_grammar.specs.Fault.Fault}
 use Rattle.rnix_grammar.specs.AnnotatedForest.{Token, Note, AnnotatedForest, blank, token, branch, fault, leaf_kind, tokens_in, end_from, placed_from}
-use Rattle.rnix_grammar.specs.{Layout.{items, tail_of}, Reads.ReadsRoot}
-use Rattle.rnix_proof_lemmas.specs.Machine.{Machine, begins, step, Runs}
-use Rattle.rnix_proof_lemmas.specs.Machine.{rest as here, then as further}
-use Rattle.rnix_proof_uniqueness.proofs.AllReads.{ended_with, ended_once, reads_runs}
+use Rattle.{rnix_grammar.specs.{Layout.{items, tail_of}, Reads.ReadsRoot}, rnix_proof_lemmas.{specs.{Machine.{Machine, begins, step, Runs, rest as here}}}}
+use Rattle.{rnix_proof_lemmas.{specs.{Machine.{then as further}}}, rnix_proof_uniqueness.proofs.AllReads.{ended_with, ended_once, reads_runs}}
 
 -- a row of trees without its items: each leaf takes the next one
 pub data Shape : Type 0 where

@@ -6,17 +6,13 @@ use Rattle.rnix_kinds.specs.declared.kinds.SyntaxKind.TheVariants.{NODE_APPLY, N
 use Rattle.{rnix_kinds.specs.declared.kinds.SyntaxKind.TheVariants.{NODE_PATTERN, NODE_SELECT, NODE_UNARY_OP}, rnix_grammar.specs.Actions.{follow, more_action}}
 use Rattle.rnix_grammar.specs.{Actions.{goes_on as goes_between}, Levels.binding_power, AnnotatedForest.{Token, AnnotatedForest, head_kind, end_from, blank}}
 use Rattle.rnix_grammar.specs.{AnnotatedForest.{token, branch, one_branch, leaf_kind_as, Stray}, Operands.{follows, first_tree, goes_on}}
-use Rattle.rnix_proof_lemmas.specs.BegunOperands.{IsBegun, kind_of}
-use Rattle.rnix_grammar.specs.{declared.action.Action.Action, Fault.Fault, TreeLevels.{row_level, level_of}}
-use Rattle.rnix_proof_lemmas.specs.Machine.{Operand, Frame, machine, opened, perform}
-use Rattle.rnix_grammar.specs.{declared.{position.Position.Position, begin.Begin.Begin}, Tables.is_cur_pos, Begins.begin_of}
-use Rattle.rnix_proof_lemmas.specs.Machine.{operand_on, Runs, Node}
-use Rattle.rnix_grammar.specs.{Begins.{begin_name, begin_let, is_pattern, second_kind}, Rows.{is_atom, is_expression}, Rules.{after, done, row as row_of_kind}}
-use Rattle.rnix_proof_lemmas.proofs.{Basics.{true_is_not_false, choice}, LevelLemmas.{at_most, at_most_true}}
-use Rattle.rnix_proof_lemmas.specs.SlotRows.{left_at}
-use Rattle.rnix_proof_lemmas.proofs.FollowLemmas.{FollowedTo, follows_level, atom_is_selection_level, followed_atom, followed_negated, followed_inverted, followed_keyword}
-use Rattle.{rnix_proof_lemmas.proofs.TokenEnds.end_behind, rnix_proof_uniqueness.proofs.StepReads.{runs_on, runs_to, runs_from, step_to, IsOperandRead, ReadsTree}}
-use Rattle.rnix_proof_uniqueness.proofs.OneAction.{is_at}
+use Rattle.rnix_grammar.specs.{declared.{action.Action.Action, begin.Begin.Begin}, Fault.Fault, TreeLevels.{row_level, level_of}, Tables.is_cur_pos}
+use Rattle.rnix_grammar.specs.{Begins.{begin_of, begin_name, begin_let, is_pattern, second_kind}, Rows.{is_atom, is_expression}, Rules.{after, done}}
+use Rattle.{rnix_grammar.{specs.{Rules.{row as row_of_kind}}}, rnix_proof_lemmas.specs.{BegunOperands.{IsBegun, kind_of}, Machine.{Operand, Frame, machine}}}
+use Rattle.rnix_proof_lemmas.{specs.{Machine.{opened, perform, operand_on, Runs, Node}, SlotRows.left_at}, proofs.Basics.{true_is_not_false, choice}}
+use Rattle.rnix_proof_lemmas.proofs.{LevelLemmas.{at_most, at_most_true}, FollowLemmas.{FollowedTo, follows_level, atom_is_selection_level, followed_atom}}
+use Rattle.rnix_proof_lemmas.proofs.{FollowLemmas.{followed_negated, followed_inverted, followed_keyword}, TokenEnds.end_behind}
+use Rattle.rnix_proof_uniqueness.proofs.{StepReads.{runs_on, runs_to, runs_from, step_to, IsOperandRead, ReadsTree}, OneAction.is_at}
 use Rattle.rnix_grammar.specs.declared.position.Position.TheVariants as p
 use Rattle.rnix_grammar.specs.declared.action.Action.TheVariants as a
 use Rattle.rnix_grammar.specs.declared.begin.Begin.TheVariants as b

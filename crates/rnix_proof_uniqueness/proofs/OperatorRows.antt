@@ -1,21 +1,20 @@
 -- Operators, selections and tests for attributes are read as operands, if smaller rows and trees are read.
 use Rattle.std.proofs.Common.{◌≡◌, ℕ, Bool, true, false, List, [], ◌∷◌, ◌++◌, Some, refl, ap, sym, ◌∙◌, subst, append-nil, arith}
 use Rattle.rnix_kinds.{proofs.AllKinds.implied, specs.declared.kinds.SyntaxKind.{SyntaxKind, TheVariants.{TOKEN_ADD, TOKEN_DOT, TOKEN_QUESTION, NODE_BIN_OP}}}
-use Rattle.{rnix_kinds.specs.declared.kinds.SyntaxKind.TheVariants.{NODE_HAS_ATTR, NODE_LITERAL, NODE_SELECT}, rnix_grammar.specs.declared.position.Position.Position}
+use Rattle.rnix_kinds.specs.declared.kinds.SyntaxKind.TheVariants.{NODE_HAS_ATTR, NODE_LITERAL, NODE_SELECT}
+use Rattle.rnix_grammar.specs.declared.{position.Position.Position, rules.Part.TheVariants.{Binary, Suffix}, slot_table.TheConstants.{HAS_ATTR, SELECT}}
 use Rattle.rnix_grammar.specs.{Fault.Fault, Actions.{follow as follow_of}, Levels.{binding_power, right_of, max_bp_of}, AnnotatedForest.{Token, Stray}}
 use Rattle.rnix_grammar.specs.AnnotatedForest.{AnnotatedForest, blank, branch, token, ◌⊕◌, one_token, one_branch, one_fault, row_of, tokens_in, leaf_kind}
-use Rattle.rnix_grammar.specs.{AnnotatedForest.end_from, Reports.report, Rows.{is_atom, is_questioned, is_operand}}
-use Rattle.rnix_proof_lemmas.specs.Machine.{Node, Operand, machine, opened}
-use Rattle.rnix_grammar.specs.{Rows.{is_infix, is_expression}, TreeLevels.row_level, Operands.{follows, first_tree}, declared.rules.Part.TheVariants.Binary}
-use Rattle.rnix_grammar.specs.{declared.{rules.Part.TheVariants.Suffix, slot_table.TheConstants.{HAS_ATTR, SELECT}}, Rules.{IsFollowed, Row}}
-use Rattle.rnix_proof_lemmas.specs.SlotRows.{left_at}
-use Rattle.{rnix_grammar.specs.{Rules.{after, done, only as row_if, row as row_of_kind, ◌·◌}, Reads.{deeper, end}}, rnix_proof_lemmas.proofs.KindsOfNodes.unreported}
-use Rattle.rnix_proof_lemmas.proofs.{KindsOfNodes.{is_error, keeps_kind}, EveryKind.only, AnnotatedForestLemmas.{⊕-assoc}, TokenEnds.end_behind, FirstTrees.IsSingle}
+use Rattle.rnix_grammar.specs.{AnnotatedForest.end_from, Reports.report, Rows.{is_atom, is_questioned, is_operand, is_infix, is_expression}}
+use Rattle.rnix_grammar.specs.{TreeLevels.row_level, Operands.{follows, first_tree}, Rules.{IsFollowed, Row, after, done, only as row_if, row as row_of_kind}}
+use Rattle.{rnix_grammar.specs.{Rules.◌·◌, Reads.{deeper, end}}, rnix_proof_lemmas.specs.{Machine.{Node, Operand, machine, opened}, SlotRows.left_at}}
+use Rattle.rnix_proof_lemmas.proofs.{KindsOfNodes.{unreported, is_error, keeps_kind}, EveryKind.only, AnnotatedForestLemmas.⊕-assoc, FirstTrees.IsSingle}
 use Rattle.rnix_proof_lemmas.proofs.{FirstTrees.{a_node, an_error, first_in, single_operator}, FollowLemmas.{FollowedTo, followed_infix, followed_question}}
-use Rattle.{rnix_proof_lemmas.proofs.{FollowLemmas.{followed_selection, follows_token}, RestAt.rest_at}, rnix_proof_uniqueness.proofs.StepReads.{runs_to, runs_from, ReadsTree}}
-use Rattle.rnix_proof_uniqueness.proofs.{ViableReadings.{is_viable, viable_only}, OneAction.{is_at, is_closed, is_inner}, ReadingHeights.{Complete, AllRows, Trees, KindReads}}
-use Rattle.rnix_proof_uniqueness.proofs.{ReadingHeights.{Front, by_leaf, by_stray, by_node, front_of, complete_to, is_firm, has_no_node_next, Item, item_next}, RowTrees.ReadOn}
-use Rattle.rnix_proof_uniqueness.proofs.{RowTrees.{read_on, operand_read}, OperandBegins.continued, FunctionRows.stray_reads}
+use Rattle.rnix_proof_lemmas.proofs.{FollowLemmas.{followed_selection, follows_token}, RestAt.rest_at, ReachableRows.is_viable}
+use Rattle.rnix_proof_uniqueness.proofs.{StepReads.{runs_to, runs_from, ReadsTree}, ViableReadings.viable_only, OneAction.{is_at, is_closed, is_inner}}
+use Rattle.rnix_proof_uniqueness.proofs.ReadingHeights.{Complete, AllRows, Trees, KindReads, Front, by_leaf, by_stray, by_node, front_of, complete_to, is_firm}
+use Rattle.rnix_proof_uniqueness.proofs.{ReadingHeights.{has_no_node_next, Item, item_next}, RowTrees.{ReadOn, read_on, operand_read}, OperandBegins.continued}
+use Rattle.rnix_proof_uniqueness.proofs.FunctionRows.{stray_reads}
 use Rattle.rnix_grammar.specs.declared.position.Position.TheVariants as p
 use Rattle.rnix_grammar.specs.declared.action.Action.TheVariants as a
 

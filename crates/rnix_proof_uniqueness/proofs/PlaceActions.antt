@@ -2,19 +2,18 @@
 use Rattle.std.proofs.Common.{◌≡◌, ◌⊎◌, inl, inr, ℕ, ◌<◌, Bool, true, false, ◌&&◌, ◌||◌, List, [], ◌∷◌, ◌++◌, Option, Some, None, refl, ap, sym, ◌∙◌, subst}
 use Rattle.{std.proofs.{Common.{arith, if◌then◌else◌, nat_le}, lemmas.Bool.{and_parts, Decides.nat_tests}}, rnix_kinds.proofs.AllKinds.implied}
 use Rattle.rnix_kinds.specs.declared.kinds.SyntaxKind.{SyntaxKind, TheVariants.{NODE_IDENT, NODE_LITERAL, NODE_PAT_ENTRY, TOKEN_AT, TOKEN_IDENT}}
-use Rattle.{rnix_kinds.specs.SyntaxKind.is_token, rnix_green.specs.Equality.same_kind, rnix_grammar.specs.declared.{position.Position.Position, action.Action.Action}}
-use Rattle.rnix_grammar.specs.{declared.{expected_set.ExpectedSet.ExpectedSet, rules.Part.TheVariants.{Argument, BoundAlready, Many, Operand, TextEnd}}, Fault.{Fault, unexpected_eof}}
-use Rattle.rnix_grammar.specs.{Fault.unexpected_eof_wanted, Tables.{depth_limit, wanted_kinds}, Actions.action_at, Rows.fits, Reads.{IsOver, IsRoom}}
-use Rattle.rnix_proof_lemmas.specs.SlotRows.{left_at}
-use Rattle.rnix_grammar.specs.AnnotatedForest.{AnnotatedForest, Token, blank, head_kind, leaf_kind_as, touches}
-use Rattle.rnix_proof_lemmas.specs.Machine.{Head, Frame, machine, opened}
-use Rattle.rnix_grammar.specs.Rules.{Row, done, ◌·◌, row, only, after, may_end, missing, is_there, run_at, expects_end}
-use Rattle.rnix_proof_lemmas.specs.Machine.{perform, limited}
-use Rattle.{rnix_grammar.specs.Rules.{is_first_expected, level_at, counts, IsExpected}, rnix_proof_lemmas.proofs.Basics.{true_is_not_false, not_if, some_same}}
-use Rattle.rnix_proof_lemmas.proofs.{EveryKind.same, ActionTable.IsActionAt, RestAt.rest_at, RowParts.{HasNoOperand, is_left, expects_next, left_no_operand, left_first_expected, operand_goes}}
-use Rattle.{rnix_proof_lemmas.proofs.RowParts.operand_not_expected, rnix_proof_uniqueness.proofs.{ViableReadings.{is_viable, viable_only, uncounted, until_in, until_is}, OneAction.is_at}}
-use Rattle.rnix_proof_uniqueness.proofs.OneAction.{is_inner, goal, lands, LeadsTo, asks, asked, is_any, is_take, is_double_bind, is_extra, is_run, is_read, is_miss, is_ending}
-use Rattle.rnix_proof_uniqueness.proofs.OneAction.{opens, opens_with_item, is_bound, is_text_end, may_begin, is_same, IsDone, done_at, done_as, other_end, other_item}
+use Rattle.{rnix_kinds.specs.SyntaxKind.is_token, rnix_green.specs.Equality.same_kind, rnix_grammar.specs.declared.position.Position.Position}
+use Rattle.rnix_grammar.specs.declared.{action.Action.Action, expected_set.ExpectedSet.ExpectedSet, rules.Part.TheVariants.{Argument, BoundAlready, Many}}
+use Rattle.rnix_grammar.specs.{declared.rules.Part.TheVariants.{Operand, TextEnd}, Fault.{Fault, unexpected_eof, unexpected_eof_wanted}, Tables.depth_limit}
+use Rattle.rnix_grammar.specs.{Tables.wanted_kinds, Actions.action_at, Rows.fits, Reads.{IsOver, IsRoom}, AnnotatedForest.{AnnotatedForest, Token, blank}}
+use Rattle.rnix_grammar.specs.{AnnotatedForest.{head_kind, leaf_kind_as, touches}, Rules.{Row, done, ◌·◌, row, only, after, may_end, missing, is_there, run_at}}
+use Rattle.{rnix_grammar.specs.Rules.{expects_end, is_first_expected, level_at, counts, IsExpected}, rnix_proof_lemmas.specs.{SlotRows.left_at, Machine.Head}}
+use Rattle.rnix_proof_lemmas.{specs.Machine.{Frame, machine, opened, perform, limited}, proofs.{Basics.{true_is_not_false, not_if, some_same}, EveryKind.same}}
+use Rattle.rnix_proof_lemmas.proofs.{ActionTable.IsActionAt, RestAt.rest_at, RowParts.{HasNoOperand, is_left, expects_next, left_no_operand}}
+use Rattle.rnix_proof_lemmas.proofs.{RowParts.{left_first_expected, operand_goes, operand_not_expected}, ReachableRows.is_viable}
+use Rattle.rnix_proof_uniqueness.proofs.{ViableReadings.{viable_only, uncounted, until_in, until_is}, OneAction.{is_at, is_inner, goal, lands, LeadsTo, asks}}
+use Rattle.rnix_proof_uniqueness.proofs.OneAction.{asked, is_any, is_take, is_double_bind, is_extra, is_run, is_read, is_miss, is_ending, opens}
+use Rattle.rnix_proof_uniqueness.proofs.OneAction.{opens_with_item, is_bound, is_text_end, may_begin, is_same, IsDone, done_at, done_as, other_end, other_item}
 use Rattle.rnix_proof_uniqueness.proofs.OneAction.{left_at_place, next_is}
 use Rattle.rnix_grammar.specs.declared.position.Position.TheVariants as p
 use Rattle.rnix_grammar.specs.declared.action.Action.TheVariants as a

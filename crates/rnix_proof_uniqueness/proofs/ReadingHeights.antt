@@ -1,16 +1,16 @@
 -- Readings by how high their derivations are, and how a row goes on behind a state that is no place.
 use Rattle.std.proofs.Common.{◌≡◌, ℕ, suc, ◌+◌, ◌<◌, Bool, true, false, List, [], ◌∷◌, ◌++◌, Some, None, refl, ap, sym, ◌∙◌, subst, arith, ◌⊎◌, inl, inr, ◌||◌}
 use Rattle.{std.{proofs.{Common.{◌&&◌, if◌then◌else◌}, lemmas.Bool.and_parts}, specs.List.list_all}, rnix_kinds.proofs.AllKinds.{all_kinds, implied}}
-use Rattle.rnix_kinds.specs.{declared.kinds.SyntaxKind.{SyntaxKind, TheVariants.{NODE_LITERAL, TOKEN_IDENT, NODE_IDENT}}, SyntaxKind.place_of}
-use Rattle.{rnix_green.specs.Equality.same_kind, rnix_grammar.specs.declared.{position.Position.Position, rules.Part.TheVariants.{Argument, Atom, Binary, Child, First}}}
-use Rattle.rnix_grammar.specs.{declared.rules.Part.TheVariants.Suffix, Fault.Fault, Tables.wanted_kinds, AnnotatedForest.{Token, Note, Stray, Unwanted, Extra}}
-use Rattle.rnix_grammar.specs.AnnotatedForest.{DoubleBind, TooDeep, AnnotatedForest, blank, token, branch, fault, ◌⊕◌, one_token, one_branch, one_fault, row_of}
-use Rattle.rnix_grammar.specs.{AnnotatedForest.{tokens_in, leaf_kind, head_kind, end_from}, Reports.{report, repeats}, Rows.fits, Beginnings.IsOperandOf}
-use Rattle.rnix_grammar.specs.Rules.{Row, done, ◌·◌, ◌or◌, after, counts, level_at, may_end, missing, run_at, is_first_expected, row as row_of_kind, IsExpected}
-use Rattle.rnix_grammar.specs.{Rules.IsFollowed, Reads.{IsOver, IsWrong, Reads, deeper, end, leaf, inner, missing_part, wrong, second}}
-use Rattle.rnix_proof_lemmas.proofs.{AnnotatedForestLemmas.tokens_in-row_of, Basics.{true_is_not_false, not_if}, RowParts.is_front, RestAt.rest_at}
-use Rattle.{rnix_proof_lemmas.proofs.{TokenEnds.end_behind, EveryKind.{only, only_both}}, rnix_proof_uniqueness.proofs.ViableReadings.{done_ends, end_viable, is_viable}}
-use Rattle.rnix_proof_uniqueness.proofs.{ViableReadings.{reads_viable, no_some}, OneAction.{is_at, begins_with_item, names_only, is_name, is_first, may_begin, or_true}}
+use Rattle.{rnix_kinds.specs.declared.kinds.SyntaxKind.{SyntaxKind, TheVariants.{NODE_LITERAL, TOKEN_IDENT, NODE_IDENT}}, rnix_green.specs.Equality.same_kind}
+use Rattle.rnix_grammar.specs.{declared.{position.Position.Position, rules.Part.TheVariants.{Argument, Atom, Binary, Child, First, Suffix}}, Fault.Fault}
+use Rattle.rnix_grammar.specs.{Tables.wanted_kinds, AnnotatedForest.{Token, Note, Stray, Unwanted, Extra, DoubleBind, TooDeep, AnnotatedForest, blank, token}}
+use Rattle.rnix_grammar.specs.AnnotatedForest.{branch, fault, ◌⊕◌, one_token, one_branch, one_fault, row_of, tokens_in, leaf_kind, head_kind, end_from}
+use Rattle.rnix_grammar.specs.{Reports.{report, repeats}, Rows.fits, Beginnings.IsOperandOf, Rules.{Row, done, ◌·◌, ◌or◌, after, counts, level_at, may_end}}
+use Rattle.rnix_grammar.specs.{Rules.{missing, run_at, is_first_expected, row as row_of_kind, IsExpected, IsFollowed}, Reads.{IsOver, IsWrong, Reads, deeper}}
+use Rattle.{rnix_grammar.specs.Reads.{end, leaf, inner, missing_part, wrong, second}, rnix_proof_lemmas.proofs.AnnotatedForestLemmas.tokens_in-row_of}
+use Rattle.rnix_proof_lemmas.proofs.{Basics.{true_is_not_false, not_if}, RowParts.is_front, RestAt.rest_at, ViableRows.{past_ends, end_viable, reads_viable}}
+use Rattle.rnix_proof_lemmas.proofs.{ReachableRows.is_viable, TokenEnds.end_behind, EveryKind.{only, only_both}}
+use Rattle.rnix_proof_uniqueness.proofs.{ViableReadings.no_some, OneAction.{is_at, begins_with_item, names_only, is_name, is_first, may_begin, or_true}}
 use Rattle.rnix_proof_uniqueness.proofs.StepReads.{ReadsTree, ReadsTo}
 
 -- how many steps a reading takes to say
@@ -101,7 +101,7 @@ complete_viable w = reads_viable w.part.reads (end_viable w.last w.over.0)
 pub complete_done : {m n : ℕ} {p : SyntaxKind} {d : ℕ} {q : Row} {b : AnnotatedForest} {us : List Token} {f : AnnotatedForest} {es : List Fault}
     → Complete m p d n q b us f es
     → q ≡ done → (f ≡ blank) × (es ≡ [])
-complete_done w e = done_ends w.part.reads e (end_viable w.last w.over.0)
+complete_done w e = let ended = past_ends w.part.reads e (end_viable w.last w.over.0) in (ended.row, ended.faults)
 
 -- what is below a successor is no more
 pub less : (a m : ℕ) → suc a < suc m → a < m

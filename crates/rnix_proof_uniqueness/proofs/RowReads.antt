@@ -1,28 +1,25 @@
 -- A row from a position is read, if smaller rows and trees are.
-use Rattle.std.proofs.Common.{◌≡◌, ℕ, true, false, List, [], ◌∷◌, ◌++◌, Option, Some, refl, ap, sym, ◌∙◌, subst, append-nil, arith, ◌⊎◌, inl, inr, Bool, ◌&&◌}
+use Rattle.std.proofs.Common.{◌≡◌, ℕ, true, false, List, [], ◌∷◌, ◌++◌, Option, Some, refl, ap, sym, ◌∙◌, subst, append-nil, arith, ◌⊎◌, inl, inr, ◌&&◌}
 use Rattle.{std.proofs.{Common.{if◌then◌else◌, suc, ◌<◌, append_assoc}, lemmas.Bool.and_parts}, rnix_kinds.proofs.AllKinds.implied}
 use Rattle.rnix_kinds.specs.declared.kinds.SyntaxKind.{SyntaxKind, TheVariants.{NODE_LITERAL, NODE_IDENT, NODE_PAT_ENTRY, TOKEN_IDENT, TOKEN_AT, NODE_ERROR}}
-use Rattle.{rnix_green.specs.Equality.same_kind, rnix_grammar.specs.{declared.position.Position.Position, Actions.action_at, Reports.{report, repeats}, Reads.IsWrong}}
-use Rattle.rnix_grammar.specs.{Reads.{deeper, IsRoom, IsOver, Reads, end, leaf, inner, missing_part, wrong, second}, Beginnings.IsOperandOf}
-use Rattle.rnix_grammar.specs.AnnotatedForest.{Token, Note, Stray, Unwanted, Extra, DoubleBind, TooDeep, AnnotatedForest, ◌⊕◌, one_fault, row_of, head_kind}
-use Rattle.rnix_grammar.specs.AnnotatedForest.{end_from, touches, blank, one_branch, tokens_in, leaf_kind_as, token, fault, one_token, leaf_kind}
-use Rattle.rnix_grammar.specs.Rules.{IsExpected, Row, after, counts, level_at}
-use Rattle.rnix_proof_lemmas.specs.Machine.{machine, opened, perform, dropped, Frame, SecondBind}
-use Rattle.rnix_proof_lemmas.specs.Machine.{rest as stays}
-use Rattle.rnix_grammar.specs.{Rules.{is_first_expected, row as row_of_kind, done, ◌·◌, expects_end, missing, second_name}, declared.action.Action.Action}
-use Rattle.rnix_grammar.specs.{declared.slot_table.TheConstants.{PAT_ENTRY, SECOND_BIND}, Fault.Fault, Rows.{fits, is_expression}}
-use Rattle.rnix_proof_lemmas.specs.SlotRows.{left_at, kind_at}
-use Rattle.{rnix_grammar.specs.declared.rules.Part.TheVariants.BoundAlready, rnix_proof_lemmas.proofs.Basics.true_is_not_false}
-use Rattle.rnix_proof_lemmas.specs.BegunOperands.{IsBegun}
-use Rattle.rnix_proof_lemmas.proofs.{BeginAlike.operand_by_steps, UnwantedRuns.dropped_all, RestAt.rest_at, KindsOfNodes.{unreported, fits_expression}}
-use Rattle.rnix_proof_lemmas.proofs.{ActionTable.is_waiting, RowParts.left_level, EveryKind.only, AnnotatedForestLemmas.tokens_in-row_of}
-use Rattle.rnix_proof_uniqueness.proofs.{StepReads.{runs_from, runs_to, step_to, ReadsTo, runs_on}, ViableReadings.{is_viable, reads_viable}, OneAction.{done_at, is_any}}
-use Rattle.rnix_proof_uniqueness.proofs.OneAction.{is_at, next_is, or_true, LeadsTo, opens_with_item, is_inner, is_name, is_opened, left_at_place, names_only}
-use Rattle.rnix_proof_uniqueness.proofs.{OneAction.waiting_viable, PlaceActions.{Operands, extra_at, reads_at, runs_at, IfNext, IsNode, by_begin, by_open, by_name}}
-use Rattle.rnix_proof_uniqueness.proofs.{PlaceActions.{by_entry, NodeRead, node_at, double_bind_at}, FunctionRows.stray_reads, RowTrees.{OneTo, goes_one, one_operand}}
+use Rattle.{rnix_green.specs.Equality.same_kind, rnix_grammar.specs.declared.{position.Position.Position, action.Action.Action}}
+use Rattle.rnix_grammar.specs.{declared.{slot_table.TheConstants.{PAT_ENTRY, SECOND_BIND}, rules.Part.TheVariants.BoundAlready}, Actions.action_at}
+use Rattle.rnix_grammar.specs.{Reports.{report, repeats}, Reads.{IsWrong, deeper, IsRoom, Reads, end, leaf, inner, missing_part, wrong, second}}
+use Rattle.rnix_grammar.specs.{Beginnings.IsOperandOf, AnnotatedForest.{Token, Note, Stray, Unwanted, Extra, DoubleBind, TooDeep, AnnotatedForest, ◌⊕◌}}
+use Rattle.rnix_grammar.specs.AnnotatedForest.{one_fault, row_of, head_kind, end_from, touches, blank, one_branch, tokens_in, leaf_kind_as, token, one_token}
+use Rattle.rnix_grammar.specs.{AnnotatedForest.leaf_kind, Rules.{IsExpected, Row, after, counts, level_at, is_first_expected, row as row_of_kind, done, ◌·◌}}
+use Rattle.{rnix_grammar.specs.{Rules.{expects_end, missing, second_name}, Fault.Fault, Rows.{fits, is_expression}}, rnix_proof_lemmas.specs.Machine.machine}
+use Rattle.rnix_proof_lemmas.specs.{Machine.{opened, perform, dropped, Frame, SecondBind, rest as stays}, SlotRows.{left_at, kind_at}, BegunOperands.IsBegun}
+use Rattle.rnix_proof_lemmas.proofs.{Basics.true_is_not_false, BeginAlike.operand_by_steps, UnwantedRuns.dropped_all, RestAt.rest_at, KindsOfNodes.unreported}
+use Rattle.rnix_proof_lemmas.proofs.{KindsOfNodes.fits_expression, ActionTable.is_waiting, RowParts.left_level, EveryKind.only}
+use Rattle.rnix_proof_lemmas.proofs.{AnnotatedForestLemmas.tokens_in-row_of, ReachableRows.is_viable, ViableRows.reads_viable}
+use Rattle.rnix_proof_uniqueness.proofs.{StepReads.{runs_from, runs_to, step_to, ReadsTo, runs_on}, OneAction.{done_at, is_any, is_at, next_is, or_true}}
+use Rattle.rnix_proof_uniqueness.proofs.OneAction.{LeadsTo, opens_with_item, is_inner, is_name, is_opened, left_at_place, names_only, waiting_viable}
+use Rattle.rnix_proof_uniqueness.proofs.PlaceActions.{Operands, extra_at, reads_at, runs_at, IfNext, IsNode, by_begin, by_open, by_name, by_entry, NodeRead}
+use Rattle.rnix_proof_uniqueness.proofs.{PlaceActions.{node_at, double_bind_at}, FunctionRows.stray_reads, RowTrees.{OneTo, goes_one, one_operand}}
 use Rattle.rnix_proof_uniqueness.proofs.RowTrees.{dropped_front, too_far, node_read, read_on, closes_second, row_end, row_on, row_lost, one_leaf}
-use Rattle.rnix_proof_uniqueness.proofs.ReadingHeights.{Complete, AllRows, Trees, front_of, is_firm, complete_viable, complete_to, Item, Name, name_item, item_or_name}
-use Rattle.rnix_proof_uniqueness.proofs.ReadingHeights.{begins_so, height, less, less_left, less_right, item_next}
+use Rattle.rnix_proof_uniqueness.proofs.ReadingHeights.{Complete, AllRows, Trees, front_of, is_firm, complete_viable, complete_to, Item, Name, name_item}
+use Rattle.rnix_proof_uniqueness.proofs.ReadingHeights.{item_or_name, begins_so, height, less, less_left, less_right, item_next}
 use Rattle.rnix_grammar.specs.declared.position.Position.TheVariants as p
 use Rattle.rnix_grammar.specs.declared.action.Action.TheVariants as a
 

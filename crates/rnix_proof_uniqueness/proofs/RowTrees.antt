@@ -1,20 +1,18 @@
 -- How the steps read one more tree of a row, and the rest of the row behind it.
 use Rattle.std.proofs.Common.{◌≡◌, ℕ, Bool, true, false, List, [], ◌∷◌, ◌++◌, refl, ap, sym, ◌∙◌, subst, append-nil, append_assoc, suc, ◌<◌, ◌≤◌, Some, None}
 use Rattle.{std.proofs.{Common.{arith, if◌then◌else◌, nat_le}, lemmas.Bool.Decides.nat_tests}, rnix_kinds.specs.declared.kinds.SyntaxKind.SyntaxKind}
-use Rattle.{rnix_kinds.specs.declared.kinds.SyntaxKind.TheVariants.{NODE_PAT_ENTRY, NODE_ERROR, NODE_ROOT}, rnix_grammar.specs.declared.position.Position.Position}
-use Rattle.rnix_grammar.specs.{declared.action.Action.Action, Fault.Fault, Actions.action_at, Rules.{Row, IsExpected, after, counts, expects_end, missing}}
-use Rattle.rnix_grammar.specs.{Reads.{IsOver, IsRoom, deeper}, AnnotatedForest.{Token, DoubleBind, AnnotatedForest, blank, ◌⊕◌, one_branch, one_fault, tokens_in}}
-use Rattle.rnix_grammar.specs.AnnotatedForest.{head_kind, end_from, touches, one_token, leaf_kind}
-use Rattle.rnix_proof_lemmas.specs.Machine.{Head, Node, SecondBind, Operand, Frame, machine, put}
-use Rattle.rnix_grammar.specs.Reports.{report, repeated, repeats}
-use Rattle.rnix_proof_lemmas.specs.Machine.{opened, perform, step, Runs, kind_of, limited, operand_on, dropped}
-use Rattle.rnix_proof_lemmas.specs.Machine.{rest as here}
-use Rattle.{rnix_grammar.specs.{Tables.depth_limit, Operands.{goes_on}, TreeLevels.row_level}, rnix_proof_lemmas.proofs.Basics.true_is_not_false}
-use Rattle.rnix_proof_lemmas.specs.BegunOperands.{IsBegun}
-use Rattle.rnix_proof_lemmas.proofs.{EveryKind.same, RestAt.rest_at, AnnotatedForestLemmas.{⊕-assoc, ⊕-blank}, TokenEnds.end_behind, OpenHeads.is_open}
-use Rattle.rnix_proof_uniqueness.proofs.{StepReads.{runs_on, runs_to, step_to, ReadsRow, runs_from, ReadsTree, IsOperandRead, ReadsTo}, ViableReadings.{end_viable, is_viable}}
-use Rattle.rnix_proof_uniqueness.proofs.{OneAction.{is_at, is_closed, is_ending, is_inner, LeadsTo, done_at, goal, next_is}, PlaceActions.{ends_at, Misses, misses_at}}
-use Rattle.rnix_proof_uniqueness.proofs.{PlaceActions.takes_at, ReadingHeights.{Complete, AllRows, IsLower}, OperandBegins.settles}
+use Rattle.rnix_kinds.specs.declared.kinds.SyntaxKind.TheVariants.{NODE_PAT_ENTRY, NODE_ERROR, NODE_ROOT}
+use Rattle.rnix_grammar.specs.{declared.{position.Position.Position, action.Action.Action}, Fault.Fault, Actions.action_at, Rules.{Row, IsExpected, after}}
+use Rattle.rnix_grammar.specs.{Rules.{counts, expects_end, missing}, Reads.{IsOver, IsRoom, deeper}, AnnotatedForest.{Token, DoubleBind, AnnotatedForest}}
+use Rattle.rnix_grammar.specs.AnnotatedForest.{blank, ◌⊕◌, one_branch, one_fault, tokens_in, head_kind, end_from, touches, one_token, leaf_kind}
+use Rattle.{rnix_grammar.specs.{Reports.{report, repeats}, Tables.depth_limit, Operands.goes_on, TreeLevels.row_level}, rnix_proof_lemmas.specs.Machine.Head}
+use Rattle.rnix_proof_lemmas.specs.Machine.{Node, SecondBind, Operand, Frame, machine, put, opened, perform, step, Runs, kind_of, limited, operand_on, dropped}
+use Rattle.rnix_proof_lemmas.{specs.{Machine.{rest as here}, BegunOperands.IsBegun}, proofs.{Basics.true_is_not_false, EveryKind.same, RestAt.rest_at}}
+use Rattle.rnix_proof_lemmas.proofs.{AnnotatedForestLemmas.{⊕-assoc, ⊕-blank}, TokenEnds.end_behind, OpenHeads.is_open, ViableRows.end_viable}
+use Rattle.{rnix_proof_lemmas.proofs.ReachableRows.is_viable, rnix_proof_uniqueness.proofs.StepReads.{runs_on, runs_to, step_to, ReadsRow, runs_from}}
+use Rattle.rnix_proof_uniqueness.proofs.{StepReads.{ReadsTree, IsOperandRead, ReadsTo}, OneAction.{is_at, is_closed, is_ending, is_inner, LeadsTo, done_at}}
+use Rattle.rnix_proof_uniqueness.proofs.{OneAction.{goal, next_is}, PlaceActions.{ends_at, Misses, misses_at, takes_at}, ReadingHeights.{Complete, AllRows}}
+use Rattle.rnix_proof_uniqueness.proofs.{ReadingHeights.IsLower, OperandBegins.settles}
 use Rattle.rnix_grammar.specs.declared.action.Action.TheVariants as a
 use Rattle.rnix_grammar.specs.declared.position.Position.TheVariants as p
 

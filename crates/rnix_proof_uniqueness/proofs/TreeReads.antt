@@ -5,19 +5,16 @@ use Rattle.rnix_kinds.specs.declared.kinds.SyntaxKind.TheVariants.{TOKEN_FLOAT, 
 use Rattle.{rnix_kinds.specs.{declared.kinds.SyntaxKind.TheVariants.{NODE_LEGACY_LET, NODE_SELECT}, SyntaxKind.is_fn_arg}, rnix_grammar.specs.Fault.Fault}
 use Rattle.rnix_grammar.specs.{Actions.{follow as follow_of}, Levels.binding_power, TokenKinds.is_or, AnnotatedForest.{Token, Stray, AnnotatedForest, blank}}
 use Rattle.rnix_grammar.specs.AnnotatedForest.{branch, fault, ◌⊕◌, one_token, one_branch, one_fault, row_of, tokens_in, leaf_kind, head_kind, end_from}
-use Rattle.rnix_grammar.specs.{Reports.{report, repeats}, Rows.is_simple}
-use Rattle.rnix_proof_lemmas.specs.Machine.{Node, Operand, Frame, machine, opened, perform}
-use Rattle.rnix_proof_lemmas.specs.Machine.{rest as here}
-use Rattle.rnix_grammar.specs.{Rows.{is_expression, fits}, TreeLevels.{row_level, is_or_row}, Operands.{follows, goes_on}}
-use Rattle.rnix_proof_lemmas.specs.BegunOperands.{IsBegun}
-use Rattle.rnix_grammar.specs.{declared.{rules.Part.TheVariants.Argument, slot_table.TheConstants.APPLIED}, Beginnings.{BeginsAs, IsOperandOf}, Rules.IsExpected}
-use Rattle.{rnix_grammar.specs.Rules.{IsFollowed, done, only as row_if, row as row_of_kind, ◌·◌}, rnix_proof_lemmas.proofs.KindsOfNodes.unreported}
+use Rattle.rnix_grammar.specs.{Reports.{report, repeats}, Rows.{is_simple, is_expression, fits}, TreeLevels.{row_level, is_or_row}, Operands.{follows, goes_on}}
+use Rattle.rnix_grammar.specs.{declared.{rules.Part.TheVariants.Argument, slot_table.TheConstants.APPLIED}, Beginnings.{BeginsAs, IsOperandOf}}
+use Rattle.{rnix_grammar.{specs.{Rules.{IsExpected, IsFollowed, done, only as row_if, row as row_of_kind, ◌·◌}}}, rnix_proof_lemmas.specs.Machine.Node}
+use Rattle.rnix_proof_lemmas.{specs.{Machine.{Operand, Frame, machine, opened, perform, rest as here}, BegunOperands.IsBegun}, proofs.KindsOfNodes.unreported}
 use Rattle.rnix_proof_lemmas.proofs.{Basics.true_is_not_false, EveryKind.{alike, never, only}, FirstTrees.{IsSingle, first_in, single_calls}}
 use Rattle.rnix_proof_lemmas.proofs.{FollowLemmas.{followed_call, followed_selection, follows_token}, BeginAlike.operand_by_steps}
-use Rattle.rnix_proof_uniqueness.proofs.{StepReads.{runs_on, runs_to, step_to, IsOperandRead, ReadsTree}, ViableReadings.viable_only, ReadingHeights.{Complete, Trees}}
-use Rattle.rnix_proof_uniqueness.proofs.ReadingHeights.{KindReads, Front, by_leaf, by_stray, by_node, front_of, complete_done, name_item, AllRows, front, is_firm}
-use Rattle.rnix_proof_uniqueness.proofs.{OperandBegins.{settles, continued}, FunctionRows.{stray_reads, led_reads, legacy_reads, lambda_reads}, OperatorRows.leading}
-use Rattle.rnix_proof_uniqueness.proofs.OperatorRows.{binary_reads, question_reads, selected_reads}
+use Rattle.rnix_proof_uniqueness.proofs.{StepReads.{runs_on, runs_to, step_to, IsOperandRead, ReadsTree}, ViableReadings.viable_only, ReadingHeights.Complete}
+use Rattle.rnix_proof_uniqueness.proofs.ReadingHeights.{Trees, KindReads, Front, by_leaf, by_stray, by_node, front_of, complete_done, name_item, AllRows, front}
+use Rattle.rnix_proof_uniqueness.proofs.{ReadingHeights.is_firm, OperandBegins.{settles, continued}, FunctionRows.{stray_reads, led_reads, legacy_reads}}
+use Rattle.rnix_proof_uniqueness.proofs.{FunctionRows.lambda_reads, OperatorRows.{leading, binary_reads, question_reads, selected_reads}}
 use Rattle.rnix_grammar.specs.declared.position.Position.TheVariants as p
 use Rattle.rnix_grammar.specs.declared.action.Action.TheVariants as a
 

@@ -1,4 +1,4 @@
-use Rattle.{std.proofs.Common.[], rnix_proof_separation.proofs.SeparatedTokens.separated_again}
+use Rattle.rnix_proof_separation.proofs.SeparatedTokens.{separated_again}
 use Rattle.rnix_proof_separation.proofs.separation.Goals as goal
 
 pub returns : goal.returns

@@ -1,6 +1,5 @@
-use Rattle.std.proofs.{Common.{rules, ◌≡◌, ◌∙◌, length, map, subst, ap}, lemmas.List.Sorted.IsNonDecreasingBy-from_sort_by_key}
-use Rattle.nix_dead.specs.Dead.{AreMarked, listed_name, unmarked_from}
-use Rattle.nix_dead.proofs.DeadLemmas.{dead_exactly}
+use Rattle.{std.proofs.{Common.{rules, ◌≡◌, ◌∙◌, length, map, subst, ap}, lemmas.List.Sorted.IsNonDecreasingBy-from_sort_by_key}, nix_dead.specs.Dead.AreMarked}
+use Rattle.nix_dead.{specs.Dead.{listed_name, unmarked_from}, proofs.DeadLemmas.dead_exactly}
 use Rattle.nix_dead.proofs.dead.dead_names.Goals as goal
 
 pub returns-clause-order : goal.returns-clause-order

@@ -1,6 +1,4 @@
-use Rattle.std.proofs.Common.{◌++◌, ◌∙◌, ap, sym}
-use Rattle.nix_dead.specs.Dead.{unmarked}
-use Rattle.nix_dead.proofs.DeadLemmas.{unmarked_more}
+use Rattle.{std.proofs.Common.{◌++◌, ◌∙◌, ap, sym}, nix_dead.{specs.Dead.unmarked, proofs.DeadLemmas.unmarked_more}}
 use Rattle.nix_dead.proofs.dead.unused.Goals as goal
 
 pub loop-number-preserved : goal.loop-number-preserved

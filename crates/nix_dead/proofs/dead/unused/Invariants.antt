@@ -1,5 +1,4 @@
-use Rattle.std.proofs.Common.{◌≡◌, map, take}
-use Rattle.nix_dead.specs.Dead.{listed_name, unmarked_from}
+use Rattle.{std.proofs.Common.{◌≡◌, map, take}, nix_dead.specs.Dead.{listed_name, unmarked_from}}
 use Rattle.nix_dead.proofs.dead.unused.Given as goal
 
 abbrev pub invariant-loop-number : goal.invariant-loop-number

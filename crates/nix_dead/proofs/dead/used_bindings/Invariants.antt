@@ -1,5 +1,4 @@
-use Rattle.std.proofs.Common.{take}
-use Rattle.nix_dead.specs.Dead.{AreMarked}
+use Rattle.{std.proofs.Common.take, nix_dead.specs.Dead.AreMarked}
 use Rattle.nix_dead.proofs.dead.used_bindings.Given as goal
 
 abbrev pub invariant-loop-reference : goal.invariant-loop-reference

@@ -1,5 +1,4 @@
-use Rattle.std.proofs.Common.{◌≡◌, drop}
-use Rattle.nix_rename.specs.Refused.{kept_among}
+use Rattle.{std.proofs.Common.{◌≡◌, drop}, nix_rename.specs.Refused.kept_among}
 use Rattle.nix_rename.proofs.refusal.kept_among.Given as goal
 
 abbrev pub invariant-loop-part : goal.invariant-loop-part

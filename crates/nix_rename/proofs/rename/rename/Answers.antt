@@ -1,8 +1,5 @@
-use Rattle.std.proofs.Common.{◌∙◌, ap, sym, None, Some}
-use Rattle.std.proofs.lemmas.Bool.Decides.{when_true}
-use Rattle.std.specs.Prelude.{option_map}
-use Rattle.nix_rename.specs.Renamed.{IsName, IsNoName}
-use Rattle.nix_rename.proofs.RenamedLemmas.{meant, renamed_from, refused_from}
+use Rattle.{std.{proofs.{Common.{◌∙◌, ap, sym, None, Some}, lemmas.Bool.Decides.when_true}, specs.Prelude.option_map}, nix_rename.specs.Renamed.IsName}
+use Rattle.nix_rename.{specs.Renamed.IsNoName, proofs.RenamedLemmas.{meant, renamed_from, refused_from}}
 use Rattle.nix_rename.proofs.rename.rename.Goals as goal
 
 pub returns-in_default-binding_at-clause-refused : goal.returns-in_default-binding_at-clause-refused

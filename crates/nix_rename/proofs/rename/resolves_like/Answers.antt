@@ -1,12 +1,7 @@
-use Rattle.std.proofs.{Common.{◌≡◌, ◌∙◌, [], true, sym, subst, refl}, lemmas.Bool.false≢true}
-use Rattle.std.specs.Bool.{MatchBool}
-use Rattle.rnix_grammar.specs.Fault.{fault_of}
-use Rattle.rnix.specs.ParseResult.{root_of}
-use Rattle.nix_scopes.specs.Alike.{IsResolution}
-use Rattle.nix_rename.specs.Renamed.{AreThese}
-use Rattle.nix_rename.proofs.RenamedLemmas.{both_tested, resolved_tested}
+use Rattle.{std.{proofs.{Common.{◌≡◌, ◌∙◌, [], true, sym, subst, refl}, lemmas.Bool.false≢true}, specs.Bool.MatchBool}, rnix_grammar.specs.Fault.fault_of}
+use Rattle.{rnix.specs.ParseResult.root_of, nix_scopes.specs.Alike.IsResolution, nix_rename.{specs.Renamed.AreThese, proofs.RenamedLemmas.both_tested}}
+use Rattle.nix_rename.proofs.{RenamedLemmas.resolved_tested, rename.resolves_like.Goals.{then-is_like, else-is_like}}
 use Rattle.nix_rename.proofs.rename.resolves_like.Goals as goal
-use Rattle.nix_rename.proofs.rename.resolves_like.Goals.{then-is_like, else-is_like}
 
 pub returns : goal.returns
 returns c =

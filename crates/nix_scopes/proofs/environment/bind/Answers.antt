@@ -1,7 +1,5 @@
-use Rattle.std.proofs.Common.{rules, ◌≡◌, [], ◌∷◌, ◌++◌, length, map, sym, subst}
-use Rattle.std.proofs.lemmas.List.{map_push}
-use Rattle.nix_scopes.specs.{Binders.{named}, Scopes.{bound_in}, Bound.{bound_of}, Resolving.{AreNumbers}}
-use Rattle.nix_scopes.proofs.ScopeLemmas.{names_more, firsts_more}
+use Rattle.{std.proofs.{Common.{rules, ◌≡◌, [], ◌∷◌, ◌++◌, length, map, sym, subst}, lemmas.List.map_push}, nix_scopes.specs.{Binders.named, Scopes.bound_in}}
+use Rattle.nix_scopes.{specs.{Bound.bound_of, Resolving.AreNumbers}, proofs.ScopeLemmas.{names_more, firsts_more}}
 use Rattle.nix_scopes.proofs.environment.bind.Goals as goal
 
 pub returns-clause-numbers : goal.returns-clause-numbers

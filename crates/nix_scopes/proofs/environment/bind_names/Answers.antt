@@ -1,6 +1,4 @@
-use Rattle.std.proofs.Common.{map, sym}
-use Rattle.std.proofs.lemmas.List.{append-nil}
-use Rattle.nix_scopes.specs.{Binders.{named}, Scopes.{bound_in}, Bound.{bound_of}}
+use Rattle.{std.proofs.{Common.{map, sym}, lemmas.List.append-nil}, nix_scopes.specs.{Binders.named, Scopes.bound_in, Bound.bound_of}}
 use Rattle.nix_scopes.proofs.ScopeLemmas.{numbers_begun, mapped_more}
 use Rattle.nix_scopes.proofs.environment.bind_names.Goals as goal
 

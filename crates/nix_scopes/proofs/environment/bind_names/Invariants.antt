@@ -1,6 +1,5 @@
-use Rattle.std.proofs.Common.{◌≡◌, ◌<◌, ◌++◌, map, take}
-use Rattle.std.specs.List.{All}
-use Rattle.nix_scopes.specs.{Binders.{named}, Bound.{bound_of, AreFirst}, Scopes.{Bound, bound_in}, Resolving.{AreNumbers}}
+use Rattle.{std.{proofs.Common.{◌≡◌, ◌<◌, ◌++◌, map, take}, specs.List.All}, nix_scopes.specs.{Binders.named, Bound.{bound_of, AreFirst}, Scopes.Bound}}
+use Rattle.nix_scopes.specs.{Scopes.bound_in, Resolving.AreNumbers}
 use Rattle.nix_scopes.proofs.environment.bind_names.Given as goal
 
 abbrev pub invariant-loop-name : goal.invariant-loop-name

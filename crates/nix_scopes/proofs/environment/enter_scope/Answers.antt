@@ -1,5 +1,4 @@
-use Rattle.std.proofs.Common.{◌∙◌, sym}
-use Rattle.nix_scopes.proofs.ScopeLemmas.{scope_entered, node_entered}
+use Rattle.{std.proofs.Common.{◌∙◌, sym}, nix_scopes.proofs.ScopeLemmas.{scope_entered, node_entered}}
 use Rattle.nix_scopes.proofs.environment.enter_scope.Goals as goal
 
 pub returns-in_ok-push-clause-sees : goal.returns-in_ok-push-clause-sees

@@ -1,7 +1,4 @@
-use Rattle.std.proofs.Common.{◌-◌, arith, sym}
-use Rattle.std.proofs.lemmas.Grind.{common_steps}
-use Rattle.nix_scopes.specs.Resolving.{number_by}
-use Rattle.nix_scopes.proofs.NumberLemmas.{found_at, none_at}
+use Rattle.{std.proofs.{Common.{◌-◌, arith, sym}, lemmas.Grind.common_steps}, nix_scopes.{specs.Resolving.number_by, proofs.NumberLemmas.{found_at, none_at}}}
 use Rattle.nix_scopes.proofs.environment.innermost.Goals as goal
 
 pub returns-in-Some : goal.returns-in-Some

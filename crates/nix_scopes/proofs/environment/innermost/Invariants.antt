@@ -1,5 +1,4 @@
-use Rattle.std.proofs.Common.{◌≡◌, take, ◌≤◌, length}
-use Rattle.nix_scopes.specs.Resolving.{found_in}
+use Rattle.{std.proofs.Common.{◌≡◌, take, ◌≤◌, length}, nix_scopes.specs.Resolving.found_in}
 use Rattle.nix_scopes.proofs.environment.innermost.Given as goal
 
 abbrev pub invariant-loop-outside : goal.invariant-loop-outside

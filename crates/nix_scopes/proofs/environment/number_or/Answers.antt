@@ -1,7 +1,5 @@
-use Rattle.std.proofs.Common.{◌≡◌, ℕ, List, None, Bor, arith, subst}
-use Rattle.std.proofs.lemmas.{Slice.Eq.{bytes_eq-Decides}, Grind.{common_steps}}
-use Rattle.nix_scopes.specs.Resolving.{number_by}
-use Rattle.nix_scopes.proofs.NumberLemmas.{number_added}
+use Rattle.std.proofs.{Common.{◌≡◌, ℕ, List, None, Bor, arith, subst}, lemmas.{Slice.Eq.bytes_eq-Decides, Grind.common_steps}}
+use Rattle.nix_scopes.{specs.Resolving.number_by, proofs.NumberLemmas.number_added}
 use Rattle.nix_scopes.proofs.environment.number_or.Goals as goal
 
 pub returns-clause-numbers : goal.returns-clause-numbers

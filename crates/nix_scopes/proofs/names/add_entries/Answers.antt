@@ -1,6 +1,4 @@
-use Rattle.std.proofs.Common.{◌++◌, map, refl}
-use Rattle.nix_scopes.specs.Binders.{named, entry_names, entries_names}
-use Rattle.nix_scopes.proofs.WalkLemmas.{listing_next}
+use Rattle.{std.proofs.Common.{◌++◌, map, refl}, nix_scopes.{specs.Binders.{named, entry_names, entries_names}, proofs.WalkLemmas.listing_next}}
 use Rattle.nix_scopes.proofs.names.add_entries.Goals as goal
 
 pub loop-entry-preserved : goal.loop-entry-preserved

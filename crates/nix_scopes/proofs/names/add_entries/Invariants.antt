@@ -1,6 +1,4 @@
-use Rattle.std.proofs.Common.{◌≡◌, ◌++◌, map}
-use Rattle.std.specs.Prelude.{flat_map}
-use Rattle.nix_scopes.specs.Binders.{named, entry_names, entries_names}
+use Rattle.{std.{proofs.Common.{◌≡◌, ◌++◌, map}, specs.Prelude.flat_map}, nix_scopes.specs.Binders.{named, entry_names, entries_names}}
 use Rattle.nix_scopes.proofs.names.add_entries.Given as goal
 
 abbrev pub invariant-loop-entry : goal.invariant-loop-entry

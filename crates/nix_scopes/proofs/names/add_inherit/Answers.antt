@@ -1,8 +1,5 @@
-use Rattle.std.proofs.Common.{◌++◌, map}
-use Rattle.rnix_base.specs.Select.{those_of}
-use Rattle.rnix.specs.{NodeKinds.{is_attr}, Sums.{attr_node}}
-use Rattle.nix_scopes.specs.{Names.{named_if, attr_text}, Binders.{named, inherit_names}}
-use Rattle.nix_scopes.proofs.WalkLemmas.{listing_next}
+use Rattle.{std.proofs.Common.{◌++◌, map}, rnix_base.specs.Select.those_of, rnix.specs.{NodeKinds.is_attr, Sums.attr_node}, nix_scopes.specs.Names.named_if}
+use Rattle.nix_scopes.{specs.{Names.attr_text, Binders.{named, inherit_names}}, proofs.WalkLemmas.listing_next}
 use Rattle.nix_scopes.proofs.names.add_inherit.Goals as goal
 
 pub loop-attr-preserved : goal.loop-attr-preserved

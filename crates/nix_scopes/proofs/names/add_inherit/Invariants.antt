@@ -1,7 +1,5 @@
-use Rattle.std.proofs.Common.{◌≡◌, ◌++◌, map}
-use Rattle.rnix_base.specs.Select.{those_of}
-use Rattle.rnix.specs.NodeKinds.{is_attr}
-use Rattle.nix_scopes.specs.{Names.{names_written}, Binders.{named, inherit_names}}
+use Rattle.{std.proofs.Common.{◌≡◌, ◌++◌, map}, rnix_base.specs.Select.those_of, rnix.specs.NodeKinds.is_attr, nix_scopes.specs.Names.names_written}
+use Rattle.nix_scopes.specs.Binders.{named, inherit_names}
 use Rattle.nix_scopes.proofs.names.add_inherit.Given as goal
 
 abbrev pub invariant-loop-attr : goal.invariant-loop-attr

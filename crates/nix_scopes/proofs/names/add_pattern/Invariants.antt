@@ -1,9 +1,6 @@
-use Rattle.std.proofs.Common.{◌≡◌, ◌++◌, map}
-use Rattle.std.specs.Prelude.{flat_map}
-use Rattle.rnix_kinds.specs.declared.kinds.SyntaxKind.TheVariants as k
-use Rattle.rnix_green.specs.Equality.{same_kind}
-use Rattle.rnix_base.specs.Select.{those_of}
+use Rattle.{std.{proofs.Common.{◌≡◌, ◌++◌, map}, specs.Prelude.flat_map}, rnix_green.specs.Equality.same_kind, rnix_base.specs.Select.those_of}
 use Rattle.nix_scopes.specs.Binders.{named, own_name, pattern_names}
+use Rattle.rnix_kinds.specs.declared.kinds.SyntaxKind.TheVariants as k
 use Rattle.nix_scopes.proofs.names.add_pattern.Given as goal
 
 abbrev pub invariant-loop-entry : goal.invariant-loop-entry

@@ -1,6 +1,4 @@
-use Rattle.std.proofs.Common.{◌≡◌, ◌++◌, map, take}
-use Rattle.rnix_green.specs.Range.{bounds_of}
-use Rattle.nix_scopes.specs.Occurrences.{referred_at}
+use Rattle.{std.proofs.Common.{◌≡◌, ◌++◌, map, take}, rnix_green.specs.Range.bounds_of, nix_scopes.specs.Occurrences.referred_at}
 use Rattle.nix_scopes.proofs.occurrences.add_referred.Given as goal
 
 abbrev pub invariant-loop-reference : goal.invariant-loop-reference

@@ -1,6 +1,4 @@
-use Rattle.std.proofs.Common.{◌≡◌, ◌++◌, map, take}
-use Rattle.rnix_green.specs.Range.{bounds_of}
-use Rattle.nix_scopes.specs.Occurrences.{written_at}
+use Rattle.{std.proofs.Common.{◌≡◌, ◌++◌, map, take}, rnix_green.specs.Range.bounds_of, nix_scopes.specs.Occurrences.written_at}
 use Rattle.nix_scopes.proofs.occurrences.add_written.Given as goal
 
 abbrev pub invariant-loop-binding : goal.invariant-loop-binding

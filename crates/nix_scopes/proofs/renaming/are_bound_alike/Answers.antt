@@ -1,6 +1,4 @@
-use Rattle.std.proofs.Common.{arith}
-use Rattle.nix_scopes.specs.Alike.{rename_by, IsBoundAlike}
-use Rattle.nix_scopes.proofs.AlikeLemmas.{alike_more}
+use Rattle.{std.proofs.Common.arith, nix_scopes.{specs.Alike.{rename_by, IsBoundAlike}, proofs.AlikeLemmas.alike_more}}
 use Rattle.nix_scopes.proofs.renaming.are_bound_alike.Goals as goal
 
 pub loop-index-preserved : goal.loop-index-preserved

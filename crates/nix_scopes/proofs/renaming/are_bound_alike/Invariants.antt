@@ -1,5 +1,4 @@
-use Rattle.std.{proofs.Common.take, specs.List.AllZip}
-use Rattle.nix_scopes.specs.Alike.{rename_by, IsBoundAlike}
+use Rattle.{std.{proofs.Common.take, specs.List.AllZip}, nix_scopes.specs.Alike.{rename_by, IsBoundAlike}}
 use Rattle.nix_scopes.proofs.renaming.are_bound_alike.Given as goal
 
 abbrev pub invariant-loop-index : goal.invariant-loop-index

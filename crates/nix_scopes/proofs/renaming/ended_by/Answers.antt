@@ -1,5 +1,4 @@
-use Rattle.std.proofs.{Common.{rules}, lemmas.List.Sorted.{IsPartitionPoint-from_clause, IsPartitionedBy-leb}}
-use Rattle.std.specs.Prelude.{nat_le}
+use Rattle.std.{proofs.{Common.rules, lemmas.List.Sorted.{IsPartitionPoint-from_clause, IsPartitionedBy-leb}}, specs.Prelude.nat_le}
 use Rattle.nix_scopes.proofs.AlikeLemmas.{counted}
 use Rattle.nix_scopes.proofs.renaming.ended_by.Goals as goal
 

@@ -1,5 +1,4 @@
-use Rattle.std.{proofs.Common.take, specs.List.AllZip}
-use Rattle.nix_scopes.specs.Alike.{rename_by, RefersAlike}
+use Rattle.{std.{proofs.Common.take, specs.List.AllZip}, nix_scopes.specs.Alike.{rename_by, RefersAlike}}
 use Rattle.nix_scopes.proofs.renaming.refer_alike.Given as goal
 
 abbrev pub invariant-loop-index : goal.invariant-loop-index

@@ -1,6 +1,4 @@
-use Rattle.std.proofs.Common.{◌≡◌, drop}
-use Rattle.rnix_green.specs.Range.{bounds_of}
-use Rattle.nix_scopes.specs.Occurrences.{referred_number}
+use Rattle.{std.proofs.Common.{◌≡◌, drop}, rnix_green.specs.Range.bounds_of, nix_scopes.specs.Occurrences.referred_number}
 use Rattle.nix_scopes.proofs.resolution.referred_number.Given as goal
 
 abbrev pub invariant-loop-reference : goal.invariant-loop-reference

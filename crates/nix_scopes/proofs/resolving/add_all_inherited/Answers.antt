@@ -1,8 +1,6 @@
-use Rattle.std.proofs.Common.{◌≡◌, ◌++◌, ◌∙◌, map, true, None, ap, sym, rules}
-use Rattle.rnix_base.specs.Select.{those_of}
-use Rattle.rnix.specs.{NodeKinds.{is_attr}, Sums.{attr_node}}
-use Rattle.nix_scopes.specs.{Names.{named_if, attr_text, names_written}, Bound.{resolved_of}, References.{inherited_at, inherited_from}, Resolving.{outer_count, resolve_name}}
-use Rattle.nix_scopes.proofs.ResolvingLemmas.{mapped_next}
+use Rattle.{std.proofs.Common.{◌≡◌, ◌++◌, ◌∙◌, map, true, None, ap, sym, rules}, rnix_base.specs.Select.those_of, rnix.specs.NodeKinds.is_attr}
+use Rattle.{rnix.specs.Sums.attr_node, nix_scopes.specs.{Names.{named_if, attr_text, names_written}, Bound.resolved_of, References.inherited_at}}
+use Rattle.nix_scopes.{specs.{References.inherited_from, Resolving.{outer_count, resolve_name}}, proofs.ResolvingLemmas.mapped_next}
 use Rattle.nix_scopes.proofs.resolving.add_all_inherited.Goals as goal
 
 pub loop-attr-init : goal.loop-attr-init

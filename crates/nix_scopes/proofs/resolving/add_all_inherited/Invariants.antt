@@ -1,7 +1,5 @@
-use Rattle.std.proofs.Common.{◌≡◌, ◌++◌, map, true}
-use Rattle.rnix_base.specs.Select.{those_of}
-use Rattle.rnix.specs.NodeKinds.{is_attr}
-use Rattle.nix_scopes.specs.{Names.{names_written}, Bound.{resolved_of}, References.{inherited_at}, Resolving.{outer_count, resolve_name}}
+use Rattle.{std.proofs.Common.{◌≡◌, ◌++◌, map, true}, rnix_base.specs.Select.those_of, rnix.specs.NodeKinds.is_attr, nix_scopes.specs.Names.names_written}
+use Rattle.nix_scopes.specs.{Bound.resolved_of, References.inherited_at, Resolving.{outer_count, resolve_name}}
 use Rattle.nix_scopes.proofs.resolving.add_all_inherited.Given as goal
 
 abbrev pub invariant-loop-attr : goal.invariant-loop-attr

@@ -1,6 +1,4 @@
-use Rattle.std.proofs.Common.{rules, ◌≡◌, ◌∷◌, ◌∙◌, subst}
-use Rattle.rnix_green.specs.Walk.{node_events}
-use Rattle.rnix_tree.specs.Spots.{node_event_of}
+use Rattle.{std.proofs.Common.{rules, ◌≡◌, ◌∷◌, ◌∙◌, subst}, rnix_green.specs.Walk.node_events, rnix_tree.specs.Spots.node_event_of}
 use Rattle.nix_scopes.proofs.ResolvingLemmas.{found_begun, found_entered, names_resolved}
 use Rattle.nix_scopes.proofs.resolving.resolve.Goals as goal
 

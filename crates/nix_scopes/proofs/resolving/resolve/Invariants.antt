@@ -1,5 +1,4 @@
-use Rattle.rnix_green.specs.Walk.{node_events}
-use Rattle.nix_scopes.proofs.ResolvingLemmas.{IsFound}
+use Rattle.{rnix_green.specs.Walk.node_events, nix_scopes.proofs.ResolvingLemmas.IsFound}
 use Rattle.nix_scopes.proofs.resolving.resolve.Given as goal
 
 abbrev pub invariant-loop-event : goal.invariant-loop-event

@@ -1,5 +1,4 @@
-use Rattle.{std.proofs.Common.[], rnix_kinds.proofs.LexicalLemmas.Laws.AreSound-tokens_under}
-use Rattle.rnix_parser.specs.{Significant.significant, ReadAlike.items_of}
+use Rattle.{std.proofs.Common.[], rnix_kinds.proofs.LexicalLemmas.Laws.AreSound-tokens_under, rnix_parser.specs.{Significant.significant, ReadAlike.items_of}}
 use Rattle.rnix_proof_locality.{specs.ReadAlone.expressions_in, proofs.{DerivedExpressions.derived_expressions, TextsAlone.{read_each, read_parts}}}
 use Rattle.rnix_proof_locality.proofs.law.locality.Goals as goal
 

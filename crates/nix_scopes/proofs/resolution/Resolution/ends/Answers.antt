@@ -1,8 +1,5 @@
-use Rattle.std.proofs.Common.{◌≡◌, ◌∙◌, map, ap, subst}
-use Rattle.std.proofs.lemmas.List.{take_all, Sorted.IsNonDecreasingBy-from_sort}
-use Rattle.std.specs.List.Sorted.{IsPermutation}
-use Rattle.rnix_green.specs.Range.{Extent, bounds_of}
-use Rattle.nix_scopes.specs.Occurrences.{occurrences_of}
+use Rattle.std.{proofs.{Common.{◌≡◌, ◌∙◌, map, ap, subst}, lemmas.List.{take_all, Sorted.IsNonDecreasingBy-from_sort}}, specs.List.Sorted.IsPermutation}
+use Rattle.{rnix_green.specs.Range.{Extent, bounds_of}, nix_scopes.specs.Occurrences.occurrences_of}
 use Rattle.nix_scopes.proofs.resolution.Resolution.ends.Goals as goal
 
 pub returns-clause-exactly : goal.returns-clause-exactly

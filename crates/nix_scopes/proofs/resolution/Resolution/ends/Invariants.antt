@@ -1,5 +1,4 @@
-use Rattle.std.proofs.Common.{◌≡◌, map, take}
-use Rattle.rnix_green.specs.Range.{bounds_of}
+use Rattle.{std.proofs.Common.{◌≡◌, map, take}, rnix_green.specs.Range.bounds_of}
 use Rattle.nix_scopes.proofs.resolution.Resolution.ends.Given as goal
 
 abbrev pub invariant-loop-place : goal.invariant-loop-place

@@ -1,6 +1,4 @@
-use Rattle.std.proofs.Common.{map, subst}
-use Rattle.std.specs.Bool.{Decides}
-use Rattle.nix_scopes.specs.{Occurrences.{occurrences_of}, Alike.{AreAlike}}
+use Rattle.{std.{proofs.Common.{map, subst}, specs.Bool.Decides}, nix_scopes.specs.{Occurrences.occurrences_of, Alike.AreAlike}}
 use Rattle.nix_scopes.proofs.AlikeLemmas.{same_rename}
 use Rattle.nix_scopes.proofs.resolution.Resolution.is_like.Goals as goal
 
