@@ -1,7 +1,7 @@
 //! The data of a Nix text.
 
 use crate::no_data::{NoData, Reason};
-use crate::scalars::{Stop, no_data, scalar, text_of};
+use crate::scalars::{Stop, no_data, scalar, string_value};
 use nix_values::{Builder, Data, Value};
 use rnix::ast::{AstNode, Attr, AttrSet, AttrpathValue, Dynamic, Expr, Inherit};
 use rnix::{Root, SyntaxKind, SyntaxNode, TextRange};
@@ -70,7 +70,7 @@ impl Reading {
     // The text of a computed name, if it is a string.
     fn dynamic(&self, name: &Dynamic<'_>) -> Result<String, Stop> {
         match name.expr() {
-            Some(Expr::Str(string)) => text_of(self.alloc, &string),
+            Some(Expr::Str(string)) => string_value(self.alloc, &string),
             _ => Err(no_data(
                 Reason::Evaluated(name.syntax().kind()),
                 name.syntax().text_range(),
@@ -84,7 +84,7 @@ impl Reading {
             Attr::Ident(ident) => Ok(String::from_str(self.alloc, ident.syntax().text())?),
             Attr::Dynamic(name) => self.dynamic(name),
             Attr::Str(string) if string.syntax().text().starts_with('"') => {
-                text_of(self.alloc, string)
+                string_value(self.alloc, string)
             }
             Attr::Str(string) => Err(no_data(Reason::IndentedName, string.syntax().text_range())),
         }
