@@ -25,12 +25,12 @@ joined (Literal t ∷ parts) = option_map (λ rest. t ++ rest) (joined parts)
 joined (Interpolation i ∷ parts) = None
 
 -- the value of a string without interpolations: escapes are replaced, and in `''` the indentation is dropped
-abbrev pub string_text : Located → Option (List ℕ)
-string_text e = joined (normalized_parts e)
+abbrev pub plain_text : Located → Option (List ℕ)
+plain_text e = joined (normalized_parts e)
 
 -- the value of an expression that is a string without interpolations
 abbrev pub expression_text : Located → Option (List ℕ)
-expression_text e = if same_kind k.NODE_STRING (item_of e).kind then string_text e else None
+expression_text e = if same_kind k.NODE_STRING (item_of e).kind then plain_text e else None
 
 -- the operand of an operation in front of it, as `1` of `-1`; any other expression is its own
 abbrev pub unsigned : Located → Located
@@ -67,7 +67,7 @@ HasValue e set = HasKind k.NODE_ATTR_SET e × (token_of (same_kind k.TOKEN_REC) 
 -- the name that a node of a kind is
 abbrev pub name_of_kind : SyntaxKind → Located → Option (List ℕ)
 name_of_kind k.NODE_IDENT e = Some (text_at e)
-name_of_kind k.NODE_STRING e = string_text e
+name_of_kind k.NODE_STRING e = plain_text e
 name_of_kind _ e = None
 
 -- the name that an attribute is: an identifier, or a string without interpolations

@@ -48,7 +48,7 @@ struct Name {
 }
 
 impl Reading {
-    // Replaces a name that cannot be read by its source, with `--lossy`.
+    // Returns a name; with `--lossy`, its source if the name cannot be read.
     fn or_source(
         &self,
         node: &SyntaxNode<'_>,
@@ -119,7 +119,7 @@ impl Reading {
         Ok(self.builder.add(self.alloc, parent, name, value)?)
     }
 
-    // The set that is the value of an attribute; it is added if there is none. One with a number below `first` comes from elsewhere in the text.
+    // The set that is the value of an attribute, which is added if there is none. A set with a number below `first` comes from elsewhere in the text.
     fn set_of(&mut self, set: usize, name: Name, first: usize) -> Result<usize, Stop> {
         match self.builder.attribute(set, name.text.as_str()) {
             Some(found) if found >= first && self.builder.is_set(found) => Ok(found),

@@ -2,7 +2,7 @@
 
 ghost use Rattle.std.specs.Prelude.{◌≡◌, map, option_map, string_bytes, IfOk};
 ghost use Rattle.rnix_base.specs.Normal.{with_text};
-ghost use Rattle.nix_data.specs.Meaning.{joined, string_text};
+ghost use Rattle.nix_data.specs.Meaning.{joined, plain_text};
 
 use crate::no_data::{NoData, Reason};
 use nix_values::{Value, float_of};
@@ -70,7 +70,7 @@ fn joined(alloc: Global, parts: &[InterpolPart<'_, String>]) -> Result<Option<St
 
 /// Returns the value of a string, if it has no interpolation.
 pub fn plain_text(alloc: Global, string: &Str<'_>) -> Result<Option<String>, AllocError>
-    ensures { IfOk result (λ found. option_map string_bytes found ≡ string_text string.now) }
+    ensures { IfOk result (λ found. option_map string_bytes found ≡ plain_text string.now) }
 {
     let parts = string.normalized_parts(alloc)?;
     joined(alloc, parts.as_slice())
