@@ -1,5 +1,5 @@
 -- The normalized parts of certain strings.
-use Rattle.{std.{proofs.Common.{◌≡◌, [], ◌∷◌, refl, codes}, specs.Prelude.ℕ}, rnix_base.specs.declared.parts.InterpolPart.TheVariants.{Literal, Interpolation}}
+use Rattle.{std.{proofs.Common.{◌≡◌, List, [], ◌∷◌, ◌++◌, refl, codes}, specs.Prelude.ℕ}, rnix_base.specs.declared.parts.InterpolPart.TheVariants.{Literal, Interpolation}}
 use Rattle.rnix_base.specs.{Escapes.values, Normal.{indented_parts, symbols, lines, least_indentation, text_of, with_texts, closed}}
 
 -- only a line feed
@@ -79,8 +79,21 @@ escapes : indented_parts {I = ℕ} (Literal (codes "\n  a''\\n''${b}\n  '''") �
 unfolding values symbols lines least_indentation text_of with_texts closed
 escapes = refl
 
--- a long text
-long_text : indented_parts {I = ℕ} (Literal (codes "\n                        \n                              \n                    This is a multiline string :D\n                      indented by two\n                    \\'\\'\\'\\'\\\n                    ''${ interpolation was escaped }\n                    two single quotes: '''\n                    three single quotes: ''''\n                ") ∷ []) ≡ (Literal (codes "    \n          \nThis is a multiline string :D\n  indented by two\n\\'\\'\\'\\'\\\n${ interpolation was escaped }\ntwo single quotes: ''\nthree single quotes: '''\n") ∷ [])
+-- a long text, as it is written
+abbrev long_source : List ℕ
+long_source =
+    codes "\n                        \n                              \n                    This is a multiline string :D\n"
+    ++ (codes "                      indented by two\n                    \\'\\'\\'\\'\\\n"
+    ++ (codes "                    ''${ interpolation was escaped }\n                    two single quotes: '''\n"
+    ++ codes "                    three single quotes: ''''\n                "))
+
+-- and what it stands for
+abbrev long_value : List ℕ
+long_value =
+    codes "    \n          \nThis is a multiline string :D\n  indented by two\n\\'\\'\\'\\'\\\n"
+    ++ codes "${ interpolation was escaped }\ntwo single quotes: ''\nthree single quotes: '''\n"
+
+long_text : indented_parts {I = ℕ} (Literal long_source ∷ []) ≡ (Literal long_value ∷ [])
 unfolding values symbols lines least_indentation text_of with_texts closed
 long_text = refl
 
