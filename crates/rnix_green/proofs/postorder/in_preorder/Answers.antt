@@ -70,8 +70,8 @@ elements-preserved-then-size-eq0 c =
     let es = c.elements.elements.items in
     let old = c.elements.frames.items in
     let y = c.index-then-size-eq0.result.now in
-    let token = c.new-then-size-eq0.result in
-    let kept = c.new-then-size-eq0-2.result in
+    let token = c.new.result in
+    let kept = c.new-then-size-eq0.result in
     let number = c.elements.left - 1 - 1 + c.len-then-size-eq0.result in
     let open_ : HasMore (reverse old) c.elements.left = rw c.deref.ensures.value at c.in_default.ensures in
     let two : size_in c.index.result.now ≡ 2 = omega (arith, c.size-size.ensures, c.if-size-eq2.true) in
@@ -81,8 +81,8 @@ elements-preserved-then-size-eq0 c =
     let depth : c.len-then-size-eq0.result ≡ length old = c.len-then-size-eq0.ensures ∙ c.elements.frames.ok.0 in
     let parent : c.innermost_number.result ≡ parent_or_root (parent_number (reverse old)) =
     rw c.deref-then-size-eq0.ensures.value at c.innermost_number.ensures in
-    let token_is = rw (c.kind.ensures, c.place-offset.ensures) at c.new-then-size-eq0.ensures in
-    let kept_is = rw (c.kind-kind.ensures, c.place-offset.ensures, parent) at c.new-then-size-eq0-2.ensures in
+    let token_is = rw (c.kind.ensures, c.place-offset.ensures) at c.new.ensures in
+    let kept_is = rw (c.kind-kind.ensures, c.place-offset.ensures, parent) at c.new-then-size-eq0.ensures in
     record {
       small = omega (arith, c.elements.invariant.small, length-set es (number + 1) token, length-set (set es (number + 1) token) number kept);
       few =
@@ -134,7 +134,7 @@ elements-preserved-in-Continue-1 c =
     let some : size_in y ≡ suc (size_in y - 1) = omega (arith, c.size-size.ensures, c.if-size-gt0.true) in
     let first = c.elements.left - 1 + 1 - c.size-size.result in
     let frame : Frame = record { kind = c.kind-kind.result; size = c.size-size.result; number = first + c.len-then-size-gt0.result; first = first } in
-    let push_is = rw c.new-then-size-gt0.ensures at c.in_ok-push-in_default.ensures.items in
+    let push_is = rw c.new-then-size-gt0.ensures at c.in_ok-push.ensures.items in
     let r =
     node_at (made c.args.text.now c.args.elements.items) es c.elements.left c.elements.offset _ _ y frame (size_in y - 1)
     (omega (arith, c.elements.invariant.few)) c.if-left-eq0.false c.index.ensures some c.kind-kind.ensures c.size-size.ensures open_
