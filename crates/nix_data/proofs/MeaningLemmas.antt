@@ -4,13 +4,15 @@ use Rattle.std.specs.Prelude.{option_map, String, string_bytes}
 use Rattle.std.proofs.Math.Seq.{drop-cons}
 use Rattle.std.proofs.lemmas.List.{append-nil, drop_all}
 use Rattle.std.proofs.lemmas.Bool.{cond-true, cond-false}
+use Rattle.rnix_kinds.specs.declared.kinds.SyntaxKind.{SyntaxKind}
+use Rattle.rnix_kinds.specs.declared.kinds.SyntaxKind.TheVariants as k
 use Rattle.rnix_green.specs.Tree.{Located}
 use Rattle.rnix_green.specs.Walk.{nodes_in, children_of}
 use Rattle.rnix_base.specs.declared.parts.InterpolPart.{InterpolPart}
-use Rattle.rnix_base.specs.declared.parts.InterpolPart.TheVariants.{Literal}
+use Rattle.rnix_base.specs.declared.parts.InterpolPart.TheVariants.{Literal, Interpolation}
 use Rattle.rnix_base.specs.Normal.{Parts, with_text}
 use Rattle.nix_values.specs.Contents.{Plain, has_parts, Entry}
-use Rattle.nix_data.specs.Meaning.{joined, unwrapped, parts_of, IsPart, MeansPart, Means, InOrder, IsHead, MeansFirst}
+use Rattle.nix_data.specs.Meaning.{joined, name_of_kind, unwrapped, parts_of, IsPart, MeansPart, Means, InOrder, IsHead, MeansFirst}
 
 -- a text before two others
 before_both : (text more : List ℕ) (rest : Option (List ℕ)) →
@@ -28,10 +30,21 @@ joined_literal : {I : Type 0} (text : List ℕ) (parts : Parts I) → joined (Li
 unfolding joined
 joined_literal text parts = refl
 
+-- parts that begin with an interpolation have no text
+joined_interpolation : {I : Type 0} (i : I) (parts : Parts I) → joined (Interpolation i ∷ parts) ≡ None
+unfolding joined
+joined_interpolation i parts = refl
+
 -- no parts have an empty text
 joined_none : (I : Type 0) → joined {I = I} [] ≡ Some []
 unfolding joined
 joined_none I = refl
+
+-- a node that is neither an identifier nor a string is no name
+pub name_of_other : (kind : SyntaxKind) (e : Located) → (kind ≡ k.NODE_IDENT → ⊥) → (kind ≡ k.NODE_STRING → ⊥) → name_of_kind kind e ≡ None
+name_of_other k.NODE_IDENT e no_ident no_string = absurd (no_ident refl)
+name_of_other k.NODE_STRING e no_ident no_string = absurd (no_string refl)
+name_of_other _ e no_ident no_string = refl
 
 -- all parts are the first few, with this text, and the others
 abbrev pub IsJoined : {I Z : Type 0} → List (InterpolPart (String Z) I) → ℕ → List ℕ → Type 0
@@ -53,6 +66,18 @@ joined_more parts n part text more new there at is_literal added so_far =
     ∙ before_both text more (joined (map (with_text string_bytes) (drop (suc n) parts)))
     ∙ ap (λ t. option_map (λ r. t ++ r) (joined (map (with_text string_bytes) (drop (suc n) parts)))) (sym added)
     ∙ ap (λ m. option_map (λ r. new ++ r) (joined (map (with_text string_bytes) (drop m parts)))) (sym (add-one n))
+
+-- an interpolation comes next, so all parts have no text
+pub joined_stopped : {I Z : Type 0} (parts : List (InterpolPart (String Z) I)) (n : ℕ) (part : InterpolPart (String Z) I) (i : I) (text : List ℕ) →
+    n < length parts → part ≡ get_or parts n part → with_text string_bytes part ≡ Interpolation i → IsJoined parts n text →
+    None ≡ joined (map (with_text string_bytes) parts)
+joined_stopped parts n part i text there at is_interpolation so_far =
+    let next : with_text string_bytes (get_or parts n part) ≡ Interpolation i = ap (with_text string_bytes) (sym at) ∙ is_interpolation in
+    let none : joined (map (with_text string_bytes) (drop n parts)) ≡ None =
+    ap (λ ps. joined (map (with_text string_bytes) ps)) (drop-cons parts n part there)
+    ∙ ap (λ p. joined (p ∷ map (with_text string_bytes) (drop (suc n) parts))) next
+    ∙ joined_interpolation i (map (with_text string_bytes) (drop (suc n) parts)) in
+    sym (so_far ∙ ap (option_map (λ r. text ++ r)) none)
 
 -- after the last part, the text is that of all
 pub joined_all : {I Z : Type 0} (parts : List (InterpolPart (String Z) I)) (n : ℕ) (text : List ℕ) → length parts ≤ n → IsJoined parts n text →

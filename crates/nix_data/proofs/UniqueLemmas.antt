@@ -16,7 +16,8 @@ use Rattle.rnix_grammar.specs.Fault.{Fault}
 use Rattle.rnix_grammar.specs.Reading.{IsReading}
 use Rattle.rnix.specs.NodeKinds.{is_expr}
 use Rattle.nix_values.specs.Contents.{Plain, null, boolean, integer, float, text, list, set, Entry}
-use Rattle.nix_data.specs.Meaning.{string_text, text_of, unsigned, is_integer, is_float, word_of, HasValue, unwrapped, parts_of, IsPart, InOrder, MeansPart, Means}
+use Rattle.nix_data.specs.declared.nix_writer.TheConstants.{LEVELS}
+use Rattle.nix_data.specs.Meaning.{plain_text, expression_text, unsigned, is_integer, is_float, word_of, HasValue, unwrapped, parts_of, IsPart, InOrder, MeansPart, Means}
 use Rattle.nix_data.specs.Written.{IsWritten}
 
 -- the sorts of expressions that have values
@@ -64,10 +65,10 @@ number_sort e false is h =
     (subst (HasKind k.NODE_LITERAL) (cond-false (same_kind k.NODE_UNARY_OP (item_of e).kind) (unwrap_or (child_of is_expr 0 e) e) e is) h)
 
 -- what has a text is a string
-string_sort : (e : Located) (t : List ℕ) (b : Bool) → same_kind k.NODE_STRING (item_of e).kind ≡ b → text_of e ≡ Some t → string ≡ sort_at e
+string_sort : (e : Located) (t : List ℕ) (b : Bool) → same_kind k.NODE_STRING (item_of e).kind ≡ b → expression_text e ≡ Some t → string ≡ sort_at e
 string_sort e t true is h = has_sort k.NODE_STRING e is
 string_sort e t false is h =
-    let none : None ≡ Some t = sym (cond-false (same_kind k.NODE_STRING (item_of e).kind) (string_text e) None is) ∙ h in
+    let none : None ≡ Some t = sym (cond-false (same_kind k.NODE_STRING (item_of e).kind) (plain_text e) None is) ∙ h in
     absurd (cc)
 
 -- a value is of the sort of its expression
@@ -177,5 +178,5 @@ pub one_written : ((ls : List Lexeme) (t u : Tree) (ds es : List Fault) → IsRe
     (bytes : List ℕ) (a b : List Entry) → IsWritten bytes a → IsWritten bytes b → a ≡ b
 one_written one bytes a b p q =
     let same = one (tokens_of bytes) p.read.tree q.read.tree p.read.faults q.read.faults p.is_read.reading q.is_read.reading in
-    one_found (child_of is_expr 0 (root_at p.read.tree)) 1024 a b p.is_meant
-    (subst (λ t. IsSomeAnd (child_of is_expr 0 (root_at t)) (λ e. Means 1024 0 [] e b)) (sym same.0) q.is_meant)
+    one_found (child_of is_expr 0 (root_at p.read.tree)) LEVELS a b p.is_meant
+    (subst (λ t. IsSomeAnd (child_of is_expr 0 (root_at t)) (λ e. Means LEVELS 0 [] e b)) (sym same.0) q.is_meant)

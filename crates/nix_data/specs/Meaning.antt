@@ -1,5 +1,5 @@
 -- What an expression means that contains only literals, lists, and sets whose paths are single names.
-use Rattle.std.specs.Prelude.{◌≡◌, ℕ, zero, suc, ◌+◌, Bool, true, false, List, [], ◌∷◌, ◌++◌, codes, Option, Some, None, option_map, unwrap_or, if◌then◌else◌, FitsSigned}
+use Rattle.std.specs.Prelude.{◌≡◌, ℕ, zero, suc, ◌+◌, Bool, true, false, List, [], ◌∷◌, ◌++◌, map, codes, Option, Some, None, option_map, unwrap_or, if◌then◌else◌, FitsSigned}
 use Rattle.std.specs.Fmt.{signed_decimal}
 use Rattle.std.specs.Int.{w64}
 use Rattle.rnix_kinds.specs.declared.kinds.SyntaxKind.{SyntaxKind}
@@ -15,7 +15,8 @@ use Rattle.rnix_base.specs.Select.{HasKind, nodes_of, child_of, token_of}
 use Rattle.rnix_base.specs.Normal.{Parts}
 use Rattle.rnix.specs.NodeKinds.{is_expr, is_attr}
 use Rattle.rnix.specs.StringParts.{normalized_parts}
-use Rattle.nix_values.specs.Contents.{Plain, null, boolean, integer, float, text, list, set, has_parts, Entry}
+use Rattle.nix_values.specs.declared.data.Item.{Item}
+use Rattle.nix_values.specs.Contents.{Plain, null, boolean, integer, float, text, list, set, has_parts, Entry, entry_of}
 
 -- the texts of some parts, concatenated, if none of them is an interpolation
 unfoldable pub joined : {I : Type 0} → Parts I → Option (List ℕ)
@@ -24,12 +25,12 @@ joined (Literal t ∷ parts) = option_map (λ rest. t ++ rest) (joined parts)
 joined (Interpolation i ∷ parts) = None
 
 -- the value of a string without interpolations: escapes are replaced, and in `''` the indentation is dropped
-abbrev pub string_text : Located → Option (List ℕ)
-string_text e = joined (normalized_parts e)
+abbrev pub plain_text : Located → Option (List ℕ)
+plain_text e = joined (normalized_parts e)
 
 -- the value of an expression that is a string without interpolations
-abbrev pub text_of : Located → Option (List ℕ)
-text_of e = if same_kind k.NODE_STRING (item_of e).kind then string_text e else None
+abbrev pub expression_text : Located → Option (List ℕ)
+expression_text e = if same_kind k.NODE_STRING (item_of e).kind then plain_text e else None
 
 -- the operand of an operation in front of it, as `1` of `-1`; any other expression is its own
 abbrev pub unsigned : Located → Located
@@ -59,19 +60,19 @@ HasValue e null = HasKind k.NODE_IDENT e × (text_at e ≡ codes "null")
 HasValue e (boolean b) = HasKind k.NODE_IDENT e × (text_at e ≡ word_of b)
 HasValue e (integer n) = IsNumber is_integer e × (text_at e ≡ signed_decimal n) × FitsSigned w64 n
 HasValue e (float digits) = IsNumber is_float e × (text_at e ≡ digits)
-HasValue e (text t) = text_of e ≡ Some t
+HasValue e (text t) = expression_text e ≡ Some t
 HasValue e list = HasKind k.NODE_LIST e
 HasValue e set = HasKind k.NODE_ATTR_SET e × (token_of (same_kind k.TOKEN_REC) e ≡ None)
 
 -- the name that a node of a kind is
-abbrev pub name_by : SyntaxKind → Located → Option (List ℕ)
-name_by k.NODE_IDENT e = Some (text_at e)
-name_by k.NODE_STRING e = string_text e
-name_by _ e = None
+abbrev pub name_of_kind : SyntaxKind → Located → Option (List ℕ)
+name_of_kind k.NODE_IDENT e = Some (text_at e)
+name_of_kind k.NODE_STRING e = plain_text e
+name_of_kind _ e = None
 
 -- the name that an attribute is: an identifier, or a string without interpolations
 abbrev pub name_of : Located → Option (List ℕ)
-name_of e = name_by (item_of e).kind e
+name_of e = name_of_kind (item_of e).kind e
 
 -- the name that some attributes are, if there is exactly one
 abbrev pub single_name : List Located → Option (List ℕ)
@@ -121,3 +122,7 @@ Means (suc levels) depth name e entries =
 -- an expression means the first of some values; these are the rest
 abbrev pub MeansFirst : ℕ → ℕ → List ℕ → Located → List Entry → List Entry → Type 0
 MeansFirst levels depth name e entries rest = (own : List Entry) × Means levels depth name e own × (entries ≡ own ++ rest)
+
+-- an expression means the first of some items; these are the rest
+abbrev pub MeansItems : ℕ → ℕ → List ℕ → Located → List Item → List Item → Type 0
+MeansItems levels depth name e items rest = MeansFirst levels depth name e (map entry_of items) (map entry_of rest)

@@ -7,11 +7,12 @@ use Rattle.rnix_grammar.specs.Parsed.{IsParsed}
 use Rattle.rnix.specs.NodeKinds.{is_expr}
 use Rattle.rnix.specs.ParseResult.{Reading, root_of}
 use Rattle.nix_values.specs.Contents.{Entry}
+use Rattle.nix_data.specs.declared.nix_writer.TheConstants.{LEVELS}
 use Rattle.nix_data.specs.Meaning.{Means}
 
--- the expression of a tree means these values, which nest less than 1,024 levels deep
+-- the expression of a tree means these values, which nest less than `LEVELS` deep
 abbrev pub IsMeant : Located → List Entry → Type 0
-IsMeant root entries = IsSomeAnd (child_of is_expr 0 root) (λ e. Means 1024 0 [] e entries)
+IsMeant root entries = IsSomeAnd (child_of is_expr 0 root) (λ e. Means LEVELS 0 [] e entries)
 
 -- a text is parsed without errors, and its expression means these values
 pub record IsWritten (text : List ℕ) (entries : List Entry) : Type 0 where

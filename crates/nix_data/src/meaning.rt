@@ -1,13 +1,13 @@
 //! Whether an expression means some data.
 
-ghost use Rattle.std.specs.Prelude.{◌≡◌, Some, None, map, string_bytes, IfOk, IfSome, IsTrue};
+ghost use Rattle.std.specs.Prelude.{◌≡◌, Some, None, option_map, string_bytes, IfOk, IfSome, IsTrue};
 ghost use Rattle.rnix_kinds.specs.declared.kinds.SyntaxKind.TheVariants as k;
 ghost use Rattle.rnix_green.specs.Equality.{same_kind};
 ghost use Rattle.rnix_green.specs.Tree.{text_at};
 ghost use Rattle.rnix_base.specs.Literal.{first_literal};
 ghost use Rattle.rnix_base.specs.Select.{HasKind, token_of};
 ghost use Rattle.nix_values.specs.Contents.{set, plain_of, entry_of};
-ghost use Rattle.nix_data.specs.Meaning.{text_of, unsigned, is_integer, is_float, IsNumber, word_of, HasValue, name_of, path_name, IsPart, unwrapped, IsHead, MeansFirst};
+ghost use Rattle.nix_data.specs.Meaning.{expression_text, unsigned, is_integer, is_float, IsNumber, word_of, HasValue, name_of, path_name, IsPart, unwrapped, IsHead, MeansItems};
 
 use crate::scalars::plain_text;
 use nix_values::{Item, Value};
@@ -19,8 +19,8 @@ use rnix::{SyntaxKind, SyntaxNode};
 use std::alloc::{AllocError, Global};
 
 // The value of an expression that is a string without interpolations.
-fn text_of(alloc: Global, node: &SyntaxNode<'_>) -> Result<Option<String>, AllocError>
-    ensures { IfOk result (λ found. IfSome found (λ text. text_of node.now ≡ Some (string_bytes text))) }
+fn expression_text(alloc: Global, node: &SyntaxNode<'_>) -> Result<Option<String>, AllocError>
+    ensures { IfOk result (λ found. option_map string_bytes found ≡ expression_text node.now) }
 {
     match Str::cast(node.clone()) {
         Some(string) => plain_text(alloc, &string),
@@ -108,7 +108,7 @@ fn has_value(alloc: Global, node: &SyntaxNode<'_>, value: &Value) -> Result<bool
             Ok(is_integer(node) && node.text() == digits.as_str())
         }
         Value::Float(digits) => Ok(is_float(node) && node.text() == digits.as_str()),
-        Value::Text(text) => match text_of(alloc, node)? {
+        Value::Text(text) => match expression_text(alloc, node)? {
             Some(found) => Ok(found.as_str() == text.as_str()),
             None => Ok(false),
         },
@@ -119,26 +119,29 @@ fn has_value(alloc: Global, node: &SyntaxNode<'_>, value: &Value) -> Result<bool
 
 // The name that an attribute is: an identifier, or a string without interpolations.
 fn name_of(alloc: Global, attribute: &SyntaxNode<'_>) -> Result<Option<String>, AllocError>
-    ensures { IfOk result (λ found. IfSome found (λ name. name_of attribute.now ≡ Some (string_bytes name))) }
+    ensures { IfOk result (λ found. option_map string_bytes found ≡ name_of attribute.now) }
 {
     match attribute.kind() {
         SyntaxKind::NODE_IDENT => Ok(Some(String::from_str(alloc, attribute.text())?)),
-        SyntaxKind::NODE_STRING => text_of(alloc, attribute),
+        SyntaxKind::NODE_STRING => expression_text(alloc, attribute),
         _ => Ok(None),
     }
 }
 
 // The name that a path is, if it is a single name.
 fn path_name(alloc: Global, path: Option<Attrpath<'_>>) -> Result<Option<String>, AllocError>
-    ensures { IfOk result (λ found. IfSome found (λ name. path_name path.entry ≡ Some (string_bytes name))) }
+    ensures { IfOk result (λ found. option_map string_bytes found ≡ path_name path.entry) }
 {
     let Some(path) = path else {
         return Ok(None);
     };
     let mut attributes = path.attrs();
-    match (attributes.next(), attributes.next()) {
-        (Some(attribute), None) => name_of(alloc, attribute.syntax()),
-        _ => Ok(None),
+    let Some(attribute) = attributes.next() else {
+        return Ok(None);
+    };
+    match attributes.next() {
+        Some(_second) => Ok(None),
+        None => name_of(alloc, attribute.syntax()),
     }
 }
 
@@ -222,7 +225,7 @@ pub fn items_after<'a>(
     expr: &SyntaxNode<'_>,
     items: &'a [Item],
 ) -> Result<Option<&'a [Item]>, AllocError>
-    ensures { IfOk result (λ found. IfSome found (λ rest. MeansFirst levels depth name.now expr.now (map entry_of items.now) (map entry_of rest.now))) }
+    ensures { IfOk result (λ found. IfSome found (λ rest. MeansItems levels depth name.now expr.now items.now rest.now)) }
 {
     let Some((head, inside)) = items.split_first() else {
         return Ok(None);

@@ -1,7 +1,7 @@
 //! The data of a Nix text.
 
 use crate::no_data::{NoData, Reason};
-use crate::scalars::{Stop, no_data, scalar, text_of};
+use crate::scalars::{Stop, no_data, scalar, string_value};
 use nix_values::{Builder, Data, Value};
 use rnix::ast::{AstNode, Attr, AttrSet, AttrpathValue, Dynamic, Expr, Inherit};
 use rnix::{Root, SyntaxKind, SyntaxNode, TextRange};
@@ -48,7 +48,7 @@ struct Name {
 }
 
 impl Reading {
-    // Replaces a name that cannot be read by its source, with `--lossy`.
+    // Returns a name; with `--lossy`, its source if the name cannot be read.
     fn or_source(
         &self,
         node: &SyntaxNode<'_>,
@@ -70,7 +70,7 @@ impl Reading {
     // The text of a computed name, if it is a string.
     fn dynamic(&self, name: &Dynamic<'_>) -> Result<String, Stop> {
         match name.expr() {
-            Some(Expr::Str(string)) => text_of(self.alloc, &string),
+            Some(Expr::Str(string)) => string_value(self.alloc, &string),
             _ => Err(no_data(
                 Reason::Evaluated(name.syntax().kind()),
                 name.syntax().text_range(),
@@ -84,7 +84,7 @@ impl Reading {
             Attr::Ident(ident) => Ok(String::from_str(self.alloc, ident.syntax().text())?),
             Attr::Dynamic(name) => self.dynamic(name),
             Attr::Str(string) if string.syntax().text().starts_with('"') => {
-                text_of(self.alloc, string)
+                string_value(self.alloc, string)
             }
             Attr::Str(string) => Err(no_data(Reason::IndentedName, string.syntax().text_range())),
         }
@@ -119,7 +119,7 @@ impl Reading {
         Ok(self.builder.add(self.alloc, parent, name, value)?)
     }
 
-    // The set that is the value of an attribute; it is added if there is none. One with a number below `first` comes from elsewhere in the text.
+    // The set that is the value of an attribute, which is added if there is none. A set with a number below `first` comes from elsewhere in the text.
     fn set_of(&mut self, set: usize, name: Name, first: usize) -> Result<usize, Stop> {
         match self.builder.attribute(set, name.text.as_str()) {
             Some(found) if found >= first && self.builder.is_set(found) => Ok(found),

@@ -2,7 +2,7 @@
 
 use std::alloc::{AllocError, Global};
 
-// The escape for a character in front of a rest, in a string in `"`; `None` if it needs none.
+// The escape for a character of a string in `"` that this rest follows, or `None` if it needs none.
 fn escape(letter: char, rest: &str) -> Option<&'static str> {
     match letter {
         '"' => Some("\\\""),
@@ -15,7 +15,7 @@ fn escape(letter: char, rest: &str) -> Option<&'static str> {
     }
 }
 
-/// Returns a string of Nix, in `"`, with a value.
+/// Returns a value as a Nix string in `"`.
 pub fn quoted(alloc: Global, value: &str) -> Result<String, AllocError> {
     let mut text = String::new(alloc);
     text.push('"')?;

@@ -1,8 +1,8 @@
 //! Values other than lists and sets.
 
-ghost use Rattle.std.specs.Prelude.{◌≡◌, Some, map, string_bytes, IfOk, IfSome};
+ghost use Rattle.std.specs.Prelude.{◌≡◌, map, option_map, string_bytes, IfOk};
 ghost use Rattle.rnix_base.specs.Normal.{with_text};
-ghost use Rattle.nix_data.specs.Meaning.{joined, string_text};
+ghost use Rattle.nix_data.specs.Meaning.{joined, plain_text};
 
 use crate::no_data::{NoData, Reason};
 use nix_values::{Value, float_of};
@@ -56,7 +56,7 @@ fn interpolation(string: &Str<'_>) -> TextRange {
 // The texts of some parts, concatenated, if none of them is an interpolation.
 #[tactic(auto, using(crate::proofs::MeaningLemmas::joined_begun))]
 fn joined(alloc: Global, parts: &[InterpolPart<'_, String>]) -> Result<Option<String>, AllocError>
-    ensures { IfOk result (λ found. IfSome found (λ text. joined (map (with_text string_bytes) parts.now) ≡ Some (string_bytes text))) }
+    ensures { IfOk result (λ found. option_map string_bytes found ≡ joined (map (with_text string_bytes) parts.now)) }
 {
     let mut text = String::new(alloc);
     for part in parts {
@@ -70,14 +70,14 @@ fn joined(alloc: Global, parts: &[InterpolPart<'_, String>]) -> Result<Option<St
 
 /// Returns the value of a string, if it has no interpolation.
 pub fn plain_text(alloc: Global, string: &Str<'_>) -> Result<Option<String>, AllocError>
-    ensures { IfOk result (λ found. IfSome found (λ text. string_text string.now ≡ Some (string_bytes text))) }
+    ensures { IfOk result (λ found. option_map string_bytes found ≡ plain_text string.now) }
 {
     let parts = string.normalized_parts(alloc)?;
     joined(alloc, parts.as_slice())
 }
 
 /// Returns the value of a string.
-pub fn text_of(alloc: Global, string: &Str<'_>) -> Result<String, Stop> {
+pub fn string_value(alloc: Global, string: &Str<'_>) -> Result<String, Stop> {
     let (source, range) = (string.syntax().text(), string.syntax().text_range());
     let Some(text) = plain_text(alloc, string)? else {
         return Err(no_data(
@@ -173,7 +173,7 @@ fn path(alloc: Global, node: &SyntaxNode<'_>) -> Result<Value, Stop> {
 /// Returns the value of an expression that is neither a list nor a set.
 pub fn scalar<'t>(alloc: Global, node: &SyntaxNode<'t>) -> Result<Value, Stop> {
     match Expr::cast(node.clone()) {
-        Some(Expr::Str(string)) => Ok(Value::Text(text_of(alloc, &string)?)),
+        Some(Expr::Str(string)) => Ok(Value::Text(string_value(alloc, &string)?)),
         Some(Expr::Literal(number)) => literal(alloc, &number, false),
         Some(Expr::UnaryOp(operation)) => negative(alloc, &operation),
         Some(Expr::Ident(_)) => named(node),

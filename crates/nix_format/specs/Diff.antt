@@ -1,5 +1,5 @@
 -- The difference of two texts, line by line.
-use Rattle.std.specs.Prelude.{◌≡◌, ◌==◌, ℕ, List, [], ◌∷◌, map, if◌then◌else◌}
+use Rattle.std.specs.Prelude.{◌≡◌, ◌==◌, ℕ, List, [], ◌∷◌, ◌++◌, map, drop, if◌then◌else◌}
 use Rattle.std.specs.List.{flat_map}
 use Rattle.nix_format.specs.declared.diff.DiffLine.{DiffLine}
 use Rattle.nix_format.specs.declared.diff.DiffLine.TheVariants.{Common, Removed, Added}
@@ -47,3 +47,7 @@ pub record IsDiff (old new : List ℕ) (diff : List DiffLine) : Type 0 where
 -- the texts of some lines
 abbrev pub texts_of : List Line → List (List ℕ)
 texts_of lines = map (λ line. line.text.now) lines
+
+-- a diff gains the first `count` of some lines of the new text
+abbrev pub AddsLines : List DiffLine → List DiffLine → List Line → ℕ → Type 0
+AddsLines old new lines count = new_lines new ++ texts_of (drop count lines) ≡ new_lines old ++ texts_of lines

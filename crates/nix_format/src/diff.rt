@@ -1,7 +1,7 @@
 //! The difference of two texts, line by line.
 
-ghost use Rattle.std.specs.Prelude.{◌≡◌, ◌++◌, ◌∷◌, [], ◌≤◌, length, drop, true, IfOk, OnOk};
-ghost use Rattle.nix_format.specs.Diff.{lines_of, old_lines, new_lines, texts_of, IsDiff};
+ghost use Rattle.std.specs.Prelude.{◌≡◌, ◌++◌, ◌∷◌, [], ◌≤◌, length, true, IfOk, OnOk};
+ghost use Rattle.nix_format.specs.Diff.{lines_of, old_lines, new_lines, texts_of, AddsLines, IsDiff};
 
 use std::alloc::{AllocError, Global};
 
@@ -92,7 +92,7 @@ fn add_old<'t>(
 ) -> Result<usize, AllocError>
     ensures olds { OnOk result (old_lines diff.new.items ≡ old_lines diff.old.items ++ line.now.text.now ∷ []) }
     ensures within { IfOk result (λ count. count ≤ length news.now) }
-    ensures news { IfOk result (λ count. new_lines diff.new.items ++ texts_of (drop count news.now) ≡ new_lines diff.old.items ++ texts_of news.now) }
+    ensures news { IfOk result (AddsLines diff.old.items diff.new.items news.now) }
 {
     let before = count_before(news, line);
     if before < news.len() && news[before].is_same(line) {

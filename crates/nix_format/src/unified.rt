@@ -110,7 +110,7 @@ fn write_names(alloc: Global, name: &str, out: &mut String) -> Result<(), AllocE
     out.push_str(names.as_str())
 }
 
-// The range of lines in the head of a hunk: the number of the first line and how many there are. Of no lines it is the number of the line before.
+// The range of lines in the header of a hunk: the number of its first line, and how many there are. For no lines, it is the number of the line before.
 fn range_text(alloc: Global, before: usize, count: usize) -> Result<String, AllocError> {
     let first = before.saturating_add(1);
     match count {
@@ -120,8 +120,8 @@ fn range_text(alloc: Global, before: usize, count: usize) -> Result<String, Allo
     }
 }
 
-// Writes the head of a hunk.
-fn write_head(
+// Writes the header of a hunk.
+fn write_header(
     alloc: Global,
     before: Counts,
     counts: Counts,
@@ -129,8 +129,8 @@ fn write_head(
 ) -> Result<(), AllocError> {
     let olds = range_text(alloc, before.olds, counts.olds)?;
     let news = range_text(alloc, before.news, counts.news)?;
-    let head = format!(in alloc; "@@ -{olds} +{news} @@\n")?;
-    out.push_str(head.as_str())
+    let header = format!(in alloc; "@@ -{olds} +{news} @@\n")?;
+    out.push_str(header.as_str())
 }
 
 // Writes a line of a hunk.
@@ -173,7 +173,7 @@ fn write_hunks(
         });
         let lines = diff.get(hunk.first..hunk.end).unwrap_or(&[]);
         let counts = counts_of(lines);
-        write_head(alloc, before, counts, out)?;
+        write_header(alloc, before, counts, out)?;
         write_lines(lines, out)?;
         before = before.plus(counts);
         end = hunk.end;

@@ -33,7 +33,7 @@ pub struct Update<'a> {
     pub value: &'a str,
 }
 
-/// Returns the text in which a node is the one that another text means, or `None` if that text must be an expression and is none.
+/// Returns the text with a new value in place of a node, or `None` if the form is `Raw` and the value is not an expression.
 pub fn set_value(
     alloc: Global,
     text: &str,

@@ -49,7 +49,7 @@ fn list(alloc: Global, text: &str) -> Result<String, AllocError>
     Ok(list)
 }
 
-// Returns the expression that a text is, without the white space and the comments around it, or `None` if it is none.
+// Returns the expression of a text, without the white space and the comments around it, or `None` if the text is not an expression.
 fn expression(alloc: Global, text: &str) -> Result<Option<Value>, AllocError>
     ensures some { IfOk result (λ value. IfSome value (λ value. IsExpression text.now value.kind (string_bytes value.text))) }
     ensures none { IfOk result (λ value. IfNone value (IsNoExpression text.now)) }
@@ -67,7 +67,7 @@ fn expression(alloc: Global, text: &str) -> Result<Option<Value>, AllocError>
     }
 }
 
-/// Returns the node that a text means, or `None` if it must be an expression and is none.
+/// Returns the value that a text stands for, or `None` if the form is `Raw` and the text is not an expression.
 pub fn value_of(alloc: Global, form: Form, text: &str) -> Result<Option<Value>, AllocError>
     ensures some { IfOk result (λ value. IfSome value (λ value. IsValueOf form text.now value.kind (string_bytes value.text))) }
     ensures none { IfOk result (λ value. IfNone value (IsNoValue form text.now)) }

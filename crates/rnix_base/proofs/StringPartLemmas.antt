@@ -2,7 +2,7 @@
 use Rattle.std.proofs.Common.{◌≡◌, ◌≢◌, ◌<◌, ◌≤◌, ◌++◌, ◌∙◌, ℕ, suc, Bool, true, false, ◌==◌, List, [], ◌∷◌, Some, None, refl, sym, ap, map, arith}
 use Rattle.std.{proofs.{Common.{append_assoc, append-nil}, lemmas.Bool.Decides.nat_tests}, specs.Prelude.{if◌then◌else◌, option_to_list}}
 use Rattle.rnix_base.specs.{declared.parts.InterpolPart.TheVariants.{Literal, Interpolation}, Escapes.unescaped, Normal.{Parts, Symbol, symbols, lines}}
-use Rattle.rnix_base.specs.Normal.{least_indentation, unindented, text_of, with_texts, with_text, without_last_spaces, opened, closed, indented_parts}
+use Rattle.rnix_base.specs.Normal.{least_indentation, unindented, part_text, with_texts, with_text, without_last_spaces, opened, closed, indented_parts}
 use Rattle.rnix_base.{specs.Indent.{is_lost, left_after, kept, left_behind, indent_of, no_indent}, proofs.SymbolLineLemmas.{row_kept, row_kept-lines, kept_step}}
 use Rattle.rnix_base.proofs.LeastLemmas.{least-parts}
 
@@ -30,12 +30,12 @@ row_kept-text n m (b ∷ text) left row = text_step (is_lost left (Some b)) (row
   text_step true e = e
   text_step false e = ap (λ t. record { part = m; byte = Some b } ∷ t) e
 
-text_of-append : (k : ℕ) (xs ys : List Symbol) → text_of k (xs ++ ys) ≡ text_of k xs ++ text_of k ys
-unfolding text_of
-text_of-append k [] ys = refl
-text_of-append k (s ∷ xs) ys =
-    ap (λ t. (if s.part == k then option_to_list s.byte else []) ++ t) (text_of-append k xs ys)
-    ∙ sym (append_assoc (if s.part == k then option_to_list s.byte else []) (text_of k xs) (text_of k ys))
+part_text-append : (k : ℕ) (xs ys : List Symbol) → part_text k (xs ++ ys) ≡ part_text k xs ++ part_text k ys
+unfolding part_text
+part_text-append k [] ys = refl
+part_text-append k (s ∷ xs) ys =
+    ap (λ t. (if s.part == k then option_to_list s.byte else []) ++ t) (part_text-append k xs ys)
+    ∙ sym (append_assoc (if s.part == k then option_to_list s.byte else []) (part_text k xs) (part_text k ys))
 
 same_part : (m : ℕ) → (m == m) ≡ true
 same_part m = grind (arith, nat_tests)
@@ -43,24 +43,24 @@ same_part m = grind (arith, nat_tests)
 other_part : (m k : ℕ) → m ≢ k → (m == k) ≡ false
 other_part m k h = grind (arith, nat_tests)
 
-text_of-own : (m : ℕ) (text : List ℕ) → text_of m (text_row m text) ≡ text
-unfolding text_of
-text_of-own m [] = refl
-text_of-own m (b ∷ text) = ap (λ e. (if e then b ∷ [] else []) ++ text_of m (text_row m text)) (same_part m) ∙ ap (λ t. b ∷ t) (text_of-own m text)
+part_text-own : (m : ℕ) (text : List ℕ) → part_text m (text_row m text) ≡ text
+unfolding part_text
+part_text-own m [] = refl
+part_text-own m (b ∷ text) = ap (λ e. (if e then b ∷ [] else []) ++ part_text m (text_row m text)) (same_part m) ∙ ap (λ t. b ∷ t) (part_text-own m text)
 
-text_of-other : (m k : ℕ) (text : List ℕ) → m ≢ k → text_of k (text_row m text) ≡ []
-unfolding text_of
-text_of-other m k [] h = refl
-text_of-other m k (b ∷ text) h = ap (λ e. (if e then b ∷ [] else []) ++ text_of k (text_row m text)) (other_part m k h) ∙ text_of-other m k text h
+part_text-other : (m k : ℕ) (text : List ℕ) → m ≢ k → part_text k (text_row m text) ≡ []
+unfolding part_text
+part_text-other m k [] h = refl
+part_text-other m k (b ∷ text) h = ap (λ e. (if e then b ∷ [] else []) ++ part_text k (text_row m text)) (other_part m k h) ∙ part_text-other m k text h
 
-text_of-none : (k : ℕ) → text_of k [] ≡ []
-unfolding text_of
-text_of-none k = refl
+part_text-none : (k : ℕ) → part_text k [] ≡ []
+unfolding part_text
+part_text-none k = refl
 
-text_of-gap : (m k : ℕ) (row : List Symbol) → text_of k (record { part = m; byte = None } ∷ row) ≡ text_of k row
-unfolding text_of
-text_of-gap m k row = gap_step (m == k) where
-  gap_step : (e : Bool) → (if e then [] else []) ++ text_of k row ≡ text_of k row
+part_text-gap : (m k : ℕ) (row : List Symbol) → part_text k (record { part = m; byte = None } ∷ row) ≡ part_text k row
+unfolding part_text
+part_text-gap m k row = gap_step (m == k) where
+  gap_step : (e : Bool) → (if e then [] else []) ++ part_text k row ≡ part_text k row
   gap_step true = refl
   gap_step false = refl
 
@@ -69,21 +69,21 @@ row_kept-gap : (n left m : ℕ) (row : List Symbol) → row_kept n left (record 
 row_kept-gap n left m row = kept_step n left 0 record { part = m; byte = None } row refl refl
 
 -- later parts have no bytes of an earlier one
-text_of-later : {I : Type 0} (n k : ℕ) (parts : Parts I) (left m : ℕ) → k < m → text_of k (row_kept n left (symbols m parts)) ≡ []
-unfolding symbols row_kept text_of
-text_of-later n k [] left m h = refl
-text_of-later n k (Literal text ∷ parts) left m h =
-    ap (text_of k) (row_kept-text n m text left (symbols (suc m) parts))
-    ∙ text_of-append k (text_row m (kept n left text)) (row_kept n (left_behind n left text) (symbols (suc m) parts))
-    ∙ ap (λ t. t ++ text_of k (row_kept n (left_behind n left text) (symbols (suc m) parts)))
-    (text_of-other m k (kept n left text) (λ e. absurd (omega (arith, h, e))))
-    ∙ text_of-later n k parts (left_behind n left text) (suc m) (omega arith)
-text_of-later n k (Interpolation i ∷ parts) left m h =
-    ap (text_of k) (row_kept-gap n left m (symbols (suc m) parts)) ∙ text_of-gap m k (row_kept n 0 (symbols (suc m) parts))
-    ∙ text_of-later n k parts 0 (suc m) (omega arith)
+part_text-later : {I : Type 0} (n k : ℕ) (parts : Parts I) (left m : ℕ) → k < m → part_text k (row_kept n left (symbols m parts)) ≡ []
+unfolding symbols row_kept part_text
+part_text-later n k [] left m h = refl
+part_text-later n k (Literal text ∷ parts) left m h =
+    ap (part_text k) (row_kept-text n m text left (symbols (suc m) parts))
+    ∙ part_text-append k (text_row m (kept n left text)) (row_kept n (left_behind n left text) (symbols (suc m) parts))
+    ∙ ap (λ t. t ++ part_text k (row_kept n (left_behind n left text) (symbols (suc m) parts)))
+    (part_text-other m k (kept n left text) (λ e. absurd (omega (arith, h, e))))
+    ∙ part_text-later n k parts (left_behind n left text) (suc m) (omega arith)
+part_text-later n k (Interpolation i ∷ parts) left m h =
+    ap (part_text k) (row_kept-gap n left m (symbols (suc m) parts)) ∙ part_text-gap m k (row_kept n 0 (symbols (suc m) parts))
+    ∙ part_text-later n k parts 0 (suc m) (omega arith)
 
 -- a row that goes on behind what earlier parts left of it
-with_texts-behind : {I : Type 0} (n : ℕ) (parts : Parts I) (before : List Symbol) (left m : ℕ) → ((k : ℕ) → m ≤ k → text_of k before ≡ [])
+with_texts-behind : {I : Type 0} (n : ℕ) (parts : Parts I) (before : List Symbol) (left m : ℕ) → ((k : ℕ) → m ≤ k → part_text k before ≡ [])
     → with_texts (before ++ row_kept n left (symbols m parts)) m parts ≡ unindented_parts n left parts
 unfolding with_texts unindented_parts symbols
 with_texts-behind n [] before left m none = refl
@@ -92,15 +92,15 @@ with_texts-behind n (Literal text ∷ parts) before left m none =
     let later = row_kept n (left_behind n left text) (symbols (suc m) parts) in
     let whole : before ++ row_kept n left (text_row m text ++ symbols (suc m) parts) ≡ (before ++ text_row m own) ++ later =
     ap (λ t. before ++ t) (row_kept-text n m text left (symbols (suc m) parts)) ∙ sym (append_assoc before (text_row m own) later) in
-    let mine : text_of m ((before ++ text_row m own) ++ later) ≡ own =
-    text_of-append m (before ++ text_row m own) later
-    ∙ ap (λ t. t ++ text_of m later) (text_of-append m before (text_row m own) ∙ ap (λ t. t ++ text_of m (text_row m own)) (none m (omega arith))
-    ∙ text_of-own m own)
-    ∙ ap (λ t. own ++ t) (text_of-later n m parts (left_behind n left text) (suc m) (omega arith)) ∙ append-nil own in
-    let passed : (k : ℕ) → suc m ≤ k → text_of k (before ++ text_row m own) ≡ [] =
-    λ k h. text_of-append k before (text_row m own) ∙ ap (λ t. t ++ text_of k (text_row m own)) (none k (omega (arith, h)))
-    ∙ text_of-other m k own (λ e. absurd (omega (arith, h, e))) in
-    ap (λ row. Literal (text_of m row) ∷ with_texts row (suc m) parts) whole
+    let mine : part_text m ((before ++ text_row m own) ++ later) ≡ own =
+    part_text-append m (before ++ text_row m own) later
+    ∙ ap (λ t. t ++ part_text m later) (part_text-append m before (text_row m own) ∙ ap (λ t. t ++ part_text m (text_row m own)) (none m (omega arith))
+    ∙ part_text-own m own)
+    ∙ ap (λ t. own ++ t) (part_text-later n m parts (left_behind n left text) (suc m) (omega arith)) ∙ append-nil own in
+    let passed : (k : ℕ) → suc m ≤ k → part_text k (before ++ text_row m own) ≡ [] =
+    λ k h. part_text-append k before (text_row m own) ∙ ap (λ t. t ++ part_text k (text_row m own)) (none k (omega (arith, h)))
+    ∙ part_text-other m k own (λ e. absurd (omega (arith, h, e))) in
+    ap (λ row. Literal (part_text m row) ∷ with_texts row (suc m) parts) whole
     ∙ ap (λ t. Literal t ∷ with_texts ((before ++ text_row m own) ++ later) (suc m) parts) mine
     ∙ ap (λ t. Literal own ∷ t) (with_texts-behind n parts (before ++ text_row m own) (left_behind n left text) (suc m) passed)
 with_texts-behind n (Interpolation i ∷ parts) before left m none =
@@ -108,8 +108,8 @@ with_texts-behind n (Interpolation i ∷ parts) before left m none =
     let later = row_kept n 0 (symbols (suc m) parts) in
     let whole : before ++ row_kept n left (gap ∷ symbols (suc m) parts) ≡ (before ++ gap ∷ []) ++ later =
     ap (λ t. before ++ t) (row_kept-gap n left m (symbols (suc m) parts)) ∙ sym (append_assoc before (gap ∷ []) later) in
-    let passed : (k : ℕ) → suc m ≤ k → text_of k (before ++ gap ∷ []) ≡ [] =
-    λ k h. text_of-append k before (gap ∷ []) ∙ ap (λ t. t ++ text_of k (gap ∷ [])) (none k (omega (arith, h))) ∙ text_of-gap m k [] ∙ text_of-none k in
+    let passed : (k : ℕ) → suc m ≤ k → part_text k (before ++ gap ∷ []) ≡ [] =
+    λ k h. part_text-append k before (gap ∷ []) ∙ ap (λ t. t ++ part_text k (gap ∷ [])) (none k (omega (arith, h))) ∙ part_text-gap m k [] ∙ part_text-none k in
     ap (λ row. Interpolation i ∷ with_texts row (suc m) parts) whole
     ∙ ap (λ t. Interpolation i ∷ t) (with_texts-behind n parts (before ++ gap ∷ []) 0 (suc m) passed)
 
@@ -143,5 +143,5 @@ indented_parts-from parts n e =
     let least : n ≡ least_indentation (lines row) = e ∙ least-parts (opened parts) in
     let kept_row : row_kept n n row ≡ unindented row = ap (λ k. row_kept k k row) least ∙ sym (row_kept-lines (least_indentation (lines row)) row) in
     sym (closed_from n n (opened parts))
-    ∙ ap (λ t. map (with_text (unescaped true)) (closed t)) (sym (with_texts-behind n (opened parts) [] n 0 (λ k _. text_of-none k)))
+    ∙ ap (λ t. map (with_text (unescaped true)) (closed t)) (sym (with_texts-behind n (opened parts) [] n 0 (λ k _. part_text-none k)))
     ∙ ap (λ r. map (with_text (unescaped true)) (closed (with_texts r 0 (opened parts)))) kept_row

@@ -81,14 +81,14 @@ abbrev pub unindented : List Symbol → List Symbol
 unindented row = flat_map (shortened (least_indentation (lines row))) (lines row)
 
 -- the bytes of a row that belong to the part of this number
-unfoldable pub text_of : ℕ → List Symbol → List ℕ
-text_of n [] = []
-text_of n (s ∷ row) = (if s.part == n then option_to_list s.byte else []) ++ text_of n row
+unfoldable pub part_text : ℕ → List Symbol → List ℕ
+part_text n [] = []
+part_text n (s ∷ row) = (if s.part == n then option_to_list s.byte else []) ++ part_text n row
 
 -- the parts with the texts that a row has for them, where n parts precede them
 unfoldable pub with_texts : {I : Type 0} → List Symbol → ℕ → Parts I → Parts I
 with_texts row n [] = []
-with_texts row n (Literal text ∷ parts) = Literal (text_of n row) ∷ with_texts row (suc n) parts
+with_texts row n (Literal text ∷ parts) = Literal (part_text n row) ∷ with_texts row (suc n) parts
 with_texts row n (Interpolation i ∷ parts) = Interpolation i ∷ with_texts row (suc n) parts
 
 -- how many spaces a text begins with

@@ -61,13 +61,13 @@ root_in tree = record { tree = tree; number = 0 }
 abbrev pub place_at : SyntaxKind → ℕ → List ℕ → Place
 place_at kind start new = record { kind = kind; start = start; len = length new }
 
--- a text is read without errors, as a tree whose root is so
+-- a text is read without errors, as a tree whose root satisfies `so`
 pub record IsReadSo (text : List ℕ) (so : Located → Type 0) : Type 0 where
   pub tree : Tree
   pub is_read : IsParsed (tokens_of text) tree []
   pub is_so : so (root_in tree)
 
--- a text is read without errors, as a tree whose root is not so
+-- a text is read without errors, as a tree whose root does not satisfy `so`
 pub record IsReadOtherwise (text : List ℕ) (so : Located → Type 0) : Type 0 where
   pub tree : Tree
   pub is_read : IsParsed (tokens_of text) tree []
@@ -79,7 +79,7 @@ pub record IsReadWithErrors (text : List ℕ) : Type 0 where
   pub is_read : IsParsed (tokens_of text) read.tree read.faults
   pub some : read.faults ≢ []
 
--- the text with one range replaced, read without errors as a tree whose root is so
+-- the text with one range replaced is read without errors, as a tree whose root satisfies `so`
 pub record IsMade (text : List ℕ) (start end : ℕ) (new : List ℕ) (so : Located → Type 0) (made : List ℕ) : Type 0 where
   pub made_is : made ≡ spliced text start end new
   pub read : IsReadSo made so
@@ -124,7 +124,7 @@ IsNotRemoved refusal text root node = IsNotCutOut refusal text root node (cut_of
 abbrev pub place_in : Gap → SyntaxKind → List ℕ → Place
 place_in gap kind new = place_at kind (gap.start + length gap.before) new
 
--- the text with a new text in a gap: its tree is so
+-- the text with a new text in a gap: the root of its tree satisfies `so`
 abbrev pub IsFilled : (Gap → Located → Type 0) → List ℕ → List ℕ → Gap → List ℕ → Type 0
 IsFilled so text new gap made = IsMade text gap.start gap.end (put_in gap new) (so gap) made
 

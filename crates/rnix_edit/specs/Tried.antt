@@ -19,7 +19,7 @@ abbrev pub is_memory : EditError → Bool
 is_memory cause.Memory = true
 is_memory _ = false
 
--- a text is read so, without errors
+-- a text is read without errors, and this is its reading
 pub record IsReadAs (text : List ℕ) (read : Reading) : Type 0 where
   pub is_read : IsParsed (tokens_of text) read.tree read.faults
   pub none : read.faults ≡ []
@@ -30,7 +30,7 @@ IsUnread refusal.NotInText text start end new = ¬ (IsInside text start end × I
 IsUnread refusal.HasErrors text start end new = IsReadWithErrors (spliced text start end new)
 IsUnread refusal.ReadOtherwise text start end new = ⊥
 
--- the text is this one, and is read so
+-- the new text, if there is one, is this text with its reading
 abbrev pub IfRead : List ℕ → Tried → Type 0
 IfRead text (tried.Read made read) = (string_bytes made ≡ text) × IsReadAs text read
 IfRead text (tried.Refused refusal) = Unit {0}
@@ -40,6 +40,6 @@ abbrev pub IfNotRead : (Refusal → Type 0) → Tried → Type 0
 IfNotRead P (tried.Read made read) = Unit {0}
 IfNotRead P (tried.Refused refusal) = P refusal
 
--- a gap of the program
+-- a gap that the program found
 abbrev pub gap_of : Found → Gap
 gap_of gap = record { start = gap.start; end = gap.end; before = string_bytes gap.before; after = gap.after.now; comments = gap.comments }

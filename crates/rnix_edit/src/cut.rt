@@ -15,7 +15,7 @@ pub struct Cut {
     pub comments: usize,
 }
 
-// Returns the range that is removed with a node that something else follows on its line: the node with the blanks on one side.
+// Returns the range that is removed with a node that is not the last on its line: the node, and the blanks on one side of it.
 fn cut_in_line(text: &str, start: usize, end: usize) -> Cut
     ensures { result ≡ cut_in_line text.now start end }
 {
@@ -42,8 +42,8 @@ fn cut_in_line(text: &str, start: usize, end: usize) -> Cut
     }
 }
 
-// Returns the range that is removed with a node that nothing but comments follows on its line: its whole line if the node is the first in it,
-// or else the blanks before the node, the node and the comments.
+// Returns the range that is removed with a node that only comments follow on its line: the whole line if the node is the first in it, or else the
+// blanks before the node, the node and the comments.
 fn cut_with_rest(text: &str, start: usize, rest: RestOfLine) -> Cut
     ensures { result ≡ cut_with_rest text.now start rest }
 {

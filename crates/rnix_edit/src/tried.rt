@@ -10,14 +10,14 @@ use rnix::{Parse, Root};
 use rnix_text::{EditError, Edits};
 use std::alloc::{AllocError, Global};
 
-/// The text with a change and its tree, or why there is none.
+/// A changed text with its tree, or why there is none.
 #[derive(Drop)]
 pub enum Tried {
     Read(String, Parse),
     Refused(Refusal),
 }
 
-// Returns the refusal of memory, if an edit was refused for that.
+// Returns an error if the edit was refused for want of memory.
 fn refuse_memory(error: EditError) -> Result<(), AllocError>
     ensures { IfOk result (λ _. is_memory error ≡ false) }
 {
@@ -48,7 +48,7 @@ fn spliced(
     }
 }
 
-/// Returns the text with new bytes in place of those from `start` up to `end`, read without errors.
+/// Replaces the bytes from `start` up to `end`, and parses the new text, which must have no errors.
 pub fn read_spliced(
     alloc: Global,
     text: &str,

@@ -6,7 +6,7 @@ use Rattle.{rnix_proof_lemmas.proofs.SpelledLemmas.AreRuled, rnix_proof_uniquene
 use Rattle.{rnix_proof_layout.{specs.AlikeItems.AreSameFaults, proofs.AlikeReadings.alike_readings}, rnix_parser.specs.Significant.significant}
 use Rattle.rnix_parser.{specs.ReadAlike.items_of, proofs.{ParsedLemmas.all_follows, OneReading.reading_items, SignificantTrees.significant_tree}}
 use Rattle.{rnix_parser.proofs.Found.{annotate_derivation, derivation_reads}, rnix_proof_locality.specs.Expressions.{Expression, alone, own_items}}
-use Rattle.rnix_proof_locality.{specs.ReadAlone.{expressions_in, IsDerived, IsReadAs}, proofs.DerivedExpressions.derived_expressions}
+use Rattle.rnix_proof_locality.{specs.ReadAlone.{expressions_in, IsDerived, IsReadAsExpression}, proofs.DerivedExpressions.derived_expressions}
 
 -- the same errors as none
 no_errors : (xs ys : List Token) (es : List Fault) → AreSameFaults xs ys [] es → es ≡ []
@@ -14,7 +14,7 @@ no_errors xs ys [] h = refl
 no_errors xs ys (e ∷ es) h = absurd h
 
 -- a text that has the items of a derivation
-pub read_as : (y : List ℕ) → AreRuled (tokens_of y) → (e : Expression) → IsDerived e → IsReadAs y e
+pub read_as : (y : List ℕ) → AreRuled (tokens_of y) → (e : Expression) → IsDerived e → IsReadAsExpression y e
 read_as y ruled e d alike u es s =
     let l = annotate_derivation (alone e) (own_items e) d in
     let q : IsParsed (tokens_of y) u es = all_follows (tokens_of y) u es ruled s in
@@ -26,11 +26,11 @@ read_as y ruled e d alike u es s =
     let same = alike_readings one_row f g [] es (derivation_reads (alone e) (own_items e) d) q.reading.reads moved in
     (no_errors (tokens_in f) (tokens_in g) es same.1, significant_tree q ∙ sym same.0 ∙ l.forest)
 
-pub read_each : (y : List ℕ) → AreRuled (tokens_of y) → (es : List Expression) → All (λ e. IsDerived e → IsReadAs y e) es
+pub read_each : (y : List ℕ) → AreRuled (tokens_of y) → (es : List Expression) → All (λ e. IsDerived e → IsReadAsExpression y e) es
 read_each y ruled es k d l = read_as y ruled (get_or es k d)
 
 -- or of an expression in one
 pub read_parts : (x y : List ℕ) → AreRuled (tokens_of y) → (t : Tree) → IsDerivation (significant t.children) (items_of x)
-    → All (IsReadAs y) (expressions_in x t)
+    → All (IsReadAsExpression y) (expressions_in x t)
 read_parts x y ruled t d =
-    All-weaker IsDerived (IsReadAs y) (read_as y ruled) (expressions_in x t) (derived_expressions (significant t.children) (items_of x) d)
+    All-weaker IsDerived (IsReadAsExpression y) (read_as y ruled) (expressions_in x t) (derived_expressions (significant t.children) (items_of x) d)

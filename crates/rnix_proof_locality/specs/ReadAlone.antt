@@ -19,7 +19,7 @@ abbrev pub IsDerived : Expression → Type 0
 IsDerived e = IsDerivation (alone e) (own_items e)
 
 -- if the items of a text are like those of an expression, the text is read as that expression, without errors
-abbrev pub IsReadAs : List ℕ → Expression → Type 0
-IsReadAs text e =
+abbrev pub IsReadAsExpression : List ℕ → Expression → Type 0
+IsReadAsExpression text e =
     AreAlike None 0 0 (own_items e) (items_of text)
     → (tree : Tree) (faults : List Fault) → IsReading (tokens_of text) tree faults → (faults ≡ []) × (significant tree.children ≡ alone e)

@@ -47,6 +47,14 @@ abbrev pub expression_read : ℕ → Bool → ℕ → State → State
 expression_read level true d s = if nat_le depth_limit d then limit_reported s else operand_read level (d + 1) s
 expression_read level false d s = operand_read level d s
 
+-- a node's row goes on after a position, and an operand of the row is read
+abbrev pub part_read : ℕ → Bool → ℕ → Mark → State → State
+part_read level counted after m s = expression_read level counted m.depth (moved_to (p.Left after) m s)
+
+-- an operand is applied to the next one, its argument, which is read
+abbrev pub argument_read : ℕ → Mark → State → State
+argument_read min_bp m s = expression_read selection_level false m.depth (application_begun min_bp m s)
+
 -- what an action makes of what the reader holds, whose innermost mark is taken, and where the second name of a pattern begins
 abbrev pub performed : Action → Mark → ℕ → State → State
 performed a.Close m second s = ended s
@@ -65,9 +73,9 @@ performed (a.Open k inside after) m second s = node_begun k (p.Left inside) m.de
 performed (a.Begin k inside after) m second s = node_started k (p.Left inside) m.depth (moved_to (p.Left after) m s)
 performed (a.Entry after) m second s = entry_begun (p.Left after) m s
 performed (a.DoubleBind after) m second s = second_begun (p.Left after) m s
-performed (a.Read level counted after) m second s = expression_read level counted m.depth (moved_to (p.Left after) m s)
+performed (a.Read level counted after) m second s = part_read level counted after m s
 performed (a.Wrap k inside max_bp) m second s = bumped k (node_wrapped k inside (p.AfterOperand (min_bp_of m.position) max_bp) m s)
-performed a.Apply m second s = expression_read selection_level false m.depth (application_begun (min_bp_of m.position) m s)
+performed a.Apply m second s = argument_read (min_bp_of m.position) m s
 performed a.ApplyOr m second s = or_applied (p.AfterOperand (min_bp_of m.position) application_level) m s
 
 -- an error is reported, if there is one
@@ -133,6 +141,14 @@ abbrev pub NamesFor : Bool → Names → Names → Type 0
 NamesFor true n n' = PatternOpened n n'
 NamesFor false n n' = n' ≡ n
 
+-- what the operand of a row makes of the names
+abbrev pub PartNames : ℕ → Bool → ℕ → Mark → State → Names → Names → Type 0
+PartNames level counted after m s n n' = NamesFor (opens_in m.depth counted level (moved_to (p.Left after) m s)) n n'
+
+-- what an argument makes of the names
+abbrev pub ArgumentNames : ℕ → Mark → State → Names → Names → Type 0
+ArgumentNames min_bp m s n n' = NamesFor (opens_in m.depth false selection_level (application_begun min_bp m s)) n n'
+
 -- a second name is open
 pub record DoubleBindOpened (start : ℕ) (n n' : Names) : Type 0 where
   pub sets : n'.sets.items ≡ n.sets.items
@@ -145,6 +161,6 @@ NamesAfter a.ClosePattern m s n n' = PatternClosed n n'
 NamesAfter a.CloseEntry m s n n' = (again : Option Fault) × EntryClosed again n n'
 NamesAfter (a.Entry after) m s n n' = (t : Token) → IsNextItem t s → EntryNamed t n n'
 NamesAfter (a.DoubleBind after) m s n n' = (t : Token) → IsNextItem t s → DoubleBindOpened t.start n n'
-NamesAfter (a.Read level counted after) m s n n' = NamesFor (opens_in m.depth counted level (moved_to (p.Left after) m s)) n n'
-NamesAfter a.Apply m s n n' = NamesFor (opens_in m.depth false selection_level (application_begun (min_bp_of m.position) m s)) n n'
+NamesAfter (a.Read level counted after) m s n n' = PartNames level counted after m s n n'
+NamesAfter a.Apply m s n n' = ArgumentNames (min_bp_of m.position) m s n n'
 NamesAfter action m s n n' = n' ≡ n

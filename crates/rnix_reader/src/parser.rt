@@ -30,7 +30,7 @@ impl<'t> Parser<'t> {
     ghost use Rattle.rnix_grammar.specs.Fault.{fault_of, unexpected_eof as ended_fault};
     ghost use Rattle.rnix_grammar.specs.AnnotatedForest.{head_of, head_kind, touches};
     ghost use Rattle.rnix_reader.specs.Placed.{token_of, AreInOrder};
-    ghost use Rattle.rnix_reader.specs.State.{State, state, items_left, eaten, bumped, started, started_at, ended, failed, pushed};
+    ghost use Rattle.rnix_reader.specs.State.{state, items_left, eaten, bumped, started, started_at, ended, failed, pushed};
     ghost use Rattle.rnix_reader.specs.Erase.{mark_at};
 
     /// Returns the next token that is not trivia.

@@ -1,23 +1,20 @@
 //! Reading by the grammar's table: one step after another, until the root is complete.
 
-ghost use Rattle.std.specs.Prelude.{◌≡◌, ◌≤◌, ◌<◌, [], Bool, List, Option, length, IsTrue, OnOk, false, true};
-ghost use Rattle.rnix_kinds.specs.declared.kinds.SyntaxKind.{SyntaxKind};
-ghost use Rattle.rnix_green.specs.Draft.{is_checkpoint_of};
+ghost use Rattle.std.specs.Prelude.{◌≡◌, ◌≤◌, ◌<◌, [], Bool, length, OnOk, true};
 ghost use Rattle.rnix_grammar.specs.declared.action.Action.TheVariants.{EndOperand};
 ghost use Rattle.rnix_grammar.specs.declared.begin.Begin.TheVariants.{Leaf};
 ghost use Rattle.rnix_grammar.specs.declared.position.Position.TheVariants.{Left};
 ghost use Rattle.rnix_grammar.specs.Actions.{action_at};
 ghost use Rattle.rnix_grammar.specs.AnnotatedForest.{Token};
-ghost use Rattle.rnix_grammar.specs.Levels.{selection_level};
 ghost use Rattle.rnix_proof_lemmas.specs.Machine.{begins, min_bp_of};
 ghost use Rattle.rnix_reader.specs.Erase.{erase};
 ghost use Rattle.rnix_reader.specs.Holds.{IsReadTo};
 ghost use Rattle.rnix_reader.specs.PatternNames.{entries_in, EntryNamed, PatternOpened};
-ghost use Rattle.rnix_reader.specs.Performed.{EntryReported, IsReady, NamesAfter, NamesFor, Performed, DoubleBindOpened, action_of, begun_as, expression_read, is_finish, opens_in, opens_on, opens_pattern, operand_read};
+ghost use Rattle.rnix_reader.specs.Performed.{ArgumentNames, DoubleBindOpened, EntryReported, IsCheckpoint, IsReady, NamesAfter, NamesFor, PartNames, Performed, action_of, argument_read, begun_as, expression_read, opens_in, opens_on, opens_pattern, operand_read, part_read};
 ghost use Rattle.rnix_reader.specs.Placed.{token_of, AreInOrder};
 ghost use Rattle.rnix_reader.specs.Reported.{second_reported};
 ghost use Rattle.rnix_reader.specs.State.{state, items_left, IsNextItem};
-ghost use Rattle.rnix_reader.specs.FrameSteps.{application_begun, bound_lambda_begun, entry_begun, legacy_let_begun, moved_to, pattern_lambda_begun, second_begun};
+ghost use Rattle.rnix_reader.specs.FrameSteps.{bound_lambda_begun, entry_begun, legacy_let_begun, pattern_lambda_begun, second_begun};
 
 use crate::cursor::PlacedToken;
 use crate::mark::Mark;
@@ -164,7 +161,7 @@ fn operand<'t>(
     Ok(())
 }
 
-// Begins an operand of a level, which the limit of nesting counts or not, at a depth.
+// Begins an operand that binds at least as tightly as `level`. `counted` tells whether it adds one to the nesting depth.
 #[inline(always)]
 fn read<'t>(
     p: &mut Parser<'t>,
@@ -254,7 +251,7 @@ fn min_bp_of(position: Position) -> u8
     }
 }
 
-// Moves a node's row on, and reads an operand of the row.
+// Reads an operand of a node's row, and continues the row after it.
 #[inline(always)]
 fn read_part<'t>(
     p: &mut Parser<'t>,
@@ -264,8 +261,8 @@ fn read_part<'t>(
     counted: bool,
     after: u8,
 ) -> Result<(), AllocError>
-    ensures state { OnOk result (state p.new ≡ expression_read level counted mark.depth (moved_to (Left after) mark (state p.old))) }
-    ensures names { OnOk result (NamesFor (opens_in mark.depth counted level (moved_to (Left after) mark (state p.old))) names.old names.new) }
+    ensures state { OnOk result (state p.new ≡ part_read level counted after mark (state p.old)) }
+    ensures names { OnOk result (PartNames level counted after mark (state p.old) names.old names.new) }
 {
     let depth = mark.depth;
     p.go_on(mark, Position::Left(after))?;
@@ -273,7 +270,7 @@ fn read_part<'t>(
     Ok(())
 }
 
-// Applies the operand before it to the next operand.
+// Applies the operand that was read to the next one.
 #[inline(always)]
 fn apply<'t>(
     p: &mut Parser<'t>,
@@ -281,9 +278,9 @@ fn apply<'t>(
     mark: Mark,
     min_bp: u8,
 ) -> Result<(), AllocError>
-    requires { IsTrue (is_checkpoint_of p.old.builder.draft mark.at) }
-    ensures state { OnOk result (state p.new ≡ expression_read selection_level false mark.depth (application_begun min_bp mark (state p.old))) }
-    ensures names { OnOk result (NamesFor (opens_in mark.depth false selection_level (application_begun min_bp mark (state p.old))) names.old names.new) }
+    requires { IsCheckpoint mark (state p.old) }
+    ensures state { OnOk result (state p.new ≡ argument_read min_bp mark (state p.old)) }
+    ensures names { OnOk result (ArgumentNames min_bp mark (state p.old) names.old names.new) }
 {
     let depth = mark.depth;
     let over = Position::AfterOperand(min_bp, APPLICATION_LEVEL);
@@ -335,9 +332,9 @@ fn step<'t>(
     Ok(())
 }
 
-// Whether the position is behind an operand, and nothing goes on with it.
+// Whether the position is after an operand that the next item does not continue.
 #[inline(always)]
-fn is_settled(position: Position, next: Option<SyntaxKind>) -> bool
+fn ends_operand(position: Position, next: Option<SyntaxKind>) -> bool
     ensures { (touches : Bool) → result ≡ true → action_at position next touches ≡ EndOperand }
 {
     match (position, next) {
@@ -356,7 +353,7 @@ fn next_action(p: &Parser<'_>, position: Position) -> Action
         return Action::Close;
     }
     let next = p.peek();
-    if is_settled(position, next) {
+    if ends_operand(position, next) {
         return Action::EndOperand;
     }
     action_at(position, next, p.touches())

@@ -1,8 +1,7 @@
 //! The reader's steps inside a node's row. Each continues the innermost node or operand, whose mark was popped from the stack.
 
-ghost use Rattle.std.specs.Prelude.{◌≡◌, ◌<◌, length, false, true, OnOk, IsTrue};
+ghost use Rattle.std.specs.Prelude.{◌≡◌, ◌<◌, length, false, true, OnOk};
 ghost use Rattle.rnix_kinds.specs.declared.kinds.SyntaxKind.TheVariants.{NODE_ROOT};
-ghost use Rattle.rnix_green.specs.Draft.{is_checkpoint_of};
 ghost use Rattle.rnix_grammar.specs.declared.position.Position.TheVariants.{Left};
 ghost use Rattle.rnix_proof_lemmas.specs.Allowed.{is_there};
 ghost use Rattle.rnix_grammar.specs.AnnotatedForest.{head_kind};
@@ -10,6 +9,7 @@ ghost use Rattle.rnix_grammar.specs.Fault.{unexpected_eof as ended_fault};
 ghost use Rattle.rnix_grammar.specs.Tables.{stops};
 ghost use Rattle.rnix_reader.specs.State.{state, items_left, bumped, failed};
 ghost use Rattle.rnix_reader.specs.FrameSteps.{moved_to, node_started, operand_begun, entry_begun, leaf_node_made, node_begun, or_applied, node_wrapped};
+ghost use Rattle.rnix_reader.specs.Performed.{IsCheckpoint};
 ghost use Rattle.rnix_reader.specs.Reported.{end_reported, extra_reported, unwanted_reported};
 
 use crate::cursor::PlacedToken;
@@ -175,7 +175,7 @@ impl<'t> Parser<'t> {
         kind: SyntaxKind,
         inside: Position,
     ) -> Result<(), AllocError>
-        requires { IsTrue (is_checkpoint_of self.old.builder.draft mark.at) }
+        requires { IsCheckpoint mark (state self.old) }
         ensures state { OnOk result (state self.new ≡ node_wrapped kind inside over mark (state self.old)) }
     {
         let depth = mark.depth;
@@ -195,7 +195,7 @@ impl<'t> Parser<'t> {
         kind: SyntaxKind,
         inside: Position,
     ) -> Result<(), AllocError>
-        requires { IsTrue (is_checkpoint_of self.old.builder.draft mark.at) }
+        requires { IsCheckpoint mark (state self.old) }
         ensures { OnOk result (state self.new ≡ bumped kind (node_wrapped kind inside over mark (state self.old))) }
     {
         self.wrap(mark, over, kind, inside)?;
@@ -205,7 +205,7 @@ impl<'t> Parser<'t> {
 
     /// Applies the operand before it to the name `or`.
     pub(crate) fn apply_or(&mut self, mark: Mark, over: Position) -> Result<(), AllocError>
-        requires { IsTrue (is_checkpoint_of self.old.builder.draft mark.at) }
+        requires { IsCheckpoint mark (state self.old) }
         ensures { OnOk result (state self.new ≡ or_applied over mark (state self.old)) }
     {
         let at = mark.at;
