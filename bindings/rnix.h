@@ -29,7 +29,7 @@ extern "C" {
 #endif
 
 /* The version of the interface that this header describes. */
-#define RNIX_VERSION 3u
+#define RNIX_VERSION 4u
 
 /* Returns the version of the library's interface, which must be RNIX_VERSION. It changes with a function, a struct or a number of this header. */
 uint32_t rnix_version(void);
@@ -200,6 +200,23 @@ struct rnix_element {
     uint32_t is_token; /* 1 for a token, 0 for a node */
 };
 
+/* The range of an element, in 32 bits: 8 bytes. */
+struct rnix_range {
+    uint32_t start;
+    uint32_t end;
+};
+
+/* The parent of the root, in 32 bits. */
+#define RNIX_NO_PARENT UINT32_MAX
+
+/* The rest of an element, with numbers of 32 bits: 12 bytes. The fields mean what they mean in struct rnix_element. */
+struct rnix_link {
+    uint32_t parent;   /* the number of the parent; RNIX_NO_PARENT for the root */
+    uint32_t inside;   /* the number of descendants; 0 for a token */
+    uint16_t kind;     /* enum rnix_kind */
+    uint16_t is_token; /* 1 for a token, 0 for a node */
+};
+
 /* What an error is. The range is that of an error node of the tree or, for RNIX_DUPLICATED_ARGS, of the repeated name. */
 enum rnix_error_variant {
     RNIX_UNEXPECTED = 0,               /* an error without a cause, which the parser never produces; it has a range */
@@ -293,7 +310,7 @@ struct rnix_reference {
  */
 int64_t rnix_tokens(const uint8_t *text, size_t len, struct rnix_token *tokens, size_t room);
 
-/* The most elements that the tree of a text of so many bytes has. With room for so many, one call of rnix_elements or rnix_parse writes them all. */
+/* The most elements that the tree of a text of so many bytes has. With room for so many, one call writes them all. */
 #define RNIX_ELEMENTS_MOST(len) (3 * (size_t)(len) + 3)
 
 /*
@@ -314,6 +331,13 @@ int64_t rnix_errors(const uint8_t *text, size_t len, struct rnix_error *errors, 
  */
 int64_t rnix_parse(const uint8_t *text, size_t len, struct rnix_element *elements, size_t element_room, struct rnix_error *errors,
                    size_t error_room, uint64_t *error_count);
+
+/*
+ * Does what rnix_parse does, with half the memory: writes the range of each element to `ranges`, and the rest of the element, under the same number,
+ * to `links`. Returns the number of elements, which is below 2^32. Refusals: RNIX_NOT_UTF8, RNIX_TOO_LONG, RNIX_NO_MEMORY.
+ */
+int64_t rnix_parse_compact(const uint8_t *text, size_t len, struct rnix_range *ranges, size_t range_room, struct rnix_link *links,
+                           size_t link_room, struct rnix_error *errors, size_t error_room, uint64_t *error_count);
 
 /*
  * Writes the message of one error of a text (its number in rnix_errors, from 0) in UTF-8, without a terminating zero. This parses the text again.

@@ -30,6 +30,8 @@ static void check_structs(void) {
     CHECK(rnix_version() == RNIX_VERSION);
     CHECK(sizeof(struct rnix_token) == 24);
     CHECK(sizeof(struct rnix_element) == 40);
+    CHECK(sizeof(struct rnix_range) == 8);
+    CHECK(sizeof(struct rnix_link) == 12);
     CHECK(sizeof(struct rnix_error) == 40);
     CHECK(sizeof(struct rnix_part) == 24);
     CHECK(sizeof(struct rnix_string_part) == 32);
@@ -38,6 +40,7 @@ static void check_structs(void) {
     CHECK(sizeof(struct rnix_binding) == 48);
     CHECK(sizeof(struct rnix_reference) == 40);
     CHECK(offsetof(struct rnix_element, kind) == 32);
+    CHECK(offsetof(struct rnix_link, is_token) == 10);
     CHECK(offsetof(struct rnix_error, wanted) == 16);
 }
 
@@ -73,6 +76,36 @@ static void check_rooms_of_elements(void) {
         }
     }
     CHECK(full[0].parent == RNIX_NO_NUMBER && full[0].inside == (uint64_t)count - 1 && full[0].end == len);
+}
+
+/* An element in two parts is the element. */
+static int is_same(struct rnix_element element, struct rnix_range range, struct rnix_link link) {
+    return range.start == element.start && range.end == element.end && link.inside == element.inside && link.kind == element.kind &&
+           link.is_token == element.is_token && link.parent == (element.parent == RNIX_NO_NUMBER ? RNIX_NO_PARENT : element.parent);
+}
+
+/* For each two rooms up to the count: the first elements are those of rnix_elements, and what is behind them in each array stays. */
+static void check_compact_elements(void) {
+    struct rnix_element full[64];
+    struct rnix_range ranges[64], no_ranges[64];
+    struct rnix_link links[64], no_links[64];
+    struct rnix_error errors[2];
+    int64_t count = rnix_elements(text, len, full, 64);
+    memset(no_ranges, 0x5a, sizeof no_ranges);
+    memset(no_links, 0x5a, sizeof no_links);
+    for (size_t rooms = 0; rooms < (size_t)(count * count); rooms++) {
+        size_t few = rooms / (size_t)count, many = rooms % (size_t)count + 1;
+        uint64_t error_count = 0;
+        memcpy(ranges, no_ranges, sizeof ranges);
+        memcpy(links, no_links, sizeof links);
+        CHECK(rnix_parse_compact(text, len, ranges, few, links, many, errors, 2, &error_count) == count && error_count == 1);
+        for (size_t number = 0; number < few && number < many; number++) {
+            CHECK(is_same(full[number], ranges[number], links[number]));
+        }
+        CHECK(memcmp(ranges + few, no_ranges, sizeof ranges - few * sizeof *ranges) == 0);
+        CHECK(memcmp(links + many, no_links, sizeof links - many * sizeof *links) == 0);
+    }
+    CHECK(errors[0].variant == RNIX_UNEXPECTED_WANTED && errors[0].start == 11);
 }
 
 static void check_other_rooms(void) {
@@ -211,6 +244,7 @@ static void check_refusals(void) {
     CHECK(rnix_elements(bytes, sizeof bytes, NULL, 0) == RNIX_NOT_UTF8);
     CHECK(rnix_errors(bytes, sizeof bytes, NULL, 0) == RNIX_NOT_UTF8);
     CHECK(rnix_parse(bytes, sizeof bytes, NULL, 0, NULL, 0, &errors) == RNIX_NOT_UTF8 && errors == 7);
+    CHECK(rnix_parse_compact(bytes, sizeof bytes, NULL, 0, NULL, 0, NULL, 0, &errors) == RNIX_NOT_UTF8 && errors == 7);
     CHECK(rnix_error_text(bytes, sizeof bytes, 0, NULL, 0) == RNIX_NOT_UTF8);
     CHECK(rnix_error_texts(bytes, sizeof bytes, NULL, 0) == RNIX_NOT_UTF8);
     CHECK(rnix_string_text(bytes, sizeof bytes, 0, NULL, 0) == RNIX_NOT_UTF8);
@@ -238,6 +272,7 @@ static void check_too_long(void) {
     struct rnix_element element;
     uint64_t errors = 7;
     CHECK(rnix_parse(long_text, long_len, &element, 1, NULL, 0, &errors) == RNIX_TOO_LONG && errors == 7);
+    CHECK(rnix_parse_compact(long_text, long_len, NULL, 0, NULL, 0, NULL, 0, &errors) == RNIX_TOO_LONG && errors == 7);
     CHECK(rnix_strings(long_text, long_len, NULL, 0, NULL, 0, &errors) == RNIX_TOO_LONG && errors == 7);
     munmap(long_text, long_len);
 }
@@ -269,6 +304,8 @@ void *__wrap_realloc(void *block, size_t size) {
 static struct rooms {
     struct rnix_token tokens[64];
     struct rnix_element elements[64];
+    struct rnix_range ranges[64];
+    struct rnix_link links[64];
     struct rnix_error errors[4];
     struct rnix_part parts[8];
     struct rnix_string_part string_parts[8];
@@ -280,7 +317,7 @@ static struct rooms {
     uint64_t count;
 } rooms, untouched;
 
-enum { CALLS = 10 };
+enum { CALLS = 11 };
 
 /* A call of each function that allocates; its arrays are those of `rooms`. */
 static int64_t call(int number, size_t string) {
@@ -296,6 +333,7 @@ static int64_t call(int number, size_t string) {
     case 7: return rnix_strings(text, len, rooms.string_parts, 8, rooms.bytes, sizeof rooms.bytes, &rooms.count);
     case 8: return rnix_diagnostics(text, len, rooms.diagnostics, 4, rooms.bytes, sizeof rooms.bytes, &rooms.count);
     case 9: return rnix_names(text, len, rooms.bindings, 4, rooms.references, 4, &rooms.count);
+    case 10: return rnix_parse_compact(text, len, rooms.ranges, 64, rooms.links, 64, rooms.errors, 4, &rooms.count);
     default: return rnix_positions(text, len, RNIX_UTF16, offsets, 2, rooms.positions, 2);
     }
 }
@@ -335,6 +373,8 @@ static void check_empty(void) {
     CHECK(rnix_errors(NULL, 0, NULL, 0) == 1);
     uint64_t count = 7;
     CHECK(rnix_parse(NULL, 0, NULL, 0, NULL, 0, &count) == 1 && count == 1);
+    struct rnix_link link;
+    CHECK(rnix_parse_compact(NULL, 0, NULL, 0, &link, 1, NULL, 0, &count) == 1 && link.kind == RNIX_NODE_ROOT && link.parent == RNIX_NO_PARENT);
     CHECK(rnix_error_text(NULL, 0, 0, NULL, 0) > 0 && rnix_error_texts(NULL, 0, NULL, 0) > 0);
     CHECK(rnix_error_text(NULL, 0, SIZE_MAX, NULL, 0) == RNIX_NONE_SUCH);
     CHECK(rnix_string_text(NULL, 0, 0, NULL, 0) == RNIX_NONE_SUCH && rnix_string_parts(NULL, 0, SIZE_MAX, NULL, 0) == RNIX_NONE_SUCH);
@@ -385,6 +425,7 @@ int main(int argc, char **argv) {
     check_structs();
     check_kinds();
     check_rooms_of_elements();
+    check_compact_elements();
     check_other_rooms();
     check_strings();
     check_all_strings();

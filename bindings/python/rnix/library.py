@@ -8,10 +8,11 @@ import os
 import pathlib
 from typing import Any, Callable
 
-VERSION = 3
+VERSION = 4
 NOT_UTF8, NO_MEMORY, NONE_SUCH, TOO_LONG, HAS_ERRORS, DIFFERENT = -1, -2, -3, -4, -5, -6
 NO_NUMBER = 2**64 - 1
 NO_KIND = 2**32 - 1
+NO_PARENT = 2**32 - 1
 NOT_WANTED = 255
 CHARS = 1
 
@@ -32,6 +33,23 @@ class Element(ctypes.Structure):
         ("inside", ctypes.c_uint64),
         ("kind", ctypes.c_uint32),
         ("is_token", ctypes.c_uint32),
+    ]
+
+
+class Range(ctypes.Structure):
+    """struct rnix_range."""
+
+    _fields_ = [("start", ctypes.c_uint32), ("end", ctypes.c_uint32)]
+
+
+class Link(ctypes.Structure):
+    """struct rnix_link."""
+
+    _fields_ = [
+        ("parent", ctypes.c_uint32),
+        ("inside", ctypes.c_uint32),
+        ("kind", ctypes.c_uint16),
+        ("is_token", ctypes.c_uint16),
     ]
 
 
@@ -136,6 +154,7 @@ def _array(kind: Any) -> list[Any]:
 _ARGUMENTS = {
     "rnix_tokens": _text(*_array(Token)),
     "rnix_parse": _text(*_array(Element), *_array(Fault), ctypes.POINTER(ctypes.c_uint64)),
+    "rnix_parse_compact": _text(*_array(Range), *_array(Link), *_array(Fault), ctypes.POINTER(ctypes.c_uint64)),
     "rnix_elements": _text(*_array(Element)),
     "rnix_errors": _text(*_array(Fault)),
     "rnix_error_text": _text(ctypes.c_size_t, *_array(ctypes.c_char)),
@@ -182,7 +201,7 @@ def count_of(result: int) -> int:
     return result
 
 
-def _room(kind: Any, count: int) -> Any:
+def room_for(kind: Any, count: int) -> Any:
     """Returns an array of `count` values. A large one is mapped, so that its pages cost nothing until they are written."""
     size = ctypes.sizeof(kind) * count
     return (kind * count).from_buffer(mmap.mmap(-1, size)) if size > mmap.PAGESIZE else (kind * count)()
@@ -193,10 +212,10 @@ def listed(kind: Any, call: Callable[[Any, int], Any], guess: int = 0) -> tuple[
 
     The call takes an array and its capacity. `guess` is the initial capacity; if it is too small, the call is repeated with enough.
     """
-    room = _room(kind, guess)
+    room = room_for(kind, guess)
     count = count_of(call(room, guess))
     if count > guess:
-        room = _room(kind, count)
+        room = room_for(kind, count)
         count_of(call(room, count))
     return room, count
 
@@ -209,7 +228,7 @@ def listed_twice(first: Any, second: Any, call: Callable[[Any, int, Any, int, An
     """
     other_len = ctypes.c_uint64(0)
     while True:
-        room, other = _room(first, guesses[0]), _room(second, guesses[1])
+        room, other = room_for(first, guesses[0]), room_for(second, guesses[1])
         count = count_of(call(room, guesses[0], other, guesses[1], ctypes.byref(other_len)))
         if count <= guesses[0] and other_len.value <= guesses[1]:
             return room, count, other, other_len.value

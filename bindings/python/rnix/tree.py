@@ -12,7 +12,7 @@ from typing import TYPE_CHECKING, Any, Generic, Iterable, Iterator, TypeVar, ove
 from rnix import library
 from rnix.errors import ParseError, errors_of
 from rnix.kinds import PATHS, TRIVIA
-from rnix.library import KINDS, LIBRARY, NO_NUMBER
+from rnix.library import KINDS, LIBRARY, NO_PARENT
 
 if TYPE_CHECKING:
     from rnix.ast import Root
@@ -20,12 +20,12 @@ if TYPE_CHECKING:
 T = TypeVar("T")
 E = TypeVar("E", bound="Element")
 
-# The layout of struct rnix_element, in bytes and counted in 64-bit numbers: start, end, parent and inside have 64 bits, kind and is_token 32.
-_LONGS = 5
-_SIZE = 8 * _LONGS
+# The layout of struct rnix_range and struct rnix_link, in numbers of 32 bits: start and end; parent, inside, and one for kind and is_token.
+_RANGE, _LINK = 2, 3
+_SIZE = 4
 
-# The byte of an element that has its kind, since kinds are below 256: the lowest byte of the number.
-_KIND = library.Element.kind.offset + (0 if sys.byteorder == "little" else 3)
+# The byte of a link that has the kind, since kinds are below 256: the lower byte of the number.
+_KIND = library.Link.kind.offset + (0 if sys.byteorder == "little" else 1)
 
 # How many values a byte has.
 _ALL_BYTES = 256
@@ -45,15 +45,19 @@ class Tree:
     def __init__(self, source: bytes) -> None:
         count = ctypes.c_uint64(0)
         faults = (library.Fault * _ERRORS)()
-        room, length = library.listed(
-            library.Element,
-            lambda room, room_len: LIBRARY.rnix_parse(source, len(source), room, room_len, faults, _ERRORS, ctypes.byref(count)),
-            guess=2 * len(source) + 8,
-        )
-        whole = memoryview(room).cast("B")[: ctypes.sizeof(library.Element) * length]
-        longs = whole.cast("Q")
-        self._starts, self._ends, self._parents, self._insides = (longs[column::_LONGS] for column in range(_LONGS - 1))
-        self._kinds = whole[_KIND::_SIZE].tobytes()
+        links: Any = None
+
+        def parse(ranges: Any, room: int) -> Any:
+            nonlocal links
+            links = library.room_for(library.Link, room)
+            return LIBRARY.rnix_parse_compact(source, len(source), ranges, room, links, room, faults, _ERRORS, ctypes.byref(count))
+
+        ranges, length = library.listed(library.Range, parse, guess=2 * len(source) + 8)
+        range_bytes = memoryview(ranges).cast("B")[: _SIZE * _RANGE * length]
+        link_bytes = memoryview(links).cast("B")[: _SIZE * _LINK * length]
+        self._starts, self._ends = (range_bytes.cast("I")[column::_RANGE] for column in range(_RANGE))
+        self._parents, self._insides = (link_bytes.cast("I")[column::_LINK] for column in range(_LINK - 1))
+        self._kinds = link_bytes[_KIND :: _SIZE * _LINK].tobytes()
         self.source = source
         self.errors: list[ParseError] = errors_of(source, faults, count.value) if count.value else []
         self._line_starts: list[int] | None = None
@@ -174,7 +178,7 @@ class Element:
         """The parent, or None for the root."""
         tree = self.tree
         number = tree._parents[self._number]
-        parent: Any = None if number == NO_NUMBER else _CLASSES[tree._kinds[number]](tree, number)
+        parent: Any = None if number == NO_PARENT else _CLASSES[tree._kinds[number]](tree, number)
         return parent  # type: ignore[no-any-return]
 
     @property

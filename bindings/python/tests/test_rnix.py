@@ -284,6 +284,8 @@ class Header(unittest.TestCase):
         types = {
             "rnix_token": library.Token,
             "rnix_element": library.Element,
+            "rnix_range": library.Range,
+            "rnix_link": library.Link,
             "rnix_error": library.Fault,
             "rnix_part": library.Part,
             "rnix_string_part": library.StringPart,

@@ -1,10 +1,11 @@
 //! The functions that `bindings/rnix.h` declares, and a wrapper for those that fill an array.
 
 use crate::error::Refused;
+use crate::SyntaxKind;
 use std::cell::Cell;
 
 /// The version of the interface that this file declares.
-pub const VERSION: u32 = 3;
+pub const VERSION: u32 = 4;
 
 /// Negative results: why a call was refused.
 pub const NOT_UTF8: i64 = -1;
@@ -15,6 +16,9 @@ pub const DIFFERENT: i64 = -6;
 
 /// The value of an offset or number that is absent.
 pub const NO_NUMBER: u64 = u64::MAX;
+
+/// The parent of the root.
+pub const NO_PARENT: u32 = u32::MAX;
 
 /// How many kinds an error can want.
 pub const WANTED_ROOM: usize = 16;
@@ -31,16 +35,22 @@ pub struct Token {
     pub kind: u32,
 }
 
-/// An element of a tree: 40 bytes.
+/// The range of an element: 8 bytes.
 #[repr(C)]
 #[derive(Clone, Copy, Debug)]
-pub struct Element {
-    pub start: u64,
-    pub end: u64,
-    pub parent: u64,
-    pub inside: u64,
-    pub kind: u32,
-    pub is_token: u32,
+pub struct Range {
+    pub start: u32,
+    pub end: u32,
+}
+
+/// The rest of an element: 12 bytes. The library writes numbers of kinds alone, so that the kind is one.
+#[repr(C)]
+#[derive(Clone, Copy, Debug)]
+pub struct Link {
+    pub parent: u32,
+    pub inside: u32,
+    pub kind: SyntaxKind,
+    pub is_token: u16,
 }
 
 /// An error: 40 bytes.
@@ -102,11 +112,13 @@ pub struct Reference {
 extern "C" {
     pub fn rnix_version() -> u32;
     pub fn rnix_tokens(text: *const u8, len: usize, tokens: *mut Token, room: usize) -> i64;
-    pub fn rnix_parse(
+    fn rnix_parse_compact(
         text: *const u8,
         len: usize,
-        elements: *mut Element,
-        element_room: usize,
+        ranges: *mut Range,
+        range_room: usize,
+        links: *mut Link,
+        link_room: usize,
         errors: *mut Fault,
         error_room: usize,
         error_count: *mut u64,
@@ -155,7 +167,7 @@ pub fn count_of(result: i64) -> Result<usize, Refused> {
 ///
 /// # Safety
 /// The call must return the length of the list, and write as much of it to the start of its array as there is room for.
-pub unsafe fn listed<T: Copy>(guess: usize, call: impl Fn(*mut T, usize) -> i64) -> Result<Vec<T>, Refused> {
+pub unsafe fn listed<T: Copy>(guess: usize, mut call: impl FnMut(*mut T, usize) -> i64) -> Result<Vec<T>, Refused> {
     let mut list: Vec<T> = Vec::new();
     // If there is no memory for the guess, the first call only counts.
     let _ = list.try_reserve_exact(guess);
@@ -177,7 +189,7 @@ pub unsafe fn listed<T: Copy>(guess: usize, call: impl Fn(*mut T, usize) -> i64)
 /// The call must return the length of the first list and write that of the second, and write as much of each as there is room for.
 pub unsafe fn listed_twice<A: Copy, B: Copy>(
     guesses: (usize, usize),
-    call: impl Fn(*mut A, usize, *mut B, usize, *mut u64) -> i64,
+    mut call: impl FnMut(*mut A, usize, *mut B, usize, *mut u64) -> i64,
 ) -> Result<(Vec<A>, Vec<B>), Refused> {
     let mut other: Vec<B> = Vec::new();
     let _ = other.try_reserve_exact(guesses.1);
@@ -201,10 +213,45 @@ pub unsafe fn listed_twice<A: Copy, B: Copy>(
     }
 }
 
+/// The elements of a tree, in two lists of one length, and its errors.
+pub struct Parsed {
+    pub ranges: Vec<Range>,
+    pub links: Vec<Link>,
+    pub errors: Vec<Fault>,
+}
+
+/// Parses a text. The guesses are the initial capacities for the elements and for the errors.
+pub fn parsed(text: &str, guesses: (usize, usize)) -> Result<Parsed, Refused> {
+    let mut links: Vec<Link> = Vec::new();
+    // SAFETY: the call fills its arrays as `listed_twice` requires.
+    let (ranges, errors) = unsafe {
+        listed_twice(guesses, |ranges, len, errors, error_room, error_count| {
+            if links.try_reserve_exact(len).is_err() {
+                return NO_MEMORY;
+            }
+            let room = links.as_mut_ptr();
+            rnix_parse_compact(
+                text.as_ptr(),
+                text.len(),
+                ranges,
+                len,
+                room,
+                len,
+                errors,
+                error_room,
+                error_count,
+            )
+        })
+    }?;
+    // SAFETY: the last call had room for all elements in both arrays, and has initialized as many in one as in the other.
+    unsafe { links.set_len(ranges.len()) };
+    Ok(Parsed { ranges, links, errors })
+}
+
 #[cfg(test)]
 mod tests {
     use super::*;
-    use crate::{ParseError, Root, SyntaxKind};
+    use crate::{ParseError, Root};
     use std::mem::{align_of, size_of};
 
     extern "C" {
@@ -215,7 +262,8 @@ mod tests {
     #[test]
     fn structs_have_the_sizes_of_the_header() {
         assert_eq!((size_of::<Token>(), align_of::<Token>()), (24, 8));
-        assert_eq!((size_of::<Element>(), align_of::<Element>()), (40, 8));
+        assert_eq!((size_of::<Range>(), align_of::<Range>()), (8, 4));
+        assert_eq!((size_of::<Link>(), align_of::<Link>()), (12, 4));
         assert_eq!((size_of::<Fault>(), align_of::<Fault>()), (40, 8));
         assert_eq!((size_of::<StringPart>(), align_of::<StringPart>()), (32, 8));
         assert_eq!((size_of::<Diagnostic>(), align_of::<Diagnostic>()), (32, 8));

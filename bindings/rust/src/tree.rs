@@ -1,30 +1,18 @@
 //! A text and the elements of its tree, which nodes and tokens share.
 
 use crate::error::{errors_of, ParseError, Refused};
+use crate::ffi::{self, Link, Range, NO_PARENT};
 use crate::strings::Strings;
-use crate::{ffi, SyntaxKind, TextRange, TextSize};
+use crate::{SyntaxKind, TextRange, TextSize};
 use std::sync::{Arc, OnceLock};
 
-/// The parent of the root.
-const NO_PARENT: u32 = u32::MAX;
-
-/// An element of a tree, in 20 bytes.
-#[derive(Clone, Copy, Debug)]
-struct Record {
-    start: u32,
-    end: u32,
-    parent: u32,
-    // The number of elements in its subtree, itself excluded.
-    inside: u32,
-    kind: SyntaxKind,
-    is_token: bool,
-}
-
-/// A text and its elements in preorder. An element is identified by its index; the root is 0.
+/// A text and its elements in preorder. An element is identified by its index; the root is 0. Walks over ranges read 8 bytes of each element, and
+/// other walks 12.
 #[derive(Debug)]
 pub(crate) struct Tree {
     text: Box<str>,
-    records: Box<[Record]>,
+    ranges: Box<[Range]>,
+    links: Box<[Link]>,
     // The tree of which this one is a copy of the subtree of a node.
     origin: Option<(Arc<Tree>, u32)>,
     // The parts of all strings, once they have been read.
@@ -39,50 +27,21 @@ fn initial_capacity(text: &str) -> usize {
 // Initial capacity for errors.
 const ERRORS: usize = 16;
 
-// The record of an element. Its numbers fit in 32 bits: the library refuses texts of 2^32 bytes and trees of as many elements.
-#[inline]
-fn record(element: &ffi::Element) -> Record {
-    Record {
-        start: element.start as u32,
-        end: element.end as u32,
-        parent: if element.parent == ffi::NO_NUMBER {
-            NO_PARENT
-        } else {
-            element.parent as u32
-        },
-        inside: element.inside as u32,
-        kind: SyntaxKind::at(element.kind),
-        is_token: element.is_token == 1,
-    }
-}
-
 impl Tree {
     /// Parses a text.
     pub(crate) fn read(text: &str) -> Result<(Tree, Vec<ParseError>), Refused> {
         // SAFETY: the function takes no pointers.
         let version = unsafe { ffi::rnix_version() };
         assert_eq!(version, ffi::VERSION, "librnix.a is of another version than this crate");
-        // SAFETY: the call fills its arrays as `listed_twice` requires.
-        let (elements, faults) = unsafe {
-            ffi::listed_twice(
-                (initial_capacity(text), ERRORS),
-                |room, len, errors, error_room, error_count| {
-                    ffi::rnix_parse(text.as_ptr(), text.len(), room, len, errors, error_room, error_count)
-                },
-            )
-        }?;
-        let errors = errors_of(text, &faults);
-        let mut records = Vec::new();
-        records
-            .try_reserve_exact(elements.len())
-            .map_err(|_| Refused::NoMemory)?;
-        records.extend(elements.iter().map(record));
+        let parsed = ffi::parsed(text, (initial_capacity(text), ERRORS))?;
+        let errors = errors_of(text, &parsed.errors);
         let mut copy = String::new();
         copy.try_reserve_exact(text.len()).map_err(|_| Refused::NoMemory)?;
         copy.push_str(text);
         let tree = Tree {
             text: copy.into(),
-            records: records.into(),
+            ranges: parsed.ranges.into(),
+            links: parsed.links.into(),
             origin: None,
             strings: OnceLock::new(),
         };
@@ -90,33 +49,33 @@ impl Tree {
     }
 
     #[inline]
-    fn record(&self, number: u32) -> &Record {
-        &self.records[number as usize]
+    fn link(&self, number: u32) -> &Link {
+        &self.links[number as usize]
     }
 
     /// Returns the number of elements.
     #[inline]
     pub(crate) fn count(&self) -> u32 {
-        self.records.len() as u32
+        self.links.len() as u32
     }
 
     /// Returns whether an element is a token.
     #[inline]
     pub(crate) fn is_token(&self, number: u32) -> bool {
-        self.record(number).is_token
+        self.link(number).is_token != 0
     }
 
     /// Returns the kind of an element.
     #[inline]
     pub(crate) fn kind(&self, number: u32) -> SyntaxKind {
-        self.record(number).kind
+        self.link(number).kind
     }
 
     /// Returns the range of an element.
     #[inline]
     pub(crate) fn range(&self, number: u32) -> TextRange {
-        let record = self.record(number);
-        TextRange::new(TextSize::new(record.start), TextSize::new(record.end))
+        let range = &self.ranges[number as usize];
+        TextRange::new(TextSize::new(range.start), TextSize::new(range.end))
     }
 
     /// Returns the text of an element.
@@ -128,14 +87,14 @@ impl Tree {
     /// Returns the parent of an element, or `None` for the root.
     #[inline]
     pub(crate) fn parent(&self, number: u32) -> Option<u32> {
-        let parent = self.record(number).parent;
+        let parent = self.link(number).parent;
         (parent != NO_PARENT).then_some(parent)
     }
 
     /// Returns the number of the first element after the subtree of `number`.
     #[inline]
     pub(crate) fn end(&self, number: u32) -> u32 {
-        number + 1 + self.record(number).inside
+        number + 1 + self.link(number).inside
     }
 
     // The elements from a child of a node to the end of the node, without their subtrees.
@@ -227,7 +186,7 @@ impl Tree {
 
     /// Returns how many elements start before an offset. They come first, since starts ascend in preorder.
     pub(crate) fn count_before(&self, offset: TextSize) -> u32 {
-        self.records.partition_point(|record| record.start < offset.into()) as u32
+        self.ranges.partition_point(|range| range.start < offset.into()) as u32
     }
 
     /// Returns the parts of the string that has a number, where `None` stands for an interpolation. All strings of the text are read once.
@@ -253,21 +212,21 @@ impl Tree {
 
     /// Returns the subtree of a node as a tree of its own, with offsets from 0.
     pub(crate) fn subtree(self: &Arc<Tree>, node: u32) -> Tree {
-        let base = self.record(node).start;
-        let moved = |record: &Record| Record {
-            start: record.start - base,
-            end: record.end - base,
-            parent: record.parent.wrapping_sub(node),
-            ..*record
-        };
-        let mut records: Vec<Record> = self.records[node as usize..self.end(node) as usize]
-            .iter()
-            .map(moved)
-            .collect();
-        records[0].parent = NO_PARENT;
+        let base = self.ranges[node as usize].start;
+        let numbers = node as usize..self.end(node) as usize;
+        let ranges = self.ranges[numbers.clone()].iter().map(|range| Range {
+            start: range.start - base,
+            end: range.end - base,
+        });
+        let mut links: Box<[Link]> = self.links[numbers].into();
+        for link in links.iter_mut() {
+            link.parent = link.parent.wrapping_sub(node);
+        }
+        links[0].parent = NO_PARENT;
         Tree {
             text: self.text(node).into(),
-            records: records.into(),
+            ranges: ranges.collect(),
+            links,
             origin: Some((Arc::clone(self), node)),
             strings: OnceLock::new(),
         }

@@ -1,6 +1,6 @@
 -- Arrays that are filled from the front.
 use Rattle.std.proofs.Common.{◌≡◌, ℕ, zero, suc, ◌+◌, ◌<◌, ◌≤◌, min, List, [], ◌∷◌, ◌++◌, length, take, get_or, refl, sym, ap, ◌∙◌, arith, add-one}
-use Rattle.std.proofs.{Math.{ListN.set, Seq.{take-nil, drop-nil}}}
+use Rattle.std.proofs.{Common.{inl, inr}, Math.{ListN.set, Seq.{take-nil, drop-nil}}, lemmas.{Bool.cases_lt, List.set_past}}
 use Rattle.rnix_c.specs.Answers.{filled}
 
 -- with nothing to write, the room stays as it was
@@ -33,6 +33,20 @@ filled-more n things room now x l m is e =
 pub filled-past : {A : Type 0} → (n : ℕ) (things room now : List A) → length room ≤ n → now ≡ filled (take n things) room →
     now ≡ filled (take (n + 1) things) room
 filled-past n things room now l is = is ∙ filled-beyond n things room l ∙ sym (filled-beyond (n + 1) things room (omega arith))
+
+-- what is written leaves an array's length as it is
+length-filled : {A : Type 0} → (things room : List A) → length (filled things room) ≡ length room
+length-filled {A = A} [] room = ap (length {A = A}) (sym (filled-none room))
+length-filled {A = A} (x ∷ things) [] = ap (length {A = A}) (drop-nil (length (x ∷ things)))
+length-filled (x ∷ things) (r ∷ room) = ap suc (length-filled things room)
+
+-- the next thing is written if there is room for it
+pub filled-next : {A : Type 0} → (n : ℕ) (things room now : List A) (x : A) → n < length things → now ≡ filled (take n things) room → x ≡ get_or things n x
+    → set now n x ≡ filled (take (n + 1) things) room
+filled-next {A = A} n things room now x l is e = elim (cases_lt n (length room)) [
+  | inl less ↦ filled-more n things room now x l less is e
+  | inr more ↦ set_past now n x (omega (arith, ap (length {A = A}) is, length-filled (take n things) room, more)) ∙ filled-past n things room now more is
+]
 
 -- the array is filled once all things are written, or all the room is
 pub filled-all : {A : Type 0} → (n : ℕ) (things room : List A) → min (length things) (length room) ≤ n → filled (take n things) room ≡ filled things room

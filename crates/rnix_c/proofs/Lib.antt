@@ -3,6 +3,7 @@ pub mod FewElements
 pub mod FilledLemmas
 pub mod KindNames
 pub mod NumberedSpots
+pub mod ShortTrees
 pub mod WrittenNames
 pub mod WrittenParts
 pub mod WrittenTokens

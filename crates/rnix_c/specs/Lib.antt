@@ -1,5 +1,6 @@
 pub mod AllStrings
 pub mod Answers
+pub mod CompactElements
 pub mod Diagnostics
 pub mod Elements
 pub mod Errors

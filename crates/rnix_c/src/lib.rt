@@ -5,6 +5,7 @@ ghost use Rattle.std.specs.Prelude.{◌≡◌};
 
 mod all_strings;
 mod answers;
+mod compact;
 mod diagnostics;
 mod elements;
 mod errors;
@@ -20,7 +21,7 @@ mod tree;
 /// The number of this interface. It changes where a function, a struct or the number of a kind does.
 #[unsafe(no_mangle)]
 pub extern "C" fn rnix_version() -> u32
-    ensures { result ≡ 3 }
+    ensures { result ≡ 4 }
 {
-    3
+    4
 }
