@@ -28,7 +28,8 @@ pub word_listed : (text rest list word next new : List ℕ) → ListedBefore tex
     new ≡ list ++ item_text word → ListedBefore text next new
 word_listed text rest list word next new before item is = record {
   seen = before.seen ++ (word ∷ []);
-  words = λ more are. subst (AreWords text) (sym (append_assoc before.seen (word ∷ []) more)) (before.words (word ∷ more) (next, word_of rest word next item, are));
+  words = λ more are. subst (AreWords text) (sym (append_assoc before.seen (word ∷ []) more))
+      (before.words (word ∷ more) (next, word_of rest word next item, are));
   list_is = is ∙ ap (λ l. l ++ item_text word) before.list_is ∙ flat_map_more item_text (codes "[ ") before.seen word;
 }
 
@@ -45,6 +46,8 @@ pub all_listed : (text rest list new : List ℕ) → ListedBefore text rest list
 all_listed text rest list new before none is = record {
   words = before.seen;
   are_words = subst (AreWords text) (append-nil before.seen) (before.words [] none);
-  text_is = is ∙ ap (λ l. list ++ l) (encode_ascii 93 (omega arith)) ∙ ap (λ l. l ++ codes "]") before.list_is ∙ append_assoc (codes "[ ") (flat_map item_text before.seen) (codes "]");
+  text_is =
+      is ∙ ap (λ l. list ++ l) (encode_ascii 93 (omega arith)) ∙ ap (λ l. l ++ codes "]") before.list_is
+      ∙ append_assoc (codes "[ ") (flat_map item_text before.seen) (codes "]");
   are_quoted = λ word. is_quoted word (quoted_text word) refl;
 }

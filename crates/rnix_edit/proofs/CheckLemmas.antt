@@ -1,5 +1,5 @@
 -- Tests of several facts.
-use Rattle.std.proofs.Common.{◌≡◌, ℕ, ◌≤◌, Bool, true, List, length, take, drop, ◌++◌, sym, ◌∙◌, subst}
+use Rattle.std.proofs.Common.{◌≡◌, ℕ, ◌≤◌, Bool, true, length, take, drop, ◌++◌, sym, ◌∙◌, subst}
 use Rattle.std.proofs.lemmas.Bool.Decides.{Decides-like, Decides-and}
 use Rattle.std.specs.{Prelude.◌&&◌, Bool.Decides, List.list_all}
 use Rattle.rnix_green.specs.Tree.{Located}

@@ -1,9 +1,8 @@
 -- What goes with a node, and where a new one is put, in small texts; by computation. An entry of a set is one token here.
-use Rattle.std.proofs.Common.{◌≡◌, ℕ, List, [], ◌≤◌, refl, codes, arith}
+use Rattle.std.proofs.Common.{◌≡◌, ℕ, List, [], refl, codes, arith}
 use Rattle.std.proofs.lemmas.Bool.{false≢true}
 use Rattle.rnix_kinds.specs.declared.kinds.SyntaxKind.TheVariants as k
 use Rattle.rnix_green.specs.{Forest.{Forest, empty, leaf, node}, Tree.Located}
-use Rattle.rnix_edit.specs.declared.place.Place.{Place}
 use Rattle.rnix_edit.specs.{Steps.place_of, EditRanges.{Gap, cut_of, gap_after, gap_inside, put_in}, Edited.{spliced, place_at, IsLastIn}}
 
 -- an element of the tree of a text

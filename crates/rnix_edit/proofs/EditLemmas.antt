@@ -1,5 +1,5 @@
 -- What was tested of a text with one change that was read again.
-use Rattle.std.proofs.Common.{◌≡◌, ℕ, Bool, false, List, [], ◌∷◌, ◌++◌, length, sym, ap, ◌∙◌, subst, arith}
+use Rattle.std.proofs.Common.{◌≡◌, ℕ, false, List, [], ◌∷◌, ◌++◌, length, sym, ap, ◌∙◌, subst, arith}
 use Rattle.std.proofs.lemmas.{List.length-append, Bool.false≢true}
 use Rattle.rnix_kinds.specs.Lexical.Tokens.{tokens_of}
 use Rattle.rnix_green.specs.Tree.{Located}

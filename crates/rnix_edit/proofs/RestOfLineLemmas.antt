@@ -1,5 +1,5 @@
 -- The elements after a node on its line, and those in it.
-use Rattle.std.proofs.Common.{◌≡◌, ℕ, ◌<◌, Bool, true, false, List, [], ◌∷◌, length, drop, Option, Some, None, refl, sym, ap, ◌∙◌, arith}
+use Rattle.std.proofs.Common.{◌≡◌, ℕ, ◌<◌, true, false, List, ◌∷◌, length, drop, Option, Some, None, sym, ap, ◌∙◌, arith}
 use Rattle.std.proofs.lemmas.Bool.Decides.{nat_tests}
 use Rattle.std.specs.{Prelude.{◌-◌, nat_lt, if◌then◌else◌}, List.{position_or_len, after_first}, Iterator.YieldsFirstBy}
 use Rattle.rnix_green.specs.{Tree.{Located, item_of, text_at}, Walk.Spot}

@@ -26,13 +26,13 @@ cut_with_rest text start rest =
     else cut (blanks_start text start) rest.end rest.comments
 
 -- what goes with a node, by its range and by what follows it on its line
-abbrev pub cut_by : List ℕ → ℕ → ℕ → Option RestOfLine → Cut
-cut_by text start end None = cut_in_line text start end
-cut_by text start end (Some rest) = cut_with_rest text start rest
+abbrev pub cut_of_range : List ℕ → ℕ → ℕ → Option RestOfLine → Cut
+cut_of_range text start end None = cut_in_line text start end
+cut_of_range text start end (Some rest) = cut_with_rest text start rest
 
 -- the range that is removed with a node, and the number of comments in it
 abbrev pub cut_of : List ℕ → Located → Cut
-cut_of text node = cut_by text (item_of node).start (item_of node).end (rest_of_line node)
+cut_of text node = cut_of_range text (item_of node).start (item_of node).end (rest_of_line node)
 
 -- a gap in a text for a new text: the bytes from start up to end, in whose place others are put before and after the new text; and the number of
 -- comments between a node and the gap
@@ -59,13 +59,13 @@ gap_on_next_line text start rest = record {
 
 -- the gap after a node, by its range and by what follows it on its line: on the next line if the node is the first in its line, and nothing but
 -- comments follows it there
-abbrev pub gap_by : List ℕ → ℕ → ℕ → Option RestOfLine → Gap
-gap_by text start end None = gap_in_line end
-gap_by text start end (Some rest) = if begins_line text (blanks_start text start) then gap_on_next_line text start rest else gap_in_line end
+abbrev pub gap_after_range : List ℕ → ℕ → ℕ → Option RestOfLine → Gap
+gap_after_range text start end None = gap_in_line end
+gap_after_range text start end (Some rest) = if begins_line text (blanks_start text start) then gap_on_next_line text start rest else gap_in_line end
 
 -- the gap after a node
 abbrev pub gap_after : List ℕ → Located → Gap
-gap_after text node = gap_by text (item_of node).start (item_of node).end (rest_of_line node)
+gap_after text node = gap_after_range text (item_of node).start (item_of node).end (rest_of_line node)
 
 -- the gap at the line of a closing bracket: the new text gets that line's indentation, two spaces more, and a line break
 abbrev pub gap_above : List ℕ → ℕ → Gap

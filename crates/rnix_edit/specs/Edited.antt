@@ -1,12 +1,11 @@
 -- The new text of an edit: read again, it has the old tree around the edited place.
-use Rattle.std.specs.Prelude.{◌≡◌, ◌≢◌, ℕ, ◌+◌, ◌≤◌, Bool, true, List, [], ◌++◌, length, take, drop, string_bytes}
+use Rattle.std.specs.Prelude.{◌≡◌, ◌≢◌, ℕ, ◌+◌, ◌≤◌, true, List, [], ◌++◌, length, take, drop, string_bytes}
 use Rattle.std.specs.List.{list_all}
 use Rattle.rnix_kinds.specs.declared.kinds.SyntaxKind.{SyntaxKind}
 use Rattle.rnix_kinds.specs.Lexical.Tokens.{tokens_of}
 use Rattle.rnix_green.specs.Tree.{Tree, Located, item_of}
-use Rattle.rnix_grammar.specs.Fault.{Fault}
 use Rattle.rnix_grammar.specs.Parsed.{IsParsed}
-use Rattle.rnix.specs.ParseResult.{Reading, root_of}
+use Rattle.rnix.specs.ParseResult.{Reading}
 use Rattle.rnix_text.specs.Changes.{IsInside, IsBetween}
 use Rattle.rnix_edit.specs.declared.place.Place.{Place}
 use Rattle.rnix_edit.specs.declared.edited.Edited.{Edited}

@@ -1,7 +1,7 @@
 //! Where new nodes go.
 
 ghost use Rattle.std.specs.Prelude.{◌≡◌, IfOk};
-ghost use Rattle.rnix_edit.specs.EditRanges.{gap_in_line, gap_on_next_line, gap_by, gap_after, gap_above, gap_before, gap_at_closing, gap_inside};
+ghost use Rattle.rnix_edit.specs.EditRanges.{gap_in_line, gap_on_next_line, gap_after_range, gap_after, gap_above, gap_before, gap_at_closing, gap_inside};
 ghost use Rattle.rnix_edit.specs.Tried.{gap_of};
 
 use crate::blanks::{begins_line, blanks_before, blanks_start, line_break_before};
@@ -55,14 +55,14 @@ fn gap_on_next_line(
 }
 
 // Returns the gap after a node with this range and this rest of its line.
-fn gap_by(
+fn gap_after_range(
     alloc: Global,
     text: &str,
     start: usize,
     end: usize,
     rest: Option<RestOfLine>,
 ) -> Result<Gap, AllocError>
-    ensures { IfOk result (λ gap. gap_of gap ≡ gap_by text.now start end rest) }
+    ensures { IfOk result (λ gap. gap_of gap ≡ gap_after_range text.now start end rest) }
 {
     match rest {
         Some(rest) => {
@@ -81,7 +81,7 @@ pub fn gap_after(alloc: Global, text: &str, node: &SyntaxNode<'_>) -> Result<Gap
     ensures { IfOk result (λ gap. gap_of gap ≡ gap_after text.now node.now) }
 {
     let range = node.text_range();
-    gap_by(alloc, text, range.start(), range.end(), rest_of_line(node))
+    gap_after_range(alloc, text, range.start(), range.end(), rest_of_line(node))
 }
 
 // Returns the gap above the line of a closing bracket.

@@ -3,7 +3,7 @@
 ghost use Rattle.std.specs.Prelude.{◌≡◌, ◌<◌, ◌^◌, length};
 ghost use Rattle.rnix_green.specs.Tree.{item_of};
 ghost use Rattle.rnix_tree.specs.Spots.{spot_of};
-ghost use Rattle.rnix_edit.specs.Line.{second_line, token_part, part_of, rest_from, siblings_after, rest_of_line, token_start, closing_start};
+ghost use Rattle.rnix_edit.specs.Line.{second_line, token_part, part_of, siblings_after, rest_of_line, token_start, closing_start};
 
 use rnix::{
     Direction, NodeOrToken, SiblingsWithTokens, SyntaxElement, SyntaxKind, SyntaxNode, SyntaxToken,

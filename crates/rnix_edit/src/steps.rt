@@ -5,7 +5,7 @@ ghost use Rattle.rnix_green.specs.Tree.{item_of, text_at};
 ghost use Rattle.std.specs.Bool.{Decides};
 ghost use Rattle.std.specs.List.{list_all};
 ghost use Rattle.rnix_tree.specs.Spots.{event_of};
-ghost use Rattle.rnix_edit.specs.Steps.{step_of, token_steps, node_step, step_at, steps_of, steps_in, enters, leaves, events_before, events_after, steps_before, steps_after, is_comment, enters_first};
+ghost use Rattle.rnix_edit.specs.Steps.{step_of, token_steps, node_step, step_at, steps_of, steps_in, enters, leaves, events_after, steps_before, steps_after, is_comment, enters_first};
 
 use crate::place::{Place, is_at};
 use rnix::{

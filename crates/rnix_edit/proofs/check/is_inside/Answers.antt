@@ -1,5 +1,5 @@
-use Rattle.std.proofs.Common.{rules, ◌≡◌, ◌≤◌, ◌∙◌, map, length, drop, ap, subst, arith}
-use Rattle.std.proofs.lemmas.List.{length-map, drop-map}
+use Rattle.std.proofs.Common.{rules, ◌≡◌, ◌≤◌, map, length, drop, ap}
+use Rattle.std.proofs.lemmas.List.{length-map}
 use Rattle.std.specs.Bool.{Decides}
 use Rattle.rnix_edit.specs.Steps.{step_of, steps_after, enters_first}
 use Rattle.rnix_edit.proofs.CheckLemmas.{inside_tested}

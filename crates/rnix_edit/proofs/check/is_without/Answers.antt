@@ -1,4 +1,4 @@
-use Rattle.std.proofs.Common.{rules, ◌≡◌, ◌≤◌, ◌++◌, ◌∙◌, map, length, take, drop, ap, subst, arith}
+use Rattle.std.proofs.Common.{rules, ◌≡◌, ◌≤◌, ◌++◌, map, length, take, drop, ap}
 use Rattle.std.proofs.lemmas.List.{length-map}
 use Rattle.std.specs.{Bool.Decides, List.list_all}
 use Rattle.rnix_edit.specs.Steps.{step_of, steps_in, steps_before, steps_after, is_comment}

@@ -1,5 +1,4 @@
 use Rattle.std.proofs.{Common.{rules, ◌≡◌, ◌∙◌, sym, subst, string_bytes}, lemmas.Bool.false≢true}
-use Rattle.rnix_green.specs.Tree.{Located}
 use Rattle.rnix.specs.ParseResult.{root_of}
 use Rattle.rnix_edit.specs.declared.edited.Refusal.TheVariants as refusal
 use Rattle.rnix_edit.specs.{Steps.place_of, EditRanges.put_in, Edited.{spliced, IsLastIn, IsTreeInside, IsFilled, IsNotFilled}}

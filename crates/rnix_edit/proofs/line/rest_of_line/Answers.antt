@@ -1,4 +1,4 @@
-use Rattle.std.proofs.Common.{◌≡◌, ◌+◌, ◌∙◌, sym, ap, length, arith}
+use Rattle.std.proofs.Common.{◌+◌, ◌∙◌, sym, ap, length, arith}
 use Rattle.rnix_tree.specs.Spots.{spot_of}
 use Rattle.rnix_edit.specs.Line.{rest_from, rest_of_line}
 use Rattle.rnix_edit.specs.declared.line.Part.TheVariants as part

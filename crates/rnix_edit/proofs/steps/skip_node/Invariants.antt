@@ -1,4 +1,4 @@
-use Rattle.std.proofs.Common.{◌≡◌, length}
+use Rattle.std.proofs.Common.{◌≡◌}
 use Rattle.rnix_edit.specs.Steps.{events_after}
 use Rattle.rnix_edit.proofs.steps.skip_node.Given as goal
 
