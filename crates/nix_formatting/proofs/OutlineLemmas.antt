@@ -153,7 +153,7 @@ outlines_same old new same = first_same (sym (rebuilt_tree new) ∙ ap rebuilt s
 -- the values of the strings that steps enter
 abbrev values_shown : List Step → List (List ℕ)
 values_shown [] = []
-values_shown (s ∷ ss) = value_if (s.enters && (s.is_node && same_kind s.kind NODE_STRING)) s.shown (values_shown ss)
+values_shown (s ∷ ss) = value_if (s.enters && (s.is_node && same_kind NODE_STRING s.kind)) s.shown (values_shown ss)
 
 -- a string shows its value
 string_shows : (is_string : Bool) (value : List ℕ) (values : List (List ℕ))
@@ -170,8 +170,8 @@ token_no_value false k u ss = refl
 values_are : (events : List Event) → values_shown (steps_of events) ≡ values_in events
 values_are [] = refl
 values_are ((true, (true, e)) ∷ events) =
-    ap (value_if (same_kind (item_of e).kind NODE_STRING) (shown_node true e)) (values_are events)
-    ∙ string_shows (same_kind (item_of e).kind NODE_STRING) (value_of e) (values_in events)
+    ap (value_if (same_kind NODE_STRING (item_of e).kind) (shown_node true e)) (values_are events)
+    ∙ string_shows (same_kind NODE_STRING (item_of e).kind) (value_of e) (values_in events)
 values_are ((false, (true, e)) ∷ events) = values_are events
 values_are ((true, (false, e)) ∷ events) =
     token_no_value (same_kind (item_of e).kind TOKEN_WHITESPACE) (item_of e).kind (shown_token e) (steps_of events) ∙ values_are events

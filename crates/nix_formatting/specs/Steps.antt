@@ -17,7 +17,7 @@ pub record Step : Type 0 where
 
 -- a string shows its value when it is entered; other nodes show nothing
 abbrev pub shown_node : Bool → Located → List ℕ
-shown_node true e = if same_kind (item_of e).kind NODE_STRING then value_of e else []
+shown_node true e = if same_kind NODE_STRING (item_of e).kind then value_of e else []
 shown_node false e = []
 
 -- a token shows its text, except the contents of a string, which show nothing

@@ -40,7 +40,7 @@ value_if false value values = values
 abbrev pub values_in : List Event → List (List ℕ)
 values_in [] = []
 values_in (event ∷ events) =
-    value_if (event.0 && (event.1.0 && same_kind (item_of event.1.1).kind NODE_STRING)) (value_of event.1.1) (values_in events)
+    value_if (event.0 && (event.1.0 && same_kind NODE_STRING (item_of event.1.1).kind)) (value_of event.1.1) (values_in events)
 
 -- the values of all strings of a tree, in preorder
 abbrev pub string_values : Tree → List (List ℕ)

@@ -38,7 +38,7 @@ fn read_alike(text: &str, made: &str)
 }
 
 // Returns the new text if it has no errors, and a tree that differs from the old one only in white space and in the indentation of strings.
-#[tactic(auto, using(crate::proofs::OutcomeLemmas::reindented, crate::proofs::OutcomeLemmas::faultless))]
+#[tactic(auto, using(crate::proofs::OutcomeLemmas::faultless))]
 fn with_same_steps(
     alloc: Global,
     text: &str,
