@@ -1,5 +1,5 @@
 -- What the result of formatting a text says of the text.
-use Rattle.std.proofs.Common.{◌≡◌, ℕ, List, [], refl, inl, inr, subst}
+use Rattle.std.proofs.Common.{◌≡◌, ℕ, List, [], ◌∷◌, length, refl, inl, inr, subst, arith}
 use Rattle.rnix_kinds.specs.Lexical.Tokens.{tokens_of}
 use Rattle.rnix_green.specs.Tree.{Tree}
 use Rattle.rnix_grammar.specs.{Fault.Fault, Reading.IsReading, Parsed.IsParsed}
@@ -41,3 +41,8 @@ reindented old new before after ds es old_parsed old_none new_parsed new_none st
   trees = outlines_same before after steps;
   values = values_same before after steps;
 }
+
+-- a list of no elements
+pub nil_from_length : {A : Type 0} (xs : List A) → length xs ≡ 0 → xs ≡ []
+nil_from_length [] e = refl
+nil_from_length (x ∷ xs) e = absurd (omega (arith, e))
