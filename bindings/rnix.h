@@ -407,7 +407,7 @@ int64_t rnix_names(const uint8_t *text, size_t len, struct rnix_binding *binding
 
 /*
  * Writes a text without errors in the style of Nixpkgs, in UTF-8, without a terminating zero: the same tokens, comments included, with other white
- * space between them. The new text is read as the same tree but for white space.
+ * space between them, and other indentation of strings in '', whose values stay the same. The new text is read as the same tree but for these.
  * Returns the number of bytes. Refusals: RNIX_NOT_UTF8, RNIX_TOO_LONG, RNIX_NO_MEMORY; RNIX_HAS_ERRORS, RNIX_DIFFERENT.
  */
 int64_t rnix_format(const uint8_t *text, size_t len, uint8_t *buffer, size_t room);

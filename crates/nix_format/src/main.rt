@@ -18,8 +18,9 @@ const PROGRAM: Program = Program {
 nix-format [OPTION..] [FILE..]
 
 Writes Nix files in the style of Nixpkgs. Only white space changes: the tokens of each new text, comments included, are compared with the old ones,
-and the tree is the same. A file with errors stays as it is. A folder means all files in it and below that end with .nix; - and no FILE mean
-standard input, whose new text is printed. Files are replaced: the new text goes to FILE.new, which is then renamed.
+and the tree is the same. Strings in '' are indented with the code, and their values are compared. A file with errors stays as it is. A folder means
+all files in it and below that end with .nix; - and no FILE mean standard input, whose new text is printed. Files are replaced: the new text goes to
+FILE.new, which is then renamed.
 
     --check    change nothing, and print the names of the files that would change
     --diff     change nothing, and print how the files would change, as a unified diff for `patch -p1` and `git apply`

@@ -1,3 +1,6 @@
 pub mod SolidLemmas
 pub mod SpotLemmas
-mod OutcomeLemmas
+pub mod OutcomeLemmas
+pub mod WalkLemmas
+mod StepExamples
+pub mod OutlineLemmas

@@ -1,7 +1,11 @@
 -- What the result of formatting a text says of the text.
-use Rattle.std.proofs.Common.{◌≡◌, ℕ, List, [], refl}
+use Rattle.std.proofs.Common.{◌≡◌, ℕ, List, [], ◌∷◌, length, refl, inl, inr, subst, arith}
 use Rattle.rnix_kinds.specs.Lexical.Tokens.{tokens_of}
+use Rattle.rnix_green.specs.Tree.{Tree}
+use Rattle.rnix_grammar.specs.{Fault.Fault, Reading.IsReading, Parsed.IsParsed}
 use Rattle.rnix_parser.proofs.OneReading.{one_reading}
+use Rattle.nix_formatting.specs.{Relayout.IsRelayout, Steps.steps_in, Reindented.IsReformatted}
+use Rattle.nix_formatting.proofs.OutlineLemmas.{outlines_same, values_same}
 use Rattle.nix_formatting.specs.declared.formatting.Formatting.{Formatting}
 use Rattle.nix_formatting.specs.declared.formatting.Formatting.TheVariants as formatting
 use Rattle.nix_formatting.specs.Formatted.{IsFaultless, IsFaulty, IsOutcome}
@@ -13,6 +17,32 @@ not_both text faulty faultless =
 
 -- the result for a text with errors is `Faulty`
 faulty_exactly : (text : List ℕ) (result : Formatting) → IsOutcome text result → IsFaulty text → result ≡ formatting.Faulty
-faulty_exactly text (formatting.Formatted made) right faulty = absurd (not_both text faulty (right.tree.before, right.tree.old_read))
+faulty_exactly text (formatting.Formatted made) (inl right) faulty = absurd (not_both text faulty (right.tree.before, right.tree.old_read))
+faulty_exactly text (formatting.Formatted made) (inr right) faulty = absurd (not_both text faulty (right.before, right.old_read))
 faulty_exactly text formatting.Faulty right faulty = refl
 faulty_exactly text formatting.Refused right faulty = absurd (not_both text faulty right)
+
+-- a text that is parsed without errors has none
+pub faultless : (text : List ℕ) (tree : Tree) (faults : List Fault) → IsParsed (tokens_of text) tree faults → faults ≡ [] → IsFaultless text
+faultless text tree faults parsed none = (tree, subst (IsReading (tokens_of text) tree) none parsed.reading)
+
+-- only white space differs
+pub relaid_only : (old new : List ℕ) → IsRelayout old new → IsReformatted old new
+relaid_only old new h = inl h
+
+-- both texts are parsed without errors, and walks over their trees have the same steps
+pub reindented : (old new : List ℕ) (before after : Tree) (ds es : List Fault) → IsParsed (tokens_of old) before ds → ds ≡ []
+    → IsParsed (tokens_of new) after es → es ≡ [] → steps_in after ≡ steps_in before → IsReformatted old new
+reindented old new before after ds es old_parsed old_none new_parsed new_none steps = inr record {
+  before = before;
+  after = after;
+  old_read = subst (IsReading (tokens_of old) before) old_none old_parsed.reading;
+  new_read = subst (IsReading (tokens_of new) after) new_none new_parsed.reading;
+  trees = outlines_same before after steps;
+  values = values_same before after steps;
+}
+
+-- a list of no elements
+pub nil_from_length : {A : Type 0} (xs : List A) → length xs ≡ 0 → xs ≡ []
+nil_from_length [] e = refl
+nil_from_length (x ∷ xs) e = absurd (omega (arith, e))

@@ -4,7 +4,7 @@ use Rattle.rnix_kinds.specs.Lexical.Tokens.{tokens_of}
 use Rattle.rnix_green.specs.Tree.{Tree}
 use Rattle.rnix_grammar.specs.Fault.{Fault}
 use Rattle.rnix_grammar.specs.Reading.{IsReading}
-use Rattle.nix_formatting.specs.Relayout.{IsRelayout}
+use Rattle.nix_formatting.specs.Reindented.{IsReformatted}
 use Rattle.nix_formatting.specs.declared.formatting.Formatting.{Formatting}
 use Rattle.nix_formatting.specs.declared.formatting.Formatting.TheVariants as formatting
 
@@ -19,8 +19,9 @@ pub record IsFaulty (text : List ℕ) : Type 0 where
   pub read : IsReading (tokens_of text) tree faults
   pub some : ¬ (faults ≡ [])
 
--- the result is right for a text: a formatted text differs only in white space, and the text has errors exactly if the result is `Faulty`
+-- the result is right for a text: a formatted text differs only in white space and in the indentation of strings in `''`, and the text has errors
+-- exactly if the result is `Faulty`
 abbrev pub IsOutcome : List ℕ → Formatting → Type 0
-IsOutcome text (formatting.Formatted made) = IsRelayout text (string_bytes made)
+IsOutcome text (formatting.Formatted made) = IsReformatted text (string_bytes made)
 IsOutcome text formatting.Faulty = IsFaulty text
 IsOutcome text formatting.Refused = IsFaultless text

@@ -1,3 +1,8 @@
 pub mod Relayout
 pub mod Solids
+pub mod Outline
+pub mod Values
+pub mod Steps
+pub mod Pairs
+pub mod Reindented
 pub mod Formatted

@@ -4,6 +4,7 @@ use crate::absorbing::{absorbs, own_target, takes_target};
 use crate::comments::set_gaps;
 use crate::grouping::{child_of, is_atom, is_grouped};
 use crate::layout::{Group, Layout, Target};
+use crate::lines::with_lines;
 use crate::piece::{Piece, line_feeds_in};
 use crate::spacing::{
     Child, Spacing, behind_first_comma, broken, distant, keeps_distance, spacing_in,
@@ -36,6 +37,7 @@ struct Frame {
 // The walk so far.
 #[derive(Drop)]
 struct Collector {
+    alloc: Global,
     layout: Layout,
     frames: Vec<Frame>,
     // The depth of the walk inside a string or a path.
@@ -70,9 +72,11 @@ fn has_group(parent: &Frame, kind: SyntaxKind, operator: Option<BinOpKind>) -> b
 impl Collector {
     fn new(alloc: Global) -> Collector {
         Collector {
+            alloc,
             layout: Layout {
                 pieces: Vec::new(alloc),
                 groups: Vec::new(alloc),
+                lines: Vec::new(alloc),
             },
             frames: Vec::new(alloc),
             atom_depth: 0,
@@ -215,11 +219,21 @@ impl Collector {
         self.settle(wanted, 0);
     }
 
+    // The piece of a string or a path.
+    fn atom_piece(&mut self, node: &SyntaxNode<'_>) -> Result<Piece, AllocError> {
+        let piece = Piece::new(node.text_range().start(), node.text());
+        if node.kind() == SyntaxKind::NODE_STRING {
+            with_lines(self.alloc, node, piece, &mut self.layout.lines)
+        } else {
+            Ok(piece)
+        }
+    }
+
     // Enters a string or a path, which is one piece.
     fn enter_atom(&mut self, node: &SyntaxNode<'_>) -> Result<(), AllocError> {
         self.atom_depth = 1;
         let number = self.layout.pieces.len();
-        let piece = Piece::new(node.text_range().start(), node.text());
+        let piece = self.atom_piece(node)?;
         self.add_item(piece, node.kind())?;
         if node.kind() == SyntaxKind::NODE_STRING && piece.last_width.is_some() {
             let target = Target {

@@ -1,14 +1,17 @@
 //! Formatting of a text.
 
-ghost use Rattle.std.specs.Prelude.{◌≡◌, IfOk};
+ghost use Rattle.std.specs.Prelude.{◌≡◌, [], IfOk};
+ghost use Rattle.rnix_kinds.specs.Lexical.Tokens.{tokens_of};
+ghost use Rattle.rnix_grammar.specs.Parsed.{IsParsed};
 ghost use Rattle.nix_formatting.specs.Relayout.{solids_of, IsRelayout};
 ghost use Rattle.nix_formatting.specs.Formatted.{IsFaultless, IsOutcome};
 
 use crate::alike::have_same_solids;
 use crate::collecting::layout_of;
+use crate::walks::have_same_steps;
 use crate::writing::written;
-use rnix::Root;
 use rnix::laws::{has_reading, layout, one_list};
+use rnix::{Parse, Root};
 use std::alloc::{AllocError, Global};
 
 /// The result of formatting a text.
@@ -18,7 +21,7 @@ pub enum Formatting {
     Formatted(String),
     /// The text has errors.
     Faulty,
-    /// The text has no errors, but the layout would change more than white space. This is a bug of the layout.
+    /// The text has no errors, but the layout would change more than white space and the indentation of strings. This is a bug of the layout.
     Refused,
 }
 
@@ -34,20 +37,46 @@ fn read_alike(text: &str, made: &str)
     layout(text, made);
 }
 
-// Returns the new text if it has the same tokens as the old one, except for white space.
-fn compared(alloc: Global, text: &str, made: String) -> Result<Formatting, AllocError>
-    requires { IsFaultless text.now }
+// Returns the new text if it has no errors, and a tree that differs from the old one only in white space and in the indentation of strings.
+#[tactic(auto, using(crate::proofs::OutcomeLemmas::faultless))]
+fn with_same_steps(
+    alloc: Global,
+    text: &str,
+    read: &Parse,
+    made: String,
+) -> Result<Formatting, AllocError>
+    requires read { IsParsed (tokens_of text.now) read.now.tree read.now.faults }
+    requires faultless { read.now.faults ≡ [] }
     ensures { IfOk result (IsOutcome text.now) }
 {
-    if !have_same_solids(alloc, text, made.as_str())? {
+    let again = Root::parse(alloc, made.as_str())?;
+    if !again.errors().is_empty() {
         return Ok(Formatting::Refused);
     }
-    read_alike(text, made.as_str());
-    Ok(Formatting::Formatted(made))
+    if have_same_steps(alloc, &read.syntax(), &again.syntax())? {
+        Ok(Formatting::Formatted(made))
+    } else {
+        Ok(Formatting::Refused)
+    }
 }
 
-/// Formats a text in the style of Nixpkgs. The new text has the same tokens, comments included, and the same tree, except for white space. It is
-/// compared with the old one, and the result is `Refused` if it has other tokens. The result is `Faulty` exactly if the text has errors.
+// Returns the new text if it has the same tokens as the old one, except for white space and the indentation of strings.
+#[tactic(auto, using(crate::proofs::OutcomeLemmas::relaid_only))]
+fn compared(alloc: Global, text: &str, read: &Parse, made: String) -> Result<Formatting, AllocError>
+    requires read { IsParsed (tokens_of text.now) read.now.tree read.now.faults }
+    requires faultless { read.now.faults ≡ [] }
+    ensures { IfOk result (IsOutcome text.now) }
+{
+    if have_same_solids(alloc, text, made.as_str())? {
+        read_alike(text, made.as_str());
+        return Ok(Formatting::Formatted(made));
+    }
+    with_same_steps(alloc, text, read, made)
+}
+
+/// Formats a text in the style of Nixpkgs. The new text has the same tokens, comments included, and the same tree, except for white space and the
+/// indentation of strings in `''`, whose values stay the same. It is compared with the old text, and the result is `Refused` if it differs in more. The
+/// result is `Faulty` exactly if the text has errors.
 pub fn formatted(alloc: Global, text: &str) -> Result<Formatting, AllocError>
     ensures { IfOk result (IsOutcome text.now) }
 {
@@ -57,5 +86,5 @@ pub fn formatted(alloc: Global, text: &str) -> Result<Formatting, AllocError>
     }
     let pieces = layout_of(alloc, &read.syntax())?;
     let made = written(alloc, text, &pieces)?;
-    compared(alloc, text, made)
+    compared(alloc, text, &read, made)
 }

@@ -1,6 +1,10 @@
 //! A text as pieces, in groups that are each written on one line or broken.
 
+use crate::lines::Line;
 use crate::piece::Piece;
+
+/// The number of spaces of a level.
+pub const STEP: usize = 2;
 
 /// The part of a group that may be broken while the rest of the group is not: from its opening bracket or quote to the closing one.
 #[derive(Clone, Copy, PartialEq, Eq)]
@@ -28,9 +32,10 @@ pub struct Group {
     pub absorbs: bool,
 }
 
-/// A text as pieces and groups. Groups are in the order of their first pieces, outer groups before inner ones.
+/// A text as pieces and groups, with the lines of strings that are moved. Groups are in the order of their first pieces, outer groups before inner ones.
 #[derive(Drop)]
 pub struct Layout {
     pub pieces: Vec<Piece>,
     pub groups: Vec<Group>,
+    pub lines: Vec<Line>,
 }

@@ -1,4 +1,4 @@
-//! Nix texts with other white space, in the style of Nixpkgs.
+//! Nix texts with other white space and other indentation of strings, in the style of Nixpkgs.
 #![tactic(auto)]
 
 mod absorbing;
@@ -7,10 +7,14 @@ mod collecting;
 mod comments;
 mod formatting;
 mod grouping;
+mod indentation;
 mod layout;
+mod lines;
 mod measuring;
 mod piece;
 mod spacing;
+mod values;
+mod walks;
 mod writing;
 
 pub use formatting::{Formatting, formatted};

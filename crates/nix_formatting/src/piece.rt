@@ -28,6 +28,19 @@ pub enum Level {
     Operator,
 }
 
+/// The lines of a string that are moved with the code around it.
+#[derive(Clone, Copy)]
+pub struct Moves {
+    /// The number of the first of these lines.
+    pub first: usize,
+    /// The number of the line after the last one.
+    pub end: usize,
+    /// The smallest indentation of a line with text.
+    pub least: usize,
+    /// Whether the last line of the string is one of them.
+    pub has_last: bool,
+}
+
 /// A token, a comment, or a whole string or path, with the gap before it.
 #[derive(Clone, Copy)]
 pub struct Piece {
@@ -37,8 +50,10 @@ pub struct Piece {
     pub end: usize,
     /// The number of characters of its first line.
     pub width: usize,
-    /// The number of characters of its last line, if it has several lines.
+    /// The number of characters of its last line, if it has several lines. If that line is moved, it counts from the indentation of the code.
     pub last_width: Option<usize>,
+    /// The lines that are moved, if it is a string of which some are.
+    pub moves: Option<Moves>,
     /// Whether it is a comment.
     pub is_comment: bool,
     /// Whether the line has to end after it: whether it is a comment with `#`.
@@ -83,6 +98,7 @@ impl Piece {
             end: start.saturating_add(text.len()),
             width,
             last_width,
+            moves: None,
             is_comment: false,
             ends_line: false,
             line_feeds: 0,

@@ -1,14 +1,12 @@
 //! Writes pieces and the gaps between them: each group on one line if it fits.
 
-use crate::layout::{Group, Layout};
+use crate::layout::{Group, Layout, STEP};
 use crate::measuring::{Measures, Room};
-use crate::piece::{Gap, Level, Piece};
+use crate::piece::{Gap, Level, Moves, Piece};
 use std::alloc::{AllocError, Global};
 
 // The number of columns of a line.
 const LINE: usize = 100;
-// The number of spaces of a level.
-const STEP: usize = 2;
 // The most spaces at the start of a line.
 const MOST_BLANKS: usize = 80;
 // The spaces at the start of a line.
@@ -176,14 +174,49 @@ impl<'a> Writer<'a> {
         Ok(())
     }
 
+    // Copies the old text from an offset up to another one.
+    fn copy(&mut self, start: usize, end: usize) -> Result<(), AllocError> {
+        self.made.push_str(self.text.get(start..end).unwrap_or(""))?;
+        Ok(())
+    }
+
+    // Writes spaces.
+    fn write_blanks(&mut self, count: usize) -> Result<(), AllocError> {
+        for _ in 0..count {
+            self.made.push(' ')?;
+        }
+        Ok(())
+    }
+
+    // Copies a string with other spaces at the start of its lines.
+    fn write_lines(&mut self, piece: &Piece, moves: Moves) -> Result<(), AllocError> {
+        let mut start = piece.start;
+        for number in moves.first..moves.end {
+            if let Some(line) = self.layout.lines.get(number).copied() {
+                self.copy(start, line.start)?;
+                self.write_blanks(line.indent(self.indent, moves.least))?;
+                start = line.end_of_blanks();
+            }
+        }
+        self.copy(start, piece.end)
+    }
+
+    // The column after a piece.
+    fn column_after(&self, piece: &Piece) -> usize {
+        match (piece.last_width, piece.moves) {
+            (Some(width), Some(moves)) if moves.has_last => self.indent.saturating_add(width),
+            (Some(width), _) => width,
+            (None, _) => self.column.saturating_add(piece.width),
+        }
+    }
+
     // Copies a piece.
     fn write_piece(&mut self, piece: &Piece) -> Result<(), AllocError> {
-        self.made
-            .push_str(self.text.get(piece.start..piece.end).unwrap_or(""))?;
-        self.column = match piece.last_width {
-            Some(width) => width,
-            None => self.column.saturating_add(piece.width),
-        };
+        match piece.moves {
+            Some(moves) => self.write_lines(piece, moves)?,
+            None => self.copy(piece.start, piece.end)?,
+        }
+        self.column = self.column_after(piece);
         Ok(())
     }
 

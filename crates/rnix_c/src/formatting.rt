@@ -1,4 +1,4 @@
-//! Texts with other white space.
+//! Texts with other white space, also at the start of the lines of strings.
 
 ghost use Rattle.rnix_c.specs.Formatting.{AnswersFormat, WritesFormat};
 

@@ -1,6 +1,7 @@
 //! Formatting in the style of Nixpkgs.
 //!
-//! The new text has the same tokens, so each edit replaces the white space between two neighbouring tokens.
+//! The new text has the same tokens, except that strings in `''` may have other indentation. So each edit replaces the white space between two
+//! neighbouring tokens, or such a string as a whole: its value would change if only some of its lines moved.
 
 use crate::json::{array, object, Value};
 use crate::protocol::{range_of, size, Code, Failure, Outcome};
@@ -11,41 +12,55 @@ use rnix::{try_tokenize, Refused, SyntaxKind, TextRange};
 /// An edit: a range and its new text.
 type Edit = (TextRange, String);
 
-/// A token other than white space, and the white space before it.
-struct Spaced<'a> {
+/// A token other than white space, or a whole string, with its place and the white space before it.
+struct Piece {
     space: TextRange,
-    text: &'a str,
+    place: TextRange,
 }
 
-// The tokens of a text other than white space. The last one is empty, and comes after the white space at the end of the text.
-fn spaced_tokens(text: &str) -> Result<Vec<Spaced<'_>>, Refused> {
-    let mut all = Vec::new();
-    let (mut start, mut end) = (0, 0);
+// The pieces of a text. The last one is empty, and comes after the white space at the end of the text.
+fn pieces(text: &str) -> Result<Vec<Piece>, Refused> {
+    let mut all: Vec<Piece> = Vec::new();
+    let (mut space, mut start, mut depth) = (0, 0, 0usize);
     for (kind, token) in try_tokenize(text)? {
-        if kind != SyntaxKind::TOKEN_WHITESPACE {
-            let space = TextRange::new(size(start), size(end));
-            all.push(Spaced { space, text: token });
-            start = end + token.len();
+        let end = start + token.len();
+        match all.last_mut() {
+            Some(string) if depth > 0 => string.place = TextRange::new(string.place.start(), size(end)),
+            _ if kind == SyntaxKind::TOKEN_WHITESPACE => {}
+            _ => all.push(piece(space, start, end)),
         }
-        end += token.len();
+        if depth > 0 || kind != SyntaxKind::TOKEN_WHITESPACE {
+            space = end;
+        }
+        match kind {
+            SyntaxKind::TOKEN_STRING_START => depth += 1,
+            SyntaxKind::TOKEN_STRING_END => depth = depth.saturating_sub(1),
+            _ => {}
+        }
+        start = end;
     }
-    let space = TextRange::new(size(start), size(end));
-    all.push(Spaced { space, text: "" });
+    all.push(piece(space, start, start));
     Ok(all)
 }
 
-// The edits that replace the white space of one text by that of another one, if their other tokens are the same.
-fn space_edits(old: &str, new: &str) -> Result<Option<Vec<Edit>>, Refused> {
-    let (olds, news) = (spaced_tokens(old)?, spaced_tokens(new)?);
-    if !olds.iter().map(|one| one.text).eq(news.iter().map(|one| one.text)) {
-        return Ok(None);
-    }
-    let edit = |(before, after): (&Spaced, &Spaced)| (before.space, new[after.space].to_owned());
-    let is_change = |(place, space): &Edit| old[*place] != *space;
-    Ok(Some(olds.iter().zip(&news).map(edit).filter(is_change).collect()))
+fn piece(space: usize, start: usize, end: usize) -> Piece {
+    Piece { space: TextRange::new(size(space), size(start)), place: TextRange::new(size(start), size(end)) }
 }
 
-// The edits that format a text: all of it, if the spaces between its tokens do not suffice. A text with errors has none.
+// The edits that replace the white space and the strings of one text by those of another one, if their other tokens are the same.
+fn piece_edits(old: &str, new: &str) -> Result<Option<Vec<Edit>>, Refused> {
+    let (olds, news) = (pieces(old)?, pieces(new)?);
+    let are_same = |(old, new): (&str, &str)| old == new || (old.starts_with("''") && new.starts_with("''"));
+    let texts = |(a, b): (&Piece, &Piece)| are_same((&old[a.place], &new[b.place]));
+    if olds.len() != news.len() || !olds.iter().zip(&news).all(texts) {
+        return Ok(None);
+    }
+    let both = |(a, b): (&Piece, &Piece)| [(a.space, new[b.space].to_owned()), (a.place, new[b.place].to_owned())];
+    let is_change = |(place, text): &Edit| old[*place] != *text;
+    Ok(Some(olds.iter().zip(&news).flat_map(both).filter(is_change).collect()))
+}
+
+// The edits that format a text: all of it, if edits of white space and strings do not suffice. A text with errors has none.
 fn edits(text: &str) -> Result<Vec<Edit>, Failure> {
     let fault = |refused: Refused| Failure::new(Code::InternalError, refused.to_string());
     let new = match formatted(text) {
@@ -53,8 +68,8 @@ fn edits(text: &str) -> Result<Vec<Edit>, Failure> {
         Err(FormatError::HasErrors) => return Ok(Vec::new()),
         Err(error) => return Err(Failure::new(Code::InternalError, error.to_string())),
     };
-    let spaces = space_edits(text, &new).map_err(fault)?;
-    Ok(spaces.unwrap_or_else(|| vec![(TextRange::new(size(0), size(text.len())), new)]))
+    let found = piece_edits(text, &new).map_err(fault)?;
+    Ok(found.unwrap_or_else(|| vec![(TextRange::new(size(0), size(text.len())), new)]))
 }
 
 fn written(request: &Request, edits: &[Edit]) -> Value {
@@ -62,7 +77,7 @@ fn written(request: &Request, edits: &[Edit]) -> Value {
     array(edits.iter().map(edit))
 }
 
-/// Returns the response to `textDocument/formatting`: edits of white space. A text with errors stays as it is.
+/// Returns the response to `textDocument/formatting`: edits of white space, and of strings in `''`. A text with errors stays as it is.
 ///
 /// # Errors
 /// Memory runs out.
@@ -89,7 +104,7 @@ mod tests {
 
     #[test]
     fn edits_make_the_formatted_text() {
-        for text in ["", "{a=1;}", "[ 1\n\n\n 2 ]  # end", "let  a=1 ;in\ta", "x:''\n  a\n''"] {
+        for text in ["", "{a=1;}", "[ 1\n\n\n 2 ]  # end", "let  a=1 ;in\ta", "x:''\n  a\n''", "{a=''\nb ${ c }\nd\n'' ;}"] {
             let mut changed = Edits::new(text);
             for (place, new) in edits(text).unwrap() {
                 changed.replace(place, new).unwrap();
@@ -105,6 +120,13 @@ mod tests {
         for (place, new) in edits(text).unwrap() {
             assert!(text[place].trim().is_empty() && new.trim().is_empty());
         }
+    }
+
+    #[test]
+    fn a_string_is_edited_as_a_whole() {
+        let text = "{\n  a = ''\n  ${b}\n  '';\n}\n";
+        let wanted = (TextRange::new(size(8), size(22)), "''\n    ${b}\n  ''".to_owned());
+        assert_eq!(edits(text).unwrap(), [wanted]);
     }
 
     #[test]

@@ -1,0 +1,97 @@
+-- Events of two walks that were compared.
+use Rattle.std.proofs.Common.{◌≡◌, ℕ, Bool, true, false, List, [], ◌∷◌, Option, Some, None, refl, ap, sym, subst, ◌∙◌}
+use Rattle.std.proofs.lemmas.{Bool.{false≢true, and_parts}, Slice.Eq.bytes_eq-Decides}
+use Rattle.std.specs.{Prelude.{◌&&◌, ◌||◌}, Str.bytes_eq}
+use Rattle.rnix_kinds.specs.declared.kinds.SyntaxKind.{SyntaxKind}
+use Rattle.rnix_kinds.specs.declared.kinds.SyntaxKind.TheVariants.{TOKEN_STRING_CONTENT}
+use Rattle.rnix_green.specs.Equality.{same_kind, same_kind-decides}
+use Rattle.rnix_green.specs.Tree.{Located, item_of, text_at}
+use Rattle.rnix_green.specs.Walk.{Event}
+use Rattle.rnix_tree.specs.Spots.{event_of}
+use Rattle.nix_formatting.specs.Outline.{text_unless}
+use Rattle.nix_formatting.specs.Steps.{Step, shown_node, shown_token, step_of, is_step, step_if, steps_of}
+use Rattle.nix_formatting.specs.Pairs.{Met, IsNextStep, AreSame, same_nodes, same_tokens, AreCompared, IsPassed}
+use Rattle.nix_formatting.specs.declared.walks.Pair.{Pair}
+use Rattle.nix_formatting.specs.declared.walks.Pair.TheVariants as pair
+
+abbrev step_with : Bool → Bool → SyntaxKind → List ℕ → Step
+step_with enters is_node kind shown = record { enters = enters; is_node = is_node; kind = kind; shown = shown }
+
+-- steps of one kind that show the same are the same
+steps_same : (enters is_node : Bool) (k l : SyntaxKind) (xs ys : List ℕ) → same_kind k l ≡ true → xs ≡ ys
+    → step_with enters is_node l ys ≡ step_with enters is_node k xs
+steps_same enters is_node k l xs ys kinds shown =
+    sym (ap (λ j. step_with enters is_node j xs) ((same_kind-decides k l).0 kinds) ∙ ap (step_with enters is_node l) shown)
+
+-- two nodes are entered
+pub nodes_entered : (old new : Located) → same_nodes old new ≡ true → AreSame (true, (true, old)) (true, (true, new))
+nodes_entered old new h =
+    let both = and_parts (same_kind (item_of old).kind (item_of new).kind) (bytes_eq (shown_node true old) (shown_node true new)) h in
+    steps_same true true (item_of old).kind (item_of new).kind (shown_node true old) (shown_node true new) both.0
+    ((bytes_eq-Decides (shown_node true old) (shown_node true new)).0 both.1)
+
+-- two nodes are left
+pub nodes_left : (old new : Located) → same_kind (item_of old).kind (item_of new).kind ≡ true → AreSame (false, (true, old)) (false, (true, new))
+nodes_left old new h = steps_same false true (item_of old).kind (item_of new).kind [] [] h refl
+
+-- what tokens of one kind show
+tokens_show : (is_old is_new : Bool) (xs ys : List ℕ) → is_old ≡ is_new → is_old || bytes_eq xs ys ≡ true
+    → text_unless is_old xs ≡ text_unless is_new ys
+tokens_show true true xs ys same h = refl
+tokens_show false false xs ys same h = (bytes_eq-Decides xs ys).0 h
+tokens_show true false xs ys same h = absurd (false≢true (sym same))
+tokens_show false true xs ys same h = absurd (false≢true same)
+
+-- two tokens are passed
+pub tokens_passed : (old new : Located) → same_tokens old new ≡ true → AreSame (true, (false, old)) (true, (false, new))
+tokens_passed old new h =
+    let k : SyntaxKind = (item_of old).kind in
+    let l : SyntaxKind = (item_of new).kind in
+    let both = and_parts (same_kind k l) (same_kind k TOKEN_STRING_CONTENT || bytes_eq (text_at old) (text_at new)) h in
+    steps_same true false k l (shown_token old) (shown_token new) both.0
+    (tokens_show (same_kind k TOKEN_STRING_CONTENT) (same_kind l TOKEN_STRING_CONTENT) (text_at old) (text_at new)
+    (ap (λ j. same_kind j TOKEN_STRING_CONTENT) ((same_kind-decides k l).0 both.0)) both.1)
+
+-- both walks have the same next step, and the same steps after it
+both_pass : (olds news olds_left news_left : List Event) (old new : Event) → steps_of olds ≡ step_of old ∷ steps_of olds_left
+    → steps_of news ≡ step_of new ∷ steps_of news_left → AreSame old new → steps_of news_left ≡ steps_of olds_left → steps_of news ≡ steps_of olds
+both_pass olds news olds_left news_left old new is_old is_new same rest =
+    is_new ∙ ap (λ s. s ∷ steps_of news_left) same ∙ ap (λ ss. step_of old ∷ ss) rest ∙ sym is_old
+
+-- the contract of a step of both walks
+pub passed : (olds news olds_left news_left : List Event) (old new : Option Met) (p : Pair)
+    → IsNextStep olds old olds_left → IsNextStep news new news_left → AreCompared p old new → IsPassed olds news olds_left news_left p
+passed olds news olds_left news_left (Some old) (Some new) pair.Same is_old is_new compared =
+    both_pass olds news olds_left news_left (event_of old) (event_of new) is_old is_new compared
+passed olds news olds_left news_left None None pair.Same is_old is_new compared = absurd compared
+passed olds news olds_left news_left None (Some new) pair.Same is_old is_new compared = absurd compared
+passed olds news olds_left news_left (Some old) None pair.Same is_old is_new compared = absurd compared
+passed olds news olds_left news_left old new pair.Differ is_old is_new compared = tt
+passed olds news olds_left news_left None None pair.End is_old is_new compared = is_new ∙ sym is_old
+passed olds news olds_left news_left None (Some new) pair.End is_old is_new compared = absurd compared
+passed olds news olds_left news_left (Some old) None pair.End is_old is_new compared = absurd compared
+passed olds news olds_left news_left (Some old) (Some new) pair.End is_old is_new compared = absurd compared
+
+-- both walks pass the same step
+pub same_pair : (olds news olds_left news_left : List Event) (p : Pair) → IsPassed olds news olds_left news_left p → p ≡ pair.Same
+    → steps_of news_left ≡ steps_of olds_left → steps_of news ≡ steps_of olds
+same_pair olds news olds_left news_left p h is rest =
+    let step_on : steps_of news_left ≡ steps_of olds_left → steps_of news ≡ steps_of olds = subst (IsPassed olds news olds_left news_left) is h in
+    step_on rest
+
+-- both walks are at their ends
+pub end_pair : (olds news olds_left news_left : List Event) (p : Pair) → IsPassed olds news olds_left news_left p → p ≡ pair.End
+    → steps_of news ≡ steps_of olds
+end_pair olds news olds_left news_left p h is = subst (IsPassed olds news olds_left news_left) is h
+
+-- an event that is no step is passed over
+pub passed_over : (all events rest : List Event) (event : Event) → steps_of events ≡ steps_of all → events ≡ event ∷ rest → is_step event ≡ false
+    → steps_of rest ≡ steps_of all
+passed_over all events rest event so_far next fails =
+    sym (ap steps_of next ∙ ap (λ b. step_if b (step_of event) (steps_of rest)) fails) ∙ so_far
+
+-- an event that is a step is the next one
+pub step_found : (all events rest : List Event) (event : Event) → steps_of events ≡ steps_of all → events ≡ event ∷ rest → is_step event ≡ true
+    → steps_of all ≡ step_of event ∷ steps_of rest
+step_found all events rest event so_far next holds =
+    sym so_far ∙ ap steps_of next ∙ ap (λ b. step_if b (step_of event) (steps_of rest)) holds

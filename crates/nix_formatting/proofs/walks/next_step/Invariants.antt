@@ -1,0 +1,11 @@
+use Rattle.std.proofs.Common.{◌≡◌}
+use Rattle.nix_formatting.specs.Steps.{steps_of}
+use Rattle.nix_formatting.proofs.walks.next_step.Given as goal
+
+-- the steps of the events left are those of all events
+abbrev pub invariant-loop-event : goal.invariant-loop-event
+invariant-loop-event l = record {
+  next : (goal.iterator-loop-event).can_next l.walk;
+  ends : (goal.iterator-loop-event).is_finite l.walk;
+  rest : steps_of l.walk ≡ steps_of l.fn.walk;
+}

@@ -1,0 +1,88 @@
+//! The indentation of strings in `''`.
+
+use rnix::{NodeOrToken, SyntaxKind, SyntaxNode};
+use rnix_base::is_indented;
+
+// The largest indentation that Nix removes from lines.
+const LIMIT: usize = 1_000_000;
+
+// What is known of the lines of a string so far.
+#[derive(Clone, Copy)]
+struct Scan {
+    // The smallest indentation of a line with text.
+    least: usize,
+    // The number of spaces of the current line, while it has nothing else.
+    blanks: Option<usize>,
+    // Whether a line feed was seen.
+    is_broken: bool,
+    // Whether the string can be moved: nothing but spaces is on the line of the opening quotes, and no line begins with a tab or a carriage return.
+    can_move: bool,
+}
+
+impl Scan {
+    // The state after an interpolation, or a byte that is neither a space nor a line feed.
+    fn with_text(self, is_tab: bool) -> Scan {
+        match self.blanks {
+            Some(blanks) => Scan {
+                least: self.least.min(blanks),
+                blanks: None,
+                can_move: self.can_move && self.is_broken && !is_tab,
+                ..self
+            },
+            None => self,
+        }
+    }
+
+    // The state after a byte.
+    fn with_byte(self, byte: u8) -> Scan {
+        match byte {
+            b'\n' => Scan {
+                blanks: Some(0),
+                is_broken: true,
+                ..self
+            },
+            b' ' => Scan {
+                blanks: self.blanks.map(|blanks| blanks.saturating_add(1)),
+                ..self
+            },
+            _ => self.with_text(byte == b'\t' || byte == b'\r'),
+        }
+    }
+
+    // The state after the bytes of a text.
+    fn with_bytes(self, text: &str) -> Scan {
+        let mut scan = self;
+        for byte in text.bytes() {
+            scan = scan.with_byte(byte);
+        }
+        scan
+    }
+}
+
+/// Returns the smallest indentation of a string's lines, if the string can be moved: it is in `''`, has several lines, has nothing but spaces on the
+/// line of the opening quotes, and no line begins with a tab or a carriage return. It is `LIMIT` if it would be larger, or if no line has text.
+pub fn indentation_of(string: &SyntaxNode<'_>) -> Option<usize> {
+    if !is_indented(string) {
+        return None;
+    }
+    let mut scan = Scan {
+        least: LIMIT,
+        blanks: Some(0),
+        is_broken: false,
+        can_move: true,
+    };
+    for element in string.children_with_tokens() {
+        scan = match element {
+            NodeOrToken::Node(_) => scan.with_text(false),
+            NodeOrToken::Token(token) if token.kind() == SyntaxKind::TOKEN_STRING_CONTENT => {
+                scan.with_bytes(token.text())
+            }
+            NodeOrToken::Token(_) => scan,
+        };
+    }
+    if scan.can_move && scan.is_broken {
+        Some(scan.least)
+    } else {
+        None
+    }
+}

@@ -1,0 +1,150 @@
+//! Comparison of two trees by walks over them.
+
+ghost use Rattle.std.specs.Prelude.{◌≡◌, true, IfOk};
+ghost use Rattle.rnix_green.specs.Walk.{preorder_of};
+ghost use Rattle.rnix_tree.specs.Spots.{event_of};
+ghost use Rattle.nix_formatting.specs.Steps.{is_step, steps_of};
+ghost use Rattle.nix_formatting.specs.Pairs.{IsNextStep, AreSame, same_nodes, same_tokens, AreCompared, IsPassed};
+
+use crate::values::shown_node;
+use rnix::{
+    NodeOrToken, PreorderWithTokens, SyntaxElement, SyntaxKind, SyntaxNode, SyntaxToken, WalkEvent,
+};
+use std::alloc::{AllocError, Global};
+
+// Whether an event is a step: it enters or leaves a node, or passes a token other than white space.
+fn is_step(event: &WalkEvent<SyntaxElement<'_>>) -> bool
+    ensures { result ≡ is_step (event_of event.now) }
+{
+    match event {
+        WalkEvent::Enter(NodeOrToken::Node(_)) => true,
+        WalkEvent::Leave(NodeOrToken::Node(_)) => true,
+        WalkEvent::Enter(NodeOrToken::Token(token)) => {
+            token.kind() != SyntaxKind::TOKEN_WHITESPACE
+        }
+        WalkEvent::Leave(NodeOrToken::Token(_)) => false,
+    }
+}
+
+// Returns the next step of a walk.
+fn next_step<'t>(walk: &mut PreorderWithTokens<'t>) -> Option<WalkEvent<SyntaxElement<'t>>>
+    ensures { IsNextStep walk.old result walk.new }
+{
+    while let Some(event) = walk.next() {
+        if is_step(&event) {
+            return Some(event);
+        }
+    }
+    None
+}
+
+// Whether two nodes that are entered have the same kind, and the same value if they are strings.
+fn are_same_nodes(
+    alloc: Global,
+    old: &SyntaxNode<'_>,
+    new: &SyntaxNode<'_>,
+) -> Result<bool, AllocError>
+    ensures { IfOk result (λ are_same. are_same ≡ same_nodes old.now new.now) }
+{
+    let old_shown = shown_node(alloc, old)?;
+    let new_shown = shown_node(alloc, new)?;
+    Ok(old.kind() == new.kind() && old_shown.as_slice() == new_shown.as_slice())
+}
+
+// Whether two tokens have the same kind, and the same text unless they are the contents of strings.
+fn are_same_tokens(old: &SyntaxToken<'_>, new: &SyntaxToken<'_>) -> bool
+    ensures { result ≡ same_tokens old.now new.now }
+{
+    old.kind() == new.kind()
+        && (old.kind() == SyntaxKind::TOKEN_STRING_CONTENT || old.text() == new.text())
+}
+
+// Whether two events have the same step.
+#[tactic(auto, using(crate::proofs::WalkLemmas::nodes_entered, crate::proofs::WalkLemmas::nodes_left, crate::proofs::WalkLemmas::tokens_passed))]
+fn are_same(
+    alloc: Global,
+    old: &WalkEvent<SyntaxElement<'_>>,
+    new: &WalkEvent<SyntaxElement<'_>>,
+) -> Result<bool, AllocError>
+    ensures { IfOk result (λ are_same. are_same ≡ true → AreSame (event_of old.now) (event_of new.now)) }
+{
+    match (old, new) {
+        (WalkEvent::Enter(NodeOrToken::Node(old)), WalkEvent::Enter(NodeOrToken::Node(new))) => {
+            are_same_nodes(alloc, old, new)
+        }
+        (WalkEvent::Leave(NodeOrToken::Node(old)), WalkEvent::Leave(NodeOrToken::Node(new))) => {
+            Ok(old.kind() == new.kind())
+        }
+        (WalkEvent::Enter(NodeOrToken::Token(old)), WalkEvent::Enter(NodeOrToken::Token(new))) => {
+            Ok(are_same_tokens(old, new))
+        }
+        _ => Ok(false),
+    }
+}
+
+// How the next steps of two walks compare.
+#[derive(Clone, Copy)]
+enum Pair {
+    // Both are the same.
+    Same,
+    // They differ, or only one walk has a next step.
+    Differ,
+    // Neither walk has a next step.
+    End,
+}
+
+// Compares the next steps of two walks.
+fn compared<'t>(
+    alloc: Global,
+    old: Option<WalkEvent<SyntaxElement<'t>>>,
+    new: Option<WalkEvent<SyntaxElement<'t>>>,
+) -> Result<Pair, AllocError>
+    ensures { IfOk result (λ pair. AreCompared pair old.entry new.entry) }
+{
+    match (old, new) {
+        (Some(old), Some(new)) => {
+            if are_same(alloc, &old, &new)? {
+                Ok(Pair::Same)
+            } else {
+                Ok(Pair::Differ)
+            }
+        }
+        (None, None) => Ok(Pair::End),
+        _ => Ok(Pair::Differ),
+    }
+}
+
+// Compares the next steps of two walks and advances past them.
+#[tactic(auto, using(crate::proofs::WalkLemmas::passed))]
+fn next_pair(
+    alloc: Global,
+    olds: &mut PreorderWithTokens<'_>,
+    news: &mut PreorderWithTokens<'_>,
+) -> Result<Pair, AllocError>
+    ensures { IfOk result (IsPassed olds.old news.old olds.new news.new) }
+{
+    let old = next_step(olds);
+    let new = next_step(news);
+    compared(alloc, old, new)
+}
+
+/// Whether walks over two trees have the same steps: white space aside, and with the values of strings in place of their contents.
+#[tactic(auto, using(crate::proofs::WalkLemmas::same_pair, crate::proofs::WalkLemmas::end_pair))]
+pub fn have_same_steps(
+    alloc: Global,
+    old: &SyntaxNode<'_>,
+    new: &SyntaxNode<'_>,
+) -> Result<bool, AllocError>
+    ensures { IfOk result (λ are_same. are_same ≡ true → steps_of (preorder_of new.now) ≡ steps_of (preorder_of old.now)) }
+{
+    let mut olds = old.preorder_with_tokens();
+    let mut news = new.preorder_with_tokens();
+    for _ in 0..u64::MAX {
+        match next_pair(alloc, &mut olds, &mut news)? {
+            Pair::Same => {}
+            Pair::Differ => return Ok(false),
+            Pair::End => return Ok(true),
+        }
+    }
+    Ok(false)
+}
