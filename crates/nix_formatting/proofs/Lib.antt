@@ -1,6 +1,6 @@
 pub mod SolidLemmas
 pub mod SpotLemmas
 pub mod OutcomeLemmas
-pub mod WalkLemmas
-mod StepExamples
+pub mod WalkStepLemmas
+mod WalkStepExamples
 pub mod OutlineLemmas

@@ -4,7 +4,7 @@ use Rattle.rnix_kinds.specs.Lexical.Tokens.{tokens_of}
 use Rattle.rnix_green.specs.Tree.{Tree}
 use Rattle.rnix_grammar.specs.{Fault.Fault, Reading.IsReading, Parsed.IsParsed}
 use Rattle.rnix_parser.proofs.OneReading.{one_reading}
-use Rattle.nix_formatting.specs.{Relayout.IsRelayout, Steps.steps_in, Reindented.IsReformatted}
+use Rattle.nix_formatting.specs.{Relayout.IsRelayout, WalkSteps.steps_in, Reindented.IsReformatted}
 use Rattle.nix_formatting.proofs.OutlineLemmas.{outlines_same, values_same}
 use Rattle.nix_formatting.specs.declared.formatting.Formatting.{Formatting}
 use Rattle.nix_formatting.specs.declared.formatting.Formatting.TheVariants as formatting

@@ -10,7 +10,7 @@ use Rattle.rnix_green.specs.Tree.{Tree, Item, Located, items_from, items_of, ite
 use Rattle.rnix_green.specs.Walk.{Event, steps_from, event_at, preorder_of}
 use Rattle.{rnix_green.proofs.PieceLemmas.length-items_from, rnix_tree.proofs.ItemsAt.{HasItemsAt, first_item, front_items, back_items}}
 use Rattle.rnix_parser.specs.Significant.{leaf_unless}
-use Rattle.nix_formatting.specs.{Outline.{text_unless, outline}, Steps.{Step, shown_node, shown_token, step_if, steps_of, steps_in}}
+use Rattle.nix_formatting.specs.{Outline.{text_unless, outline}, WalkSteps.{Step, shown_node, shown_token, step_if, steps_of, steps_in}}
 use Rattle.nix_formatting.specs.Values.{value_of, value_if, values_in, string_values}
 
 -- a step in front of rows of trees: those of the open nodes, innermost first, each from the walk's place to the row's end

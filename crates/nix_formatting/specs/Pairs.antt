@@ -8,7 +8,7 @@ use Rattle.rnix_green.specs.Walk.{Event}
 use Rattle.rnix_tree.specs.declared.element.NodeOrToken.{NodeOrToken}
 use Rattle.rnix_tree.specs.declared.element.WalkEvent.{WalkEvent}
 use Rattle.rnix_tree.specs.Spots.{event_of}
-use Rattle.nix_formatting.specs.Steps.{shown_node, step_of, steps_of}
+use Rattle.nix_formatting.specs.WalkSteps.{shown_node, step_of, steps_of}
 use Rattle.nix_formatting.specs.declared.walks.Pair.{Pair}
 use Rattle.nix_formatting.specs.declared.walks.Pair.TheVariants as pair
 

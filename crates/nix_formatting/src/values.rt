@@ -3,7 +3,7 @@
 ghost use Rattle.std.specs.Prelude.{◌≡◌, true, [], ◌∷◌, ◌++◌, fold, IfOk, OnOk, string_bytes};
 ghost use Rattle.rnix_base.specs.Normal.{borrowed, owned, with_text};
 ghost use Rattle.nix_formatting.specs.Values.{interpolation_symbol, with_symbols, value_of};
-ghost use Rattle.nix_formatting.specs.Steps.{shown_node};
+ghost use Rattle.nix_formatting.specs.WalkSteps.{shown_node};
 
 use rnix::SyntaxNode;
 use rnix::ast::{AstNode, Interpol, InterpolPart, Str};

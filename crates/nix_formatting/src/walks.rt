@@ -3,7 +3,7 @@
 ghost use Rattle.std.specs.Prelude.{◌≡◌, true, IfOk};
 ghost use Rattle.rnix_green.specs.Walk.{preorder_of};
 ghost use Rattle.rnix_tree.specs.Spots.{event_of};
-ghost use Rattle.nix_formatting.specs.Steps.{is_step, steps_of};
+ghost use Rattle.nix_formatting.specs.WalkSteps.{is_step, steps_of};
 ghost use Rattle.nix_formatting.specs.Pairs.{IsNextStep, AreSame, same_nodes, same_tokens, AreCompared, IsPassed};
 
 use crate::values::shown_node;
@@ -60,7 +60,7 @@ fn are_same_tokens(old: &SyntaxToken<'_>, new: &SyntaxToken<'_>) -> bool
 }
 
 // Whether two events have the same step.
-#[tactic(auto, using(crate::proofs::WalkLemmas::nodes_entered, crate::proofs::WalkLemmas::nodes_left, crate::proofs::WalkLemmas::tokens_passed))]
+#[tactic(auto, using(crate::proofs::WalkStepLemmas::nodes_entered, crate::proofs::WalkStepLemmas::nodes_left, crate::proofs::WalkStepLemmas::tokens_passed))]
 fn are_same(
     alloc: Global,
     old: &WalkEvent<SyntaxElement<'_>>,
@@ -115,7 +115,7 @@ fn compared<'t>(
 }
 
 // Compares the next steps of two walks and advances past them.
-#[tactic(auto, using(crate::proofs::WalkLemmas::passed))]
+#[tactic(auto, using(crate::proofs::WalkStepLemmas::passed))]
 fn next_pair(
     alloc: Global,
     olds: &mut PreorderWithTokens<'_>,
@@ -129,7 +129,7 @@ fn next_pair(
 }
 
 /// Whether walks over two trees have the same steps: white space aside, and with the values of strings in place of their contents.
-#[tactic(auto, using(crate::proofs::WalkLemmas::same_pair, crate::proofs::WalkLemmas::end_pair))]
+#[tactic(auto, using(crate::proofs::WalkStepLemmas::same_pair, crate::proofs::WalkStepLemmas::end_pair))]
 pub fn have_same_steps(
     alloc: Global,
     old: &SyntaxNode<'_>,

@@ -2,7 +2,7 @@ use Rattle.std.{proofs.Common.{rules, ◌≡◌, [], map, true-eqb, ap, sym, ◌
 use Rattle.rnix_kinds.specs.Lexical.Tokens.{tokens_of}
 use Rattle.rnix_green.specs.Walk.{preorder_of}
 use Rattle.rnix_grammar.specs.{Fault.fault_of, Parsed.IsParsed}
-use Rattle.nix_formatting.specs.Steps.{steps_of, steps_in}
+use Rattle.nix_formatting.specs.WalkSteps.{steps_of, steps_in}
 use Rattle.nix_formatting.proofs.OutcomeLemmas.{nil_from_length, reindented}
 use Rattle.nix_formatting.proofs.formatting.with_same_steps.Goals as goal
 

@@ -1,6 +1,6 @@
 use Rattle.std.proofs.Common.{◌≡◌}
 use Rattle.rnix_green.specs.Walk.{preorder_of}
-use Rattle.nix_formatting.specs.Steps.{steps_of}
+use Rattle.nix_formatting.specs.WalkSteps.{steps_of}
 use Rattle.nix_formatting.proofs.walks.have_same_steps.Given as goal
 
 abbrev pub invariant-loop : goal.invariant-loop

@@ -1,6 +1,6 @@
 use Rattle.std.proofs.Common.{sym, ◌∙◌}
 use Rattle.rnix_tree.specs.Spots.{event_of}
-use Rattle.nix_formatting.proofs.WalkLemmas.{passed_over, step_found}
+use Rattle.nix_formatting.proofs.WalkStepLemmas.{passed_over, step_found}
 use Rattle.nix_formatting.proofs.walks.next_step.Goals as goal
 
 pub loop-event-preserved : goal.loop-event-preserved

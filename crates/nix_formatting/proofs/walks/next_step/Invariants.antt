@@ -1,5 +1,5 @@
 use Rattle.std.proofs.Common.{◌≡◌}
-use Rattle.nix_formatting.specs.Steps.{steps_of}
+use Rattle.nix_formatting.specs.WalkSteps.{steps_of}
 use Rattle.nix_formatting.proofs.walks.next_step.Given as goal
 
 -- the steps of the events left are those of all events

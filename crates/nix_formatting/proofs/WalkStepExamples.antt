@@ -3,7 +3,7 @@ use Rattle.std.proofs.Common.{◌≡◌, List, [], ◌∷◌, ℕ, map, refl, co
 use Rattle.rnix_kinds.specs.declared.kinds.SyntaxKind.TheVariants as k
 use Rattle.rnix_green.specs.{Forest.{Forest, empty, leaf, node}, Tree.Tree}
 use Rattle.rnix_base.specs.{Escapes.values, Normal.{symbols, lines, least_indentation, text_of, with_texts, closed}}
-use Rattle.nix_formatting.specs.Steps.{steps_in}
+use Rattle.nix_formatting.specs.WalkSteps.{steps_in}
 
 -- the tree of a string with these quotes and contents, and white space before it
 abbrev string_tree : List ℕ → List ℕ → List ℕ → Tree

@@ -9,7 +9,7 @@ use Rattle.rnix_green.specs.Tree.{Located, item_of, text_at}
 use Rattle.rnix_green.specs.Walk.{Event}
 use Rattle.rnix_tree.specs.Spots.{event_of}
 use Rattle.nix_formatting.specs.Outline.{text_unless}
-use Rattle.nix_formatting.specs.Steps.{Step, shown_node, shown_token, step_of, is_step, step_if, steps_of}
+use Rattle.nix_formatting.specs.WalkSteps.{Step, shown_node, shown_token, step_of, is_step, step_if, steps_of}
 use Rattle.nix_formatting.specs.Pairs.{Met, IsNextStep, AreSame, same_nodes, same_tokens, AreCompared, IsPassed}
 use Rattle.nix_formatting.specs.declared.walks.Pair.{Pair}
 use Rattle.nix_formatting.specs.declared.walks.Pair.TheVariants as pair
