@@ -2,7 +2,7 @@
 use Rattle.std.proofs.Common.{◌≡◌, List, [], ◌∷◌, ℕ, map, refl, codes}
 use Rattle.rnix_kinds.specs.declared.kinds.SyntaxKind.TheVariants as k
 use Rattle.rnix_green.specs.{Forest.{Forest, empty, leaf, node}, Tree.Tree}
-use Rattle.rnix_base.specs.{Escapes.values, Normal.{symbols, lines, least_indentation, text_of, with_texts, closed}}
+use Rattle.rnix_base.specs.{Escapes.values, Normal.{symbols, lines, least_indentation, part_text, with_texts, closed}}
 use Rattle.nix_formatting.specs.WalkSteps.{steps_in}
 
 -- the tree of a string with these quotes and contents, and white space before it
@@ -16,12 +16,12 @@ string_tree space quotes contents = record {
 -- what is shown, one step after another: the root, the string with its value, its tokens, and both nodes again when they are left
 indented : map (λ s. s.shown) (steps_in (string_tree (codes " ") (codes "''") (codes "\n  a\n   b\n")))
     ≡ [] ∷ codes "a\n b\n" ∷ codes "''" ∷ [] ∷ codes "''" ∷ [] ∷ [] ∷ []
-unfolding values symbols lines least_indentation text_of with_texts closed
+unfolding values symbols lines least_indentation part_text with_texts closed
 indented = refl
 
 -- lines that move together, and other white space, change no step
 moved : steps_in (string_tree (codes "\n") (codes "''") (codes "\n a\n  b\n  ")) ≡ steps_in (string_tree (codes " ") (codes "''") (codes "\n  a\n   b\n"))
-unfolding values symbols lines least_indentation text_of with_texts closed
+unfolding values symbols lines least_indentation part_text with_texts closed
 moved = refl
 
 -- a string in `"` shows its contents as they are written
