@@ -1,30 +1,30 @@
 -- Facts on errors that follow from earlier ones.
-use Rattle.std.proofs.Common.{◌≡◌, ◌∙◌, ℕ, Bool, true, false, List, [], ◌∷◌, ◌++◌, map, Option, Some, None, ap, sym, subst, refl, arith, ◌+◌, ◌<◌}
-use Rattle.std.proofs.Common.{◌≤◌, length, if◌then◌else◌}
+use Rattle.std.proofs.Common.{◌≡◌, ◌∙◌, ℕ, Bool, true, false, List, [], ◌∷◌, ◌++◌, Option, Some, None, ap, sym, subst, refl, arith, ◌≤◌, if◌then◌else◌}
 use Rattle.std.proofs.lemmas.List.{append_assoc}
-use Rattle.std.specs.Prelude.{IfSome, option_map, is_some, ◌==◌, ◌&&◌}
-use Rattle.rnix_green.specs.Tree.{Tree, Located, item_of, extent_of}
+use Rattle.std.proofs.lemmas.Bool.{leb-true}
+use Rattle.std.specs.Prelude.{IfSome, option_map, is_some, is_none, nat_le, ◌&&◌, ◌||◌}
+use Rattle.rnix_green.specs.Tree.{Located, item_of, text_at}
 use Rattle.rnix_green.specs.Relatives.{parent_of}
-use Rattle.rnix_green.specs.Walk.{Spot, spot_at}
 use Rattle.rnix_grammar.specs.Fault.{Fault, unexpected_at, extra, unwanted, double_bind, unexpected_eof, unexpected_eof_wanted, duplicated_args, too_deep}
+use Rattle.rnix_grammar.specs.Ranges.{range_in}
 use Rattle.rnix_green.specs.declared.range.TextRange.{TextRange}
 use Rattle.rnix_green.specs.Range.{bounds_of}
 use Rattle.nix_diagnostics.specs.Places.{place_of}
-use Rattle.nix_diagnostics.specs.Following.{is_slip, is_extra, last_from, last_slip, must_follow, is_near, IsErrorNode, IfErrorNode, IsInGroup, IfInGroup, Skips, Loses}
-use Rattle.nix_diagnostics.specs.Following.{is_group, range_if_group, group_around}
-use Rattle.nix_diagnostics.specs.Following.{skips, after_opening, AreLost, MayFollow, follows, same_group, lost}
-use Rattle.nix_diagnostics.specs.Known.{are_shared, IsLostFrom, IsLastIn, Knows, Judges}
+use Rattle.nix_diagnostics.specs.Following.{is_slip, is_extra, last_from, last_slip, are_close, must_follow, is_near, IsErrorNode, IfErrorNode, IsInGroup, IfInGroup}
+use Rattle.nix_diagnostics.specs.Following.{is_group, range_if_group, group_around, Loses, no_range, at_end, skips, after_opening, AreLost}
+use Rattle.nix_diagnostics.specs.Following.{MayFollow, must, same_group, lost}
+use Rattle.nix_diagnostics.specs.Known.{are_shared, is_from, skips_if, is_close_after, loses, is_following, IsLostFrom, IsLastIn, Knows, Judges}
 use Rattle.nix_diagnostics.specs.declared.folding.Folding.{Folding}
 
--- elements of a walk are in a tree
-abbrev pub AreIn : Tree → List Spot → Type 0
-AreIn t [] = Unit {0}
-AreIn t (spot ∷ spots) = (spot.1.tree ≡ t) × AreIn t spots
+-- one of two tests passes
+one_of_two : {P : Type 0} (a b : Bool) → (a || b) ≡ true → (a ≡ true → P) → (b ≡ true → P) → P
+one_of_two true b is first second = first refl
+one_of_two false b is first second = second is
 
--- the elements of some numbers are in their tree
-pub all_in : (t : Tree) (numbers : List ℕ) → AreIn t (map (spot_at t) numbers)
-all_in t [] = tt
-all_in t (n ∷ numbers) = (refl, all_in t numbers)
+-- an option for which the test passes is none
+none_is : {X : Type 0} (o : Option X) → is_none o ≡ true → o ≡ None
+none_is None is = refl
+none_is (Some x) is = absurd (grind (arith, is))
 
 -- one more error is the last one if it is about an unexpected or a missing token
 last_push : (before : Option Fault) (faults : List Fault) (fault : Fault) →
@@ -41,7 +41,7 @@ pub other_last : (faults : List Fault) (fault : Fault) → is_slip fault ≡ fal
 other_last faults fault is = last_push None faults fault ∙ ap (λ b. if b then Some fault else last_from None faults) is
 
 -- an error about an unexpected or a missing token has to follow if it is near
-pub slip_follows : (root : Located) (before : List Fault) (fault : Fault) → is_slip fault ≡ true →
+slip_follows : (root : Located) (before : List Fault) (fault : Fault) → is_slip fault ≡ true →
     must_follow root before fault ≡ is_near root (last_slip before) fault
 slip_follows root before (unexpected_at range) is = refl
 slip_follows root before (extra range) is = absurd (grind (arith, is))
@@ -53,7 +53,7 @@ slip_follows root before (duplicated_args range name) is = absurd (grind (arith,
 slip_follows root before too_deep is = refl
 
 -- the parser stays lost
-pub lost_more : (root : Located) (all before : List Fault) (fault : Fault) → AreLost root all before → AreLost root all (before ++ fault ∷ [])
+lost_more : (root : Located) (all before : List Fault) (fault : Fault) → AreLost root all before → AreLost root all (before ++ fault ∷ [])
 lost_more root all before fault are = record {
   first = are.first;
   fault = are.fault;
@@ -63,13 +63,8 @@ lost_more root all before fault are = record {
 }
 
 -- an error at which the parser loses its way is one of the errors up to it
-pub lost_now : (root : Located) (all before : List Fault) (fault : Fault) → Loses root all fault → AreLost root all (before ++ fault ∷ [])
+lost_now : (root : Located) (all before : List Fault) (fault : Fault) → Loses root all fault → AreLost root all (before ++ fault ∷ [])
 lost_now root all before fault loses = record { first = before; fault = fault; rest = []; is = refl; loses = loses }
-
--- an error may follow after the parser has lost its way
-pub judged_lost : (root : Located) (all before : List Fault) (fault : Fault) (f : Folding) → Knows root all before f → f.is_lost ≡ true →
-    Judges root all before fault true
-judged_lost root all before fault f known is = (λ yes. lost (known.lost is), λ no. absurd (grind (arith, no)))
 
 -- what is right below a list, pattern, .. with the range that was found
 in_group_below : (root : Located) (fault : Fault) (node : Located) (around : Option Located) (group : Option TextRange) → IsErrorNode root fault node →
@@ -96,18 +91,58 @@ in_group_found root fault None (Some range) is same = absurd (grind (arith, same
 in_group_found root fault (Some node) (Some range) is same = in_group_below root fault node (parent_of node) (Some range) is refl same
 
 -- in the list, pattern, .. of the last error an error may follow
-pub judged_shared : (root : Located) (all before : List Fault) (fault : Fault) (f : Folding) (group : Option TextRange) → Knows root all before f →
-    IfInGroup root fault group → are_shared group f.group ≡ true → Judges root all before fault true
-judged_shared root all before fault f group known is shared = (λ yes. found group f.group is known.group shared, λ no. absurd (grind (arith, no))) where
-  found : (own last : Option TextRange) → IfInGroup root fault own →
-      IfSome last (λ range. IsLastIn root before (bounds_of range)) → are_shared own last ≡ true → MayFollow root all before fault
-  found (Some own) (Some last) mine other same =
-      let start : own.start ≡ last.start = grind (arith, same) in
-      let end : own.end ≡ last.end = grind (arith, same) in
-      same_group other.last (bounds_of last) other.is other.group
-      (subst (λ x. IsInGroup root fault x) (λ k. record { start = start k; end = end k }) mine)
-  found (Some own) None mine other same = absurd (grind (arith, same))
-  found None last mine other same = absurd (grind (arith, same))
+shared_follows : (root : Located) (all before : List Fault) (fault : Fault) (own last : Option TextRange) → IfInGroup root fault own →
+    IfSome last (λ range. IsLastIn root before (bounds_of range)) → are_shared own last ≡ true → MayFollow root all before fault
+shared_follows root all before fault (Some own) (Some last) mine other same =
+    let start : own.start ≡ last.start = grind (arith, same) in
+    let end : own.end ≡ last.end = grind (arith, same) in
+    same_group other.last (bounds_of last) other.is other.group
+    (subst (λ x. IsInGroup root fault x) (λ k. record { start = start k; end = end k }) mine)
+shared_follows root all before fault (Some own) None mine other same = absurd (grind (arith, same))
+shared_follows root all before fault None last mine other same = absurd (grind (arith, same))
+
+-- an error about an unexpected or a missing token has to follow if its place is close after the last one
+near_known : (root : Located) (before : List Fault) (fault : Fault) (last : Option ℕ) (place : TextRange) →
+    last ≡ option_map (λ x. (place_of root x).end) (last_slip before) → bounds_of place ≡ place_of root fault → is_slip fault ≡ true →
+    must_follow root before fault ≡ is_close_after (text_at root) last place.start
+near_known root before fault last place is at slip = slip_follows root before fault slip ∙ near (last_slip before) last is where
+  near : (o : Option Fault) (end : Option ℕ) → end ≡ option_map (λ x. (place_of root x).end) o →
+      is_near root o fault ≡ is_close_after (text_at root) end place.start
+  near None end end_is = ap (λ e. is_close_after (text_at root) e place.start) (sym end_is)
+  near (Some l) end end_is =
+      ap (λ e. are_close (text_at root) (place_of root l).end e.start) (sym at) ∙ ap (λ e. is_close_after (text_at root) e place.start) (sym end_is)
+
+-- without an error before it nothing is close, and where no test passes the last does not
+none_passes : (some a b c : Bool) → (some ≡ false → c ≡ false) → (some && (a || (b || c))) ≡ false → c ≡ false
+none_passes false a b c without is = without refl
+none_passes true true b c without is = absurd (grind (arith, is))
+none_passes true false true c without is = absurd (grind (arith, is))
+none_passes true false false c without is = is
+
+-- one of three tests passes
+one_of_three : {P : Type 0} (some a b c : Bool) → (some && (a || (b || c))) ≡ true → (a ≡ true → P) → (b ≡ true → P) → (c ≡ true → P) → P
+one_of_three false a b c is first second third = absurd (grind (arith, is))
+one_of_three true a b c is first second third = one_of_two a (b || c) is first (λ rest. one_of_two b c rest second third)
+
+-- nothing is close after an offset that is absent
+none_close : (text : List ℕ) (last : Option ℕ) (offset : ℕ) → is_some last ≡ false → is_close_after text last offset ≡ false
+none_close text None offset is = refl
+none_close text (Some last) offset is = absurd (grind (arith, is))
+
+-- the state judges an error about an unexpected or a missing token
+pub judged_slip : (root : Located) (all before : List Fault) (fault : Fault) (f : Folding) (group : Option TextRange) (place : TextRange) (b : Bool) →
+    Knows root all before f → bounds_of place ≡ place_of root fault → is_slip fault ≡ true → IfInGroup root fault group →
+    b ≡ is_following root f group place → Judges root all before fault b
+judged_slip root all before fault f group place b known at slip own result =
+    let close = is_close_after (text_at root) f.last place.start in
+    let shared = are_shared group f.group in
+    let must_is : must_follow root before fault ≡ close = near_known root before fault f.last place known.last at slip in (
+      λ yes. one_of_three (is_some f.last) f.is_lost shared close (sym result ∙ yes)
+          (λ is. lost (known.lost is))
+          (λ is. shared_follows root all before fault group f.group own known.group is)
+          (λ is. must (must_is ∙ is)),
+      λ no. must_is ∙ none_passes (is_some f.last) f.is_lost shared close (none_close (text_at root) f.last place.start) (sym result ∙ no),
+    )
 
 -- what is known after an error about an unexpected or a missing token
 pub knows_slip : (root : Located) (all before : List Fault) (fault : Fault) (f new : Folding) → Knows root all before f → is_slip fault ≡ true →
@@ -178,9 +213,9 @@ last_known root (Some fault) last is = ap is_some (sym is)
 pub judged_extra : (root : Located) (all before : List Fault) (fault : Fault) (f : Folding) (b : Bool) → Knows root all before f →
     is_extra fault ≡ true → b ≡ is_some f.last → Judges root all before fault b
 judged_extra root all before fault f b known is counts =
-    let must : must_follow root before fault ≡ b =
+    let must_is : must_follow root before fault ≡ b =
     extra_follows root before fault is ∙ last_known root (last_slip before) f.last known.last ∙ sym counts in
-    (λ yes. follows (must ∙ yes), λ no. must ∙ no)
+    (λ yes. must (must_is ∙ yes), λ no. must_is ∙ no)
 
 -- a repeated name
 pub judged_name : (root : Located) (all before : List Fault) (fault : Fault) (f : Folding) → Knows root all before f → is_slip fault ≡ false →
@@ -188,16 +223,39 @@ pub judged_name : (root : Located) (all before : List Fault) (fault : Fault) (f 
 judged_name root all before fault f known other is = (λ yes. lost (known.lost yes), λ no. name_follows root before fault other is)
 
 -- the parser loses its way at an error after an opening that is never closed
-pub lost_after_opening : (root : Located) (all : List Fault) (fault : Fault) (from : Option ℕ) (start at : ℕ) → IfSome from (IsLostFrom root all) →
-    from ≡ Some start → start ≤ at → at ≡ (place_of root fault).start → Loses root all fault
-lost_after_opening root all fault from start at known is low place =
-    let opening : IsLostFrom root all start = subst (λ o. IfSome o (IsLostFrom root all)) is known in
+lost_after_opening : (root : Located) (all : List Fault) (fault : Fault) (from : Option ℕ) (offset : ℕ) → IfSome from (IsLostFrom root all) →
+    is_from from offset ≡ true → offset ≡ (place_of root fault).start → Loses root all fault
+lost_after_opening root all fault None offset opening is place = absurd (grind (arith, is))
+lost_after_opening root all fault (Some start) offset opening is place =
+    let low : start ≤ offset = leb-true start offset is in
     after_opening opening.token opening.is_token opening.opens (grind (arith, opening.start_is, low, place)) opening.early
 
 -- the parser loses its way at an error whose node skips brackets
-pub lost_skipping : (root : Located) (all : List Fault) (fault : Fault) (found : Option Located) (node : Located) →
-    IfErrorNode root fault found → found ≡ Some node → Skips node → Loses root all fault
-lost_skipping root all fault found node known is skipped = skips node (subst (λ o. IfSome o (IsErrorNode root fault)) is known) skipped
+lost_skipping : (root : Located) (all : List Fault) (fault : Fault) (unmatched : Option TextRange) (node : Option Located) →
+    IfErrorNode root fault node → skips_if unmatched node ≡ true → Loses root all fault
+lost_skipping root all fault unmatched None own is = absurd (grind (arith, is))
+lost_skipping root all fault unmatched (Some node) own is = skips node unmatched own is
+
+-- where the state says that the parser loses its way, it does
+loses_its_way : (root : Located) (all before : List Fault) (fault : Fault) (f : Folding) (node : Option Located) (place : TextRange) →
+    Knows root all before f → bounds_of place ≡ place_of root fault → IfErrorNode root fault node → loses f fault node place ≡ true →
+    Loses root all fault
+loses_its_way root all before fault f node place known at own is =
+    one_of_two (is_none (range_in fault)) _ is (λ none. no_range (none_is (range_in fault) none))
+    (λ ranged. one_of_two (nat_le f.end place.end) _ ranged
+    (λ late. let end : f.end ≤ place.end = leb-true f.end place.end late in at_end (grind (arith, end, known.end, ap (λ e. e.end) at)))
+    (λ early. one_of_two (is_from f.lost_from place.start) _ early
+    (λ from. lost_after_opening root all fault f.lost_from place.start known.lost_from from (ap (λ e. e.start) at))
+    (λ skipped. lost_skipping root all fault f.extra node own skipped)))
+
+-- and so of an error or those before it
+pub lost_at : (root : Located) (all before : List Fault) (fault : Fault) (f : Folding) (node : Option Located) (place : TextRange) (b : Bool) →
+    Knows root all before f → bounds_of place ≡ place_of root fault → IfErrorNode root fault node →
+    b ≡ (f.is_lost || loses f fault node place) → b ≡ true → AreLost root all (before ++ fault ∷ [])
+lost_at root all before fault f node place b known at own result is =
+    one_of_two f.is_lost (loses f fault node place) (sym result ∙ is)
+    (λ earlier. lost_more root all before fault (known.lost earlier))
+    (λ now. lost_now root all before fault (loses_its_way root all before fault f node place known at own now))
 
 -- no list is empty that has an element
 not_empty : {X : Type 0} (front back : List X) (x : X) → [] ≡ front ++ x ∷ back → ⊥
@@ -217,6 +275,6 @@ none_follow root too_deep = refl
 
 -- nor may it
 pub may_not : (root : Located) (all : List Fault) (fault : Fault) → MayFollow root all [] fault → ⊥
-may_not root all fault (follows is) = absurd (grind (arith, none_follow root fault, is))
+may_not root all fault (must is) = absurd (grind (arith, none_follow root fault, is))
 may_not root all fault (same_group last range is mine other) = absurd (grind (arith, is))
 may_not root all fault (lost are) = not_empty are.first are.rest are.fault are.is

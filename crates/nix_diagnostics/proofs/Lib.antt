@@ -1,2 +1,3 @@
+pub mod BracketExamples
 pub mod FollowingLemmas
 pub mod ShownLemmas

@@ -4,41 +4,16 @@ use Rattle.std.specs.Prelude.{is_some, IfSome, if◌then◌else◌}
 use Rattle.std.specs.List.{list_any}
 use Rattle.rnix_kinds.specs.declared.kinds.SyntaxKind.{SyntaxKind}
 use Rattle.rnix_kinds.specs.declared.kinds.SyntaxKind.TheVariants.{NODE_LIST, NODE_PATTERN, NODE_STRING, NODE_DYNAMIC, NODE_INHERIT}
-use Rattle.rnix_kinds.specs.declared.kinds.SyntaxKind.TheVariants.{NODE_ATTRPATH_VALUE, TOKEN_L_BRACE, TOKEN_L_BRACK, TOKEN_L_PAREN}
-use Rattle.rnix_kinds.specs.declared.kinds.SyntaxKind.TheVariants.{TOKEN_INTERPOL_START, TOKEN_STRING_START, TOKEN_LET, TOKEN_IF, TOKEN_THEN}
-use Rattle.rnix_kinds.specs.declared.kinds.SyntaxKind.TheVariants.{TOKEN_R_BRACE, TOKEN_R_BRACK, TOKEN_R_PAREN, TOKEN_INTERPOL_END, TOKEN_STRING_END}
-use Rattle.rnix_kinds.specs.declared.kinds.SyntaxKind.TheVariants.{TOKEN_IN, TOKEN_ELSE}
+use Rattle.rnix_kinds.specs.declared.kinds.SyntaxKind.TheVariants.{NODE_ATTRPATH_VALUE, TOKEN_STRING_START}
 use Rattle.rnix_green.specs.declared.range.TextRange.{TextRange}
 use Rattle.rnix_green.specs.Range.{Extent, bounds_of}
 use Rattle.rnix_green.specs.Tree.{Located, item_of, extent_of, text_at, IsTokenAt}
 use Rattle.rnix_green.specs.Relatives.{parent_of}
 use Rattle.rnix_grammar.specs.Fault.{Fault, extra, duplicated_args, unexpected_eof, unexpected_eof_wanted}
 use Rattle.rnix_grammar.specs.Ranges.{range_in, is_error_node}
+use Rattle.rnix.specs.WholeTree.{IsInTree}
 use Rattle.nix_diagnostics.specs.Places.{end_of_items, place_of}
-
--- a token of the kind opens something
-abbrev pub opens : SyntaxKind → Bool
-opens TOKEN_L_BRACE = true
-opens TOKEN_L_BRACK = true
-opens TOKEN_L_PAREN = true
-opens TOKEN_INTERPOL_START = true
-opens TOKEN_STRING_START = true
-opens TOKEN_LET = true
-opens TOKEN_IF = true
-opens TOKEN_THEN = true
-opens kind = false
-
--- a token of the kind closes something
-abbrev pub closes : SyntaxKind → Bool
-closes TOKEN_R_BRACE = true
-closes TOKEN_R_BRACK = true
-closes TOKEN_R_PAREN = true
-closes TOKEN_INTERPOL_END = true
-closes TOKEN_STRING_END = true
-closes TOKEN_IN = true
-closes TOKEN_THEN = true
-closes TOKEN_ELSE = true
-closes kind = false
+use Rattle.nix_diagnostics.specs.Brackets.{opens, skips_brackets}
 
 -- a node of the kind is one in which one mistake leads to several errors
 abbrev pub is_group : SyntaxKind → Bool
@@ -106,7 +81,7 @@ must_follow root before fault = is_near root (last_slip before) fault
 
 -- the error node of an error
 pub record IsErrorNode (root : Located) (fault : Fault) (node : Located) : Type 0 where
-  pub tree : node.tree ≡ root.tree
+  pub tree : IsInTree root node
   pub is_error : is_error_node (item_of node).kind ≡ true
   pub range : range_in fault ≡ Some (extent_of node)
 
@@ -148,24 +123,16 @@ counts_from token = if begins_string (item_of token).kind then 0 else (item_of t
 
 -- a token of the text
 pub record IsTokenOf (root token : Located) : Type 0 where
-  pub tree : token.tree ≡ root.tree
+  pub tree : IsInTree root token
   pub is_token : IsTokenAt token
-
--- a token in the range of a node opens or closes something
-pub record Skips (node : Located) : Type 0 where
-  pub token : Located
-  pub is_token : IsTokenOf node token
-  pub turns : (opens (item_of token).kind || closes (item_of token).kind) ≡ true
-  pub start : (item_of node).start ≤ (item_of token).start
-  pub end : (item_of token).end ≤ (item_of node).end
 
 -- the parser loses its way at an error
 pub data Loses (root : Located) (all : List Fault) (fault : Fault) : Type 0 where
   -- the error has no range: at the limit of nesting, or at the end of the text
   no_range : range_in fault ≡ None → Loses root all fault
   at_end : end_of_items root ≤ (place_of root fault).end → Loses root all fault
-  -- its error node skips a token that opens or closes something
-  skips : (node : Located) → IsErrorNode root fault node → Skips node → Loses root all fault
+  -- the tokens of its error node, one of which may be unmatched, close something around it, or leave something open
+  skips : (node : Located) (unmatched : Option TextRange) → IsErrorNode root fault node → skips_brackets unmatched node ≡ true → Loses root all fault
   -- it follows a token that opens something, in a text that ends too early
   after_opening : (token : Located) → IsTokenOf root token → opens (item_of token).kind ≡ true → counts_from token ≤ (place_of root fault).start →
       list_any is_at_end all ≡ true → Loses root all fault
@@ -180,7 +147,7 @@ pub record AreLost (root : Located) (all before : List Fault) : Type 0 where
 
 -- an error may share the diagnostic of earlier ones
 pub data MayFollow (root : Located) (all before : List Fault) (fault : Fault) : Type 0 where
-  follows : must_follow root before fault ≡ true → MayFollow root all before fault
+  must : must_follow root before fault ≡ true → MayFollow root all before fault
   same_group : (last : Fault) (range : Extent) → last_slip before ≡ Some last → IsInGroup root last range → IsInGroup root fault range →
       MayFollow root all before fault
   lost : AreLost root all before → MayFollow root all before fault

@@ -1,19 +1,46 @@
 -- What the state of `Folding` says of the errors so far.
-use Rattle.std.specs.Prelude.{◌≡◌, ℕ, ◌==◌, ◌&&◌, Bool, true, false, List, [], ◌∷◌, ◌++◌, Option, Some, option_map, IfSome}
+use Rattle.std.specs.Prelude.{◌≡◌, ℕ, ◌==◌, nat_le, ◌&&◌, ◌||◌, Bool, true, false, List, [], ◌∷◌, ◌++◌, Option, Some, None, option_map, is_some, is_none, IfSome}
 use Rattle.std.specs.List.{list_any}
 use Rattle.rnix_green.specs.declared.range.TextRange.{TextRange}
 use Rattle.rnix_green.specs.Range.{Extent, bounds_of}
-use Rattle.rnix_green.specs.Tree.{Located, item_of}
+use Rattle.rnix_green.specs.Tree.{Located, item_of, text_at}
 use Rattle.rnix_grammar.specs.Fault.{Fault}
+use Rattle.rnix_grammar.specs.Ranges.{range_in}
 use Rattle.nix_diagnostics.specs.Places.{end_of_items, place_of}
-use Rattle.nix_diagnostics.specs.Following.{opens, is_at_end, is_slip, last_slip, counts_from, must_follow, IsTokenOf, IsInGroup}
-use Rattle.nix_diagnostics.specs.Following.{IfErrorNode, IfInGroup, Loses, AreLost, MayFollow}
+use Rattle.nix_diagnostics.specs.Brackets.{opens, skips_brackets}
+use Rattle.nix_diagnostics.specs.Following.{is_at_end, last_slip, are_close, counts_from, must_follow, IsTokenOf, IsInGroup, AreLost, MayFollow}
 use Rattle.nix_diagnostics.specs.declared.folding.Folding.{Folding}
 
 -- there are two ranges, and they are equal
 abbrev pub are_shared : Option TextRange → Option TextRange → Bool
 are_shared (Some own) (Some last) = own.start == last.start && own.end == last.end
 are_shared own last = false
+
+-- an offset is not before a given one, if there is one
+abbrev pub is_from : Option ℕ → ℕ → Bool
+is_from None offset = false
+is_from (Some start) offset = nat_le start offset
+
+-- an error node, if there is one, skips brackets
+abbrev pub skips_if : Option TextRange → Option Located → Bool
+skips_if unmatched None = false
+skips_if unmatched (Some node) = skips_brackets unmatched node
+
+-- the parser loses its way at an error with this error node and place: it has no range, or ends with the last token other than trivia or after it,
+-- or follows what is never closed, or its node skips brackets
+abbrev pub loses : Folding → Fault → Option Located → TextRange → Bool
+loses f fault node place = is_none (range_in fault) || (nat_le f.end place.end || (is_from f.lost_from place.start || skips_if f.extra node))
+
+-- an offset is close after another, if there is another
+abbrev pub is_close_after : List ℕ → Option ℕ → ℕ → Bool
+is_close_after text None offset = false
+is_close_after text (Some last) offset = are_close text last offset
+
+-- an error about an unexpected or a missing token, with this list, pattern, .. around it and this place, follows from earlier ones: there are some,
+-- and the parser has lost its way, or the last one shares that list, pattern, .., or is close before it
+abbrev pub is_following : Located → Folding → Option TextRange → TextRange → Bool
+is_following root f group place =
+    is_some f.last && (f.is_lost || (are_shared group f.group || is_close_after (text_at root) f.last place.start))
 
 -- from an offset on errors follow a token that opens something, in a text that ends too early
 pub record IsLostFrom (root : Located) (all : List Fault) (start : ℕ) : Type 0 where
@@ -40,24 +67,6 @@ pub record Knows (root : Located) (all before : List Fault) (f : Folding) : Type
 -- an error that is judged to follow from earlier ones may do so, and any other need not
 abbrev pub Judges : Located → List Fault → List Fault → Fault → Bool → Type 0
 Judges root all before fault follows = (follows ≡ true → MayFollow root all before fault) × (follows ≡ false → must_follow root before fault ≡ false)
-
--- if the result is true, the parser loses its way at an error with this error node and place, whatever the earlier errors are
-abbrev pub LosesIf : Folding → Fault → Option Located → TextRange → Bool → Type 0
-LosesIf f fault node place loses =
-    (root : Located) (all before : List Fault) → Knows root all before f → bounds_of place ≡ place_of root fault → IfErrorNode root fault node →
-    loses ≡ true → Loses root all fault
-
--- if the result is true, the parser loses its way at such an error or before it
-abbrev pub AreLostIf : Folding → Fault → Option Located → TextRange → Bool → Type 0
-AreLostIf f fault node place is_lost =
-    (root : Located) (all before : List Fault) → Knows root all before f → bounds_of place ≡ place_of root fault → IfErrorNode root fault node →
-    is_lost ≡ true → AreLost root all (before ++ fault ∷ [])
-
--- the result judges any error about an unexpected or a missing token that has this place and list, pattern, .., whatever the earlier errors are
-abbrev pub JudgesSlips : Located → Folding → Option TextRange → TextRange → Bool → Type 0
-JudgesSlips root f group place follows =
-    (all before : List Fault) (fault : Fault) → Knows root all before f → bounds_of place ≡ place_of root fault → is_slip fault ≡ true →
-    IfInGroup root fault group → Judges root all before fault follows
 
 -- the result judges an error, whatever the earlier ones are, and the new state fits them and it
 abbrev pub JudgesNext : Located → Fault → Folding → Folding → Bool → Type 0

@@ -1,4 +1,5 @@
 pub mod Places
+pub mod Brackets
 pub mod Following
 pub mod Known
 pub mod Shown

@@ -1,7 +1,8 @@
 //! Matching of brackets, strings and keywords by the tokens of a text alone.
 
-ghost use Rattle.std.specs.Prelude.{◌≡◌};
-ghost use Rattle.nix_diagnostics.specs.Following.{opens, closes};
+ghost use Rattle.std.specs.Prelude.{◌≡◌, IfOk};
+ghost use Rattle.nix_diagnostics.specs.Brackets.{opens, closes};
+ghost use Rattle.nix_diagnostics.specs.Places.{end_of_items};
 
 use SyntaxKind::*;
 use rnix::{NodeOrToken, SyntaxKind, SyntaxNode, SyntaxToken, TextRange};
@@ -213,7 +214,7 @@ impl Brackets {
     }
 
     // Closes what a token closes. What is nested too deep to be kept is closed by any token.
-    fn close_by(&mut self, kind: SyntaxKind, range: TextRange) {
+    fn close_with(&mut self, kind: SyntaxKind, range: TextRange) {
         match opener_of(kind) {
             Some(_) if self.deeper > 0 => self.forget(),
             Some(opener) => self.close(opener, range),
@@ -238,7 +239,7 @@ impl Brackets {
             return Ok(());
         }
         self.end_braces(kind)?;
-        self.close_by(kind, token.text_range());
+        self.close_with(kind, token.text_range());
         match kind {
             TOKEN_INHERIT => self.inherit = Some(token.text_range()),
             TOKEN_SEMICOLON => self.inherit = None,
@@ -291,6 +292,8 @@ pub struct Mismatch {
 pub struct Matching {
     /// Those that do not match.
     pub mismatch: Mismatch,
+    /// The end of the last token other than trivia, 0 if there is none.
+    pub end: usize,
     // The starts of the braces that `:` or `@` follows, sorted.
     patterns: Vec<usize>,
 }
@@ -303,10 +306,16 @@ impl Matching {
 }
 
 /// Matches the brackets in a node.
-pub fn match_brackets(alloc: Global, node: &SyntaxNode<'_>) -> Result<Matching, AllocError> {
+pub fn match_brackets(alloc: Global, node: &SyntaxNode<'_>) -> Result<Matching, AllocError>
+    ensures { IfOk result (λ matching. matching.end ≡ end_of_items node.now) }
+{
     let mut brackets = Brackets::new(alloc);
+    let mut end = 0;
     for element in node.descendants_with_tokens() {
         if let NodeOrToken::Token(token) = element {
+            if !token.kind().is_trivia() {
+                end = token.text_range().end();
+            }
             brackets.read(&token)?;
         }
     }
@@ -317,5 +326,9 @@ pub fn match_brackets(alloc: Global, node: &SyntaxNode<'_>) -> Result<Matching, 
     };
     let mut patterns = brackets.patterns;
     patterns.sort()?;
-    Ok(Matching { mismatch, patterns })
+    Ok(Matching {
+        mismatch,
+        end,
+        patterns,
+    })
 }

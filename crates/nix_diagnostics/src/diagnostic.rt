@@ -1,6 +1,6 @@
 //! Diagnostics: where errors are shown, and what is reported of them.
 
-ghost use Rattle.std.specs.Prelude.{◌≡◌, ◌+◌, ◌^◌, ◌<◌, length, option_map, IfOk, OnOk, string_bytes};
+ghost use Rattle.std.specs.Prelude.{◌≡◌, ◌+◌, ◌^◌, ◌<◌, length, option_map, IfOk, OnOk};
 ghost use Rattle.rnix_green.specs.Range.{bounds_of};
 ghost use Rattle.rnix_grammar.specs.Fault.{fault_of};
 ghost use Rattle.rnix.specs.ParseResult.{root_of};
@@ -12,7 +12,7 @@ use crate::folding::Folding;
 use crate::message::message;
 use crate::notes::{Note, NoteFinder};
 use crate::place::error_node;
-use rnix::{NodeOrToken, Parse, ParseError, SyntaxKind, SyntaxNode, TextRange};
+use rnix::{Parse, ParseError, SyntaxKind, SyntaxNode, TextRange};
 use std::alloc::{AllocError, Global};
 
 /// A mistake in a text: the bytes to underline, none if something is missing at the end, and a message such as
@@ -31,21 +31,6 @@ pub struct Diagnostic {
     pub end_error: usize,
     /// Notes that may help: what is not closed, where something is missing, what was meant.
     pub notes: Vec<Note>,
-}
-
-// The end of the last token other than trivia, 0 if there is none.
-fn end_of_items(root: &SyntaxNode<'_>) -> usize
-    ensures { result ≡ end_of_items root.now }
-{
-    let mut end = 0;
-    for element in root.descendants_with_tokens() {
-        if let NodeOrToken::Token(token) = element {
-            if !token.kind().is_trivia() {
-                end = token.text_range().end();
-            }
-        }
-    }
-    end
 }
 
 // The range of the first error node that ends at an offset: it holds the expressions that are nested too deep.
@@ -104,8 +89,8 @@ pub fn diagnostics(alloc: Global, read: &Parse) -> Result<Vec<Diagnostic>, Alloc
         return Ok(found);
     }
     let root = read.syntax();
-    let end = end_of_items(&root);
     let matching = match_brackets(alloc, &root)?;
+    let end = matching.end;
     let mut folding = Folding::new(&root, errors, matching.mismatch, end);
     let mut finder = NoteFinder::new(matching);
     let mut earlier = root.clone();

@@ -1,15 +1,17 @@
 //! Deciding which errors follow from an earlier one.
 
-ghost use Rattle.std.specs.Prelude.{◌≡◌, [], true, false, nat_lt, IfSome, option_map, map};
+ghost use Rattle.std.specs.Prelude.{◌≡◌, ◌+◌, ◌^◌, ◌<◌, ◌≤◌, [], true, false, ◌||◌, nat_lt, is_none, IfSome, option_map, map};
 ghost use Rattle.std.specs.List.{list_any};
 ghost use Rattle.rnix_green.specs.Range.{bounds_of};
 ghost use Rattle.rnix_green.specs.Relatives.{parent_of};
 ghost use Rattle.rnix_green.specs.Tree.{item_of};
 ghost use Rattle.rnix_grammar.specs.Fault.{fault_of};
+ghost use Rattle.rnix_grammar.specs.Ranges.{range_in};
 ghost use Rattle.nix_diagnostics.specs.Places.{end_of_items, place_of};
-ghost use Rattle.nix_diagnostics.specs.Following.{opens, is_group, is_at_end, is_slip, is_extra, is_blank, words, are_close, counts_from, range_if_group};
-ghost use Rattle.nix_diagnostics.specs.Following.{group_around, IfErrorNode, Skips};
-ghost use Rattle.nix_diagnostics.specs.Known.{are_shared, IsLostFrom, Knows, LosesIf, AreLostIf, JudgesSlips, JudgesNext};
+ghost use Rattle.nix_diagnostics.specs.Brackets.{opens, has_range, closes_around, depth_after, skips_brackets};
+ghost use Rattle.nix_diagnostics.specs.Following.{is_group, is_at_end, is_slip, is_extra, is_blank, words, are_close, counts_from, range_if_group};
+ghost use Rattle.nix_diagnostics.specs.Following.{group_around, IfErrorNode};
+ghost use Rattle.nix_diagnostics.specs.Known.{are_shared, is_from, skips_if, loses, is_following, IsLostFrom, Knows, JudgesNext};
 
 use crate::brackets::{Mismatch, Opening, closes, opens};
 use SyntaxKind::*;
@@ -163,6 +165,51 @@ fn lost_from(
     counts_from(&token)
 }
 
+// Whether an offset is not before another, if there is another.
+fn is_from(start: Option<usize>, offset: usize) -> bool
+    ensures { result ≡ is_from start offset }
+{
+    match start {
+        Some(start) => start <= offset,
+        None => false,
+    }
+}
+
+// Whether a token has a range, if there is one.
+fn has_range(range: Option<TextRange>, token: &SyntaxToken<'_>) -> bool
+    ensures { result ≡ has_range range token.now }
+{
+    let own = token.text_range();
+    match range {
+        Some(range) => range.start() == own.start() && range.end() == own.end(),
+        None => false,
+    }
+}
+
+// How much is open after a token of the kind. `then` closes `if`, and opens what `else` closes.
+fn depth_after(depth: usize, kind: SyntaxKind) -> usize
+    requires { depth + 1 < 2 ^ 64 }
+    ensures depth { result ≡ depth_after depth kind }
+    ensures most { result ≤ depth + 1 }
+{
+    let rest = if closes(kind) {
+        depth.saturating_sub(1)
+    } else {
+        depth
+    };
+    if opens(kind) { rest + 1 } else { rest }
+}
+
+// Whether an error has no range.
+fn has_no_range(error: &ParseError) -> bool
+    ensures { result ≡ is_none (range_in (fault_of error.now)) }
+{
+    match error.range() {
+        Some(_range) => false,
+        None => true,
+    }
+}
+
 // Whether an error is about an unexpected or a missing token.
 fn is_slip(error: &ParseError) -> bool
     ensures { result ≡ is_slip (fault_of error.now) }
@@ -201,45 +248,47 @@ impl Folding {
         }
     }
 
-    // Whether an error node skips tokens that open or close something around it.
-    fn skips_brackets(&self, node: &SyntaxNode<'_>) -> bool
-        ensures { result ≡ true → Skips node.now }
+    // Whether a token closes something that is open before a walk in which so much is open.
+    fn closes_around(&self, depth: usize, token: &SyntaxToken<'_>) -> bool
+        ensures { result ≡ closes_around self.now.extra depth token.now }
     {
-        let range = node.text_range();
+        closes(token.kind()) && depth == 0 && !has_range(self.extra, token)
+    }
+
+    // Whether the tokens of a node close something that is open before it, or leave something open.
+    fn skips_brackets(&self, node: &SyntaxNode<'_>) -> bool
+        ensures { result ≡ skips_brackets self.now.extra node.now }
+    {
         let mut depth: usize = 0;
         for element in node.descendants_with_tokens() {
             if let NodeOrToken::Token(token) = element {
-                let own = token.text_range();
-                if closes(token.kind()) && range.contains_range(own) {
-                    if depth == 0 && Some(own) != self.extra {
-                        return true;
-                    }
-                    depth = depth.saturating_sub(1);
+                if self.closes_around(depth, &token) {
+                    return true;
                 }
-                if opens(token.kind()) && range.contains_range(own) {
-                    depth = depth.saturating_add(1);
-                }
+                depth = depth_after(depth, token.kind());
             }
         }
         depth > 0
     }
 
-    // Whether the parser loses its way at an error.
-    fn loses(&self, error: &ParseError, node: &Option<SyntaxNode<'_>>, place: TextRange) -> bool
-        ensures { LosesIf self.now (fault_of error.now) node.now place result }
+    // The same for an error node, if there is one.
+    fn skips_if(&self, node: &Option<SyntaxNode<'_>>) -> bool
+        ensures { result ≡ skips_if self.now.extra node.now }
     {
-        if error.range().is_none() || place.end() >= self.end {
-            return true;
-        }
-        if let Some(start) = self.lost_from {
-            if start <= place.start() {
-                return true;
-            }
-        }
         match node {
             Some(node) => self.skips_brackets(node),
             None => false,
         }
+    }
+
+    // Whether the parser loses its way at an error.
+    fn loses(&self, error: &ParseError, node: &Option<SyntaxNode<'_>>, place: TextRange) -> bool
+        ensures { result ≡ loses self.now (fault_of error.now) node.now place }
+    {
+        has_no_range(error)
+            || self.end <= place.end()
+            || is_from(self.lost_from, place.start())
+            || self.skips_if(node)
     }
 
     // Whether the parser has lost its way at an error or before it.
@@ -249,18 +298,15 @@ impl Folding {
         node: &Option<SyntaxNode<'_>>,
         place: TextRange,
     ) -> bool
-        ensures { AreLostIf self.now (fault_of error.now) node.now place result }
+        ensures { result ≡ (self.now.is_lost || loses self.now (fault_of error.now) node.now place) }
     {
-        if self.is_lost {
-            return true;
-        }
-        self.loses(error, node, place)
+        self.is_lost || self.loses(error, node, place)
     }
 
     // Whether an error follows from earlier ones: the parser has lost its way, or the error shares a list, pattern, .. with the last one or is
     // near it.
     fn follows(&self, root: &SyntaxNode<'_>, group: Option<TextRange>, place: TextRange) -> bool
-        ensures { JudgesSlips root.now self.now group place result }
+        ensures { result ≡ is_following root.now self.now group place }
     {
         let Some(last) = self.last else {
             return false;

@@ -125,8 +125,9 @@ pub fn message(
 ) -> Result<String, AllocError>
     ensures { IfOk result (λ text. 0 < length (string_bytes text)) }
 {
-    let mut text = String::new(alloc);
-    text.push_str(headline(error))?;
-    text.push_str(details(alloc, error, node)?.as_str())?;
+    let (headline, details) = (headline(error), details(alloc, error, node)?);
+    let mut text = String::with_capacity(alloc, headline.len().saturating_add(details.len()))?;
+    text.push_str(headline)?;
+    text.push_str(details.as_str())?;
     Ok(text)
 }

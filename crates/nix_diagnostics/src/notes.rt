@@ -61,7 +61,7 @@ fn first_argument(
     name: &str,
     entries_left: &mut usize,
 ) -> Option<Note> {
-    if !root.text_range().contains_inclusive(range.start()) {
+    if *entries_left == 0 || !root.text_range().contains_inclusive(range.start()) {
         return None;
     }
     let token = root.token_at_offset(range.start()).right_biased()?;

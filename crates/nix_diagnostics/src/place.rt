@@ -1,7 +1,8 @@
 //! Finding errors in a tree.
 
-ghost use Rattle.std.specs.Prelude.{◌≡◌, IfSome};
+ghost use Rattle.std.specs.Prelude.{IfSome};
 ghost use Rattle.rnix_grammar.specs.Fault.{fault_of};
+ghost use Rattle.rnix.specs.WholeTree.{IsInTree};
 ghost use Rattle.nix_diagnostics.specs.Following.{IfErrorNode};
 
 use rnix::{ParseError, SyntaxKind, SyntaxNode, SyntaxToken, TextRange};
@@ -13,7 +14,7 @@ const MOST_TRIVIA: usize = 64;
 
 // Returns the token that starts at an offset, if it is among the next from a token on.
 fn near_token<'t>(from: &SyntaxToken<'t>, offset: usize) -> Option<SyntaxToken<'t>>
-    ensures { IfSome result (λ token. token.tree ≡ from.now.tree) }
+    ensures { IfSome result (IsInTree from.now) }
 {
     let mut token = from.clone();
     for _step in 0..MOST_STEPS {
@@ -35,8 +36,8 @@ fn token_at<'t>(
     earlier: &SyntaxNode<'t>,
     offset: usize,
 ) -> Option<SyntaxToken<'t>>
-    requires { earlier.now.tree ≡ root.now.tree }
-    ensures { IfSome result (λ token. token.tree ≡ root.now.tree) }
+    requires { IsInTree root.now earlier.now }
+    ensures { IfSome result (IsInTree root.now) }
 {
     if let Some(first) = earlier.first_token() {
         if let Some(token) = near_token(&first, offset) {
@@ -52,10 +53,14 @@ pub fn error_node<'t>(
     earlier: &mut SyntaxNode<'t>,
     error: &ParseError,
 ) -> Option<SyntaxNode<'t>>
-    requires { earlier.old.tree ≡ root.now.tree }
+    requires { IsInTree root.now earlier.old }
     ensures node { IfErrorNode root.now (fault_of error.now) result }
-    ensures earlier { earlier.new.tree ≡ root.now.tree }
+    ensures earlier { IsInTree root.now earlier.new }
 {
+    // A repeated name is no error node: nothing is searched for.
+    if matches!(error, ParseError::DuplicatedArgs(..)) {
+        return None;
+    }
     let range = error.range()?;
     let node = token_at(root, earlier, range.start())?.parent()?;
     if node.kind() == SyntaxKind::NODE_ERROR && node.text_range() == range {

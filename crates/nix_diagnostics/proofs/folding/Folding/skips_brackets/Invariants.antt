@@ -1,12 +1,11 @@
-use Rattle.std.proofs.Common.{◌<◌}
-use Rattle.nix_diagnostics.specs.Following.{Skips}
-use Rattle.nix_diagnostics.proofs.FollowingLemmas.{AreIn}
+use Rattle.std.proofs.Common.{◌≡◌, ◌+◌, ◌^◌, ◌<◌, length}
+use Rattle.nix_diagnostics.specs.Brackets.{is_unbalanced, skips_brackets}
 use Rattle.nix_diagnostics.proofs.folding.Folding.skips_brackets.Given as goal
 
 abbrev pub invariant-loop-element : goal.invariant-loop-element
 invariant-loop-element l = record {
   next : (goal.iterator-loop-element).can_next l.element-iterator;
   ends : (goal.iterator-loop-element).is_finite l.element-iterator;
-  inside : AreIn l.node.tree l.element-iterator;
-  opened : 0 < l.depth → Skips l.node;
+  left : is_unbalanced l.self.extra l.depth l.element-iterator ≡ skips_brackets l.self.extra l.node;
+  room : l.depth + length l.element-iterator < 2 ^ 64;
 }

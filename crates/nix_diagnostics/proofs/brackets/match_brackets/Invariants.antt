@@ -1,10 +1,10 @@
 use Rattle.std.proofs.Common.{◌≡◌}
 use Rattle.nix_diagnostics.specs.Places.{last_end, end_of_items}
-use Rattle.nix_diagnostics.proofs.diagnostic.end_of_items.Given as goal
+use Rattle.nix_diagnostics.proofs.brackets.match_brackets.Given as goal
 
 abbrev pub invariant-loop-element : goal.invariant-loop-element
 invariant-loop-element l = record {
   next : (goal.iterator-loop-element).can_next l.element-iterator;
   ends : (goal.iterator-loop-element).is_finite l.element-iterator;
-  end : end_of_items l.root ≡ last_end l.end l.element-iterator;
+  end : end_of_items l.node ≡ last_end l.end l.element-iterator;
 }

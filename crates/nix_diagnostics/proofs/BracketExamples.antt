@@ -1,0 +1,39 @@
+-- Error nodes with brackets, and whether they skip them; by computation. Each token has one byte.
+use Rattle.std.proofs.Common.{◌≡◌, true, false, List, [], ◌∷◌, Some, None, refl, arith}
+use Rattle.rnix_kinds.specs.declared.kinds.SyntaxKind.{SyntaxKind}
+use Rattle.rnix_kinds.specs.declared.kinds.SyntaxKind.TheVariants as k
+use Rattle.rnix_green.specs.{Forest.{Forest, empty, leaf}, Tree.Located}
+use Rattle.nix_diagnostics.specs.Brackets.{skips_brackets}
+
+-- tokens of the kinds
+abbrev tokens : List SyntaxKind → Forest
+tokens [] = empty
+tokens (kind ∷ kinds) = leaf kind (40 ∷ []) (tokens kinds)
+
+-- an error node with tokens of the kinds
+abbrev error : List SyntaxKind → Located
+error kinds = record { tree = record { kind = k.NODE_ERROR; children = tokens kinds }; number = 0 }
+
+-- brackets that are closed are not skipped
+closed : skips_brackets None (error (k.TOKEN_L_PAREN ∷ k.TOKEN_COMMA ∷ k.TOKEN_R_PAREN ∷ [])) ≡ false
+closed = refl
+
+-- a bracket that is left open
+left_open : skips_brackets None (error (k.TOKEN_L_PAREN ∷ k.TOKEN_COMMA ∷ [])) ≡ true
+left_open = refl
+
+-- a bracket that closes what is open before the node
+closes_outer : skips_brackets None (error (k.TOKEN_R_PAREN ∷ k.TOKEN_L_PAREN ∷ [])) ≡ true
+closes_outer = refl
+
+-- unless it is the unmatched one
+unmatched_token : skips_brackets (Some record { start = 0; end = 1; ordered = omega arith }) (error (k.TOKEN_R_PAREN ∷ k.TOKEN_COMMA ∷ [])) ≡ false
+unmatched_token = refl
+
+-- `then` closes `if`, and `else` closes `then`
+whole_if : skips_brackets None (error (k.TOKEN_IF ∷ k.TOKEN_THEN ∷ k.TOKEN_ELSE ∷ [])) ≡ false
+whole_if = refl
+
+-- `else` alone closes a `then` before the node
+else_alone : skips_brackets None (error (k.TOKEN_ELSE ∷ [])) ≡ true
+else_alone = refl
