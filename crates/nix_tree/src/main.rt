@@ -8,9 +8,9 @@ use nix_cli::{
     Arguments, FAILED, FOUND, Program, Start, end, find_files, read_arguments, read_text,
     shown_name,
 };
-use rnix_print::{RunError, complaint, run, status};
+use rnix_print::{RunError, run, status};
 use std::alloc::Global;
-use std::io::{self, BufWriter, Read, Write};
+use std::io::{self, BufWriter, Write};
 use std::process::ExitCode;
 
 const PROGRAM: Program = Program {
@@ -31,33 +31,6 @@ Ends with 0 if there are no errors, 1 if there are some, 2 if something could no
     least: 0,
     most: usize::MAX,
 };
-
-// A run whose output is gathered, and written in large parts.
-fn run_buffered<R: Read + Drop, W: Write + Drop>(
-    alloc: Global,
-    input: R,
-    output: W,
-) -> Result<bool, RunError> {
-    let mut input = input;
-    let Ok(mut out) = BufWriter::new(alloc, output) else {
-        return Err(RunError::Memory);
-    };
-    let good = run(alloc, &mut input, &mut out)?;
-    if out.flush().is_err() {
-        return Err(RunError::Write);
-    }
-    Ok(good)
-}
-
-// Prints the errors and the tree of standard input, and returns the status.
-fn print_input(rt: &HostRuntime) -> u8 {
-    let outcome = run_buffered(rt.alloc(), rt.stdin(), rt.stdout());
-    if let Err(error) = &outcome {
-        // If this cannot be written either, nothing is left to do.
-        let _said = eprintln!(rt; "{}", complaint(error));
-    }
-    status(&outcome)
-}
 
 // Prints the errors and the tree of a text, and returns the status.
 fn print_text<W: Write>(alloc: Global, text: &str, out: &mut W) -> io::Result<u8> {
@@ -113,9 +86,6 @@ fn print_files(rt: &HostRuntime, arguments: &Arguments) -> io::Result<u8> {
 // Does what the command line asks for.
 fn answer(rt: &HostRuntime) -> io::Result<u8> {
     match read_arguments(rt, &PROGRAM)? {
-        Start::Run(arguments) if arguments.words.is_empty() && !arguments.has("--json") => {
-            Ok(print_input(rt))
-        }
         Start::Run(arguments) => print_files(rt, &arguments),
         Start::End(status) => Ok(status),
     }
