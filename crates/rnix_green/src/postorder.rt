@@ -4,7 +4,7 @@ ghost use Rattle.std.specs.Prelude.{◌≡◌, ◌<◌, length, map, reverse, If
 ghost use Rattle.rnix_green.specs.Forest.{text_of};
 ghost use Rattle.rnix_green.specs.Entries.{made};
 ghost use Rattle.rnix_green.specs.Kept.{parent_or_root, kept_from};
-ghost use Rattle.rnix_green.specs.Packed.{limit, packed};
+ghost use Rattle.rnix_green.specs.Packed.{limit};
 ghost use Rattle.rnix_green.specs.Postorder.{entry_of, entries_of, parent_number, HasMore, IsReached};
 
 use crate::packed::Packed;
@@ -35,14 +35,6 @@ impl Frame {
             number: number as u32,
             first: first as u32,
         }
-    }
-
-    // Returns the node as an element that starts at an offset, below a parent.
-    #[inline(always)]
-    fn placed(self, offset: usize, parent: usize) -> Packed
-        ensures { result ≡ packed self.kind offset parent self.size }
-    {
-        Packed::new(self.kind, offset, parent, self.size as usize)
     }
 }
 
@@ -84,32 +76,40 @@ pub(crate) fn in_preorder(mut elements: Vec<Packed>, text: &str) -> Result<Vec<P
     let mut offset = text.len();
     let mut left = elements.len();
     'elements: loop {
-        if let Some(frame) = reached(&frames, left) {
-            frames.truncate(frames.len() - 1);
-            let parent = innermost_number(&frames);
-            elements[left + frames.len()] = frame.placed(offset, parent);
-            continue;
-        }
-        if left == 0 {
-            break;
-        }
-        left -= 1;
-        let entry = elements[left];
-        let (kind, size) = (entry.kind(), entry.size());
-        if size == 2 && elements[left - 1].size() == 0 {
-            left -= 1;
-            let token = elements[left];
-            offset -= token.place();
-            let number = left + frames.len();
-            elements[number + 1] = Packed::new(token.kind(), offset, number, 0);
-            elements[number] = Packed::new(kind, offset, innermost_number(&frames), 2);
-        } else if size > 0 {
-            let first = left + 1 - size;
-            frames.push(Frame::new(kind, size, first + frames.len(), first))?;
-        } else {
-            offset -= entry.place();
-            let parent = innermost_number(&frames);
-            elements[left + frames.len()] = Packed::new(kind, offset, parent, 0);
+        match reached(&frames, left) {
+            Some(frame) => {
+                frames.truncate(frames.len() - 1);
+                let parent = innermost_number(&frames);
+                elements[left + frames.len()] = Packed::new(
+                    frame.kind,
+                    offset,
+                    parent,
+                    frame.size as usize,
+                );
+            }
+            None => {
+                if left == 0 {
+                    break;
+                }
+                left -= 1;
+                let entry = elements[left];
+                let (kind, size) = (entry.kind(), entry.size());
+                if size == 2 && elements[left - 1].size() == 0 {
+                    left -= 1;
+                    let token = elements[left];
+                    offset -= token.place();
+                    let number = left + frames.len();
+                    elements[number + 1] = Packed::new(token.kind(), offset, number, 0);
+                    elements[number] = Packed::new(kind, offset, innermost_number(&frames), 2);
+                } else if size > 0 {
+                    let first = left + 1 - size;
+                    frames.push(Frame::new(kind, size, first + frames.len(), first))?;
+                } else {
+                    offset -= entry.place();
+                    let parent = innermost_number(&frames);
+                    elements[left + frames.len()] = Packed::new(kind, offset, parent, 0);
+                }
+            }
         }
     }
     Ok(elements)

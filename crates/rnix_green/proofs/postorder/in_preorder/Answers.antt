@@ -27,26 +27,26 @@ elements-preserved-in-Some c =
     let depth : c.len-in-Some.result ≡ length c.truncate.new.self.items = c.len-in-Some.ensures ∙ c.truncate.new.self.ok.0 in
     let parent : c.innermost_number-parent.result ≡ parent_or_root (parent_number (reverse c.truncate.new.self.items)) =
     rw c.deref-in-Some.ensures.value at c.innermost_number-parent.ensures in
-    let value : c.placed.result ≡ frame_kept c.in-Some.frame c.elements.offset (parent_number (reverse c.truncate.new.self.items)) =
-    c.placed.ensures ∙ ap (λ q. packed c.in-Some.frame.kind c.elements.offset q c.in-Some.frame.size) parent in
+    let value : c.new.result ≡ frame_kept c.in-Some.frame c.elements.offset (parent_number (reverse c.truncate.new.self.items)) =
+    c.new.ensures ∙ ap (λ q. packed c.in-Some.frame.kind c.elements.offset q c.in-Some.frame.size) parent in
     record {
-      small = omega (arith, c.elements.invariant.small, length-set es (c.elements.left + c.len-in-Some.result) c.placed.result);
+      small = omega (arith, c.elements.invariant.small, length-set es (c.elements.left + c.len-in-Some.result) c.new.result);
       few =
           omega (
             arith,
             c.elements.invariant.few,
             ap length shorter,
             length-take-le (length old - 1) old (omega arith),
-            length-set es (c.elements.left + c.len-in-Some.result) c.placed.result,
+            length-set es (c.elements.left + c.len-in-Some.result) c.new.result,
           );
       work =
           node_placed (made c.args.text.now c.args.elements.items) es c.elements.left c.elements.offset (c.elements.left + c.len-in-Some.result) old _
-          c.placed.result c.in-Some.frame c.elements.invariant.few closing shorter (ap (λ n. c.elements.left + n) depth) value c.elements.invariant.work;
+          c.new.result c.in-Some.frame c.elements.invariant.few closing shorter (ap (λ n. c.elements.left + n) depth) value c.elements.invariant.work;
     }
 
 pub overflow_sub-left-then-size-eq2 : goal.overflow_sub-left-then-size-eq2
 overflow_sub-left-then-size-eq2 c =
-    let open_ : HasMore (reverse c.elements.frames.items) c.elements.left = rw c.deref.ensures.value at c.in_default.ensures in
+    let open_ : HasMore (reverse c.elements.frames.items) c.elements.left = rw c.deref.ensures.value at c.in-None.ensures in
     pair_fits (made c.args.text.now c.args.elements.items) c.elements.elements.items c.elements.left c.elements.offset c.elements.frames.items
     c.index.result.now c.elements.invariant.few c.if-left-eq0.false c.index.ensures (omega (arith, c.size-size.ensures, c.if-size-eq2.true)) open_
     c.elements.invariant.work
@@ -55,7 +55,7 @@ pub overflow_sub-offset : goal.overflow_sub-offset
 overflow_sub-offset c =
     let es = c.elements.elements.items in
     let y = c.index-then-size-eq0.result.now in
-    let open_ : HasMore (reverse c.elements.frames.items) c.elements.left = rw c.deref.ensures.value at c.in_default.ensures in
+    let open_ : HasMore (reverse c.elements.frames.items) c.elements.left = rw c.deref.ensures.value at c.in-None.ensures in
     let two : size_in c.index.result.now ≡ 2 = omega (arith, c.size-size.ensures, c.if-size-eq2.true) in
     let none : size_in y ≡ 0 =
     token_again es (c.elements.left - 1 - 1) c.index-then-size-eq2.result.now y (omega (arith, c.elements.invariant.few)) c.index-then-size-eq2.ensures
@@ -70,10 +70,10 @@ elements-preserved-then-size-eq0 c =
     let es = c.elements.elements.items in
     let old = c.elements.frames.items in
     let y = c.index-then-size-eq0.result.now in
-    let token = c.new.result in
-    let kept = c.new-then-size-eq0.result in
+    let token = c.new-then-size-eq0.result in
+    let kept = c.new-then-size-eq0-2.result in
     let number = c.elements.left - 1 - 1 + c.len-then-size-eq0.result in
-    let open_ : HasMore (reverse old) c.elements.left = rw c.deref.ensures.value at c.in_default.ensures in
+    let open_ : HasMore (reverse old) c.elements.left = rw c.deref.ensures.value at c.in-None.ensures in
     let two : size_in c.index.result.now ≡ 2 = omega (arith, c.size-size.ensures, c.if-size-eq2.true) in
     let none : size_in y ≡ 0 =
     token_again es (c.elements.left - 1 - 1) c.index-then-size-eq2.result.now y (omega (arith, c.elements.invariant.few)) c.index-then-size-eq2.ensures
@@ -81,8 +81,8 @@ elements-preserved-then-size-eq0 c =
     let depth : c.len-then-size-eq0.result ≡ length old = c.len-then-size-eq0.ensures ∙ c.elements.frames.ok.0 in
     let parent : c.innermost_number.result ≡ parent_or_root (parent_number (reverse old)) =
     rw c.deref-then-size-eq0.ensures.value at c.innermost_number.ensures in
-    let token_is = rw (c.kind.ensures, c.place-offset.ensures) at c.new.ensures in
-    let kept_is = rw (c.kind-kind.ensures, c.place-offset.ensures, parent) at c.new-then-size-eq0.ensures in
+    let token_is = rw (c.kind.ensures, c.place-offset.ensures) at c.new-then-size-eq0.ensures in
+    let kept_is = rw (c.kind-kind.ensures, c.place-offset.ensures, parent) at c.new-then-size-eq0-2.ensures in
     record {
       small = omega (arith, c.elements.invariant.small, length-set es (number + 1) token, length-set (set es (number + 1) token) number kept);
       few =
@@ -103,7 +103,7 @@ pub overflow_sub-first : goal.overflow_sub-first
 overflow_sub-first c =
     let es = c.elements.elements.items in
     let y = c.index.result.now in
-    let open_ : HasMore (reverse c.elements.frames.items) c.elements.left = rw c.deref.ensures.value at c.in_default.ensures in
+    let open_ : HasMore (reverse c.elements.frames.items) c.elements.left = rw c.deref.ensures.value at c.in-None.ensures in
     let some : size_in y ≡ suc (size_in y - 1) = omega (arith, c.size-size.ensures, c.if-size-gt0.true) in
     let r =
     node_at (made c.args.text.now c.args.elements.items) es c.elements.left c.elements.offset _ _ y
@@ -115,7 +115,7 @@ pub new-requires-then-size-gt0-clause-size : goal.new-requires-then-size-gt0-cla
 new-requires-then-size-gt0-clause-size c =
     let es = c.elements.elements.items in
     let y = c.index.result.now in
-    let open_ : HasMore (reverse c.elements.frames.items) c.elements.left = rw c.deref.ensures.value at c.in_default.ensures in
+    let open_ : HasMore (reverse c.elements.frames.items) c.elements.left = rw c.deref.ensures.value at c.in-None.ensures in
     let some : size_in y ≡ suc (size_in y - 1) = omega (arith, c.size-size.ensures, c.if-size-gt0.true) in
     let r =
     node_at (made c.args.text.now c.args.elements.items) es c.elements.left c.elements.offset _ _ y
@@ -129,12 +129,12 @@ elements-preserved-in-Continue-1 c =
     let es = c.elements.elements.items in
     let old = c.elements.frames.items in
     let y = c.index.result.now in
-    let open_ : HasMore (reverse old) c.elements.left = rw c.deref.ensures.value at c.in_default.ensures in
+    let open_ : HasMore (reverse old) c.elements.left = rw c.deref.ensures.value at c.in-None.ensures in
     let depth : c.len-then-size-gt0.result ≡ length old = c.len-then-size-gt0.ensures ∙ c.elements.frames.ok.0 in
     let some : size_in y ≡ suc (size_in y - 1) = omega (arith, c.size-size.ensures, c.if-size-gt0.true) in
     let first = c.elements.left - 1 + 1 - c.size-size.result in
     let frame : Frame = record { kind = c.kind-kind.result; size = c.size-size.result; number = first + c.len-then-size-gt0.result; first = first } in
-    let push_is = rw c.new-then-size-gt0.ensures at c.in_ok-push.ensures.items in
+    let push_is = rw c.new-then-size-gt0.ensures at c.in_ok-push-in-None.ensures.items in
     let r =
     node_at (made c.args.text.now c.args.elements.items) es c.elements.left c.elements.offset _ _ y frame (size_in y - 1)
     (omega (arith, c.elements.invariant.few)) c.if-left-eq0.false c.index.ensures some c.kind-kind.ensures c.size-size.ensures open_
@@ -152,7 +152,7 @@ elements-preserved-in-Continue-1 c =
 pub overflow_sub-offset-else-size-gt0 : goal.overflow_sub-offset-else-size-gt0
 overflow_sub-offset-else-size-gt0 c =
     let y = c.index.result.now in
-    let open_ : HasMore (reverse c.elements.frames.items) c.elements.left = rw c.deref.ensures.value at c.in_default.ensures in
+    let open_ : HasMore (reverse c.elements.frames.items) c.elements.left = rw c.deref.ensures.value at c.in-None.ensures in
     let none : size_in y ≡ 0 = omega (arith, c.size-size.ensures, c.if-size-gt0.false) in
     let r =
     leaf_at (made c.args.text.now c.args.elements.items) c.elements.elements.items c.elements.left c.elements.offset _ _ y
@@ -164,7 +164,7 @@ elements-preserved c =
     let es = c.elements.elements.items in
     let old = c.elements.frames.items in
     let y = c.index.result.now in
-    let open_ : HasMore (reverse old) c.elements.left = rw c.deref.ensures.value at c.in_default.ensures in
+    let open_ : HasMore (reverse old) c.elements.left = rw c.deref.ensures.value at c.in-None.ensures in
     let none : size_in y ≡ 0 = omega (arith, c.size-size.ensures, c.if-size-gt0.false) in
     let r =
     leaf_at (made c.args.text.now c.args.elements.items) es c.elements.left c.elements.offset _ _ y
@@ -187,6 +187,6 @@ elements-preserved c =
 pub returns : goal.returns
 returns c =
     let frames = c.elements.frames.items in
-    let open_ : HasMore (reverse frames) c.elements.left = rw c.deref.ensures.value at c.in_default.ensures in
+    let open_ : HasMore (reverse frames) c.elements.left = rw c.deref.ensures.value at c.in-None.ensures in
     placed_all (made c.args.text.now c.args.elements.items) c.elements.elements.items c.elements.left c.elements.offset (length frames) (reverse frames)
     c.if-left-eq0.true (omega (arith, length-reverse frames)) open_ c.elements.invariant.work
