@@ -15,8 +15,8 @@ class FormatError(Exception):
 def formatted(text: str | bytes) -> str:
     """Returns a text without errors in the style of Nixpkgs: the same tokens, comments included, with other white space between them.
 
-    Strings in '' are indented with the code; their values stay the same. Else the new text is read as the same tree but for white space. Raises
-    FormatError if the text has errors.
+    Strings in '' are indented with the code; their values stay the same. Apart from this, the new text is read as the same tree but for white space.
+    Raises FormatError if the text has errors.
     """
     source = library.source_of(text)
     guess = len(source) + len(source) // 4

@@ -34,7 +34,7 @@ impl fmt::Display for FormatError {
 impl std::error::Error for FormatError {}
 
 /// Returns a text without errors in the style of Nixpkgs: the same tokens, comments included, with other white space between them. Strings in `''` are
-/// indented with the code; their values stay the same. Else it is read as the same tree but for white space.
+/// indented with the code; their values stay the same. Apart from this, it is read as the same tree but for white space.
 ///
 /// # Errors
 /// The text has errors, or memory runs out.
