@@ -1,0 +1,159 @@
+//! Edits: renamed names, values that are set, entries that are added and removed.
+
+use crate::digest::Digest;
+use crate::numbers::{Numbers, mixed};
+use crate::pins::pins;
+use crate::source::uses;
+use nix_scopes::resolve;
+use rnix::ast::{AstNode, AttrpathValue};
+use rnix::{Root, SyntaxKind, SyntaxNode};
+use rnix_edit::{Edited, insert_after, insert_inside, remove, replace};
+use rnix_text::Edits;
+use std::alloc::{AllocError, Global};
+use std::io;
+
+// Renames a binding and its uses, with the edits in the order of the text.
+fn rename(alloc: Global, text: &str, number: usize, digest: &mut Digest) -> Result<(), AllocError> {
+    let read = Root::parse(alloc, text)?;
+    let names = resolve(alloc, &read.syntax())?;
+    let mut edits = Edits::new(alloc, text);
+    if number < names.bindings().len() {
+        for place in names.occurrences(alloc, number)? {
+            let added = edits.replace(place.start()..place.end(), "renamed");
+            digest.add_number(usize::from(added.is_ok()));
+        }
+    }
+    let made = edits.apply(alloc)?;
+    digest.add_text(made.as_str());
+    let again = Root::parse(alloc, made.as_str())?;
+    digest.add_number(again.errors().len());
+    Ok(())
+}
+
+// Replaces each identifier of a text, with the edits in an order without a pattern.
+fn replace_shuffled(
+    alloc: Global,
+    text: &str,
+    seed: u64,
+    digest: &mut Digest,
+) -> Result<(), AllocError> {
+    let read = Root::parse(alloc, text)?;
+    let mut places = Vec::new(alloc);
+    for node in read.syntax().descendants() {
+        if node.kind() == SyntaxKind::NODE_IDENT {
+            places.push(node.text_range())?;
+        }
+    }
+    let mut numbers = Numbers::new(seed);
+    let mut edits = Edits::new(alloc, text);
+    for _turn in 0..places.len() {
+        let at = numbers.below(places.len());
+        if at < places.len() {
+            let place = places.swap_remove(at);
+            let added = edits.replace(place.start()..place.end(), "other");
+            digest.add_number(usize::from(added.is_ok()));
+        }
+    }
+    digest.add_text(edits.apply(alloc)?.as_str());
+    Ok(())
+}
+
+// Returns the entry of a number, and its value.
+fn entry_at<'t>(root: &SyntaxNode<'t>, number: usize) -> Option<AttrpathValue<'t>> {
+    let mut left = number;
+    for node in root.descendants() {
+        if let Some(entry) = AttrpathValue::cast(node) {
+            if left == 0 {
+                return Some(entry);
+            }
+            left = left.saturating_sub(1);
+        }
+    }
+    None
+}
+
+// Adds the result of an edit, and returns the new text, if there is one.
+fn add_edited(edited: Edited, digest: &mut Digest) -> Option<String> {
+    match edited {
+        Edited::Done(text) => {
+            digest.add_text(text.as_str());
+            Some(text)
+        }
+        Edited::Refused(refusal) => {
+            digest.add_number(match refusal {
+                rnix_edit::Refusal::NotInText => 1,
+                rnix_edit::Refusal::HasErrors => 2,
+                rnix_edit::Refusal::ReadOtherwise => 3,
+            });
+            None
+        }
+    }
+}
+
+// Edits a text at the entry of a number: sets its value, adds an entry after it or in it, or removes it.
+fn edited_at(
+    alloc: Global,
+    text: &str,
+    number: usize,
+    way: usize,
+) -> Result<Option<Edited>, AllocError> {
+    let read = Root::parse(alloc, text)?;
+    let root = read.syntax();
+    let Some(entry) = entry_at(&root, number) else {
+        return Ok(None);
+    };
+    let Some(value) = entry.value() else {
+        return Ok(None);
+    };
+    let (own, value) = (entry.syntax(), value.syntax());
+    let kind = SyntaxKind::NODE_ATTRPATH_VALUE;
+    let edited = match way {
+        0 => insert_after(alloc, text, &root, own, kind, "added = [ 1 2 ];")?,
+        1 => remove(alloc, text, &root, own)?,
+        2 if value.kind() == SyntaxKind::NODE_ATTR_SET => {
+            insert_inside(alloc, text, &root, value, kind, "inner = true;")?
+        }
+        _ => replace(
+            alloc,
+            text,
+            &root,
+            value,
+            SyntaxKind::NODE_STRING,
+            "\"new\"",
+        )?,
+    };
+    Ok(Some(edited))
+}
+
+// Edits a text several times, each time the text that the last edit made.
+fn edit_again(
+    alloc: Global,
+    text: String,
+    seed: u64,
+    digest: &mut Digest,
+) -> Result<(), AllocError> {
+    let mut numbers = Numbers::new(seed);
+    let mut text = text;
+    for _turn in 0..8 {
+        let (number, way) = (numbers.below(400), numbers.below(6));
+        if let Some(edited) = edited_at(alloc, text.as_str(), number, way)? {
+            if let Some(made) = add_edited(edited, digest) {
+                text = made;
+            }
+        }
+    }
+    Ok(())
+}
+
+/// Edits so many texts in each way.
+pub fn edit(alloc: Global, seed: u64, size: usize, digest: &mut Digest) -> io::Result<()> {
+    let seed = mixed(seed);
+    for number in 0..size {
+        let own = mixed(seed.wrapping_add(number as u64));
+        let many = 100 + (number % 5) * 300;
+        rename(alloc, uses(alloc, own, many)?.as_str(), 0, digest)?;
+        replace_shuffled(alloc, uses(alloc, mixed(own), many)?.as_str(), own, digest)?;
+        edit_again(alloc, pins(alloc, own, many)?, own, digest)?;
+    }
+    Ok(())
+}
