@@ -26,22 +26,25 @@ pub fn uri(text: &str, scheme: usize) -> Option<Cut>
     }
 }
 
-// The kind of a keyword, or of a name.
+// The kind of a keyword, or of a name. Most names differ from each keyword in their length or their first byte.
 #[inline(always)]
 fn kind_of_word(word: &str) -> SyntaxKind
     ensures { result ≡ kind_of_word word.now }
 {
-    match word {
-        "assert" => SyntaxKind::TOKEN_ASSERT,
-        "else" => SyntaxKind::TOKEN_ELSE,
-        "if" => SyntaxKind::TOKEN_IF,
-        "in" => SyntaxKind::TOKEN_IN,
-        "inherit" => SyntaxKind::TOKEN_INHERIT,
-        "let" => SyntaxKind::TOKEN_LET,
-        "or" => SyntaxKind::TOKEN_OR,
-        "rec" => SyntaxKind::TOKEN_REC,
-        "then" => SyntaxKind::TOKEN_THEN,
-        "with" => SyntaxKind::TOKEN_WITH,
+    match (word.len(), byte_at(word, 0)) {
+        (2, b'i') => match word {
+            "if" => SyntaxKind::TOKEN_IF,
+            "in" => SyntaxKind::TOKEN_IN,
+            _ => SyntaxKind::TOKEN_IDENT,
+        },
+        (2, b'o') if word == "or" => SyntaxKind::TOKEN_OR,
+        (3, b'l') if word == "let" => SyntaxKind::TOKEN_LET,
+        (3, b'r') if word == "rec" => SyntaxKind::TOKEN_REC,
+        (4, b'e') if word == "else" => SyntaxKind::TOKEN_ELSE,
+        (4, b't') if word == "then" => SyntaxKind::TOKEN_THEN,
+        (4, b'w') if word == "with" => SyntaxKind::TOKEN_WITH,
+        (6, b'a') if word == "assert" => SyntaxKind::TOKEN_ASSERT,
+        (7, b'i') if word == "inherit" => SyntaxKind::TOKEN_INHERIT,
         _ => SyntaxKind::TOKEN_IDENT,
     }
 }
