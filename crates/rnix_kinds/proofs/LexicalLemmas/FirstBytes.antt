@@ -30,13 +30,16 @@ stops_elsewhere p q text stop out ended other is =
       ]
     ]
 
--- no byte of a name stands behind it
-name_ends : (text : List ℕ) → class_test Name (get_or text (prefix_len (class_test Name) text) 0) ≡ false
-name_ends text =
-    elim (cases_lt (prefix_len (class_test Name) text) (length text)) [
-      | inl within ↦ prefix_len_stops (class_test Name) text 0 within
-      | inr past ↦ rw (get_or_past text (prefix_len (class_test Name) text) 0 past) refl
+-- no byte of a run stands behind it
+run_ends : (p : ℕ → Bool) (text : List ℕ) → p 0 ≡ false → p (get_or text (prefix_len p text) 0) ≡ false
+run_ends p text out =
+    elim (cases_lt (prefix_len p text) (length text)) [
+      | inl within ↦ prefix_len_stops p text 0 within
+      | inr past ↦ rw (get_or_past text (prefix_len p text) 0 past) out
     ]
+
+name_ends : (text : List ℕ) → class_test Name (get_or text (prefix_len (class_test Name) text) 0) ≡ false
+name_ends text = run_ends (class_test Name) text refl
 
 step_ends : (b : ℕ) → class_test Name b ≡ false → goes_past_name b ≡ false → (class_test Step b ≡ false) × ¬ (b ≡ 47)
 step_ends b e out = (grind (arith, nat_tests), λ f. grind (arith, nat_tests))
@@ -61,6 +64,15 @@ uri-None-named text out =
     let ended = scheme_ends _ (name_ends text) out in
     let stop = stops_elsewhere (class_test Scheme) (class_test Name) text 58 refl ended.0 ended.1 in
     no_middle _ _ _ _ (differs _ _ stop)
+
+no_scheme : (b : ℕ) → class_test Step b ≡ false → class_test Scheme b ≡ false
+no_scheme b out = grind (arith, nat_tests)
+
+-- nor does what has no `:` where its path characters but `/` end
+pub uri-None-step : (text : List ℕ) → ¬ (get_or text (prefix_len (class_test Step) text) 0 ≡ 58) → uri text ≡ None
+uri-None-step text other =
+    let ended = no_scheme (get_or text (prefix_len (class_test Step) text) 0) (run_ends (class_test Step) text refl) in
+    no_middle _ _ _ _ (differs _ _ (stops_elsewhere (class_test Scheme) (class_test Step) text 58 refl ended other))
 
 one_step : (text : List ℕ) (n : ℕ) → prefix_len (class_test Step) text ≡ n → is_path (get_or text 1 0) ≡ false → (nat_lt 0 n && goes_on_as_path n text) ≡ false
 one_step text zero e out = refl

@@ -64,6 +64,15 @@ space_len-blanks (b ∷ text) h = blank_cases (space_len-blanks text) (is_blank 
         rw e (space_len-step b text (blank_is b e).0 (blank_is b e).1 ∙ ap (λ n. 1 + n) (more (rw (e, one) at h)))
     blank_cases more false e h = rw e (space_len-stop (b ∷ text) (rw e at h) (no_blank b (rw e at h) e))
 
+shows : (b : ℕ) → 32 < b → b < 127 → is_whitespace b ≡ false
+shows b low high = grind (arith, nat_tests)
+
+-- a blank is all of them before a byte of ASCII that shows
+pub space_len-one : (text : List ℕ) → is_blank (get_or text 0 0) ≡ true → 32 < get_or text 1 0 → get_or text 1 0 < 127 → space_len text ≡ 1
+space_len-one [] white low high = absurd (omega arith)
+space_len-one (b ∷ text) white low high =
+    space_len-step b text (blank_is b white).0 (blank_is b white).1 ∙ ap (λ n. 1 + n) (space_len-stop text (omega arith) (shows _ low high))
+
 space_step : (c : ℕ) (cs : List ℕ) (b : Bool) → is_whitespace c ≡ b
     → encode_utf8_all (take_while is_whitespace cs) ++ encode_utf8_all (skip_leading_whitespace cs) ≡ encode_utf8_all cs
     → encode_utf8_all (take_while is_whitespace (c ∷ cs)) ++ encode_utf8_all (skip_leading_whitespace (c ∷ cs)) ≡ encode_utf8_all (c ∷ cs)

@@ -14,7 +14,7 @@ use super::operator::{closing_brace, ellipsis, opener, opening_brace, operator};
 use super::path::{home, relative, search_path, slash};
 use super::rule::{Cut, Mode, plain};
 use super::space::{block_comment, line_comment, space};
-use super::text::{Class, byte_at, char_len, is_in, run_end, space_len};
+use super::text::{Class, blank_len, byte_at, char_len, is_in, run_end};
 use super::word::{uri, word};
 use crate::kinds::SyntaxKind;
 
@@ -48,11 +48,15 @@ fn named(text: &str, ahead: &mut Ahead) -> Cut
 {
     let end = run_end(text, 0, Class::Name);
     if goes_past_name(byte_at(text, end)) {
-        if let Some(cut) = relative(text, looked(text, &mut ahead.step, Class::Step)) {
+        let step = looked(text, &mut ahead.step, Class::Step);
+        if let Some(cut) = relative(text, step) {
             return cut;
         }
-        if let Some(cut) = uri(text, looked(text, &mut ahead.scheme, Class::Scheme)) {
-            return cut;
+        // A scheme ends where this run does, if it ends before `:`.
+        if byte_at(text, step) == b':' {
+            if let Some(cut) = uri(text, looked(text, &mut ahead.scheme, Class::Scheme)) {
+                return cut;
+            }
         }
     }
     word(text, end)
@@ -131,7 +135,7 @@ pub fn normal(text: &str, top: Option<Mode>, ahead: &mut Ahead) -> Cut
     ensures ahead { IsAhead ahead.new text.now }
 {
     match byte_at(text, 0) {
-        b' ' | b'\t'..=b'\r' => plain(SyntaxKind::TOKEN_WHITESPACE, space_len(text)),
+        b' ' | b'\t'..=b'\r' => plain(SyntaxKind::TOKEN_WHITESPACE, blank_len(text)),
         b'a'..=b'z' | b'A'..=b'Z' | b'_' => named(text, ahead),
         b'0'..=b'9' | b'.' | b'+' | b'-' => stepped(text, ahead),
         b'#' => line_comment(text),

@@ -1,6 +1,6 @@
 //! Looking at a text.
 
-ghost use Rattle.std.specs.Prelude.{◌≡◌, ◌<◌, ◌≤◌, length, slice_index};
+ghost use Rattle.std.specs.Prelude.{◌≡◌, ◌<◌, ◌≤◌, true, length, slice_index};
 ghost use Rattle.std.specs.List.{prefix_len};
 ghost use Rattle.rnix_kinds.specs.Lexical.Texts.{run_end, before_pair, char_len, begins_space, space_len};
 ghost use Rattle.rnix_kinds.specs.Lexical.Classes.{class_test};
@@ -162,6 +162,18 @@ pub fn space_len(text: &str) -> usize
         }
     }
     wide_space_len(text)
+}
+
+/// Returns the number of bytes of white space at the start of a text that begins with a blank. Most often it is one, and no call is needed.
+#[inline(always)]
+pub fn blank_len(text: &str) -> usize
+    requires { class_test Class.Blank (slice_index text.now 0) ≡ true }
+    ensures { result ≡ space_len text.now }
+{
+    match byte_at(text, 1) {
+        b'!'..=b'~' => 1,
+        _ => space_len(text),
+    }
 }
 
 /// Returns whether white space comes first.

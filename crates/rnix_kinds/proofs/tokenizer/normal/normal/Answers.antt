@@ -72,4 +72,4 @@ pub returns-in-32-clause-cut : goal.returns-in-32-clause-cut
 returns-in-32-clause-cut c =
     let white : is_whitespace c.byte_at.result ≡ true = search rules in
     let low : c.byte_at.result < 128 = search rules in
-    rw c.space_len.ensures at c.plain.ensures ∙ normal-blank c.args.top c.args.text.now c.byte_at.result (sym c.byte_at.ensures) low white
+    rw c.blank_len.ensures at c.plain.ensures ∙ normal-blank c.args.top c.args.text.now c.byte_at.result (sym c.byte_at.ensures) low white
