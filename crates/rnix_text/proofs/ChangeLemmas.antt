@@ -1,9 +1,9 @@
 -- Changes in order: what stands around a place among them, and another one that is put there.
-use Rattle.std.proofs.Common.{◌≡◌, ℕ, zero, suc, ◌≤◌, ◌<◌, nat_le, List, [], ◌∷◌, ◌++◌, length, map, get_or, Bool, true, false, refl, ap, sym, subst, arith}
-use Rattle.std.{proofs.lemmas.Bool.Decides.nat_tests, specs.List.{All, insert, Sorted.{IsPartitionedBy, IsPartitionPoint}}}
-use Rattle.rnix_text.specs.{declared.edits.Edit.Edit, Edit.change_of, Changes.{Change, AreAscending, AreInOrder, IsBetween, Overlaps, IsAdded, IsMet}}
+use Rattle.std.proofs.Common.{◌≡◌, ℕ, zero, suc, ◌≤◌, ◌<◌, List, [], ◌∷◌, ◌++◌, length, map, get_or, true, false, refl, ap, sym, subst, arith}
+use Rattle.std.{proofs.lemmas.{Bool.Decides.nat_tests, List.map-append}, specs.List.{All, insert, Sorted.IsPartitionedBy}}
+use Rattle.rnix_text.specs.{Runs.{ends_by, end_of}, declared.edits.Edit.Edit, Edit.change_of, Changes.{Change, AreAscending, AreInOrder, IsBetween, Overlaps, IsAdded, IsMet, changed_from}}
 
-none : {X : Type 0} (P : X → Type 0) → All P []
+pub none : {X : Type 0} (P : X → Type 0) → All P []
 none P k d l = absurd (omega (arith, l))
 
 cons_all : {X : Type 0} (P : X → Type 0) (x : X) (xs : List X) → P x → All P xs → All P (x ∷ xs)
@@ -33,14 +33,10 @@ ends_rise n (e ∷ es) h zero (suc j) d le l = ends_from e.end es h.2 j d (omega
 ends_rise n (e ∷ es) h (suc i) zero d le l = absurd (omega (arith, le))
 ends_rise n (e ∷ es) h (suc i) (suc j) d le l = ends_rise e.end es h.2 i j d (omega (arith, le)) (omega (arith, l))
 
--- an edit ends at the offset or in front of it
-abbrev pub ends_by : ℕ → Edit → Bool
-ends_by start e = nat_le e.end start
-
-ends_by_true : (start : ℕ) (e : Edit) → ends_by start e ≡ true → e.end ≤ start
+pub ends_by_true : (start : ℕ) (e : Edit) → ends_by start e ≡ true → e.end ≤ start
 ends_by_true start e h = grind (arith, nat_tests)
 
-ends_by_false : (start : ℕ) (e : Edit) → ends_by start e ≡ false → start < e.end
+pub ends_by_false : (start : ℕ) (e : Edit) → ends_by start e ≡ false → start < e.end
 ends_by_false start e h = grind (arith, nat_tests)
 
 does_end_by : (start : ℕ) (e : Edit) → e.end ≤ start → ends_by start e ≡ true
@@ -52,7 +48,7 @@ parted start es h i j d le l up =
     does_end_by start (get_or es i d) (omega (arith, ends_rise 0 es h i j d le l, ends_by_true start (get_or es j d) up))
 
 -- an edit that overlaps the range is met
-met : (start end : ℕ) (es : List Edit) (at : ℕ) (d : Edit) → at < length es → Overlaps start end (change_of (get_or es at d))
+pub met : (start end : ℕ) (es : List Edit) (at : ℕ) (d : Edit) → at < length es → Overlaps start end (change_of (get_or es at d))
     → IsMet start end (map change_of es)
 met start end [] at d l o = absurd (omega (arith, l))
 met start end (e ∷ es) zero d l o = record { front = []; change = change_of e; back = map change_of es; is = refl; overlaps = o }
@@ -69,7 +65,7 @@ behind_first n c (x ∷ xs) h o first =
     starts x.end xs h.2 k d l in (omega (arith, f.0, s.0, s.1), omega (arith, f.1, h.1, s.0)))
 
 -- an edit is added behind those that end where it begins or before
-added_at : (n : ℕ) (es : List Edit) (at : ℕ) (e : Edit) → AreAscending n (map change_of es) → at ≤ length es → e.start ≤ e.end
+pub added_at : (n : ℕ) (es : List Edit) (at : ℕ) (e : Edit) → AreAscending n (map change_of es) → at ≤ length es → e.start ≤ e.end
     → ((k : ℕ) (d : Edit) → k < at → (get_or es k d).end ≤ e.start)
     → ((d : Edit) → at < length es → (e.start < (get_or es at d).end) × (e.end ≤ (get_or es at d).start))
     → IsAdded (change_of e) (map change_of es) (map change_of (insert es at e))
@@ -105,21 +101,6 @@ added_at n (x ∷ es) (suc at) e h l o before behind =
       behind = r.behind;
     }
 
-module _ (start end : ℕ) (es : List Edit) (r : ℕ) (bound : r ≤ length es)
-    (point : IsPartitionPoint (λ y. ends_by start y ≡ true) (λ y. ends_by start y ≡ false) es r) where
-  -- an edit of the range may stand where they are parted
-  pub placed : AreAscending 0 (map change_of es) → start ≤ end → ((d : Edit) → r < length es → end ≤ (get_or es r d).start) → (e : Edit) → e.start ≡ start
-      → e.end ≡ end
-      → IsAdded (change_of e) (map change_of es) (map change_of (insert es r e))
-  placed h o free e s t =
-      added_at 0 es r e h bound (omega (arith, o, s, t))
-      (λ k d l. let x = ends_by_true start (get_or es k d) (point.0 k d (omega arith) l) in omega (arith, x, s))
-      (λ d l. let x = ends_by_false start (get_or es r d) (point.1 r d (omega arith) l) in let y = free d l in (omega (arith, x, s), omega (arith, y, t)))
-
-  -- or overlaps the one that is there
-  pub met_there : (x : Edit) → r < length es → (get_or es r x).start < end → IsMet start end (map change_of es)
-  met_there x l b = met start end es r x l (ends_by_false start (get_or es r x) (point.1 r x (omega arith) l), b)
-
 kept : (text : List ℕ) (n : ℕ) (c : Change) (front back : List Change) → AreInOrder text n (front ++ back) → n ≤ c.start → c.start ≤ c.end → c.end ≤ length text
     → IsBetween text c.start c.end → All (λ x. x.end ≤ c.start) front → All (λ x. (c.start < x.end) × (c.end ≤ x.start)) back
     → AreInOrder text n (front ++ c ∷ back)
@@ -134,3 +115,18 @@ pub added_in_order : (text : List ℕ) (c : Change) (old new : List Change) → 
     → IsAdded c old new → AreInOrder text 0 new
 added_in_order text c old new h o high b a =
     subst (AreInOrder text 0) (sym a.new_is) (kept text 0 c a.front a.back (subst (AreInOrder text 0) a.old_is h) (omega arith) o high b a.before a.behind)
+
+in_order_low : (text : List ℕ) (n : ℕ) (cs : List Change) → AreInOrder text n cs → n ≤ length text
+in_order_low text n [] h = h
+in_order_low text n (c ∷ cs) h = omega (arith, h.0, h.1, in_order_low text c.end cs h.3)
+
+-- edits in order are in order in parts
+pub in_order_parts : (text : List ℕ) (n : ℕ) (xs ys : List Edit) → AreInOrder text n (map change_of (xs ++ ys))
+    → AreInOrder text n (map change_of xs) × AreInOrder text (end_of n xs) (map change_of ys)
+in_order_parts text n [] ys h = (in_order_low text n (map change_of ys) h, h)
+in_order_parts text n (x ∷ xs) ys h = let p = in_order_parts text x.end xs ys h.3 in ((h.0, h.1, h.2, p.0), p.1)
+
+-- a text with edits in two parts
+pub changed_parts : (n : ℕ) (xs ys : List Edit) (text : List ℕ)
+    → changed_from n (map change_of (xs ++ ys)) text ≡ changed_from n (map change_of xs ++ map change_of ys) text
+changed_parts n xs ys text = ap (λ cs. changed_from n cs text) (map-append change_of xs ys)

@@ -3,4 +3,6 @@ pub mod MarkLemmas
 pub mod PositionLemmas
 pub mod MarkOffsets
 pub mod ChangeLemmas
+pub mod RunLemmas
+pub mod PlaceLemmas
 pub mod TextRows

@@ -3,4 +3,5 @@ pub mod Marks
 pub mod TextColumns
 pub mod Changes
 pub mod Edit
+pub mod Runs
 pub mod Causes

@@ -1,10 +1,10 @@
 //! Edits of a text.
 
-ghost use Rattle.std.specs.Prelude.{◌≡◌, ◌≤◌, [], nat_le, map, string_bytes, MatchOption, IfOk, OnOk, IfErr, OnErr};
-ghost use Rattle.rnix_text.specs.Changes.{AreAscending, AreInOrder, changed_from, replacing, IsAdded, IsCause, IsMet};
-ghost use Rattle.rnix_text.specs.Edit.{change_of, IsPlace};
+ghost use Rattle.std.specs.Prelude.{◌≡◌, [], string_bytes, IfOk, OnOk, IfErr, OnErr};
+ghost use Rattle.rnix_text.specs.Changes.{changed_from, replacing, IsAdded, IsCause};
 
 use crate::edit_error::EditError;
+use crate::runs::{add, changed, place_for};
 use std::alloc::{AllocError, Global};
 use std::marker::Model;
 use std::ops::Range;
@@ -21,55 +21,20 @@ pub(crate) struct Edit {
 #[derive(Drop)]
 pub struct Edits<'t> {
     text: &'t str,
-    edits: Vec<Edit>,
+    runs: Vec<Vec<Edit>>,
 }
 
 impl<'t> Model for Edits<'t> {
     ghost use Rattle.std.specs.Prelude.{map};
     ghost use Rattle.rnix_text.specs.Changes.{Draft, AreInOrder};
     ghost use Rattle.rnix_text.specs.Edit.{change_of};
+    ghost use Rattle.rnix_text.specs.Runs.{edits_of, AreFilled};
 
     ghost Value = { Draft };
 
-    ghost view = { λ e. record { text = e.text.now; changes = map change_of e.edits.items } };
+    ghost view = { λ e. record { text = e.text.now; changes = map change_of (edits_of e.runs.items) } };
 
-    ghost invariant = { λ e. AreInOrder e.text.now 0 (map change_of e.edits.items) };
-}
-
-// Returns the index for an edit of a range, if it overlaps none: after the edits that end at its start or before it.
-fn place(edits: &[Edit], start: usize, end: usize) -> Option<usize>
-    requires order { start ≤ end }
-    requires ascending { AreAscending 0 (map change_of edits.now) }
-    ensures { MatchOption result (IsMet start end (map change_of edits.now)) (IsPlace start end edits.now) }
-{
-    let at = edits.partition_point(
-        |edit: &Edit| -> bool
-            ensures { result ≡ nat_le edit.now.end start }
-        { edit.end <= start },
-    );
-    if at == edits.len() {
-        return Some(at);
-    }
-    if edits[at].start < end {
-        return None;
-    }
-    Some(at)
-}
-
-// Returns a text with edits.
-fn changed(alloc: Global, text: &str, edits: &[Edit]) -> Result<String, AllocError>
-    requires { AreInOrder text.now 0 (map change_of edits.now) }
-    ensures { IfOk result (λ made. string_bytes made ≡ changed_from 0 (map change_of edits.now) text.now) }
-{
-    let mut made = String::new(alloc);
-    let mut at = 0;
-    for edit in edits {
-        made.push_str(&text[at..edit.start])?;
-        made.push_str(edit.new.as_str())?;
-        at = edit.end;
-    }
-    made.push_str(&text[at..])?;
-    Ok(made)
+    ghost invariant = { λ e. AreInOrder e.text.now 0 (map change_of (edits_of e.runs.items)) × AreFilled e.runs.items };
 }
 
 impl<'t> Edits<'t> {
@@ -79,7 +44,7 @@ impl<'t> Edits<'t> {
     {
         Edits {
             text,
-            edits: Vec::new(alloc),
+            runs: Vec::new(alloc),
         }
     }
 
@@ -98,11 +63,11 @@ impl<'t> Edits<'t> {
         if !self.text.is_char_boundary(start) || !self.text.is_char_boundary(end) {
             return Err(EditError::InsideCharacter);
         }
-        let Some(at) = place(&self.edits, start, end) else {
+        let Some(place) = place_for(&self.runs, start, end) else {
             return Err(EditError::Overlap);
         };
-        let new = String::from_str(*self.edits.allocator(), new)?;
-        self.edits.insert(at, Edit { start, end, new })?;
+        let new = String::from_str(*self.runs.allocator(), new)?;
+        add(&mut self.runs, place, Edit { start, end, new })?;
         Ok(())
     }
 
@@ -110,6 +75,6 @@ impl<'t> Edits<'t> {
     pub fn apply(&self, alloc: Global) -> Result<String, AllocError>
         ensures { IfOk result (λ text. string_bytes text ≡ changed_from 0 self.now.changes self.now.text) }
     {
-        changed(alloc, self.text, &self.edits)
+        changed(alloc, self.text, &self.runs)
     }
 }

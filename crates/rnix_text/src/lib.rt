@@ -5,6 +5,7 @@ mod edit_error;
 mod edits;
 mod line_column;
 mod line_index;
+mod runs;
 
 pub use edit_error::EditError;
 pub use edits::Edits;
