@@ -5,12 +5,12 @@ use Rattle.rnix_green.proofs.{SiblingLemmas.next_inside, InsideLemmas.{inner_of,
 use Rattle.{rnix_green.proofs.StartLemmas.has_left, rnix_tree.specs.Offset.{IsTouched, IsHolding}}
 
 -- an element before another in preorder
-order : (t : Tree) (i j : ℕ) → i < j → j < length (items_of t) → ((item t i).start ≤ (item t j).start)
+pub order : (t : Tree) (i j : ℕ) → i < j → j < length (items_of t) → ((item t i).start ≤ (item t j).start)
     × (i + (item t i).below < j → (item t i).end ≤ (item t j).start)
 order t i j l h = (let o = in_order 0 0 None (forest_of t) i j l (omega (arith, elements_in_all t)) in (o.starts, o.ends))
 
 -- a token that ends behind the start of a later element is not before it
-token_last : (t : Tree) (m k : ℕ) → m < k → k < length (items_of t) → (item t m).is_node ≡ false → (item t m).end ≤ (item t k).start
+pub token_last : (t : Tree) (m k : ℕ) → m < k → k < length (items_of t) → (item t m).is_node ≡ false → (item t m).end ≤ (item t k).start
 token_last t m k l h token =
     let none = leaf_holds_nothing t m (omega arith) token in
     (order t m k l h).1 (omega (arith, none))
@@ -62,6 +62,18 @@ module _ (t : Tree) (n offset : ℕ) (node : IsNodeIn t n) where
         let found = held_byte low high in
         subst (IsHolding record { tree = t; number = n } offset) (only_last found.0 found.1) found.1
 
+-- what is inside a node starts and ends in its range
+pub within_node : (t : Tree) (n : ℕ) → IsNodeIn t n → (m : ℕ) → n < m → m ≤ n + (item t n).below
+    → ((item t n).start ≤ (item t m).start) × ((item t m).end ≤ (item t n).end)
+within_node t n node m low high =
+    let inner = inner_of t n node.is_there in
+    let same = inner.items m low high in
+    let b = in_text (n + 1) inner.start (Some n) inner.children (m - (n + 1)) (omega (arith, high, inner.count)) in (
+      omega (arith, b.low, inner.begins node.is_node, ap (λ (i : Item). i.start) same),
+      omega
+          (arith, b.high, inner.ends node.is_node, ap (λ (i : Item). i.end) same),
+    )
+
 -- the token that has the byte before the offset, and the one that has the byte behind it
 module _ (t : Tree) (n offset : ℕ) where
   touches_left : (m : ℕ) → IsHolding record { tree = t; number = n } offset m → IsTouched record { tree = t; number = n } offset m
@@ -81,15 +93,9 @@ module _ (t : Tree) (n offset : ℕ) where
   -- inside the node
   within : (m : ℕ) → IsNodeIn t n → IsTokenInside record { tree = t; number = n } m → ((item t n).start ≤ (item t m).start) × ((item t m).end ≤ (item t n).end)
   within m node h =
-      let inner = inner_of t n node.is_there in
       let apart : ¬ (m ≡ n) = (λ e. let a = ap (λ k. (item t k).is_node) e in let x = sym h.token.is_token ∙ a ∙ node.is_node in cc) in
       let low : n < m = elim (cases_lt n m) [ inl less ↦ less | inr same ↦ absurd (apart (let l = h.low in omega arith)) ] in
-      let same = inner.items m low h.high in
-      let b = in_text (n + 1) inner.start (Some n) inner.children (m - (n + 1)) (omega (arith, h.high, inner.count)) in (
-        omega (arith, b.low, inner.begins node.is_node, ap (λ (i : Item). i.start) same),
-        omega
-            (arith, b.high, inner.ends node.is_node, ap (λ (i : Item). i.end) same),
-      )
+      within_node t n node m low h.high
 
   -- where there is one, the node has a byte, and its closed range holds the offset
   pub touched_inside : (m : ℕ) → IsNodeIn t n → IsTouched record { tree = t; number = n } offset m

@@ -1,13 +1,17 @@
 //! The elements that contain a range.
 
-ghost use Rattle.std.specs.Prelude.{◌≡◌, option_map};
+ghost use Rattle.std.specs.Prelude.{◌≡◌, ◌<◌, ◌≤◌, ◌+◌, length, option_map};
 ghost use Rattle.rnix_green.specs.Range.{bounds_of};
+ghost use Rattle.rnix_green.specs.Relatives.{IsNodeIn};
+ghost use Rattle.rnix_green.specs.Tree.{items_of, item, extent_of};
+ghost use Rattle.rnix_tree.specs.Around.{IsOnWayTo};
 ghost use Rattle.rnix_tree.specs.Spots.{place_of, spot_of};
-ghost use Rattle.rnix_tree.specs.Covering.{holds, child_at_range, IsCovering};
+ghost use Rattle.rnix_tree.specs.Covering.{holds, child_at_range, IsCovering, IsInnermost};
 
-use crate::element::{NodeOrToken, SyntaxElement};
+use crate::element::{SyntaxElement, element_at};
 use crate::node::SyntaxNode;
-use rnix_green::TextRange;
+use crate::offset::token_before;
+use rnix_green::{GreenNode, TextRange};
 
 // Returns whether a range is inside another; an empty range is strictly between its ends.
 fn holds(range: TextRange, place: TextRange) -> bool
@@ -17,37 +21,87 @@ fn holds(range: TextRange, place: TextRange) -> bool
         && (place.start() < range.end() && range.start() < place.end())
 }
 
+// Returns the range of the element with a number.
+fn range_of(green: &GreenNode, number: usize) -> TextRange
+    requires { number < length (items_of green.now) }
+    ensures { bounds_of result ≡ extent_of record { tree = green.now; number = number } }
+{
+    let element = green.element(number);
+    TextRange::new(element.start, element.end)
+}
+
+// Returns the child of `parent` that contains the element: the search steps over the children from the first on and climbs from
+// the element in turn, so it takes as many steps as the shorter way has.
+fn child_towards(green: &GreenNode, parent: usize, number: usize) -> usize
+    requires there { parent < length (items_of green.now) }
+    requires low { parent < number }
+    requires high { number ≤ parent + (item green.now parent).below }
+    ensures { IsOnWayTo green.now parent number result }
+{
+    let (mut child, mut above) = (parent + 1, number);
+    while child != above {
+        let element = green.element(child);
+        let next = child + 1 + element.below;
+        if number < next {
+            return child;
+        }
+        match green.element(above).parent {
+            Some(around) if around != parent => above = around,
+            _ => return above,
+        }
+        child = next;
+    }
+    child
+}
+
+// Returns the innermost element that contains the range: the node, or one inside it. All others contain the token at its start.
+fn innermost(green: &GreenNode, number: usize, range: TextRange) -> usize
+    requires { IsNodeIn green.now number }
+    ensures there { result < length (items_of green.now) }
+    ensures is { IsInnermost (bounds_of range) record { tree = green.now; number = number } record { tree = green.now; number = result } }
+{
+    if !range_of(green, number).contains(range.start()) {
+        return number;
+    }
+    let token = token_before(green, number, range.start() + 1);
+    let mut reached = number;
+    while reached < token {
+        let child = child_towards(green, reached, token);
+        if !holds(range, range_of(green, child)) {
+            return reached;
+        }
+        reached = child;
+    }
+    reached
+}
+
 impl<'t> SyntaxNode<'t> {
     /// Returns the child that contains the range. An empty range between two children is in neither.
     pub fn child_or_token_at_range(&self, range: TextRange) -> Option<SyntaxElement<'t>>
         ensures { option_map spot_of result ≡ child_at_range (bounds_of range) self.now }
     {
-        let mut elements = self.children_with_tokens();
-        while let Some(element) = elements.next() {
-            if holds(range, element.text_range()) {
-                return Some(element);
-            }
+        let (green, number) = (self.green, self.number);
+        if !range_of(green, number).contains(range.start()) {
+            return None;
         }
-        None
+        let token = token_before(green, number, range.start() + 1);
+        let child = child_towards(green, number, token);
+        if holds(range, range_of(green, child)) {
+            Some(element_at(green, child))
+        } else {
+            None
+        }
     }
 
     /// Returns the innermost element that contains the range: the node, or one inside it. Returns `None` if the node does not contain the range.
     pub fn covering_element(&self, range: TextRange) -> Option<SyntaxElement<'t>>
         ensures { IsCovering (bounds_of range) self.now (option_map place_of result) }
     {
-        if !self.text_range().contains_range(range) {
-            return None;
+        if self.text_range().contains_range(range) {
+            let number = innermost(self.green, self.number, range);
+            Some(element_at(self.green, number))
+        } else {
+            None
         }
-        let mut node = SyntaxNode {
-            green: self.green,
-            number: self.number,
-        };
-        while let Some(child) = node.child_or_token_at_range(range) {
-            match child {
-                NodeOrToken::Node(inner) => node = inner,
-                NodeOrToken::Token(token) => return Some(NodeOrToken::Token(token)),
-            }
-        }
-        Some(NodeOrToken::Node(node))
     }
 }

@@ -78,8 +78,8 @@ impl<T: Drop> TokenAtOffset<T> {
     }
 }
 
-// Returns the token inside the node that holds the byte before the offset: the last element that starts before the offset.
-fn token_before(green: &GreenNode, number: usize, offset: usize) -> usize
+/// Returns the token inside the node that holds the byte before the offset: the last element that starts before the offset.
+pub(crate) fn token_before(green: &GreenNode, number: usize, offset: usize) -> usize
     requires node { IsNodeIn green.now number }
     requires low { (item green.now number).start < offset }
     requires high { offset ≤ (item green.now number).end }
