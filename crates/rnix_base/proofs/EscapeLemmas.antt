@@ -4,7 +4,9 @@ use Rattle.std.proofs.{Common.{inl, inr, length, drop, get_or, codes, nat_lt, ar
 use Rattle.std.proofs.lemmas.{Bool.Decides.nat_tests, List.{drop_more, get_or_past, append-nil, nil_from_length}, Str.{inside_one, length-encode}}
 use Rattle.std.{proofs.lemmas.Str.{len_utf8_ascii, len_utf8_bounds}, specs.{Prelude.{encode_utf8, slice_index}, List.list_all, Char.len_utf8}}
 use Rattle.{std.specs.{Option.MatchOption, Str.Pattern.{StripsPrefix, FindsTextPrefix, LacksTextAt, HasPrefixMatch}}, rnix_kinds.specs.Lexical.Texts.occurs_at}
-use Rattle.{rnix_kinds.specs.Lexical.Texts.begins, rnix_base.specs.Escapes.{Piece, escaped, itself, first_piece, values, unescaped, Begins, Escapes}}
+use Rattle.{rnix_kinds.specs.Lexical.Texts.begins, rnix_base.specs.Escapes.{Piece, escaped, itself, first_piece, values, unescaped, Begins, Escapes, is_plain}}
+use Rattle.std.{proofs.lemmas.{List.{get_or-take, Sums.{prefix_len-le-length, prefix_len_passes, prefix_len_stops}}, Str.{IsCharBoundary-end, IsCharBoundary-before_ascii}}}
+use Rattle.std.{proofs.Common.{subst, take, length-drop, length-take-le, take-append-drop}, specs.{Str.IsCharBoundary, List.prefix_len, Prelude.{not, ◌&&◌}}}
 use denote.Ref.{Bor}
 
 -- the bytes of a character: a first byte, and none below 128 behind it
@@ -78,6 +80,46 @@ unescaped_high : (m : Bool) (bytes text : List ℕ) → ((k : ℕ) → k < lengt
 unescaped_high m [] text h = refl
 unescaped_high m (b ∷ bytes) text h = unescaped_step m b (bytes ++ text) _ (high_piece m b (bytes ++ text) (h 0 (omega arith)))
     ∙ ap (λ t. b ∷ t) (unescaped_high m bytes text (λ k i. h (suc k) (omega arith)))
+
+-- a plain byte stands for itself, and so do many
+plain_piece : (m : Bool) (b : ℕ) (text : List ℕ) → is_plain m b ≡ true → first_piece m (b ∷ text) ≡ Some record { len = 1; value = b ∷ [] }
+plain_piece true b text h = grind (arith, nat_tests)
+plain_piece false b text h = grind (arith, nat_tests)
+
+unescaped_plain : (m : Bool) (bytes text : List ℕ) → ((k : ℕ) → k < length bytes → is_plain m (get_or bytes k 0) ≡ true)
+    → unescaped m (bytes ++ text) ≡ bytes ++ unescaped m text
+unescaped_plain m [] text h = refl
+unescaped_plain m (b ∷ bytes) text h = unescaped_step m b (bytes ++ text) _ (plain_piece m b (bytes ++ text) (h 0 (omega arith)))
+    ∙ ap (λ t. b ∷ t) (unescaped_plain m bytes text (λ k i. h (suc k) (omega arith)))
+
+-- a text begins with its run of plain bytes
+pub plain_begins : (m : Bool) (text value rest : List ℕ) → 0 < prefix_len (is_plain m) text → value ≡ take (prefix_len (is_plain m) text) text
+    → rest ≡ drop (prefix_len (is_plain m) text) text → Begins m text value rest
+plain_begins m text value rest some e f =
+    let n = prefix_len (is_plain m) text in
+    let most = prefix_len-le-length (is_plain m) text in
+    let plain : (k : ℕ) → k < length (take n text) → is_plain m (get_or (take n text) k 0) ≡ true =
+    λ k l. let low : k < n = omega (arith, l, length-take-le n text most) in
+    ap (is_plain m) (get_or-take n text k 0 low) ∙ prefix_len_passes (is_plain m) text k 0 low in
+    record {
+      split = rw (e, f) (ap (unescaped m) (sym (take-append-drop n text)) ∙ unescaped_plain m (take n text) (drop n text) plain);
+      shorter = omega (arith, ap length f, length-drop n text, most, some);
+    }
+
+-- such a run ends before a byte below 128, or with the text
+pub plain_boundary : (m : Bool) (text : List ℕ) → IsCharBoundary text (prefix_len (is_plain m) text)
+plain_boundary m text =
+    let n = prefix_len (is_plain m) text in
+    elim (cases_lt n (length text)) [
+      | inl within ↦ IsCharBoundary-before_ascii text n within (low m (get_or text n 0) (prefix_len_stops (is_plain m) text 0 within))
+      | inr all ↦
+          let same : length text ≡ n = omega (arith, prefix_len-le-length (is_plain m) text) in
+          subst (IsCharBoundary text) same (IsCharBoundary-end text)
+    ]
+  where
+    low : (m : Bool) (b : ℕ) → is_plain m b ≡ false → b < 128
+    low true b h = grind (arith, nat_tests)
+    low false b h = grind (arith, nat_tests)
 
 first_unescaped : (m : Bool) (first : ℕ) (more rest : List ℕ) → ((k : ℕ) → k < length more → 128 ≤ get_or more k 0)
     → first_piece m (first ∷ (more ++ rest)) ≡ Some record { len = 1; value = first ∷ [] } → unescaped m (first ∷ (more ++ rest)) ≡ first

@@ -1,5 +1,5 @@
 -- What the text inside a string means: its pieces, each with its value, up to the first place where no piece fits.
-use Rattle.std.specs.Prelude.{ℕ, zero, suc, ◌≡◌, ◌<◌, ◌+◌, ◌-◌, Bool, ◌==◌, if◌then◌else◌, nat_lt, List, [], ◌∷◌, ◌++◌, drop, length, codes, slice_index, encode_utf8, Option, Some, None}
+use Rattle.std.specs.Prelude.{ℕ, zero, suc, ◌≡◌, ◌<◌, ◌+◌, ◌-◌, Bool, not, ◌==◌, ◌&&◌, if◌then◌else◌, nat_lt, List, [], ◌∷◌, ◌++◌, drop, length, codes, slice_index, encode_utf8, Option, Some, None}
 use Rattle.rnix_kinds.specs.Lexical.Texts.{begins}
 
 -- a piece of a text: how many bytes it has, and what they mean
@@ -37,6 +37,10 @@ indented_piece text =
     else (if begins (codes "''\\") text then backslash 2 text
     else (if begins (codes "''") text then None
     else itself text)))
+
+-- a byte that means itself wherever it stands in such a text
+abbrev pub is_plain : Bool → ℕ → Bool
+is_plain multiline b = if multiline then not (b == 39) else (not (b == 34) && not (b == 92))
 
 -- the piece that begins a text that is not empty
 abbrev pub first_piece : Bool → List ℕ → Option Piece

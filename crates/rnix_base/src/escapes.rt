@@ -1,7 +1,8 @@
 //! The values of texts inside strings.
 
 ghost use Rattle.std.specs.Prelude.{◌≡◌, [], IfOk, MatchOption, string_bytes, true, false};
-ghost use Rattle.rnix_base.specs.Escapes.{unescaped, Begins, Escapes, IsFirstChar};
+ghost use Rattle.std.specs.List.{prefix_len};
+ghost use Rattle.rnix_base.specs.Escapes.{unescaped, Begins, Escapes, IsFirstChar, is_plain};
 
 use std::alloc::{AllocError, Global};
 
@@ -60,10 +61,35 @@ fn indented_piece(text: &str) -> Option<(&str, &str)>
     first_char(text)
 }
 
-// Returns the value of the first piece, and the rest; `None` if no piece fits.
+// Returns whether the byte means itself wherever it stands.
+fn is_plain(byte: u8, multiline: bool) -> bool
+    ensures { result ≡ is_plain multiline byte }
+{
+    if multiline {
+        byte != b'\''
+    } else {
+        byte != b'"' && byte != b'\\'
+    }
+}
+
+// Returns the number of plain bytes at the start.
+fn plain_len(bytes: &[u8], multiline: bool) -> usize
+    ensures { result ≡ prefix_len (is_plain multiline) bytes.now }
+{
+    bytes
+        .iter()
+        .take_while(|b| is_plain(**b, multiline))
+        .count()
+}
+
+// Returns the value of the first piece, or of a run of plain bytes, and the rest; `None` if no piece fits.
 fn first_piece(text: &str, multiline: bool) -> Option<(&str, &str)>
     ensures { MatchOption result (unescaped multiline text.now ≡ []) (λ p. Begins multiline text.now p.0.now p.1.now) }
 {
+    let plain = plain_len(text.as_bytes(), multiline);
+    if plain > 0 {
+        return Some(text.split_at(plain));
+    }
     if multiline {
         indented_piece(text)
     } else {
@@ -75,7 +101,7 @@ fn first_piece(text: &str, multiline: bool) -> Option<(&str, &str)>
 pub fn unescape(alloc: Global, text: &str, multiline: bool) -> Result<String, AllocError>
     ensures { IfOk result (λ value. string_bytes value ≡ unescaped multiline text.now) }
 {
-    let mut value = String::new(alloc);
+    let mut value = String::with_capacity(alloc, text.len())?;
     let mut rest = text;
     while let Some((piece, more)) = first_piece(rest, multiline) {
         value.push_str(piece)?;
