@@ -1,8 +1,11 @@
 -- What the lines of a text do not lose, character by character.
-use Rattle.std.proofs.Common.{◌≡◌, ◌-◌, ◌<◌, ◌≤◌, ◌++◌, ◌∙◌, ℕ, suc, true, false, ◌==◌, List, [], ◌∷◌, Some, refl, sym, ap, inl, inr, length, get_or, arith}
-use Rattle.std.proofs.lemmas.{Bool.{cases_lt, Decides.nat_tests}, List.{append-nil, append_assoc}, Str.{encode_ascii, char_from_byte}}
-use Rattle.{std.specs.Prelude.{encode_utf8, if◌then◌else◌}, rnix_base.specs.{Normal.is_byte, Indent.{is_lost, left_after, kept, left_behind}}}
-use Rattle.rnix_base.proofs.EscapeLemmas.{IsCharacter, is_character}
+use Rattle.std.proofs.Common.{◌≡◌, ◌+◌, ◌-◌, ◌<◌, ◌≤◌, ◌++◌, ◌∙◌, ℕ, zero, suc, true, false, ◌==◌, List, [], ◌∷◌, Some, refl, sym, ap, inl, inr, length}
+use Rattle.std.proofs.{Common.{get_or, take, drop, arith, length-drop, length-take-le, take-append-drop}, Math.Seq.take-suc, lemmas.Bool.{cases_lt, Decides.nat_tests}}
+use Rattle.std.proofs.lemmas.List.{append-nil, append_assoc, nil_from_length, drop_more, get_or-take, get_or-drop}
+use Rattle.std.proofs.lemmas.List.Sums.{prefix_len-le-length, prefix_len_passes, prefix_len_stops}
+use Rattle.std.{specs.{Prelude.{min, if◌then◌else◌}, List.prefix_len, Str.{IsCharBoundary, IsUtf8}}, proofs.Common.subst}
+use Rattle.std.proofs.lemmas.Str.{IsCharBoundary-start, IsCharBoundary-after_ascii}
+use Rattle.rnix_base.specs.{Normal.{is_byte, is_space, spaces}, Indent.{is_lost, left_after, kept, left_behind, is_inside_line, KeepsLine}}
 
 kept_byte : (least left b : ℕ) (rest : List ℕ) → kept least left (b ∷ rest) ≡ (if is_lost left (Some b) then [] else b ∷ [])
     ++ kept least (left_after least left (Some b)) rest
@@ -13,75 +16,45 @@ left_behind_byte : (least left b : ℕ) (rest : List ℕ) → left_behind least 
 unfolding left_behind
 left_behind_byte least left b rest = refl
 
--- a byte of 128 or above is kept, and no space behind it is lost
-high_stays : (left b : ℕ) → 128 ≤ b → is_lost left (Some b) ≡ false
-high_stays left b h = grind (arith, nat_tests)
+-- the spaces that a text begins with are lost, up to `left`
+pub lose : (least left n : ℕ) (text : List ℕ) → n ≤ left → n ≤ length text → ((k : ℕ) → k < n → is_space (get_or text k 0) ≡ true)
+    → (kept least left text ≡ kept least (left - n) (drop n text)) × (left_behind least left text ≡ left_behind least (left - n) (drop n text))
+lose least left zero text l h space = (let same : left ≡ left - 0 = omega arith in (ap (λ k. kept least k text) same, ap (λ k. left_behind least k text) same))
+lose least left (suc n) [] l h space = absurd (omega arith)
+lose least left (suc n) (b ∷ text) l h space =
+    let first : is_space b ≡ true = space 0 (omega arith) in
+    let lost : is_lost left (Some b) ≡ true = grind (arith, nat_tests) in
+    let after : left_after least left (Some b) ≡ left - 1 = ap (λ x. if x then left - 1 else (if is_byte 10 (Some b) then least else 0)) lost in
+    let more = lose least (left - 1) n text (omega arith) (omega arith) (λ k i. space (suc k) (omega arith)) in
+    let same : left - 1 - n ≡ left - suc n = omega arith in (
+      kept_byte least left b text ∙ ap (λ x. (if x then [] else b ∷ []) ++ kept least (left_after least left (Some b)) text) lost
+          ∙ ap (λ k. kept least k text) after ∙ more.0 ∙ ap (λ k. kept least k (drop n text)) same,
+      left_behind_byte least left b text ∙ ap (λ k. left_behind least k text) after ∙ more.1 ∙ ap (λ k. left_behind least k (drop n text)) same,
+    )
 
-high_after : (least left b : ℕ) → 128 ≤ b → left_after least left (Some b) ≡ 0
-high_after least left b h = grind (arith, nat_tests)
+-- a byte that is not lost stays
+stays_byte : (least left b next : ℕ) (rest : List ℕ) → is_lost left (Some b) ≡ false → (if b == 10 then least else 0) ≡ next
+    → (kept least left (b ∷ rest) ≡ b ∷ kept least next rest) × (left_behind least left (b ∷ rest) ≡ left_behind least next rest)
+stays_byte least left b next rest lost e =
+    let after : left_after least left (Some b) ≡ next = ap (λ x. if x then left - 1 else (if is_byte 10 (Some b) then least else 0)) lost ∙ e in (
+      kept_byte least left b rest ∙ ap (λ x. (if x then [] else b ∷ []) ++ kept least (left_after least left (Some b)) rest) lost
+          ∙ ap (λ k. b ∷ kept least k rest) after,
+      left_behind_byte least left b rest ∙ ap (λ k. left_behind least k rest) after,
+    )
 
-kept_high_byte : (least left b : ℕ) (rest : List ℕ) → 128 ≤ b → kept least left (b ∷ rest) ≡ b ∷ kept least 0 rest
-kept_high_byte least left b rest h =
-    kept_byte least left b rest
-    ∙ ap (λ lost. (if lost then [] else b ∷ []) ++ kept least (left_after least left (Some b)) rest) (high_stays left b h)
-    ∙ ap (λ n. b ∷ kept least n rest) (high_after least left b h)
-
-left_behind_high_byte : (least left b : ℕ) (rest : List ℕ) → 128 ≤ b → left_behind least left (b ∷ rest) ≡ left_behind least 0 rest
-left_behind_high_byte least left b rest h = left_behind_byte least left b rest ∙ ap (λ n. left_behind least n rest) (high_after least left b h)
-
-kept_high : (least left b : ℕ) (bytes rest : List ℕ) → 128 ≤ b → ((k : ℕ) → k < length bytes → 128 ≤ get_or bytes k 0)
-    → kept least left (b ∷ (bytes ++ rest)) ≡ b ∷ (bytes ++ kept least 0 rest)
-kept_high least left b [] rest h high = kept_high_byte least left b rest h
-kept_high least left b (d ∷ bytes) rest h high =
-    kept_high_byte least left b (d ∷ (bytes ++ rest)) h ∙ ap (λ t. b ∷ t)
-    (kept_high least 0 d bytes rest (high 0 (omega arith)) (λ k i. high (suc k) (omega arith)))
-
-left_behind_high : (least left b : ℕ) (bytes rest : List ℕ) → 128 ≤ b → ((k : ℕ) → k < length bytes → 128 ≤ get_or bytes k 0)
-    → left_behind least left (b ∷ (bytes ++ rest)) ≡ left_behind least 0 rest
-left_behind_high least left b [] rest h high = left_behind_high_byte least left b rest h
-left_behind_high least left b (d ∷ bytes) rest h high =
-    left_behind_high_byte least left b (d ∷ (bytes ++ rest)) h ∙ left_behind_high least 0 d bytes rest (high 0 (omega arith))
-    (λ k i. high (suc k) (omega arith))
-
-first_high : (c first : ℕ) (more : List ℕ) → encode_utf8 c ≡ first ∷ more → 128 ≤ c → 128 ≤ first
-first_high c first more e h =
-    elim (cases_lt first 128) [
-      | inl low ↦ absurd (omega (arith, char_from_byte (first ∷ more) [] c (sym e ∙ sym (append-nil (encode_utf8 c))) low (omega arith)))
-      | inr high ↦ high
-    ]
-
--- a character is one symbol: what is kept of it, and how many spaces are lost behind it
-pub record CharKept (least left c : ℕ) (text rest : List ℕ) : Type 0 where
-  pub stays : kept least left text ≡ (if is_lost left (Some c) then [] else encode_utf8 c) ++ kept least (left_after least left (Some c)) rest
-  pub leaves : left_behind least left text ≡ left_behind least (left_after least left (Some c)) rest
-
-low_char : (least left c : ℕ) (text rest : List ℕ) → c < 128 → text ≡ encode_utf8 c ++ rest → CharKept least left c text rest
-low_char least left c text rest low e =
-    let one : encode_utf8 c ≡ c ∷ [] = encode_ascii c low in
-    let whole : text ≡ c ∷ rest = e ∙ ap (λ t. t ++ rest) one in
-    record {
-      stays = rw (whole, one) (kept_byte least left c rest);
-      leaves = rw whole (left_behind_byte least left c rest);
-    }
-
-high_char : (least left c : ℕ) (text rest : List ℕ) → 128 ≤ c → text ≡ encode_utf8 c ++ rest → IsCharacter (encode_utf8 c) → CharKept least left c text rest
-high_char least left c text rest h e one =
-    let whole : text ≡ one.first ∷ (one.more ++ rest) = e ∙ ap (λ t. t ++ rest) one.split in
-    let first = first_high c one.first one.more one.split h in
-    record {
-      stays = ap (kept least left) whole ∙ kept_high least left one.first one.more rest first one.high ∙ ap (λ t. t ++ kept least 0 rest) (sym one.split)
-          ∙ sym (ap (λ lost. (if lost then [] else encode_utf8 c) ++ kept least (left_after least left (Some c)) rest) (high_stays left c h)
-          ∙ ap (λ n. encode_utf8 c ++ kept least n rest) (high_after least left c h));
-      leaves = ap (left_behind least left) whole ∙ left_behind_high least left one.first one.more rest first one.high
-          ∙ sym (ap (λ n. left_behind least n rest) (high_after least left c h));
-    }
-
-pub char_kept : (least left c : ℕ) (text rest : List ℕ) → text ≡ encode_utf8 c ++ rest → CharKept least left c text rest
-char_kept least left c text rest e =
-    elim (cases_lt c 128) [
-      | inl low ↦ low_char least left c text rest low e
-      | inr high ↦ high_char least left c text rest high e (is_character c (encode_utf8 c) refl)
-    ]
+-- a line without a line feed stays, where it does not begin with a space that is lost
+stays_line : (least left : ℕ) (b : ℕ) (line rest : List ℕ) → is_lost left (Some b) ≡ false
+    → ((k : ℕ) → k < suc (length line) → is_inside_line (get_or (b ∷ line) k 0) ≡ true)
+    → (kept least left (b ∷ (line ++ rest)) ≡ b ∷ (line ++ kept least 0 rest)) × (left_behind least left (b ∷ (line ++ rest)) ≡ left_behind least 0 rest)
+stays_line least left b [] rest lost inside =
+    let first : is_inside_line b ≡ true = inside 0 (omega arith) in
+    stays_byte least left b 0 rest lost (grind (arith, nat_tests))
+stays_line least left b (d ∷ line) rest lost inside =
+    let first : is_inside_line b ≡ true = inside 0 (omega arith) in
+    let one = stays_byte least left b 0 (d ∷ (line ++ rest)) lost (grind (arith, nat_tests)) in
+    let none : is_lost 0 (Some d) ≡ false = grind (arith, nat_tests) in
+    let more = stays_line least 0 d line rest none (λ k i. inside (suc k) (omega arith)) in
+    (one.0 ∙ ap (λ t. b ∷ t) more.0, one.1 ∙ more.1)
 
 pub kept-nil : (least left : ℕ) → kept least left [] ≡ []
 unfolding kept
@@ -91,33 +64,108 @@ pub left_behind-nil : (least left : ℕ) → left_behind least left [] ≡ left
 unfolding left_behind
 left_behind-nil least left = refl
 
--- a space that is lost
-pub lost_char : (least left c : ℕ) (text rest : List ℕ) → c ≡ 32 → 0 < left → text ≡ encode_utf8 c ++ rest
-    → (kept least left text ≡ kept least (left - 1) rest) × (left_behind least left text ≡ left_behind least (left - 1) rest)
-lost_char least left c text rest e some h =
-    let whole = char_kept least left c text rest h in
-    let lost : is_lost left (Some c) ≡ true = grind (arith, nat_tests) in
-    let after : left_after least left (Some c) ≡ left - 1 = ap (λ b. if b then left - 1 else (if is_byte 10 (Some c) then least else 0)) lost in (
-      whole.stays ∙ ap (λ b. (if b then [] else encode_utf8 c) ++ kept least (left_after least left (Some c)) rest) lost ∙ ap (λ n. kept least n rest) after,
-      whole.leaves ∙ ap (λ n. left_behind least n rest) after,
-    )
-
--- a character that stays
-pub stays_char : (least left c next : ℕ) (text rest : List ℕ) → is_lost left (Some c) ≡ false → (if c == 10 then least else 0) ≡ next → text ≡ encode_utf8 c
-    ++ rest
-    → (kept least left text ≡ encode_utf8 c ++ kept least next rest) × (left_behind least left text ≡ left_behind least next rest)
-stays_char least left c next text rest lost e h =
-    let whole = char_kept least left c text rest h in
-    let after : left_after least left (Some c) ≡ next = ap (λ b. if b then left - 1 else (if is_byte 10 (Some c) then least else 0)) lost ∙ e in (
-      whole.stays ∙ ap (λ b. (if b then [] else encode_utf8 c) ++ kept least (left_after least left (Some c)) rest) lost
-          ∙ ap (λ n. encode_utf8 c ++ kept least n rest) after,
-      whole.leaves ∙ ap (λ n. left_behind least n rest) after,
-    )
-
-pub not_lost : (left c : ℕ) → (c ≡ 32 → left ≡ 0) → is_lost left (Some c) ≡ false
-not_lost left c h = grind (arith, nat_tests)
-
--- what is read, with one more piece
 pub grown : {A : Type 0} (whole before after piece rest more : List A) → whole ≡ before ++ rest → rest ≡ piece ++ more → after ≡ before ++ piece
     → whole ≡ after ++ more
 grown whole before after piece rest more e f h = e ∙ ap (λ t. before ++ t) f ∙ sym (append_assoc before piece more) ∙ ap (λ t. t ++ more) (sym h)
+
+-- so a line with its line feed stays, and the next loses as much as any
+stays_fed : (least left : ℕ) (line rest : List ℕ) → (0 < length line → is_lost left (Some (get_or line 0 0)) ≡ false)
+    → ((k : ℕ) → k < length line → is_inside_line (get_or line k 0) ≡ true)
+    → (kept least left (line ++ 10 ∷ rest) ≡ (line ++ 10 ∷ []) ++ kept least least rest) × (left_behind least left (line ++ 10 ∷ rest) ≡ left_behind least least rest)
+stays_fed least left [] rest first inside = stays_byte least left 10 least rest (grind (arith, nat_tests)) refl
+stays_fed least left (b ∷ line) rest first inside =
+    let all = stays_line least left b line (10 ∷ rest) (first (omega arith)) inside in
+    let feed = stays_byte least 0 10 least rest refl refl in
+    (all.0 ∙ ap (λ t. b ∷ (line ++ t)) feed.0 ∙ sym (append_assoc (b ∷ line) (10 ∷ []) (kept least least rest)), all.1 ∙ feed.1)
+
+-- and the last line without one
+stays_last : (least left : ℕ) (line : List ℕ) → 0 < length line → is_lost left (Some (get_or line 0 0)) ≡ false
+    → ((k : ℕ) → k < length line → is_inside_line (get_or line k 0) ≡ true)
+    → (kept least left line ≡ line ++ kept least 0 []) × (left_behind least left line ≡ left_behind least 0 [])
+stays_last least left [] some first inside = absurd (omega arith)
+stays_last least left (b ∷ line) some first inside =
+    let all = stays_line least left b line [] first inside in
+    (ap (λ t. kept least left (b ∷ t)) (sym (append-nil line)) ∙ all.0, ap (λ t. left_behind least left (b ∷ t)) (sym (append-nil line)) ∙ all.1)
+
+module _ (least left lost : ℕ) (text line : List ℕ) (is : lost ≡ min (spaces text) left) (behind : line ≡ drop lost text) where
+  within : (lost ≤ left) × (lost ≤ spaces text)
+  within = (omega (arith, is), omega (arith, is))
+
+  fits : lost ≤ length text
+  fits = omega (arith, within.1, prefix_len-le-length is_space text)
+
+  -- the spaces are lost
+  pub spaces_lost : (kept least left text ≡ kept least (left - lost) line) × (left_behind least left text ≡ left_behind least (left - lost) line)
+  spaces_lost =
+      let all = lose least left lost text within.0 fits (λ k l. prefix_len_passes is_space text k 0 (omega (arith, l, within.1))) in
+      (all.0 ∙ ap (kept least (left - lost)) (sym behind), all.1 ∙ ap (left_behind least (left - lost)) (sym behind))
+
+  -- what follows is not lost
+  first_stays : 0 < length line → is_lost (left - lost) (Some (get_or line 0 0)) ≡ false
+  first_stays some =
+      let one : get_or line 0 0 ≡ get_or text lost 0 = ap (λ t. get_or t 0 0) behind ∙ get_or-drop lost text 0 0 ∙ ap (λ k. get_or text k 0) (omega arith) in
+      elim (cases_lt lost left) [
+        | inr all ↦ (let none : left - lost ≡ 0 = omega arith in grind (arith, nat_tests))
+        | inl fewer ↦
+            let stops : lost ≡ spaces text = omega (arith, is) in
+            let there : spaces text < length text = omega (arith, some, ap length behind, length-drop lost text) in
+            let no_space : is_space (get_or line 0 0) ≡ false =
+            ap is_space (one ∙ ap (λ k. get_or text k 0) stops) ∙ prefix_len_stops is_space text 0 there in
+            grind (arith, nat_tests)
+      ]
+
+  module _ (len : ℕ) (run : len ≡ prefix_len is_inside_line line) where
+    inside : (k : ℕ) → k < len → is_inside_line (get_or line k 0) ≡ true
+    inside k l = prefix_len_passes is_inside_line line k 0 (omega (arith, l, run))
+
+    pub fed_line : (whole rest : List ℕ) → len < length line → whole ≡ take (len + 1) line → rest ≡ drop (len + 1) line → KeepsLine least left text whole rest least
+    fed_line whole rest there e f =
+        let body = take len line in
+        let size : length body ≡ len = length-take-le len line (omega arith) in
+        let stop : is_inside_line (get_or line len 0) ≡ false =
+        ap (λ k. is_inside_line (get_or line k 0)) run ∙ prefix_len_stops is_inside_line line 0 (omega (arith, run, there)) in
+        let feed : get_or line len 0 ≡ 10 = grind (arith, nat_tests) in
+        let cut : line ≡ body ++ 10 ∷ drop (len + 1) line =
+        sym (take-append-drop len line) ∙ ap (λ t. body ++ t) (drop_more line len 0 there ∙ ap (λ b. b ∷ drop (len + 1) line) feed) in
+        let front : take (len + 1) line ≡ body ++ 10 ∷ [] = (let one : len + 1 ≡ suc len = omega arith in ap (λ n. take n line) one) ∙ take-suc line len 0 there ∙ ap (λ b. body ++ b ∷ []) feed in
+        let all = stays_fed least (left - lost) body (drop (len + 1) line)
+        (λ some. ap (λ b. is_lost (left - lost) (Some b)) (get_or-take len line 0 0 (omega (arith, some, size))) ∙ first_stays (omega (arith, there)))
+        (λ k l. ap is_inside_line (get_or-take len line k 0 (omega (arith, l, size))) ∙ inside k (omega (arith, l, size))) in
+        record {
+          stays = spaces_lost.0 ∙ ap (kept least (left - lost)) cut ∙ all.0 ∙ ap (λ t. t ++ kept least least (drop (len + 1) line)) (sym (e ∙ front))
+              ∙ ap (λ t. whole ++ kept least least t) (sym f);
+          leaves = spaces_lost.1 ∙ ap (left_behind least (left - lost)) cut ∙ all.1 ∙ ap (left_behind least least) (sym f);
+          shorter = omega (arith, ap length f, length-drop (len + 1) line, ap length behind, length-drop lost text, there);
+        }
+
+    pub last_line : length line ≤ len → 0 < len → 0 < length text → KeepsLine least left text line [] 0
+    last_line all some more =
+        let whole : 0 < length line = omega (arith, run, prefix_len-le-length is_inside_line line) in
+        let h = stays_last least (left - lost) line whole (first_stays whole) (λ k l. inside k (omega arith)) in
+        record { stays = spaces_lost.0 ∙ h.0; leaves = spaces_lost.1 ∙ h.1; shorter = more }
+
+    pub no_line : length line ≤ len → len ≤ 0 → 0 < length text → KeepsLine least left text [] [] (left - lost)
+    no_line all none more =
+        let empty : line ≡ [] = nil_from_length line (omega arith) in
+        record {
+          stays = spaces_lost.0 ∙ ap (kept least (left - lost)) empty;
+          leaves = spaces_lost.1 ∙ ap (left_behind least (left - lost)) empty;
+          shorter = more;
+        }
+
+-- behind spaces a character begins, or the text ends
+pub behind_spaces : (text : List ℕ) (lost left : ℕ) → IsUtf8 text → lost ≡ min (spaces text) left → IsCharBoundary text lost
+behind_spaces text zero left utf8 is = IsCharBoundary-start text utf8
+behind_spaces text (suc k) left utf8 is =
+    let low : k < spaces text = omega (arith, is) in
+    let space : is_space (get_or text k 0) ≡ true = prefix_len_passes is_space text k 0 low in
+    let one : k + 1 ≡ suc k = omega arith in
+    subst (IsCharBoundary text) one
+    (IsCharBoundary-after_ascii text k utf8 (omega (arith, low, prefix_len-le-length is_space text)) (grind (arith, nat_tests)))
+
+-- and behind a line feed
+pub behind_feed : (line : List ℕ) (len : ℕ) → IsUtf8 line → len ≡ prefix_len is_inside_line line → len < length line → IsCharBoundary line (len + 1)
+behind_feed line len utf8 run there =
+    let stop : is_inside_line (get_or line len 0) ≡ false =
+    ap (λ k. is_inside_line (get_or line k 0)) run ∙ prefix_len_stops is_inside_line line 0 (omega (arith, run, there)) in
+    IsCharBoundary-after_ascii line len utf8 there (grind (arith, nat_tests))

@@ -1,5 +1,5 @@
 -- What is known of a string's lines while it is read symbol by symbol. `Normal` says what it means; lemmas say that both agree.
-use Rattle.std.specs.Prelude.{ℕ, ◌+◌, ◌-◌, min, Bool, ◌&&◌, if◌then◌else◌, nat_lt, List, [], ◌∷◌, ◌++◌, Option, Some, None}
+use Rattle.std.specs.Prelude.{◌≡◌, ◌<◌, ℕ, ◌+◌, ◌-◌, min, length, Bool, not, ◌==◌, ◌&&◌, if◌then◌else◌, nat_lt, List, [], ◌∷◌, ◌++◌, Option, Some, None}
 use Rattle.std.specs.List.{fold}
 use Rattle.rnix_base.specs.declared.indent.Indent.{Indent}
 use Rattle.rnix_base.specs.declared.parts.InterpolPart.{InterpolPart}
@@ -52,3 +52,13 @@ kept least left (b ∷ text) =
 unfoldable pub left_behind : ℕ → ℕ → List ℕ → ℕ
 left_behind least left [] = left
 left_behind least left (b ∷ text) = left_behind least (left_after least left (Some b)) text
+
+-- a byte that does not end a line
+abbrev pub is_inside_line : ℕ → Bool
+is_inside_line b = not (b == 10)
+
+-- a text keeps this line and then what this shorter rest keeps, which still loses `next` spaces
+pub record KeepsLine (least left : ℕ) (text line rest : List ℕ) (next : ℕ) : Type 0 where
+  pub stays : kept least left text ≡ line ++ kept least next rest
+  pub leaves : left_behind least left text ≡ left_behind least next rest
+  pub shorter : length rest < length text

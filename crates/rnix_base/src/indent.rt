@@ -1,9 +1,9 @@
 //! The indentation of a string.
 
-ghost use Rattle.std.specs.Prelude.{◌≡◌, ◌≤◌, ◌+◌, length, IfOk, MatchOption, string_bytes, false};
-ghost use Rattle.std.specs.List.{suffix_len};
+ghost use Rattle.std.specs.Prelude.{◌≡◌, ◌<◌, ◌≤◌, ◌+◌, length, IfOk, MatchOption, string_bytes, false};
+ghost use Rattle.std.specs.List.{prefix_len, suffix_len};
 ghost use Rattle.rnix_base.specs.Normal.{is_space, spaces, opens_blank, without_last_spaces, IsBehindBlank, borrowed};
-ghost use Rattle.rnix_base.specs.Indent.{indent_after, indent_behind, indent_of, no_indent, kept, left_behind};
+ghost use Rattle.rnix_base.specs.Indent.{indent_after, indent_behind, indent_of, no_indent, kept, left_behind, is_inside_line, KeepsLine};
 
 use crate::parts::InterpolPart;
 use std::alloc::{AllocError, Global};
@@ -71,6 +71,39 @@ pub(crate) fn least_indentation<I>(parts: &[InterpolPart<&str, I>]) -> usize
     indent.least
 }
 
+// Returns the number of spaces that the bytes begin with.
+fn spaces_before(bytes: &[u8]) -> usize
+    ensures { result ≡ spaces bytes.now }
+{
+    bytes.iter().take_while(|b| **b == b' ').count()
+}
+
+// Returns the length of the first line without its line feed.
+fn line_len(bytes: &[u8]) -> usize
+    ensures { result ≡ prefix_len is_inside_line bytes.now }
+{
+    bytes.iter().take_while(|b| **b != b'\n').count()
+}
+
+// Returns the first line without the spaces that it loses, up to `left`; what follows it; and how many spaces the text still loses there.
+fn first_line(text: &str, least: usize, left: usize) -> (&str, &str, usize)
+    requires { 0 < length text.now }
+    ensures { KeepsLine least left text.now result.0.now result.1.now result.2 }
+{
+    let bytes = text.as_bytes();
+    let lost = spaces_before(bytes).min(left);
+    let (_, kept) = text.split_at(lost);
+    let len = line_len(kept.as_bytes());
+    if len < kept.len() {
+        let (line, rest) = kept.split_at(len + 1);
+        (line, rest, least)
+    } else if len > 0 {
+        (kept, "", 0)
+    } else {
+        ("", "", left - lost)
+    }
+}
+
 /// Returns the unindented lines of a text, and how many spaces its last line still loses. Each line loses up to `least`, the first one `left`.
 pub(crate) fn unindented(
     alloc: Global,
@@ -81,25 +114,16 @@ pub(crate) fn unindented(
     ensures kept { IfOk result (λ r. string_bytes r.0 ≡ kept least left text.now) }
     ensures left { IfOk result (λ r. r.1 ≡ left_behind least left text.now) }
 {
-    let mut kept = String::new(alloc);
+    let mut kept = String::with_capacity(alloc, text.len())?;
     let mut left = left;
-    let mut rest = text.chars();
-    while let Some(c) = rest.next() {
-        if c == ' ' && left > 0 {
-            left -= 1;
-        } else {
-            kept.push(c)?;
-            left = if c == '\n' { least } else { 0 };
-        }
+    let mut rest = text;
+    while !rest.is_empty() {
+        let (line, behind, next) = first_line(rest, least, left);
+        kept.push_str(line)?;
+        left = next;
+        rest = behind;
     }
     Ok((kept, left))
-}
-
-// Returns the number of spaces that the bytes begin with.
-fn spaces_before(bytes: &[u8]) -> usize
-    ensures { result ≡ spaces bytes.now }
-{
-    bytes.iter().take_while(|b| **b == b' ').count()
 }
 
 /// Returns what follows the first line feed, if only spaces precede it.
