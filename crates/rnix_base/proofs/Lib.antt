@@ -5,6 +5,7 @@ pub mod EscapeRows
 pub mod EscapeLemmas
 pub mod NormalRows
 pub mod UnindentLemmas
+pub mod IndentLemmas
 pub mod NormalLemmas
 pub mod SymbolLineLemmas
 pub mod LeastLemmas

@@ -1,6 +1,6 @@
 //! The indentation of a string.
 
-ghost use Rattle.std.specs.Prelude.{◌≡◌, ◌<◌, ◌≤◌, ◌+◌, length, IfOk, MatchOption, string_bytes, false};
+ghost use Rattle.std.specs.Prelude.{◌≡◌, ◌<◌, ◌≤◌, ◌+◌, length, drop, IfOk, MatchOption, string_bytes, false};
 ghost use Rattle.std.specs.List.{prefix_len, suffix_len};
 ghost use Rattle.rnix_base.specs.Normal.{is_space, spaces, opens_blank, without_last_spaces, IsBehindBlank, borrowed};
 ghost use Rattle.rnix_base.specs.Indent.{indent_after, indent_behind, indent_of, no_indent, kept, left_behind, is_inside_line, KeepsLine};
@@ -42,16 +42,28 @@ impl Indent {
         }
     }
 
-    // Returns the state after the bytes of a text.
+    // Returns the state after the bytes of a text. What follows on a line that has text changes nothing.
     fn behind(self, bytes: &[u8]) -> Indent
         ensures { result ≡ indent_behind self bytes.now }
     {
         let mut indent = self;
-        for b in bytes {
-            indent = indent.after(Some(*b));
+        let mut rest = bytes;
+        while let Some((first, more)) = rest.split_first() {
+            indent = indent.after(Some(*first));
+            rest = match indent.spaces {
+                Some(_) => more,
+                None => line_end(more),
+            };
         }
         indent
     }
+}
+
+// Returns the length of the first line without its line feed.
+fn line_len(bytes: &[u8]) -> usize
+    ensures { result ≡ prefix_len is_inside_line bytes.now }
+{
+    bytes.iter().take_while(|b| **b != b'\n').count()
 }
 
 /// Returns the smallest indentation of a line that has text.
@@ -78,11 +90,12 @@ fn spaces_before(bytes: &[u8]) -> usize
     bytes.iter().take_while(|b| **b == b' ').count()
 }
 
-// Returns the length of the first line without its line feed.
-fn line_len(bytes: &[u8]) -> usize
-    ensures { result ≡ prefix_len is_inside_line bytes.now }
+// Returns what follows the first line, from its line feed on.
+fn line_end(bytes: &[u8]) -> &[u8]
+    ensures { result.now ≡ drop (prefix_len is_inside_line bytes.now) bytes.now }
 {
-    bytes.iter().take_while(|b| **b != b'\n').count()
+    let (_, rest) = bytes.split_at(line_len(bytes));
+    rest
 }
 
 // Returns the first line without the spaces that it loses, up to `left`; what follows it; and how many spaces the text still loses there.
