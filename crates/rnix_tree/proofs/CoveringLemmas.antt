@@ -26,7 +26,7 @@ starts_elsewhere : (range place : Extent) → ¬ ((place.start ≤ range.start) 
 starts_elsewhere range place h = fails (holds range place) (λ e. h (holds_start range place e))
 
 -- a child ends before the next begins
-ends_before : (t : Tree) (n m c : ℕ) → IsChild record { tree = t; number = n } m → IsChild record { tree = t; number = n } c → m < c
+pub ends_before : (t : Tree) (n m c : ℕ) → IsChild record { tree = t; number = n } m → IsChild record { tree = t; number = n } c → m < c
     → m + (item t m).below < c
 ends_before t n m c here child less =
     elim (cases_lt (m + (item t m).below) c) [

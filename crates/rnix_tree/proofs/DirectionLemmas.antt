@@ -7,20 +7,20 @@ use Rattle.rnix_tree.specs.{Siblings.{siblings_of, siblings_if, index_of, IsBesi
 use Rattle.rnix_tree.proofs.{CountLemmas.counted-many, AncestorLemmas.counted_more}
 
 -- equal parents pass the test, and others fail it
-same_passes : (p q : Option ℕ) → p ≡ q → same_parent p q ≡ true
+pub same_passes : (p q : Option ℕ) → p ≡ q → same_parent p q ≡ true
 same_passes None None e = refl
 same_passes None (Some q) e = absurd (cc)
 same_passes (Some p) None e = absurd (cc)
 same_passes (Some p) (Some q) e = is_same p q (cc)
 
-passes_same : (p q : Option ℕ) → same_parent p q ≡ true → p ≡ q
+pub passes_same : (p q : Option ℕ) → same_parent p q ≡ true → p ≡ q
 passes_same None None e = refl
 passes_same None (Some q) e = absurd (cc)
 passes_same (Some p) None e = absurd (cc)
 passes_same (Some p) (Some q) e = ap Some (grind (arith, nat_tests))
 
 -- a test that is not passed fails
-fails : (b : Bool) → ¬ (b ≡ true) → b ≡ false
+pub fails : (b : Bool) → ¬ (b ≡ true) → b ≡ false
 fails true h = absurd (h refl)
 fails false h = refl
 
@@ -48,13 +48,13 @@ module _ (Q : ℕ → Bool) where
       let rest = filter Q (counted (n + 1) (end - (n + 1))) in
       ap (filter Q) (counted_more n end l) ∙ ap (λ b. cond b (n ∷ rest) rest) h
 
-  none_down : (k : ℕ) → ((m : ℕ) → m < k → Q m ≡ false) → filter Q (numbers_below k) ≡ []
+  pub none_down : (k : ℕ) → ((m : ℕ) → m < k → Q m ≡ false) → filter Q (numbers_below k) ≡ []
   none_down zero h = refl
   none_down (suc k) h =
       ap (λ b. cond b (k ∷ filter Q (numbers_below k)) (filter Q (numbers_below k))) (h k (omega arith))
       ∙ none_down k (λ m low. h m (omega arith))
 
-  skip_down : (k r : ℕ) → r < k → ((m : ℕ) → r < m → m < k → Q m ≡ false) → filter Q (numbers_below k) ≡ filter Q (numbers_below (suc r))
+  pub skip_down : (k r : ℕ) → r < k → ((m : ℕ) → r < m → m < k → Q m ≡ false) → filter Q (numbers_below k) ≡ filter Q (numbers_below (suc r))
   skip_down zero r l h = absurd (omega arith)
   skip_down (suc k) r l h =
       elim (cases_lt r k) [
@@ -64,7 +64,7 @@ module _ (Q : ℕ → Bool) where
         | inr last ↦ (let same : suc k ≡ suc r = omega arith in ap (λ j. filter Q (numbers_below j)) same)
       ]
 
-  meet_down : (n : ℕ) → Q n ≡ true → filter Q (numbers_below (suc n)) ≡ n ∷ filter Q (numbers_below n)
+  pub meet_down : (n : ℕ) → Q n ≡ true → filter Q (numbers_below (suc n)) ≡ n ∷ filter Q (numbers_below n)
   meet_down n h = ap (λ b. cond b (n ∷ filter Q (numbers_below n)) (filter Q (numbers_below n))) h
 
 module _ (t : Tree) (n : ℕ) (l : n < length (items_of t)) where
@@ -116,16 +116,6 @@ module _ (t : Tree) (n : ℕ) (l : n < length (items_of t)) where
       → siblings_of direction here ≡ spot_at t n ∷ siblings_if direction t next
   sibling_step Next next h = step_next next h
   sibling_step Prev next h = step_prev next h
-
--- the place of an element among its siblings, where they are counted backwards
-pub index_counted : (e : Located) (n : ℕ) → n ≡ length (siblings_of Prev e) → n - 1 ≡ index_of e
-index_counted e n h =
-    omega (
-      arith,
-      h,
-      length-map (filter (is_beside e) (numbers_below (suc e.number))) (spot_at e.tree),
-      ap length (meet_down (is_beside e) e.number (same_passes (item_of e).parent (item_of e).parent refl)),
-    )
 
 length-numbers_below : (k : ℕ) → length (numbers_below k) ≡ k
 length-numbers_below zero = refl

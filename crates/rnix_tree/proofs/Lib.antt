@@ -15,6 +15,7 @@ pub mod DebugLemmas
 pub mod DumpTextLemmas
 pub mod PointerLemmas
 pub mod DirectionLemmas
+pub mod IndexLemmas
 pub mod ChildLemmas
 pub mod CoveringLemmas
 pub mod SkipLemmas

@@ -15,7 +15,7 @@ not_beside t n p m l e low high same =
     omega (arith, in_n.low)
 
 -- only the root has no parent
-root_alone : (t : Tree) (m : ℕ) → m < length (items_of t) → (item t m).parent ≡ None → m ≡ 0
+pub root_alone : (t : Tree) (m : ℕ) → m < length (items_of t) → (item t m).parent ≡ None → m ≡ 0
 root_alone t zero l e = refl
 root_alone t (suc m) l e = absurd (let h = has_parent t (suc m) (omega arith) l in let x = sym h.is ∙ e in cc)
 

@@ -61,6 +61,23 @@ impl<'t> SiblingsWithTokens<'t> {
     }
 }
 
+// Returns the number of siblings before the element, which it steps over from the first child of the parent on.
+fn index(green: &GreenNode, number: usize) -> usize
+    requires { number < length (items_of green.now) }
+    ensures { result ≡ index_of record { tree = green.now; number = number } }
+{
+    let Some(parent) = green.element(number).parent else {
+        return 0;
+    };
+    let (mut sibling, mut index) = (parent + 1, 0);
+    while sibling < number {
+        let element = green.element(sibling);
+        sibling += 1 + element.below;
+        index += 1;
+    }
+    index
+}
+
 // Returns the nearest sibling on one side.
 fn sibling(green: &GreenNode, direction: Direction, number: usize) -> Option<usize>
     requires { number < length (items_of green.now) }
@@ -154,7 +171,7 @@ impl<'t> SyntaxNode<'t> {
     pub fn index(&self) -> usize
         ensures { result ≡ index_of self.now }
     {
-        self.siblings_with_tokens(Direction::Prev).count() - 1
+        index(self.green, self.number)
     }
 }
 
@@ -171,7 +188,7 @@ impl<'t> SyntaxToken<'t> {
     pub fn index(&self) -> usize
         ensures { result ≡ index_of self.now }
     {
-        self.siblings_with_tokens(Direction::Prev).count() - 1
+        index(self.green, self.number)
     }
 }
 
