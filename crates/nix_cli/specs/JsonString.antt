@@ -1,0 +1,19 @@
+-- A text as a JSON string. A text is the list of its bytes.
+use Rattle.std.specs.Prelude.{ℕ, ◌==◌, nat_lt, ◌/◌, ◌%◌, Bool, not, ◌&&◌, List, [], ◌∷◌, ◌++◌, codes, if◌then◌else◌}
+use Rattle.std.specs.Char.{digit_char}
+use Rattle.std.specs.List.{flat_map}
+
+-- whether a byte stands for itself: it is no control character, no quote and no backslash
+abbrev pub is_plain : ℕ → Bool
+is_plain b = not (nat_lt b 32) && (not (b == 34) && not (b == 92))
+
+-- what stands for a byte: itself, a control character's number in four digits, a quote or a backslash after a backslash
+unfoldable pub escape : ℕ → List ℕ
+escape b =
+    if is_plain b then b ∷ []
+    else (if nat_lt b 32 then codes "\\u00" ++ digit_char (b / 16) ∷ digit_char (b % 16) ∷ []
+    else 92 ∷ b ∷ [])
+
+-- the text between quotes, with escapes
+abbrev pub json_string : List ℕ → List ℕ
+json_string text = codes "\"" ++ (flat_map escape text ++ codes "\"")
