@@ -1,2 +1,3 @@
 pub mod PlainRuns
 mod JsonBytes
+mod ShownLemmas

@@ -1,3 +1,4 @@
 pub mod CommandLine
+pub mod Excerpt
 pub mod Given
 pub mod JsonString

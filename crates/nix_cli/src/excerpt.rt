@@ -1,5 +1,11 @@
 //! An excerpt: one line of a text, with carets under a range in it.
 
+ghost use Rattle.std.specs.Prelude.{◌≡◌, IsTrue, OnOk, length};
+ghost use Rattle.std.specs.Str.{chars};
+ghost use Rattle.std.specs.List.{flat_map, prefix_len};
+ghost use Rattle.std.specs.Io.KnownBytes.{Appends};
+ghost use Rattle.nix_cli.specs.Excerpt.{is_simple, printed, shown, columns_of, spaces, carets, carets_below};
+
 use std::io::{self, Write};
 use std::ops::Range;
 
@@ -11,9 +17,16 @@ const COLUMNS_AFTER: usize = 60;
 const CUT: &str = "…";
 // Printed in place of characters that a terminal would act on.
 const REPLACEMENT: char = '\u{fffd}';
+// Spaces and carets below simple characters.
+static SPACES: [u8; 60] = [b' '; 60];
+
+static CARETS: [u8; 60] = [b'^'; 60];
 
 // The width of a character in columns of a terminal. A tab counts as one, since it is printed in both lines alike.
-fn columns_of(letter: char) -> usize {
+#[tactic(auto, unfolding(crate::specs::Excerpt::columns_of))]
+fn columns_of(letter: char) -> usize
+    ensures { result ≡ columns_of letter }
+{
     match letter {
         '\u{300}'..='\u{36f}' | '\u{200b}'..='\u{200d}' | '\u{fe00}'..='\u{fe0f}' => 0,
         '\u{1100}'..='\u{115f}'
@@ -32,10 +45,12 @@ fn columns_of(letter: char) -> usize {
 }
 
 // The character that is printed for another: the picture of a control character, a replacement for one that changes the direction of text.
-fn printed(letter: char) -> char {
+fn printed(letter: char) -> char
+    ensures { result ≡ printed letter }
+{
     match letter {
         '\t' => letter,
-        '\0'..='\u{1f}' => char::from_u32(0x2400 | u32::from(letter)).unwrap_or(REPLACEMENT),
+        '\0'..='\u{1f}' => char::from_u32(0x2400 + u32::from(letter)).unwrap_or(REPLACEMENT),
         '\u{7f}'..='\u{9f}' | '\u{202a}'..='\u{202e}' | '\u{2066}'..='\u{2069}' => REPLACEMENT,
         _ => letter,
     }
@@ -69,34 +84,85 @@ fn end_of_part(text: &str, offset: usize) -> usize {
     end
 }
 
+// Whether a byte is a simple character: of ASCII, and no control character.
+#[inline(always)]
+fn is_simple(byte: u8) -> bool
+    ensures { result ≡ is_simple byte }
+{
+    byte >= b' ' && byte < b'\x7f'
+}
+
+// The number of simple characters that come first.
+fn simple_len(bytes: &[u8]) -> usize
+    ensures { result ≡ prefix_len is_simple bytes.now }
+{
+    bytes.iter().take_while(|byte| is_simple(**byte)).count()
+}
+
+// Whether all characters of a text are simple.
+fn are_simple(part: &str) -> bool
+    ensures { IsTrue result → prefix_len is_simple part.now ≡ length part.now }
+{
+    simple_len(part.as_bytes()) == part.len()
+}
+
 // Writes a text with its control characters replaced.
-fn write_letters<W: Write>(part: &str, out: &mut W) -> io::Result<()> {
+fn write_letters<W: Write>(part: &str, out: &mut W) -> io::Result<()>
+    ensures { OnOk result (Appends (W.contents out.old) (W.contents out.new) (flat_map shown (chars part.now))) }
+{
+    if are_simple(part) {
+        return out.write_all(part.as_bytes());
+    }
     for letter in part.chars() {
         write!(out, "{}", printed(letter))?;
     }
     Ok(())
 }
 
+// Writes the spaces below a character. A tab stays a tab.
+fn write_space<W: Write>(letter: char, out: &mut W) -> io::Result<()>
+    ensures { OnOk result (Appends (W.contents out.old) (W.contents out.new) (spaces letter)) }
+{
+    out.write_all(match (letter, columns_of(letter)) {
+        ('\t', _) => b"\t",
+        (_, 0) => b"",
+        (_, 1) => b" ",
+        _ => b"  ",
+    })
+}
+
 // Writes spaces of the width of a text. A tab stays a tab.
-fn write_spaces<W: Write>(part: &str, out: &mut W) -> io::Result<()> {
+fn write_spaces<W: Write>(part: &str, out: &mut W) -> io::Result<()>
+    ensures { OnOk result (Appends (W.contents out.old) (W.contents out.new) (flat_map spaces (chars part.now))) }
+{
+    if part.len() <= SPACES.len() && are_simple(part) {
+        return out.write_all(&SPACES[..part.len()]);
+    }
     for letter in part.chars() {
-        out.write_all(match (letter, columns_of(letter)) {
-            ('\t', _) => b"\t",
-            (_, 0) => b"",
-            (_, 1) => b" ",
-            _ => b"  ",
-        })?;
+        write_space(letter, out)?;
     }
     Ok(())
 }
 
+// Writes the carets below a character.
+fn write_caret<W: Write>(letter: char, out: &mut W) -> io::Result<()>
+    ensures { OnOk result (Appends (W.contents out.old) (W.contents out.new) (carets letter)) }
+{
+    out.write_all(if columns_of(letter) == 2 { b"^^" } else { b"^" })
+}
+
 // Writes carets of the width of a text, at least one.
-fn write_carets<W: Write>(part: &str, out: &mut W) -> io::Result<()> {
+fn write_carets<W: Write>(part: &str, out: &mut W) -> io::Result<()>
+    ensures { OnOk result (Appends (W.contents out.old) (W.contents out.new) (carets_below part.now)) }
+{
     if part.is_empty() {
         return out.write_all(b"^");
     }
+    if part.len() <= CARETS.len() && are_simple(part) {
+        return out.write_all(&CARETS[..part.len()]);
+    }
     for letter in part.chars() {
-        out.write_all(if columns_of(letter) == 2 { b"^^" } else { b"^" })?;
+        write_caret(letter, out)?;
     }
     Ok(())
 }
