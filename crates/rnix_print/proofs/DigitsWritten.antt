@@ -6,6 +6,10 @@ use Rattle.std.{proofs.lemmas.{Fmt.{length-decimal-le, decimal_digit, decimal_st
 pub decimal_short : (n : ℕ) → n < 2 ^ 64 → length (decimal n) ≤ 20
 decimal_short n h = length-decimal-le 20 n (omega arith) (omega arith) h
 
+-- a number has a digit
+pub some_digit : (n : ℕ) → n < 2 ^ 64 → 0 < length (decimal n)
+some_digit n h = decimal_nonempty n h
+
 -- without its last digit a number has one digit less, but not none
 pub one_less : (n : ℕ) → 10 ≤ n → n < 2 ^ 64 → (length (decimal n) ≡ length (decimal (n / 10)) + 1) × (0 < length (decimal (n / 10)))
 one_less n h fits =
@@ -22,9 +26,7 @@ digit_written n start digits all h fits some within so_far =
     ∙ ap (λ x. x ++ drop (start + 1) digits) (sym (decimal_step n h fits)) ∙ so_far
 
 -- the first digit in front of the others
-pub number_written : (n start : ℕ) (digits all : List ℕ) → n < 10 → start < 20 → length digits ≡ 20
-    → decimal n ++ drop (start + 1) digits ≡ all → take (20 - start) (drop start (set digits start (48 + n))) ≡ all
-number_written n start digits all one within long so_far =
-    take_all (20 - start) (drop start (set digits start (48 + n)))
-    (omega (arith, length-drop start (set digits start (48 + n)), length-set digits start (48 + n)))
-    ∙ drop-set digits start (48 + n) (omega arith) ∙ ap (λ x. x ++ drop (start + 1) digits) (sym (decimal_digit n one)) ∙ so_far
+pub number_written : (n start : ℕ) (digits all : List ℕ) → n < 10 → start < length digits
+    → decimal n ++ drop (start + 1) digits ≡ all → drop start (set digits start (48 + n)) ≡ all
+number_written n start digits all one within so_far =
+    drop-set digits start (48 + n) within ∙ ap (λ x. x ++ drop (start + 1) digits) (sym (decimal_digit n one)) ∙ so_far

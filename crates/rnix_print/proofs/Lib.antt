@@ -1,3 +1,4 @@
 mod DigitsWritten
+mod RangeWritten
 mod WalkLines
 mod Indented
