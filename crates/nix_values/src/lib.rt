@@ -1,6 +1,7 @@
 //! Data as a flat list of values, read from JSON and written as JSON.
 #![tactic(auto)]
 
+mod attributes;
 mod builder;
 mod data;
 mod float;
@@ -11,8 +12,11 @@ mod json_strings;
 mod json_tokens;
 mod json_writer;
 mod layout;
+mod nodes;
 mod notation;
+mod ordered;
 mod path;
+mod slots;
 
 pub use builder::Builder;
 pub use data::{Data, Item, Value};
