@@ -2,10 +2,10 @@
 
 use std::alloc::{AllocError, Global};
 
-// How many digits a text begins with.
-fn digits(text: &str) -> usize {
-    let rest = text.trim_start_matches(|letter: char| letter.is_ascii_digit());
-    text.len().saturating_sub(rest.len())
+/// Returns how many digits a text begins with.
+pub fn digits(text: &str) -> usize {
+    let others = text.bytes().position(|byte| !byte.is_ascii_digit());
+    others.unwrap_or(text.len())
 }
 
 // Whether a digit other than 0 stands before the exponent of a number.

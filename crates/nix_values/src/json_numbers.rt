@@ -1,13 +1,13 @@
 //! Numbers of JSON.
 
 use crate::data::Value;
-use crate::float::float_of;
+use crate::float::{digits, float_of};
 use crate::json_error::{JsonReason, JsonStop, refused};
 use std::alloc::Global;
 
 // A text without the digits that it begins with.
 fn after_digits(text: &str) -> &str {
-    text.trim_start_matches(|letter: char| letter.is_ascii_digit())
+    text.get(digits(text)..).unwrap_or("")
 }
 
 // A text without the digits that it begins with; nothing if there are none.

@@ -18,9 +18,9 @@ pub struct Read {
     pub end: usize,
 }
 
-// Whether a character ends a part of a string that stands for itself.
-fn is_special(letter: char) -> bool {
-    letter == '"' || letter == '\\' || letter < ' '
+// Whether a byte ends a part of a string that stands for itself.
+fn is_special(byte: u8) -> bool {
+    byte == b'"' || byte == b'\\' || byte < b' '
 }
 
 // The number that four digits at an offset are.
@@ -93,7 +93,7 @@ pub fn json_string(alloc: Global, text: &str, start: usize) -> Result<Read, Json
     let mut at = start;
     for _part in start..=text.len() {
         let rest = text.get(at..).unwrap_or("");
-        let Some(len) = rest.find(is_special) else {
+        let Some(len) = rest.bytes().position(is_special) else {
             break;
         };
         value.push_str(rest.get(..len).unwrap_or(""))?;
@@ -117,21 +117,138 @@ pub fn json_string(alloc: Global, text: &str, start: usize) -> Result<Read, Json
     Err(refused(JsonReason::OpenString, start.saturating_sub(1)))
 }
 
+// Writes a byte that does not stand for itself.
+fn push_escape(byte: u8, text: &mut String) -> Result<(), AllocError> {
+    match byte {
+        b'"' => text.push_str("\\\""),
+        b'\\' => text.push_str("\\\\"),
+        b'\n' => text.push_str("\\n"),
+        b'\r' => text.push_str("\\r"),
+        b'\t' => text.push_str("\\t"),
+        b'\x08' => text.push_str("\\b"),
+        b'\x0c' => text.push_str("\\f"),
+        _ => write!(text, "\\u{:04x}", byte),
+    }
+}
+
 /// Writes a string.
 pub fn push_json_string(value: &str, text: &mut String) -> Result<(), AllocError> {
     text.push('"')?;
-    for letter in value.chars() {
-        match letter {
-            '"' => text.push_str("\\\"")?,
-            '\\' => text.push_str("\\\\")?,
-            '\n' => text.push_str("\\n")?,
-            '\r' => text.push_str("\\r")?,
-            '\t' => text.push_str("\\t")?,
-            '\u{8}' => text.push_str("\\b")?,
-            '\u{c}' => text.push_str("\\f")?,
-            '\0'..='\u{1f}' => write!(text, "\\u{:04x}", u32::from(letter))?,
-            _ => text.push(letter)?,
+    let mut start = 0;
+    for (at, byte) in value.bytes().enumerate() {
+        if is_special(byte) {
+            text.push_str(value.get(start..at).unwrap_or(""))?;
+            push_escape(byte, text)?;
+            start = at.saturating_add(1);
         }
     }
+    text.push_str(value.get(start..).unwrap_or(""))?;
     text.push('"')
+}
+
+#[cfg(test)]
+mod tests {
+    use super::*;
+
+    // Writes a string, one character after the other.
+    fn push_characters(value: &str, text: &mut String) -> Result<(), AllocError> {
+        text.push('"')?;
+        for letter in value.chars() {
+            match letter {
+                '"' => text.push_str("\\\"")?,
+                '\\' => text.push_str("\\\\")?,
+                '\n' => text.push_str("\\n")?,
+                '\r' => text.push_str("\\r")?,
+                '\t' => text.push_str("\\t")?,
+                '\u{8}' => text.push_str("\\b")?,
+                '\u{c}' => text.push_str("\\f")?,
+                '\0'..='\u{1f}' => write!(text, "\\u{:04x}", u32::from(letter))?,
+                _ => text.push(letter)?,
+            }
+        }
+        text.push('"')
+    }
+
+    // Reads a string whose parts end at characters.
+    fn characters(alloc: Global, text: &str, start: usize) -> Result<(String, usize), JsonStop> {
+        let mut value = String::new(alloc);
+        let mut at = start;
+        for _part in start..=text.len() {
+            let rest = text.get(at..).unwrap_or("");
+            let special = |letter: char| letter == '"' || letter == '\\' || letter < ' ';
+            let Some(len) = rest.find(special) else {
+                break;
+            };
+            value.push_str(rest.get(..len).unwrap_or(""))?;
+            at = at.saturating_add(len);
+            match text.as_bytes().get(at) {
+                Some(b'"') => return Ok((value, at.saturating_add(1))),
+                Some(b'\\') => {
+                    let (letter, len) = escaped(text, at)?;
+                    value.push(letter)?;
+                    at = at.saturating_add(len);
+                }
+                Some(0) => return Err(refused(JsonReason::HasNul, at)),
+                _ => return Err(refused(JsonReason::ControlCharacter, at)),
+            }
+        }
+        Err(refused(JsonReason::OpenString, start.saturating_sub(1)))
+    }
+
+    // Whether a text is read alike.
+    fn is_read_alike(alloc: Global, text: &str, start: usize) -> bool {
+        match (
+            json_string(alloc, text, start),
+            characters(alloc, text, start),
+        ) {
+            (Ok(one), Ok(other)) => one.value.as_str() == other.0.as_str() && one.end == other.1,
+            (Err(JsonStop::Refused(one)), Err(JsonStop::Refused(other))) => one == other,
+            _ => false,
+        }
+    }
+
+    // Whether a text is written alike.
+    fn is_written_alike(alloc: Global, value: &str) -> Result<bool, AllocError> {
+        let (mut one, mut other) = (String::new(alloc), String::new(alloc));
+        push_json_string(value, &mut one)?;
+        push_characters(value, &mut other)?;
+        Ok(one.as_str() == other.as_str())
+    }
+
+    const PIECES: [&str; 17] = [
+        "",
+        "a",
+        "\"",
+        "\\",
+        "/",
+        "u",
+        "\u{e9}",
+        "\u{1f600}",
+        "\n",
+        "\0",
+        "\u{8}",
+        "\u{1f}",
+        " ",
+        "\u{7f}",
+        "\\u00e9",
+        "\\ud83d",
+        "\\ude00",
+    ];
+
+    #[test]
+    fn reads_and_writes_pieces(rt: HostRuntime) {
+        for one in PIECES {
+            for two in PIECES {
+                for three in PIECES {
+                    let text = format!(in rt.alloc(); "\"{one}{two}{three}\"").unwrap();
+                    let text = text.as_str();
+                    assert!(rt;
+                        is_written_alike(rt.alloc(), text).unwrap(),
+                        "writing {text}"
+                    );
+                    assert!(rt; is_read_alike(rt.alloc(), text, 1), "reading {text}");
+                }
+            }
+        }
+    }
 }

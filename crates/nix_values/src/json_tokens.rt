@@ -44,9 +44,14 @@ fn token_of(token: Token, start: usize, len: usize) -> Cut {
 
 /// Returns the offset of the next token.
 pub fn after_space(text: &str, at: usize) -> usize {
-    let rest = text.get(at..).unwrap_or("");
-    let token = rest.trim_start_matches([' ', '\t', '\n', '\r']);
-    text.len().saturating_sub(token.len())
+    let rest = text.as_bytes().get(at..).unwrap_or(&[]);
+    let spaces = rest
+        .iter()
+        .position(|byte| !matches!(*byte, b' ' | b'\t' | b'\n' | b'\r'));
+    match spaces {
+        Some(len) => at.saturating_add(len),
+        None => text.len(),
+    }
 }
 
 // One of the three words at an offset.
