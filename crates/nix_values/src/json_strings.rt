@@ -1,6 +1,7 @@
 //! Strings of JSON.
 
 use crate::json_error::{JsonReason, JsonStop, refused};
+use crate::json_text::JsonText;
 use std::alloc::{AllocError, Global};
 
 // The digits of an escape by number.
@@ -11,9 +12,9 @@ const ESCAPE: usize = 6;
 
 /// A string that was read, and where it ends.
 #[derive(Drop)]
-pub struct Read {
+pub struct Read<'t> {
     /// What it stands for.
-    pub value: String,
+    pub value: JsonText<'t>,
     /// The offset behind its closing quote.
     pub end: usize,
 }
@@ -88,7 +89,7 @@ fn escaped(text: &str, at: usize) -> Result<(char, usize), JsonStop> {
 }
 
 /// Reads the string whose opening quote ends at an offset.
-pub fn json_string(alloc: Global, text: &str, start: usize) -> Result<Read, JsonStop> {
+pub fn json_string<'t>(alloc: Global, text: &'t str, start: usize) -> Result<Read<'t>, JsonStop> {
     let mut value = String::new(alloc);
     let mut at = start;
     for _part in start..=text.len() {
@@ -96,22 +97,27 @@ pub fn json_string(alloc: Global, text: &str, start: usize) -> Result<Read, Json
         let Some(len) = rest.bytes().position(is_special) else {
             break;
         };
-        value.push_str(rest.get(..len).unwrap_or(""))?;
-        at = at.saturating_add(len);
-        match text.as_bytes().get(at) {
+        let part = rest.get(..len).unwrap_or("");
+        let special = at.saturating_add(len);
+        let end = special.saturating_add(1);
+        match text.as_bytes().get(special) {
+            Some(b'"') if at == start => {
+                let value = JsonText::Plain(part);
+                return Ok(Read { value, end });
+            }
             Some(b'"') => {
-                return Ok(Read {
-                    value,
-                    end: at.saturating_add(1),
-                });
+                value.push_str(part)?;
+                let value = JsonText::Made(value);
+                return Ok(Read { value, end });
             }
             Some(b'\\') => {
-                let (letter, len) = escaped(text, at)?;
+                value.push_str(part)?;
+                let (letter, len) = escaped(text, special)?;
                 value.push(letter)?;
-                at = at.saturating_add(len);
+                at = special.saturating_add(len);
             }
-            Some(0) => return Err(refused(JsonReason::HasNul, at)),
-            _ => return Err(refused(JsonReason::ControlCharacter, at)),
+            Some(0) => return Err(refused(JsonReason::HasNul, special)),
+            _ => return Err(refused(JsonReason::ControlCharacter, special)),
         }
     }
     Err(refused(JsonReason::OpenString, start.saturating_sub(1)))

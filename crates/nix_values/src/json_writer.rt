@@ -1,16 +1,14 @@
 //! Data as JSON.
 
 use crate::data::{Data, Item, Value};
-use crate::json_reader::data_of_json;
+use crate::json_comparing::is_read_as;
 use crate::json_strings::push_json_string;
 use crate::layout::push_indentation;
-use crate::notation::{Notation, kept};
 use std::alloc::{AllocError, Global};
 
 // A text that is being written, with the lists and sets that are open, the innermost last: whether each is a set.
 #[derive(Drop)]
 struct Writing {
-    alloc: Global,
     text: String,
     open: Vec<bool>,
 }
@@ -48,9 +46,7 @@ impl Writing {
         match value {
             Value::Null => self.text.push_str("null"),
             Value::Bool(is_true) => self.text.push_str(if *is_true { "true" } else { "false" }),
-            Value::Integer(number) => self
-                .text
-                .push_str(format!(in self.alloc; "{number}")?.as_str()),
+            Value::Integer(number) => write!(self.text, "{number}"),
             Value::Float(digits) => self.text.push_str(digits.as_str()),
             Value::Text(value) => push_json_string(value.as_str(), &mut self.text),
             Value::List => self.begin(false, is_empty),
@@ -74,9 +70,8 @@ impl Writing {
 }
 
 // Data as JSON.
-fn written(alloc: Global, data: &Data) -> Result<String, AllocError> {
+pub(crate) fn written(alloc: Global, data: &Data) -> Result<String, AllocError> {
     let mut writing = Writing {
-        alloc,
         text: String::new(alloc),
         open: Vec::new(alloc),
     };
@@ -92,19 +87,12 @@ fn written(alloc: Global, data: &Data) -> Result<String, AllocError> {
     Ok(writing.text)
 }
 
-// JSON.
-struct Json;
-
-impl Notation for Json {
-    ghost reads = { λ text entries. Unit {0} };
-
-    fn read(&self, alloc: Global, text: &str) -> Result<Option<Data>, AllocError> {
-        Ok(data_of_json(alloc, text)?.ok())
-    }
-}
-
 /// Returns data as JSON, or nothing if the JSON does not read as the same data.
 pub fn json_of(alloc: Global, data: &Data) -> Result<Option<String>, AllocError> {
     let text = written(alloc, data)?;
-    kept(alloc, &Json, text, data)
+    if is_read_as(alloc, text.as_str(), data)? {
+        Ok(Some(text))
+    } else {
+        Ok(None)
+    }
 }

@@ -3,12 +3,16 @@
 
 mod attributes;
 mod builder;
+#[cfg(test)]
+mod compared;
 mod data;
 mod float;
+mod json_comparing;
 mod json_error;
 mod json_numbers;
 mod json_reader;
 mod json_strings;
+mod json_text;
 mod json_tokens;
 mod json_writer;
 mod layout;
@@ -17,6 +21,7 @@ mod notation;
 mod ordered;
 mod path;
 mod slots;
+mod unique;
 
 pub use builder::Builder;
 pub use data::{Data, Item, Value};
