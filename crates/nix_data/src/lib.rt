@@ -1,6 +1,8 @@
 //! The data of a Nix text, and data as a Nix text.
 #![tactic(auto)]
 
+#[cfg(test)]
+mod compared;
 mod laws;
 mod meaning;
 mod names;
@@ -8,6 +10,7 @@ mod nix_reader;
 mod nix_writer;
 mod no_data;
 mod quoted;
+mod readable;
 mod scalars;
 
 pub use laws::one_meaning;

@@ -1,7 +1,7 @@
 //! Names, with quotes where Nix needs them.
 
-use crate::quoted::quoted;
-use std::alloc::{AllocError, Global};
+use crate::quoted::push_quoted;
+use std::alloc::AllocError;
 
 // The keywords.
 const KEYWORDS: [&str; 10] = [
@@ -34,10 +34,10 @@ pub fn is_plain(name: &str) -> bool {
 }
 
 /// Writes a name.
-pub fn push_name(alloc: Global, name: &str, text: &mut String) -> Result<(), AllocError> {
+pub fn push_name(name: &str, text: &mut String) -> Result<(), AllocError> {
     if is_plain(name) {
         text.push_str(name)
     } else {
-        text.push_str(quoted(alloc, name)?.as_str())
+        push_quoted(name, text)
     }
 }

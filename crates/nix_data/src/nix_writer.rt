@@ -6,9 +6,9 @@ ghost use Rattle.nix_data.specs.Written.{IsMeant, IsWritten};
 
 use crate::meaning::items_after;
 use crate::names::push_name;
-use crate::nix_reader::data_in;
-use crate::quoted::quoted;
-use nix_values::{Data, Item, Notation, Value, kept, push_indentation};
+use crate::quoted::push_quoted;
+use crate::readable::is_readable;
+use nix_values::{Data, Item, Value, push_indentation};
 use rnix::Root;
 use rnix::ast::AstNode;
 use std::alloc::{AllocError, Global};
@@ -74,9 +74,7 @@ impl Writing {
                 .text
                 .push_str(format!(in self.alloc; "{number}")?.as_str()),
             Value::Float(digits) => self.text.push_str(digits.as_str()),
-            Value::Text(value) => self
-                .text
-                .push_str(quoted(self.alloc, value.as_str())?.as_str()),
+            Value::Text(value) => push_quoted(value.as_str(), &mut self.text),
             Value::List | Value::Set => Ok(()),
         }
     }
@@ -95,7 +93,7 @@ impl Writing {
         self.close(item.depth)?;
         push_indentation(self.open.len(), &mut self.text)?;
         if self.open.last() == Some(&true) {
-            push_name(self.alloc, item.name.as_str(), &mut self.text)?;
+            push_name(item.name.as_str(), &mut self.text)?;
             self.text.push_str(" = ")?;
         }
         match &item.value {
@@ -107,7 +105,7 @@ impl Writing {
 }
 
 // Writes data as a Nix text.
-fn written(alloc: Global, data: &Data) -> Result<String, AllocError> {
+pub(crate) fn written(alloc: Global, data: &Data) -> Result<String, AllocError> {
     let mut writing = Writing {
         alloc,
         text: String::new(alloc),
@@ -124,7 +122,7 @@ fn written(alloc: Global, data: &Data) -> Result<String, AllocError> {
 
 // Whether the expression of a tree means some data.
 #[tactic(auto, using(crate::proofs::WrittenLemmas::meant))]
-fn is_meant(alloc: Global, root: &Root<'_>, whole: &Data) -> Result<bool, AllocError>
+pub(crate) fn is_meant(alloc: Global, root: &Root<'_>, whole: &Data) -> Result<bool, AllocError>
     ensures { IfOk result (λ is_meant. IsTrue is_meant → IsMeant root.now (contents whole.now)) }
 {
     let Some(expr) = root.expr() else {
@@ -136,34 +134,29 @@ fn is_meant(alloc: Global, root: &Root<'_>, whole: &Data) -> Result<bool, AllocE
     }
 }
 
-// Nix.
-struct Nix;
-
-impl Notation for Nix {
-    ghost use Rattle.nix_data.specs.Written.{IsWritten};
-
-    ghost reads = { IsWritten };
-
-    #[tactic(auto, using(crate::proofs::WrittenLemmas::written))]
-    fn read(&self, alloc: Global, text: &str) -> Result<Option<Data>, AllocError> {
-        let parse = Root::parse(alloc, text)?;
-        let Ok(root) = parse.ok() else {
-            return Ok(None);
-        };
-        let Ok(data) = data_in(alloc, root.syntax(), false)? else {
-            return Ok(None);
-        };
-        if is_meant(alloc, &root, &data)? {
-            Ok(Some(data))
-        } else {
-            Ok(None)
-        }
+// Whether a text is read as some data.
+#[tactic(auto, using(crate::proofs::WrittenLemmas::written))]
+fn is_read_as(alloc: Global, text: &str, whole: &Data) -> Result<bool, AllocError>
+    ensures { IfOk result (λ is_read. IsTrue is_read → IsWritten text.now (contents whole.now)) }
+{
+    let parse = Root::parse(alloc, text)?;
+    let Ok(root) = parse.ok() else {
+        return Ok(false);
+    };
+    if !is_meant(alloc, &root, whole)? {
+        return Ok(false);
     }
+    Ok(is_readable(alloc, whole)?)
 }
 
 /// Returns data as a Nix text, or `None` if the text would be read as other data. The text has no errors, and its expression means the data.
 pub fn nix_of(alloc: Global, whole: &Data) -> Result<Option<String>, AllocError>
     ensures { IfOk result (λ made. IfSome made (λ text. IsWritten (string_bytes text) (contents whole.now))) }
 {
-    kept(alloc, &Nix, written(alloc, whole)?, whole)
+    let text = written(alloc, whole)?;
+    if is_read_as(alloc, text.as_str(), whole)? {
+        Ok(Some(text))
+    } else {
+        Ok(None)
+    }
 }

@@ -1,0 +1,185 @@
+//! Texts of data, compared with those that are kept if the data that are read from them are the same.
+
+ghost use Rattle.nix_data.specs.Written.{IsWritten};
+
+use crate::nix_reader::data_in;
+use crate::nix_writer::{is_meant, nix_of, written};
+use nix_values::{Data, Item, Notation, Value, kept};
+use rnix::Root;
+use rnix::ast::AstNode;
+use std::alloc::{AllocError, Global};
+
+// Nix, of which the data that were read are compared.
+struct Nix;
+
+impl Notation for Nix {
+    ghost use Rattle.nix_data.specs.Written.{IsWritten};
+
+    ghost reads = { IsWritten };
+
+    #[tactic(auto, using(crate::proofs::WrittenLemmas::written))]
+    fn read(&self, alloc: Global, text: &str) -> Result<Option<Data>, AllocError> {
+        let parse = Root::parse(alloc, text)?;
+        let Ok(root) = parse.ok() else {
+            return Ok(None);
+        };
+        let Ok(data) = data_in(alloc, root.syntax(), false)? else {
+            return Ok(None);
+        };
+        if is_meant(alloc, &root, &data)? {
+            Ok(Some(data))
+        } else {
+            Ok(None)
+        }
+    }
+}
+
+// Whether the text of some data is the one that reading them from it gives.
+fn is_alike(alloc: Global, items: Vec<Item>) -> Result<bool, AllocError> {
+    let data = Data { items };
+    let read = kept(alloc, &Nix, written(alloc, &data)?, &data)?;
+    let meant = nix_of(alloc, &data)?;
+    Ok(match (&read, &meant) {
+        (Some(one), Some(other)) => one.as_str() == other.as_str(),
+        (None, None) => true,
+        _ => false,
+    })
+}
+
+// An item with a name.
+fn item(alloc: Global, depth: usize, name: &str, value: Value) -> Result<Item, AllocError> {
+    Ok(Item {
+        depth,
+        name: String::from_str(alloc, name)?,
+        value,
+    })
+}
+
+// A float of these digits, or else a text.
+fn words(alloc: Global, is_float: bool, word: &str) -> Result<Value, AllocError> {
+    let word = String::from_str(alloc, word)?;
+    Ok(if is_float {
+        Value::Float(word)
+    } else {
+        Value::Text(word)
+    })
+}
+
+// Data of two values with names, inside a value.
+fn pair(
+    alloc: Global,
+    around: Value,
+    names: (&str, &str),
+    values: (Value, Value),
+    depths: (usize, usize),
+) -> Result<Vec<Item>, AllocError> {
+    let mut items = Vec::new(alloc);
+    items.push(item(alloc, 0, "", around)?)?;
+    items.push(item(alloc, depths.0, names.0, values.0)?)?;
+    items.push(item(alloc, depths.1, names.1, values.1)?)?;
+    Ok(items)
+}
+
+const WORDS: [&str; 30] = [
+    "",
+    "0",
+    "a",
+    "1.5",
+    "-1.5",
+    "- 1.5",
+    ".5",
+    "1.",
+    "1e5",
+    "1.5e3",
+    "1.5E+3",
+    "1.5e400",
+    "0.0",
+    "-0.0",
+    "0.0e-400",
+    "1.0e-400",
+    "5.0e-324",
+    "01.5",
+    "NaN",
+    "1.5 ",
+    "(1.5)",
+    "1.5;b=1.5",
+    "\0",
+    "a\0b",
+    "\r\n\t",
+    "\"\\",
+    "${x}",
+    "$${''",
+    "\u{e9}\u{20ac}",
+    "null",
+];
+
+const NAMES: [&str; 13] = [
+    "", "a", "b", "or", "rec", "__curPos", "a.b", "${x}", "\0", "a\r", "\u{e9}", "null", "1",
+];
+
+#[test]
+fn writes_words(rt: HostRuntime) {
+    for word in WORDS {
+        for is_float in [false, true] {
+            for (depth, other) in [(0, 1), (1, 1), (1, 0), (1, 2), (2, 1)] {
+                let alloc = rt.alloc();
+                let values = (
+                    words(alloc, is_float, word).unwrap(),
+                    words(alloc, is_float, "2.5").unwrap(),
+                );
+                let items = pair(alloc, Value::List, ("", ""), values, (depth, other)).unwrap();
+                assert!(rt; is_alike(alloc, items).unwrap(), "{word} at {depth}");
+            }
+        }
+    }
+}
+
+#[test]
+fn writes_names(rt: HostRuntime) {
+    for one in NAMES {
+        for other in ["", "a", "\0", "null"] {
+            for (first, depth) in [
+                (Value::Set, 1),
+                (Value::Set, 2),
+                (Value::Null, 1),
+                (Value::List, 2),
+            ] {
+                let alloc = rt.alloc();
+                let values = (first, Value::Set);
+                let items = pair(alloc, Value::Set, (one, other), values, (1, depth)).unwrap();
+                assert!(rt; is_alike(alloc, items).unwrap(), "{one} and {other}");
+            }
+        }
+    }
+}
+
+#[test]
+fn writes_integers(rt: HostRuntime) {
+    for number in [i64::MIN, i64::MIN + 1, -1, 0, 1, i64::MAX] {
+        for other in [0, i64::MIN] {
+            for around in [Value::Set, Value::List] {
+                let alloc = rt.alloc();
+                let values = (Value::Integer(number), Value::Integer(other));
+                let items = pair(alloc, around, ("a", "b"), values, (1, 1)).unwrap();
+                assert!(rt; is_alike(alloc, items).unwrap(), "{number} and {other}");
+            }
+        }
+    }
+}
+
+// Lists in one another.
+fn nested(alloc: Global, levels: usize) -> Result<Vec<Item>, AllocError> {
+    let mut items = Vec::new(alloc);
+    for depth in 0..levels {
+        items.push(item(alloc, depth, "", Value::List)?)?;
+    }
+    Ok(items)
+}
+
+#[test]
+fn writes_nested_lists(rt: HostRuntime) {
+    for levels in [0, 1, 2, 250, 511, 512, 513, 514, 1023, 1024, 1025] {
+        let items = nested(rt.alloc(), levels).unwrap();
+        assert!(rt; is_alike(rt.alloc(), items).unwrap(), "{levels} levels");
+    }
+}
