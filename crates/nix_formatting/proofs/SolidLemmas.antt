@@ -6,7 +6,7 @@ use Rattle.rnix_kinds.specs.declared.kinds.SyntaxKind.{SyntaxKind}
 use Rattle.rnix_kinds.specs.Lexical.Tokens.{Lexeme}
 use Rattle.rnix_green.specs.Equality.{same_kind, same_kind-decides}
 use Rattle.rnix_proof_layout.specs.AlikeItems.{ends_piece}
-use Rattle.nix_formatting.specs.Relayout.{Solid, solids_from}
+use Rattle.nix_formatting.specs.Relayout.{Solid, solids_from, solids_of}
 use Rattle.nix_formatting.specs.Solids.{solid_of, IsNextSolid, same_flag, same_solid, AreCompared, IsStep}
 use Rattle.nix_formatting.specs.declared.alike.Solid.{Solid as Taken}
 use Rattle.nix_formatting.specs.declared.alike.Step.{Step}
@@ -60,6 +60,10 @@ stepped in_path olds news olds_left news_left None None step.End is_old is_new c
 stepped in_path olds news olds_left news_left None (Some new) step.End is_old is_new compared = absurd compared
 stepped in_path olds news olds_left news_left (Some old) None step.End is_old is_new compared = absurd compared
 stepped in_path olds news olds_left news_left (Some old) (Some new) step.End is_old is_new compared = absurd compared
+
+-- equal texts have the same tokens
+pub same_text : (old new : List ℕ) → old ≡ new → solids_of new ≡ solids_of old
+same_text old new same = ap solids_of (sym same)
 
 -- a step over the same token
 pub same_step : (in_path : Bool) (olds news olds_left news_left : List Lexeme) (s : Step) (kind : SyntaxKind)

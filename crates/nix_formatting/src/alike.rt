@@ -74,8 +74,8 @@ enum Step {
     End,
 }
 
-// Whether two flags are the same.
-fn same_flag(old: bool, new: bool) -> bool
+/// Whether two flags are the same.
+pub fn same_flag(old: bool, new: bool) -> bool
     ensures { result ≡ same_flag old new }
 {
     if old { new } else { !new }
@@ -121,10 +121,13 @@ fn next_step(
 }
 
 /// Whether two texts have the same tokens except for white space, and the same parts of paths without white space between them.
-#[tactic(auto, using(crate::proofs::SolidLemmas::same_step, crate::proofs::SolidLemmas::end_step))]
+#[tactic(auto, using(crate::proofs::SolidLemmas::same_text, crate::proofs::SolidLemmas::same_step, crate::proofs::SolidLemmas::end_step))]
 pub fn have_same_solids(alloc: Global, old: &str, new: &str) -> Result<bool, AllocError>
     ensures { IfOk result (λ are_same. are_same ≡ true → solids_of new.now ≡ solids_of old.now) }
 {
+    if old == new {
+        return Ok(true);
+    }
     let mut olds = tokenize(alloc, old);
     let mut news = tokenize(alloc, new);
     let mut in_path = false;
