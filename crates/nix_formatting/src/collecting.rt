@@ -2,7 +2,8 @@
 
 use crate::absorbing::{absorbs, own_target, takes_target};
 use crate::comments::set_gaps;
-use crate::grouping::{child_of, is_atom, is_grouped};
+use crate::frame::{Frame, NO_FRAME, has_group};
+use crate::grouping::{child_of, is_atom};
 use crate::layout::{Group, Layout, Target};
 use crate::lines::with_lines;
 use crate::piece::{Piece, line_feeds_in};
@@ -10,29 +11,9 @@ use crate::spacing::{
     Child, Spacing, behind_first_comma, broken, distant, keeps_distance, spacing_in,
 };
 use rnix::ast::BinOpKind;
-use rnix::{NodeOrToken, SyntaxElement, SyntaxKind, SyntaxNode, SyntaxToken, WalkEvent};
+use rnix::{NodeOrToken, SyntaxElement, SyntaxKind, SyntaxNode, SyntaxToken};
 use rnix_base::first_binary;
 use std::alloc::{AllocError, Global};
-
-// A node that the walk is in.
-#[derive(Clone, Copy)]
-struct Frame {
-    kind: SyntaxKind,
-    operator: Option<BinOpKind>,
-    // The number of its opening bracket, or of its first piece if it has none.
-    open: usize,
-    // The number of its group, and of the group of its condition.
-    group: usize,
-    inner: usize,
-    // Whether the group began with the node.
-    is_own: bool,
-    // The kind of its last child so far that is not trivia.
-    before: Option<SyntaxKind>,
-    // Whether it is a function whose parameter is a name.
-    is_named_lambda: bool,
-    // The part of it that may be broken.
-    target: Option<Target>,
-}
 
 // The walk so far.
 #[derive(Drop)]
@@ -40,8 +21,10 @@ struct Collector {
     alloc: Global,
     layout: Layout,
     frames: Vec<Frame>,
-    // The depth of the walk inside a string or a path.
-    atom_depth: usize,
+    // The number of elements that were passed.
+    passed: usize,
+    // The number of elements up to the end of the last string or path.
+    atom_end: usize,
     // The number of line feeds after the last piece.
     line_feeds: usize,
     // The number of the first piece whose gap is not set yet.
@@ -51,22 +34,6 @@ struct Collector {
     group: usize,
     // The kind of the last item.
     last: SyntaxKind,
-}
-
-// Whether a node has a group of its own, or else shares that of its parent.
-fn has_group(parent: &Frame, kind: SyntaxKind, operator: Option<BinOpKind>) -> bool {
-    match kind {
-        SyntaxKind::NODE_APPLY => {
-            parent.kind != SyntaxKind::NODE_APPLY || parent.before.is_some()
-        }
-        SyntaxKind::NODE_BIN_OP => {
-            parent.kind != SyntaxKind::NODE_BIN_OP || parent.operator != operator
-        }
-        SyntaxKind::NODE_IF_ELSE => {
-            parent.kind != SyntaxKind::NODE_IF_ELSE || parent.before != Some(SyntaxKind::TOKEN_ELSE)
-        }
-        _ => is_grouped(kind),
-    }
 }
 
 impl Collector {
@@ -79,7 +46,8 @@ impl Collector {
                 lines: Vec::new(alloc),
             },
             frames: Vec::new(alloc),
-            atom_depth: 0,
+            passed: 0,
+            atom_end: 0,
             line_feeds: 0,
             unset: 0,
             spacing: None,
@@ -153,9 +121,9 @@ impl Collector {
     fn note_child(&mut self, child: Child) {
         let top = self.frames.len().saturating_sub(1);
         if top < self.frames.len() {
-            let frame = self.frames[top];
+            let frame = &self.frames[top];
             if let Some(before) = frame.before {
-                let wanted = self.wanted(&frame, before, child);
+                let wanted = self.wanted(frame, before, child);
                 self.group = if wanted.is_inner {
                     frame.inner
                 } else {
@@ -183,7 +151,7 @@ impl Collector {
         let end = self.layout.pieces.len();
         let top = self.frames.len().saturating_sub(1);
         if top < self.frames.len() {
-            let frame = self.frames[top];
+            let frame = &self.frames[top];
             let is_open = frame.is_named_lambda || frame.kind != SyntaxKind::NODE_LAMBDA;
             if is_open && takes_target(frame.kind, frame.operator, child, target, end) {
                 self.frames[top].target = Some(target);
@@ -231,7 +199,7 @@ impl Collector {
 
     // Enters a string or a path, which is one piece.
     fn enter_atom(&mut self, node: &SyntaxNode<'_>) -> Result<(), AllocError> {
-        self.atom_depth = 1;
+        self.atom_end = self.end_of(node);
         let number = self.layout.pieces.len();
         let piece = self.atom_piece(node)?;
         self.add_item(piece, node.kind())?;
@@ -246,49 +214,45 @@ impl Collector {
         Ok(())
     }
 
-    // The frame around the next node.
-    fn parent_frame(&self) -> Frame {
+    // The number of elements up to the end of a node that is entered.
+    fn end_of(&self, node: &SyntaxNode<'_>) -> usize {
+        self.passed.saturating_add(node.inside_count())
+    }
+
+    // Whether the next node has a group of its own, or else shares that of the node around it.
+    fn opens_group(&self, kind: SyntaxKind, operator: Option<BinOpKind>) -> bool {
         match self.frames.last() {
-            Some(frame) => *frame,
-            None => Frame {
-                kind: SyntaxKind::NODE_ERROR,
-                operator: None,
-                open: 0,
-                group: 0,
-                inner: 0,
-                is_own: false,
-                before: None,
-                is_named_lambda: false,
-                target: None,
-            },
+            Some(parent) => has_group(parent, kind, operator),
+            None => has_group(&NO_FRAME, kind, operator),
         }
     }
 
     // Enters a node.
     fn enter_node(&mut self, node: &SyntaxNode<'_>) -> Result<(), AllocError> {
         let kind = node.kind();
-        let parent = self.parent_frame();
         let operator = if kind == SyntaxKind::NODE_BIN_OP {
             first_binary(node)
         } else {
             None
         };
-        let is_own = has_group(&parent, kind, operator);
+        let is_own = self.opens_group(kind, operator);
+        let around = self.frames.last().map_or(0, |frame| frame.group);
         let child = child_of(node);
         self.note_child(child);
         if is_atom(kind) {
             return self.enter_atom(node);
         }
         let group = if is_own {
-            self.open_group(parent.group, kind)?
+            self.open_group(around, kind)?
         } else {
-            parent.group
+            around
         };
         let inner = if kind == SyntaxKind::NODE_IF_ELSE {
             self.open_group(group, kind)?
         } else {
             group
         };
+        let end = self.end_of(node);
         self.frames.push(Frame {
             kind,
             operator,
@@ -299,8 +263,15 @@ impl Collector {
             before: None,
             is_named_lambda: child.is_named_lambda,
             target: None,
+            end,
         })?;
         Ok(())
+    }
+
+    // Closes the group of the innermost node's condition.
+    fn close_condition(&mut self) {
+        let inner = self.frames.last().map_or(0, |frame| frame.inner);
+        self.close_group(inner, None);
     }
 
     // Enters a token.
@@ -325,23 +296,11 @@ impl Collector {
         });
         self.add_item(piece, kind)?;
         match kind {
-            SyntaxKind::TOKEN_THEN => self.close_group(self.parent_frame().inner, None),
+            SyntaxKind::TOKEN_THEN => self.close_condition(),
             SyntaxKind::TOKEN_L_BRACE => self.note_bracket(),
             _ => {}
         }
         Ok(())
-    }
-
-    // Enters a node or a token.
-    fn enter(&mut self, element: &SyntaxElement<'_>) -> Result<(), AllocError> {
-        if self.atom_depth > 0 {
-            self.atom_depth = self.atom_depth.saturating_add(1);
-            return Ok(());
-        }
-        match element {
-            NodeOrToken::Node(node) => self.enter_node(node),
-            NodeOrToken::Token(token) => self.enter_token(token),
-        }
     }
 
     // Leaves a node.
@@ -361,17 +320,38 @@ impl Collector {
         }
     }
 
-    // Leaves a node or a token.
-    fn leave(&mut self, element: &SyntaxElement<'_>) {
-        if self.atom_depth > 0 {
-            self.atom_depth = self.atom_depth.saturating_sub(1);
-        } else if element.as_node().is_some() {
+    // Whether the innermost node ends before the element of a number.
+    fn ends_before(&self, number: usize) -> bool {
+        self.frames.last().is_some_and(|frame| frame.end <= number)
+    }
+
+    // Leaves the nodes that end before the element of a number.
+    fn leave_nodes(&mut self, number: usize) {
+        for _ in 0..self.frames.len() {
+            if !self.ends_before(number) {
+                break;
+            }
             self.leave_node();
+        }
+    }
+
+    // Passes a node or a token, unless it is inside a string or a path.
+    fn pass(&mut self, element: &SyntaxElement<'_>) -> Result<(), AllocError> {
+        let number = self.passed;
+        self.passed = number.saturating_add(1);
+        if number < self.atom_end {
+            return Ok(());
+        }
+        self.leave_nodes(number);
+        match element {
+            NodeOrToken::Node(node) => self.enter_node(node),
+            NodeOrToken::Token(token) => self.enter_token(token),
         }
     }
 
     // Returns the layout at the end of the walk. Comments at the end of the text stay on the line of the last piece or have lines of their own.
     fn finish(mut self) -> Layout {
+        self.leave_nodes(usize::MAX);
         self.settle_first();
         self.layout
     }
@@ -380,11 +360,11 @@ impl Collector {
 /// The pieces and groups of a tree without errors.
 pub fn layout_of(alloc: Global, root: &SyntaxNode<'_>) -> Result<Layout, AllocError> {
     let mut collector = Collector::new(alloc);
-    for event in root.preorder_with_tokens() {
-        match event {
-            WalkEvent::Enter(element) => collector.enter(&element)?,
-            WalkEvent::Leave(element) => collector.leave(&element),
-        }
+    for element in root.descendants_with_tokens() {
+        collector.pass(&element)?;
     }
     Ok(collector.finish())
 }
+
+#[cfg(test)]
+mod tests;

@@ -37,19 +37,18 @@ pub fn is_grouped(kind: SyntaxKind) -> bool {
 // Whether a function has a name as its parameter.
 fn is_named_lambda(node: &SyntaxNode<'_>) -> bool {
     match node.first_child() {
-        Some(parameter) => {
-            node.kind() == SyntaxKind::NODE_LAMBDA
-                && parameter.kind() == SyntaxKind::NODE_IDENT_PARAM
-        }
+        Some(parameter) => parameter.kind() == SyntaxKind::NODE_IDENT_PARAM,
         None => false,
     }
 }
 
-/// Describes a node that the walk is about to enter.
+/// Describes a node that the walk is about to enter. Its children are looked at where that matters alone.
 pub fn child_of(node: &SyntaxNode<'_>) -> Child {
+    let kind = node.kind();
+    let is_bracketed = matches!(kind, SyntaxKind::NODE_ATTR_SET | SyntaxKind::NODE_LIST);
     Child {
-        kind: node.kind(),
-        is_empty: node.first_child().is_none(),
-        is_named_lambda: is_named_lambda(node),
+        kind,
+        is_empty: is_bracketed && node.first_child().is_none(),
+        is_named_lambda: kind == SyntaxKind::NODE_LAMBDA && is_named_lambda(node),
     }
 }

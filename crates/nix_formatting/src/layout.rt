@@ -18,7 +18,7 @@ pub struct Target {
 }
 
 /// Pieces that are written on one line, or with a line feed in each gap of the group.
-#[derive(Clone, Copy)]
+#[derive(Clone, Copy, PartialEq, Eq)]
 pub struct Group {
     /// The number of its first piece.
     pub first: usize,

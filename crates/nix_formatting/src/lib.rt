@@ -6,6 +6,7 @@ mod alike;
 mod collecting;
 mod comments;
 mod formatting;
+mod frame;
 mod grouping;
 mod indentation;
 mod layout;

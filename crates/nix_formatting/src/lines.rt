@@ -18,7 +18,7 @@ pub enum Role {
 }
 
 /// A line of a string that is moved: other spaces are written in place of those at its start.
-#[derive(Clone, Copy)]
+#[derive(Clone, Copy, PartialEq, Eq)]
 pub struct Line {
     /// Where it begins in the old text, in bytes.
     pub start: usize,

@@ -1,7 +1,7 @@
 //! The pieces of a text that are copied as they are, and the gaps before them.
 
 /// The gap between a piece and the one before it.
-#[derive(Clone, Copy)]
+#[derive(Clone, Copy, PartialEq, Eq)]
 pub struct Gap {
     /// The number of spaces if the line does not end here: 0 or 1.
     pub blanks: usize,
@@ -29,7 +29,7 @@ pub enum Level {
 }
 
 /// The lines of a string that are moved with the code around it.
-#[derive(Clone, Copy)]
+#[derive(Clone, Copy, PartialEq, Eq)]
 pub struct Moves {
     /// The number of the first of these lines.
     pub first: usize,
@@ -42,7 +42,7 @@ pub struct Moves {
 }
 
 /// A token, a comment, or a whole string or path, with the gap before it.
-#[derive(Clone, Copy)]
+#[derive(Clone, Copy, PartialEq, Eq)]
 pub struct Piece {
     /// Its start in the old text, in bytes.
     pub start: usize,
@@ -83,20 +83,48 @@ pub fn line_feeds_in(text: &str) -> usize {
     text.bytes().filter(|byte| *byte == b'\n').count()
 }
 
+// The first line of a text.
+#[derive(Clone, Copy)]
+struct FirstLine {
+    // Its end, in bytes.
+    end: usize,
+    // The number of its characters.
+    width: usize,
+}
+
+// Whether a byte begins a character.
+fn begins_char(byte: u8) -> bool {
+    byte < 0x80 || byte >= 0xc0
+}
+
+// The first line of a text, without its line feed.
+fn first_line(text: &str) -> FirstLine {
+    let mut line = FirstLine { end: 0, width: 0 };
+    for byte in text.as_bytes() {
+        if *byte == b'\n' {
+            return line;
+        }
+        line.end = line.end.saturating_add(1);
+        if begins_char(*byte) {
+            line.width = line.width.saturating_add(1);
+        }
+    }
+    line
+}
+
 impl Piece {
     /// A piece of the old text, with no gap yet.
     pub fn new(start: usize, text: &str) -> Piece {
-        let (width, last_width) = match (text.split_once('\n'), text.rsplit_once('\n')) {
-            (Some((first, _)), Some((_, last))) => (
-                first.chars().count(),
-                Some(last.chars().count()),
-            ),
-            _ => (text.chars().count(), None),
+        let first = first_line(text);
+        let last_width = if first.end == text.len() {
+            None
+        } else {
+            text.rsplit_once('\n').map(|(_, last)| last.chars().count())
         };
         Piece {
             start,
             end: start.saturating_add(text.len()),
-            width,
+            width: first.width,
             last_width,
             moves: None,
             is_comment: false,

@@ -157,14 +157,15 @@ impl<'a> Writer<'a> {
 
     // Begins the groups whose first piece this is.
     fn open_groups(&mut self, piece: usize) -> Result<(), AllocError> {
-        for number in self.opened.len()..self.layout.groups.len() {
-            let Some(group) = self.layout.groups.get(number).copied() else {
+        let groups = &self.layout.groups;
+        for number in self.opened.len()..groups.len() {
+            let Some(group) = groups.get(number) else {
                 break;
             };
             if group.first > piece {
                 break;
             }
-            let mode = self.mode_of(number, &group);
+            let mode = self.mode_of(number, group);
             self.opened.push(Opened {
                 mode,
                 indent: self.indent,

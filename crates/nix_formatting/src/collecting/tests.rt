@@ -1,0 +1,188 @@
+//! Compares the layouts of many texts with those of a walk that leaves each element.
+
+use super::{Collector, layout_of};
+use crate::grouping::{child_of, is_atom};
+use crate::layout::Layout;
+use crate::piece::Piece;
+use rnix::{NodeOrToken, Root, SyntaxElement, SyntaxKind, SyntaxNode, WalkEvent};
+use std::alloc::{AllocError, Global};
+use std::process::Abort;
+use std::test::Fail;
+
+// Expressions in which `%` stands for another one.
+const OUTER: [&str; 26] = [
+    "%",
+    "{ a = %; b = %; }",
+    "rec { inherit (%) a b; a.${%} = %; }",
+    "{\n\n  # c\n  a =\n    %; # d\n\n\n  /* e */ b = %;\n  # f\n}",
+    "[ % % ]",
+    "[\n  % # c\n  /* d */ %\n]",
+    "(%)",
+    "f % (%) { }",
+    "% + % * %",
+    "a // % // { b = %; }",
+    "if % then % else if % then % else %",
+    "let a = %; inherit b; in %",
+    "let { a = %; body = %; }",
+    "with %; %",
+    "assert %; %",
+    "x: %",
+    "x: y: %",
+    "{ a, b ? %, ... }@c: %",
+    "{\n  a # c\n  , b\n  , c\n}: %",
+    "\"a ${%} b\"",
+    "''\n  a\n    ${%}\n   b\n''",
+    "''\n\n      a ${%}\n  \n    '' + %",
+    "./a${%}/b",
+    "a.b or %",
+    "!% -> -% ? a.${%}",
+    "f\n  %\n  (x: %)\n  [ % ]",
+];
+
+// Expressions without other ones.
+const INNER: [&str; 13] = [
+    "1",
+    "\"ä\"",
+    "{ }",
+    "[ ]",
+    "{\n}",
+    "\"a\nä\"",
+    "''a''",
+    "''\n  a\n  ''",
+    "''\n\ta\n''",
+    "a: a",
+    "<a/b>",
+    "/* a\n   € */ b",
+    "# ä\n http://a.b/c",
+];
+
+// An expression with another one in place of each `%`.
+fn filled(alloc: Global, outer: &str, inner: &str) -> Result<String, AllocError> {
+    let mut text = String::new(alloc);
+    for letter in outer.chars() {
+        if letter == '%' {
+            text.push_str(inner)?;
+        } else {
+            text.push(letter)?;
+        }
+    }
+    Ok(text)
+}
+
+// Enters an element, unless it is inside a string or a path. Returns the depth inside one.
+fn enter(
+    collector: &mut Collector,
+    element: &SyntaxElement<'_>,
+    depth: usize,
+) -> Result<usize, AllocError> {
+    if depth > 0 {
+        return Ok(depth.saturating_add(1));
+    }
+    match element {
+        NodeOrToken::Node(node) => {
+            collector.enter_node(node)?;
+            Ok(usize::from(is_atom(node.kind())))
+        }
+        NodeOrToken::Token(token) => {
+            collector.enter_token(token)?;
+            Ok(0)
+        }
+    }
+}
+
+// Leaves an element. Returns the depth inside a string or a path.
+fn leave(collector: &mut Collector, element: &SyntaxElement<'_>, depth: usize) -> usize {
+    if depth == 0 && element.as_node().is_some() {
+        collector.leave_node();
+    }
+    depth.saturating_sub(1)
+}
+
+// The layout by a walk that enters and leaves each element.
+fn layout_by_events(alloc: Global, root: &SyntaxNode<'_>) -> Result<Layout, AllocError> {
+    let mut collector = Collector::new(alloc);
+    let mut depth = 0usize;
+    for event in root.preorder_with_tokens() {
+        match event {
+            WalkEvent::Enter(element) => depth = enter(&mut collector, &element, depth)?,
+            WalkEvent::Leave(element) => depth = leave(&mut collector, &element, depth),
+        }
+    }
+    collector.settle_first();
+    Ok(collector.layout)
+}
+
+// The numbers of characters of the first and the last line of a text.
+fn widths(text: &str) -> (usize, Option<usize>) {
+    match (text.split_once('\n'), text.rsplit_once('\n')) {
+        (Some((first, _)), Some((_, last))) => (first.chars().count(), Some(last.chars().count())),
+        _ => (text.chars().count(), None),
+    }
+}
+
+// Whether the first child of a node is the name of a parameter.
+fn is_named(node: &SyntaxNode<'_>) -> bool {
+    match node.first_child() {
+        Some(child) => {
+            node.kind() == SyntaxKind::NODE_LAMBDA && child.kind() == SyntaxKind::NODE_IDENT_PARAM
+        }
+        None => false,
+    }
+}
+
+// Compares what is measured of a node or a token.
+fn check_element(rt: &impl Abort, element: &SyntaxElement<'_>) {
+    let text = match element {
+        NodeOrToken::Node(node) => node.text(),
+        NodeOrToken::Token(token) => token.text(),
+    };
+    let piece = Piece::new(0, text);
+    let (width, last_width) = widths(text);
+    assert!(rt; piece.width == width && piece.last_width == last_width && piece.end == text.len());
+    if let NodeOrToken::Node(node) = element {
+        let child = child_of(node);
+        let is_bracketed = matches!(
+            child.kind,
+            SyntaxKind::NODE_ATTR_SET | SyntaxKind::NODE_LIST
+        );
+        let is_empty = node.first_child().is_none();
+        assert!(rt; child.kind == node.kind() && child.is_named_lambda == is_named(node));
+        assert!(rt; !is_bracketed || child.is_empty == is_empty);
+    }
+}
+
+// Compares the layouts of a text.
+fn check(rt: &(impl Abort + AllocGlobal), text: &str) -> Result<(), AllocError> {
+    let parse = Root::parse(rt.alloc(), text)?;
+    let root = parse.syntax();
+    for element in root.descendants_with_tokens() {
+        check_element(rt, &element);
+    }
+    let old = layout_by_events(rt.alloc(), &root)?;
+    let new = layout_of(rt.alloc(), &root)?;
+    assert!(rt; old.pieces.as_slice() == new.pieces.as_slice());
+    assert!(rt; old.groups.as_slice() == new.groups.as_slice());
+    assert!(rt; old.lines.as_slice() == new.lines.as_slice());
+    Ok(())
+}
+
+#[test]
+fn layouts_are_the_same(rt: HostRuntime) -> Result<(), Fail> {
+    check(&rt, "")?;
+    let mut inners = INNER.iter();
+    for outer in OUTER {
+        for middle in OUTER {
+            let inner = match inners.next() {
+                Some(inner) => *inner,
+                None => {
+                    inners = INNER.iter();
+                    "a"
+                }
+            };
+            let inside = filled(rt.alloc(), middle, inner)?;
+            let text = filled(rt.alloc(), outer, inside.as_str())?;
+            check(&rt, text.as_str())?;
+        }
+    }
+    Ok(())
+}
