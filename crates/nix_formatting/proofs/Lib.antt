@@ -4,3 +4,4 @@ pub mod OutcomeLemmas
 pub mod WalkStepLemmas
 mod WalkStepExamples
 pub mod OutlineLemmas
+pub mod ValueLemmas

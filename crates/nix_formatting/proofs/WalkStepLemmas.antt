@@ -1,14 +1,15 @@
 -- Events of two walks that were compared.
 use Rattle.std.proofs.Common.{◌≡◌, ℕ, Bool, true, false, List, [], ◌∷◌, Option, Some, None, refl, ap, sym, subst, ◌∙◌}
 use Rattle.std.proofs.lemmas.{Bool.{false≢true, and_parts}, Slice.Eq.bytes_eq-Decides}
-use Rattle.std.specs.{Prelude.{◌&&◌, ◌||◌}, Str.bytes_eq}
+use Rattle.std.specs.{Prelude.{◌&&◌, ◌||◌, if◌then◌else◌}, Str.bytes_eq}
 use Rattle.rnix_kinds.specs.declared.kinds.SyntaxKind.{SyntaxKind}
-use Rattle.rnix_kinds.specs.declared.kinds.SyntaxKind.TheVariants.{TOKEN_STRING_CONTENT}
+use Rattle.rnix_kinds.specs.declared.kinds.SyntaxKind.TheVariants.{NODE_STRING, TOKEN_STRING_CONTENT}
 use Rattle.rnix_green.specs.Equality.{same_kind, same_kind-decides}
 use Rattle.rnix_green.specs.Tree.{Located, item_of, text_at}
 use Rattle.rnix_green.specs.Walk.{Event}
 use Rattle.rnix_tree.specs.Spots.{event_of}
 use Rattle.nix_formatting.specs.Outline.{text_unless}
+use Rattle.nix_formatting.specs.Values.{value_of}
 use Rattle.nix_formatting.specs.WalkSteps.{Step, shown_node, shown_token, step_of, is_step, step_if, steps_of}
 use Rattle.nix_formatting.specs.Pairs.{Met, IsNextStep, AreSame, same_nodes, same_tokens, AreCompared, IsPassed}
 use Rattle.nix_formatting.specs.declared.walks.Pair.{Pair}
@@ -22,6 +23,39 @@ steps_same : (enters is_node : Bool) (k l : SyntaxKind) (xs ys : List ℕ) → s
     → step_with enters is_node l ys ≡ step_with enters is_node k xs
 steps_same enters is_node k l xs ys kinds shown =
     sym (ap (λ j. step_with enters is_node j xs) ((same_kind-decides k l).0 kinds) ∙ ap (step_with enters is_node l) shown)
+
+-- nodes of different kinds have different steps
+pub kinds_differ : (old new : Located) → same_kind (item_of old).kind (item_of new).kind ≡ false → false ≡ same_nodes old new
+kinds_differ old new differ = sym (ap (λ b. b && bytes_eq (shown_node true old) (shown_node true new)) differ)
+
+-- nodes of one kind have the same step if they show the same
+pub kinds_same : (old new : Located) (same : Bool) → same_kind (item_of old).kind (item_of new).kind ≡ true
+    → same ≡ bytes_eq (shown_node true old) (shown_node true new) → same ≡ same_nodes old new
+kinds_same old new same kinds shown = shown ∙ sym (ap (λ b. b && bytes_eq (shown_node true old) (shown_node true new)) kinds)
+
+-- whether nodes of one kind are strings
+same_strings : (k l : SyntaxKind) → same_kind k l ≡ true → same_kind NODE_STRING k ≡ same_kind NODE_STRING l
+same_strings k l kinds = ap (same_kind NODE_STRING) ((same_kind-decides k l).0 kinds)
+
+-- a node that is no string shows nothing
+shows_nothing : (e : Located) → same_kind NODE_STRING (item_of e).kind ≡ false → shown_node true e ≡ []
+shows_nothing e none = ap (λ b. if b then value_of e else []) none
+
+-- nodes of one kind that are no strings show the same
+pub no_strings : (old new : Located) → same_kind (item_of old).kind (item_of new).kind ≡ true → same_kind NODE_STRING (item_of old).kind ≡ false
+    → true ≡ bytes_eq (shown_node true old) (shown_node true new)
+no_strings old new kinds none =
+    let no_new : same_kind NODE_STRING (item_of new).kind ≡ false = sym (same_strings (item_of old).kind (item_of new).kind kinds) ∙ none in
+    sym (ap (λ s. bytes_eq s (shown_node true new)) (shows_nothing old none) ∙ ap (bytes_eq []) (shows_nothing new no_new))
+
+-- of nodes of one kind, both are strings or none
+pub one_string : (old new : Located) → same_kind (item_of old).kind (item_of new).kind ≡ true → same_kind NODE_STRING (item_of old).kind ≡ true
+    → same_kind NODE_STRING (item_of new).kind ≡ false → true ≡ bytes_eq (shown_node true old) (shown_node true new)
+one_string old new kinds is none = absurd (false≢true (sym none ∙ sym (same_strings (item_of old).kind (item_of new).kind kinds) ∙ is))
+
+-- a string shows its value
+pub string_shows : (e : Located) → same_kind NODE_STRING (item_of e).kind ≡ true → shown_node true e ≡ value_of e
+string_shows e is = ap (λ b. if b then value_of e else []) is
 
 -- two nodes are entered
 pub nodes_entered : (old new : Located) → same_nodes old new ≡ true → AreSame (true, (true, old)) (true, (true, new))

@@ -2,6 +2,7 @@ pub mod Relayout
 pub mod Solids
 pub mod Outline
 pub mod Values
+pub mod Bare
 pub mod WalkSteps
 pub mod Pairs
 pub mod Reindented

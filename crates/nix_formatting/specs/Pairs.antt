@@ -29,6 +29,11 @@ AreSame old new = step_of new ≡ step_of old
 abbrev pub same_nodes : Located → Located → Bool
 same_nodes old new = same_kind (item_of old).kind (item_of new).kind && bytes_eq (shown_node true old) (shown_node true new)
 
+-- the result of comparing what two nodes of one kind show when they are entered
+abbrev pub ShowTheSame : Located → Located → Bool → Type 0
+ShowTheSame old new same =
+    same_kind (item_of old).kind (item_of new).kind ≡ true → same ≡ bytes_eq (shown_node true old) (shown_node true new)
+
 -- whether two tokens have the same step
 abbrev pub same_tokens : Located → Located → Bool
 same_tokens old new =

@@ -12,6 +12,7 @@ mod indentation;
 mod layout;
 mod lines;
 mod measuring;
+mod parts;
 mod piece;
 mod spacing;
 mod values;

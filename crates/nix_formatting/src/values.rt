@@ -1,11 +1,12 @@
 //! The values of strings, as bytes and interpolations.
 
-ghost use Rattle.std.specs.Prelude.{◌≡◌, true, [], ◌∷◌, ◌++◌, fold, IfOk, OnOk, string_bytes};
+ghost use Rattle.std.specs.Prelude.{◌≡◌, true, [], ◌∷◌, ◌++◌, fold, IfOk, OnOk, string_bytes, bytes_eq};
 ghost use Rattle.rnix_base.specs.Normal.{borrowed, owned, with_text};
-ghost use Rattle.nix_formatting.specs.Values.{interpolation_symbol, with_symbols, value_of};
-ghost use Rattle.nix_formatting.specs.WalkSteps.{shown_node};
+ghost use Rattle.rnix.specs.StringParts.{normalized_parts};
+ghost use Rattle.nix_formatting.specs.Values.{interpolation_symbol, with_symbols, symbols_of, value_of};
 
-use rnix::SyntaxNode;
+use crate::alike::same_flag;
+use crate::parts::{have_same_normalized, have_same_written};
 use rnix::ast::{AstNode, Interpol, InterpolPart, Str};
 use rnix_base::{StrContent, is_indented, text_parts};
 use std::alloc::{AllocError, Global};
@@ -89,12 +90,53 @@ fn value_of(alloc: Global, string: &Str<'_>) -> Result<Vec<u16>, AllocError>
     Ok(row)
 }
 
-/// Returns the value of a string that is entered, and nothing of another node.
-pub fn shown_node(alloc: Global, node: &SyntaxNode<'_>) -> Result<Vec<u16>, AllocError>
-    ensures { IfOk result (λ shown. shown.items ≡ shown_node true node.now) }
+// Returns the value that normalized parts are.
+fn normalized_value(
+    alloc: Global,
+    parts: &[InterpolPart<'_, String>],
+) -> Result<Vec<u16>, AllocError>
+    ensures { IfOk result (λ value. value.items ≡ symbols_of (owned parts.now)) }
 {
-    match Str::cast(node.clone()) {
-        Some(string) => value_of(alloc, &string),
-        None => Ok(Vec::new(alloc)),
+    let mut row = Vec::new(alloc);
+    add_all_normalized(parts, &mut row)?;
+    Ok(row)
+}
+
+// Whether the normalized parts of two strings have the same bytes and interpolations.
+#[tactic(auto, using(crate::proofs::ValueLemmas::normalized_same, crate::proofs::ValueLemmas::equal_pass))]
+fn are_same_normalized<'t>(alloc: Global, old: &Str<'t>, new: &Str<'t>) -> Result<bool, AllocError>
+    ensures { IfOk result (λ same. same ≡ bytes_eq (symbols_of (normalized_parts old.now)) (symbols_of (normalized_parts new.now))) }
+{
+    let olds = old.normalized_parts(alloc)?;
+    let news = new.normalized_parts(alloc)?;
+    if have_same_normalized(&olds, &news) {
+        return Ok(true);
     }
+    let old_row = normalized_value(alloc, &olds)?;
+    let new_row = normalized_value(alloc, &news)?;
+    Ok(old_row.as_slice() == new_row.as_slice())
+}
+
+// Whether two strings have the same parts as they are written, and quotes of the same kind.
+#[tactic(auto, using(crate::proofs::ValueLemmas::written_same))]
+fn are_written_alike<'t>(old: &Str<'t>, new: &Str<'t>) -> bool
+    ensures { result ≡ true → value_of old.now ≡ value_of new.now }
+{
+    same_flag(is_indented(old.syntax()), is_indented(new.syntax())) && have_same_written(old, new)
+}
+
+/// Whether two strings have the same value. Strings that are written alike are not normalized.
+#[tactic(auto, using(crate::proofs::ValueLemmas::indented_value, crate::proofs::ValueLemmas::equal_pass))]
+pub fn are_same_values<'t>(alloc: Global, old: &Str<'t>, new: &Str<'t>) -> Result<bool, AllocError>
+    ensures { IfOk result (λ same. same ≡ bytes_eq (value_of old.now) (value_of new.now)) }
+{
+    if are_written_alike(old, new) {
+        return Ok(true);
+    }
+    if is_indented(old.syntax()) && is_indented(new.syntax()) {
+        return are_same_normalized(alloc, old, new);
+    }
+    let old_value = value_of(alloc, old)?;
+    let new_value = value_of(alloc, new)?;
+    Ok(old_value.as_slice() == new_value.as_slice())
 }

@@ -4,9 +4,10 @@ ghost use Rattle.std.specs.Prelude.{◌≡◌, true, IfOk};
 ghost use Rattle.rnix_green.specs.Walk.{preorder_of};
 ghost use Rattle.rnix_tree.specs.Spots.{event_of};
 ghost use Rattle.nix_formatting.specs.WalkSteps.{is_step, steps_of};
-ghost use Rattle.nix_formatting.specs.Pairs.{IsNextStep, AreSame, same_nodes, same_tokens, AreCompared, IsPassed};
+ghost use Rattle.nix_formatting.specs.Pairs.{IsNextStep, AreSame, ShowTheSame, same_nodes, same_tokens, AreCompared, IsPassed};
 
-use crate::values::shown_node;
+use crate::values::are_same_values;
+use rnix::ast::{AstNode, Str};
 use rnix::{
     NodeOrToken, PreorderWithTokens, SyntaxElement, SyntaxKind, SyntaxNode, SyntaxToken, WalkEvent,
 };
@@ -38,17 +39,37 @@ fn next_step<'t>(walk: &mut PreorderWithTokens<'t>) -> Option<WalkEvent<SyntaxEl
     None
 }
 
-// Whether two nodes that are entered have the same kind, and the same value if they are strings.
-fn are_same_nodes(
+// Whether two nodes of the same kind that are entered show the same: the same value, if they are strings.
+#[tactic(auto, using(crate::proofs::WalkStepLemmas::no_strings, crate::proofs::WalkStepLemmas::one_string, crate::proofs::WalkStepLemmas::string_shows))]
+fn show_the_same<'t>(
     alloc: Global,
-    old: &SyntaxNode<'_>,
-    new: &SyntaxNode<'_>,
+    old: &SyntaxNode<'t>,
+    new: &SyntaxNode<'t>,
+) -> Result<bool, AllocError>
+    ensures { IfOk result (ShowTheSame old.now new.now) }
+{
+    let Some(old_string) = Str::cast(old.clone()) else {
+        return Ok(true);
+    };
+    let Some(new_string) = Str::cast(new.clone()) else {
+        return Ok(true);
+    };
+    are_same_values(alloc, &old_string, &new_string)
+}
+
+// Whether two nodes that are entered have the same kind, and the same value if they are strings.
+#[tactic(auto, using(crate::proofs::WalkStepLemmas::kinds_differ, crate::proofs::WalkStepLemmas::kinds_same))]
+fn are_same_nodes<'t>(
+    alloc: Global,
+    old: &SyntaxNode<'t>,
+    new: &SyntaxNode<'t>,
 ) -> Result<bool, AllocError>
     ensures { IfOk result (λ are_same. are_same ≡ same_nodes old.now new.now) }
 {
-    let old_shown = shown_node(alloc, old)?;
-    let new_shown = shown_node(alloc, new)?;
-    Ok(old.kind() == new.kind() && old_shown.as_slice() == new_shown.as_slice())
+    if old.kind() == new.kind() {
+        return show_the_same(alloc, old, new);
+    }
+    Ok(false)
 }
 
 // Whether two tokens have the same kind, and the same text unless they are the contents of strings.
@@ -61,10 +82,10 @@ fn are_same_tokens(old: &SyntaxToken<'_>, new: &SyntaxToken<'_>) -> bool
 
 // Whether two events have the same step.
 #[tactic(auto, using(crate::proofs::WalkStepLemmas::nodes_entered, crate::proofs::WalkStepLemmas::nodes_left, crate::proofs::WalkStepLemmas::tokens_passed))]
-fn are_same(
+fn are_same<'t>(
     alloc: Global,
-    old: &WalkEvent<SyntaxElement<'_>>,
-    new: &WalkEvent<SyntaxElement<'_>>,
+    old: &WalkEvent<SyntaxElement<'t>>,
+    new: &WalkEvent<SyntaxElement<'t>>,
 ) -> Result<bool, AllocError>
     ensures { IfOk result (λ are_same. are_same ≡ true → AreSame (event_of old.now) (event_of new.now)) }
 {

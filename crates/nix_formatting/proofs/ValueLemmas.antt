@@ -1,0 +1,132 @@
+-- The value of a string depends on the texts of its parts, and not on what its interpolations are.
+use Rattle.std.proofs.Common.{◌≡◌, ℕ, suc, Bool, true, false, List, [], ◌∷◌, ◌++◌, map, fold, Some, None, if◌then◌else◌, refl, ap, sym, ◌∙◌}
+use Rattle.std.proofs.lemmas.{Bool.false≢true, Slice.Eq.bytes_eq-Decides}
+use Rattle.std.specs.Str.{bytes_eq}
+use Rattle.rnix_green.specs.Tree.{Located, text_at}
+use Rattle.rnix_green.specs.Walk.{Spot}
+use Rattle.rnix_base.specs.declared.parts.InterpolPart.{InterpolPart}
+use Rattle.rnix_base.specs.declared.parts.InterpolPart.TheVariants.{Literal, Interpolation}
+use Rattle.rnix_base.specs.Escapes.{unescaped}
+use Rattle.rnix_base.specs.Parts.{part_of, is_indented}
+use Rattle.rnix_base.specs.Normal.{Parts, with_text, Symbol, symbols, opens_blank, behind_blank, literal_if_some, opened, with_texts, unindented, part_text, closed, indented_parts, quoted_parts}
+use Rattle.rnix.specs.StringParts.{normalized_parts}
+use Rattle.nix_formatting.specs.Bare.{bare, bare_parts, parts_among, bare_among}
+use Rattle.nix_formatting.specs.Solids.{same_flag}
+use Rattle.nix_formatting.specs.Values.{interpolation_symbol, with_symbols, symbols_of, written_parts, value_of}
+
+-- bare parts have the same bytes and interpolations
+symbols_bare : {I : Type 0} (row : List ℕ) (parts : Parts I) → fold with_symbols row (bare_parts parts) ≡ fold with_symbols row parts
+symbols_bare row [] = refl
+symbols_bare row (Literal text ∷ parts) = symbols_bare (row ++ text) parts
+symbols_bare row (Interpolation i ∷ parts) = symbols_bare (row ++ interpolation_symbol ∷ []) parts
+
+-- and the same row of symbols
+row_bare : {I : Type 0} (n : ℕ) (parts : Parts I) → symbols n (bare_parts parts) ≡ symbols n parts
+unfolding symbols
+row_bare n [] = refl
+row_bare n (Literal text ∷ parts) = ap (λ row. map (λ b. record { part = n; byte = Some b }) text ++ row) (row_bare (suc n) parts)
+row_bare n (Interpolation i ∷ parts) = ap (λ row. record { part = n; byte = None } ∷ row) (row_bare (suc n) parts)
+
+-- the first line feed is left out alike
+opens_bare : {I : Type 0} (is_blank : Bool) (text rest : List ℕ) (parts : Parts I)
+    → bare_parts (if is_blank then literal_if_some rest ++ parts else Literal text ∷ parts)
+    ≡ (if is_blank then literal_if_some rest ++ bare_parts parts else Literal text ∷ bare_parts parts)
+opens_bare false text rest parts = refl
+opens_bare true text [] parts = refl
+opens_bare true text (b ∷ rest) parts = refl
+
+opened_bare : {I : Type 0} (parts : Parts I) → bare_parts (opened parts) ≡ opened (bare_parts parts)
+opened_bare [] = refl
+opened_bare (Literal text ∷ parts) = opens_bare (opens_blank text) text (behind_blank text) parts
+opened_bare (Interpolation i ∷ parts) = refl
+
+-- texts are replaced alike
+texts_bare : {I : Type 0} (row : List Symbol) (n : ℕ) (parts : Parts I) → bare_parts (with_texts row n parts) ≡ with_texts row n (bare_parts parts)
+unfolding with_texts
+texts_bare row n [] = refl
+texts_bare row n (Literal text ∷ parts) = ap (λ ps. Literal (part_text n row) ∷ ps) (texts_bare row (suc n) parts)
+texts_bare row n (Interpolation i ∷ parts) = ap (λ ps. Interpolation 0 ∷ ps) (texts_bare row (suc n) parts)
+
+-- the last spaces are left out alike
+closed_bare : {I : Type 0} (parts : Parts I) → bare_parts (closed parts) ≡ closed (bare_parts parts)
+unfolding closed
+closed_bare [] = refl
+closed_bare (Literal text ∷ []) = refl
+closed_bare (Literal text ∷ (part ∷ parts)) = ap (λ ps. Literal text ∷ ps) (closed_bare (part ∷ parts))
+closed_bare (Interpolation i ∷ parts) = ap (λ ps. Interpolation 0 ∷ ps) (closed_bare parts)
+
+mapped_bare : {I : Type 0} (f : List ℕ → List ℕ) (parts : Parts I) → bare_parts (map (with_text f) parts) ≡ map (with_text f) (bare_parts parts)
+mapped_bare f [] = refl
+mapped_bare f (Literal text ∷ parts) = ap (λ ps. Literal (f text) ∷ ps) (mapped_bare f parts)
+mapped_bare f (Interpolation i ∷ parts) = ap (λ ps. Interpolation 0 ∷ ps) (mapped_bare f parts)
+
+-- the normalized parts are alike
+indented_bare : {I : Type 0} (parts : Parts I) → bare_parts (indented_parts parts) ≡ indented_parts (bare_parts parts)
+indented_bare parts =
+    mapped_bare (unescaped true) (closed (with_texts (unindented (symbols 0 (opened parts))) 0 (opened parts)))
+    ∙ ap (map (with_text (unescaped true)))
+    (closed_bare (with_texts (unindented (symbols 0 (opened parts))) 0 (opened parts))
+    ∙ ap closed (texts_bare (unindented (symbols 0 (opened parts))) 0 (opened parts)
+    ∙ ap (λ ps. with_texts (unindented (symbols 0 (opened parts))) 0 ps) (opened_bare parts)
+    ∙ ap (λ row. with_texts (unindented row) 0 (opened (bare_parts parts)))
+    (sym (row_bare 0 (opened parts)) ∙ ap (symbols 0) (opened_bare parts))))
+
+-- parts that are alike have the same bytes and interpolations
+pub symbols_same : {I J : Type 0} (xs : Parts I) (ys : Parts J) → bare_parts xs ≡ bare_parts ys → symbols_of xs ≡ symbols_of ys
+symbols_same xs ys same = sym (symbols_bare [] xs) ∙ ap (fold with_symbols []) same ∙ symbols_bare [] ys
+
+-- and so have their normalized parts
+pub indented_same : {I J : Type 0} (xs : Parts I) (ys : Parts J) → bare_parts xs ≡ bare_parts ys
+    → symbols_of (indented_parts xs) ≡ symbols_of (indented_parts ys)
+indented_same xs ys same =
+    symbols_same (indented_parts xs) (indented_parts ys) (indented_bare xs ∙ ap indented_parts same ∙ sym (indented_bare ys))
+
+-- the value of parts, in `''` or in `"`
+abbrev value_with : Bool → Parts Located → List ℕ
+value_with is_indented parts =
+    if is_indented then symbols_of (if is_indented then indented_parts parts else quoted_parts parts) else symbols_of parts
+
+values_alike : (a b : Bool) (xs ys : Parts Located) → same_flag a b ≡ true → bare_parts ys ≡ bare_parts xs → value_with a xs ≡ value_with b ys
+values_alike true true xs ys flags same = indented_same xs ys (sym same)
+values_alike false false xs ys flags same = symbols_same xs ys (sym same)
+values_alike true false xs ys flags same = absurd (false≢true flags)
+values_alike false true xs ys flags same = absurd (false≢true flags)
+
+-- strings that are written alike have the same value
+pub written_same : (old new : Located) → same_flag (is_indented old) (is_indented new) ≡ true
+    → bare_parts (written_parts new) ≡ bare_parts (written_parts old) → value_of old ≡ value_of new
+written_same old new flags same = values_alike (is_indented old) (is_indented new) (written_parts old) (written_parts new) flags same
+
+-- normalized parts that are alike have the same bytes and interpolations
+pub normalized_same : {I J : Type 0} (olds : Parts I) (news : Parts J) → bare_parts news ≡ bare_parts olds → symbols_of olds ≡ symbols_of news
+normalized_same olds news same = symbols_same olds news (sym same)
+
+-- the value of a string in `''`
+pub indented_value : (string : Located) → is_indented string ≡ true → value_of string ≡ symbols_of (normalized_parts string)
+indented_value string is = ap (λ b. if b then symbols_of (normalized_parts string) else symbols_of (written_parts string)) is
+
+-- equal bytes pass the test
+pub equal_pass : (xs ys : List ℕ) → xs ≡ ys → true ≡ bytes_eq xs ys
+equal_pass xs ys same = sym ((bytes_eq-Decides xs ys).1 same)
+
+-- a part as an iterator gives it
+part_given : (part : InterpolPart Located Located) → bare (with_text text_at (part_of (λ t. t) (λ i. i) part)) ≡ bare (with_text text_at part)
+part_given (Literal token) = refl
+part_given (Interpolation node) = refl
+
+-- the next parts of two strings are alike, and so are the parts after them
+pub parts_begun : (olds news olds_left news_left : List Spot) (old new : InterpolPart Located Located)
+    → parts_among olds ≡ part_of (λ t. t) (λ i. i) old ∷ parts_among olds_left
+    → parts_among news ≡ part_of (λ t. t) (λ i. i) new ∷ parts_among news_left
+    → bare (with_text text_at new) ≡ bare (with_text text_at old) → bare_among news_left ≡ bare_among olds_left → bare_among news ≡ bare_among olds
+parts_begun olds news olds_left news_left old new is_old is_new same rest =
+    let heads : bare (with_text text_at (part_of (λ t. t) (λ i. i) new)) ≡ bare (with_text text_at (part_of (λ t. t) (λ i. i) old)) =
+    part_given new ∙ same ∙ sym (part_given old) in
+    ap (λ ps. bare_parts (map (with_text text_at) ps)) is_new
+    ∙ ap (λ p. p ∷ bare_among news_left) heads
+    ∙ ap (λ ps. bare (with_text text_at (part_of (λ t. t) (λ i. i) old)) ∷ ps) rest
+    ∙ sym (ap (λ ps. bare_parts (map (with_text text_at) ps)) is_old)
+
+-- no parts are left of either string
+pub parts_ended : (olds news : List Spot) → parts_among olds ≡ [] → parts_among news ≡ [] → bare_among news ≡ bare_among olds
+parts_ended olds news no_old no_new = ap (λ ps. bare_parts (map (with_text text_at) ps)) (no_new ∙ sym no_old)
