@@ -33,10 +33,13 @@ fn is_value_below(parent: SyntaxKind, node: &SyntaxNode<'_>) -> bool
 pub fn is_expression(node: &SyntaxNode<'_>) -> bool
     ensures { result ≡ is_expression node.now }
 {
-    let Some(parent) = node.parent() else {
+    if node.kind() != SyntaxKind::NODE_IDENT {
         return false;
-    };
-    node.kind() == SyntaxKind::NODE_IDENT && is_value_below(parent.kind(), node)
+    }
+    match node.parent() {
+        Some(parent) => is_value_below(parent.kind(), node),
+        None => false,
+    }
 }
 
 /// Whether a node is the body of a `with`.
