@@ -1,49 +1,25 @@
 -- The numbers of bindings, and what adding bindings does to them.
-use Rattle.std.proofs.Common.{◌≡◌, ℕ, ◌+◌, ◌<◌, List, [], ◌∷◌, ◌++◌, length, get_or, take, map, Bool, true, false, Option, Some, None, refl, ap, sym, ◌∙◌}
-use Rattle.std.proofs.{Common.{arith, ◌==◌}, lemmas.{List.{map_more, map_push, Elements.{All-head, All-tail}}, Bool.{cond-false, and_left, Decides.nat_tests}}}
-use Rattle.{std.specs.{Prelude.{cond, ◌&&◌, if◌then◌else◌}, List.{All, position_from}, Option.option_or, Str.bytes_eq}, rnix_green.specs.Tree.Located}
-use Rattle.{rnix_green.proofs.NumberTests.{is_same, is_above}, nix_scopes.specs.{Scopes.{Bound, binds, number_in}, Resolving.{number_or, last_some}}}
+use Rattle.std.proofs.Common.{◌≡◌, ℕ, zero, suc, ◌+◌, ◌<◌, List, [], ◌∷◌, ◌++◌, length, Bool, true, false, Option, Some, None, refl, ap, sym, ◌∙◌, inl, inr}
+use Rattle.std.proofs.{Common.{arith, ◌==◌}, lemmas.{List.Elements.{All-head, All-tail}, Bool.{cond-true, cond-false, and_left, false≢true, Decides.nat_tests}}}
+use Rattle.std.proofs.lemmas.{Option.none-some, Slice.Eq.bytes_eq-Decides}
+use Rattle.std.specs.{Prelude.{cond, ◌&&◌, ◌⊎◌, if◌then◌else◌, slice_get, is_some, IsSome}, List.{All, position_from}, Option.{option_or, unwrap_or}}
+use Rattle.{std.specs.Str.bytes_eq, rnix_green.specs.Tree.Located}
+use Rattle.{rnix_green.proofs.NumberTests.{is_same, is_above}, nix_scopes.specs.Scopes.{Bound, binds, number_in}}
 
 -- nothing behind a number
 pub or_none : (o : Option ℕ) → option_or o None ≡ o
 or_none None = refl
 or_none (Some n) = refl
 
-or_assoc : (a b c : Option ℕ) → option_or (option_or a b) c ≡ option_or a (option_or b c)
-or_assoc None b c = refl
-or_assoc (Some n) b c = refl
+-- a name is given a number
+pub given_once : (b : Bool) (number old new : Option ℕ) → new ≡ cond b number old → new ≡ (if b then number else old)
+given_once true number old new is = is
+given_once false number old new is = is
 
--- a name gets a number where it has none
-pub number_added : (b : Bool) (old new : Option ℕ) (number : ℕ) → new ≡ cond b (Some number) old → (b ≡ true → old ≡ None) →
-    new ≡ option_or old (if b then Some number else None)
-number_added true old new number is none = is ∙ sym (ap (λ o. option_or o (Some number)) (none refl))
-number_added false old new number is none = is ∙ sym (or_none old)
-
--- the last of one more
-last_pushed : (os : List (Option ℕ)) (o : Option ℕ) → last_some (os ++ o ∷ []) ≡ option_or o (last_some os)
-last_pushed [] o = sym (or_none o)
-last_pushed (x ∷ os) o = ap (λ last. option_or last x) (last_pushed os o) ∙ or_assoc o (last_some os) x
-
--- the same of what is mapped
-pub last_mapped : {X : Type 0} (f : X → Option ℕ) (xs : List X) (x : X) → last_some (map f (xs ++ x ∷ [])) ≡ option_or (f x) (last_some (map f xs))
-last_mapped f xs x = ap last_some (map_push f xs x) ∙ last_pushed (map f xs) (f x)
-
-last_before : {X : Type 0} (f : X → Option ℕ) (xs : List X) (x : X) (n m : ℕ) → m ≡ n + 1 → n < length xs →
-    last_some (map f (take m xs)) ≡ option_or (f (get_or xs n x)) (last_some (map f (take n xs)))
-last_before f xs x n m is there =
-    ap (λ k. last_some (map f (take k xs))) is ∙ ap last_some (map_more f xs n x there) ∙ last_pushed (map f (take n xs)) (f (get_or xs n x))
-
--- the last that there is was found
-pub found_at : {X : Type 0} (f : X → Option ℕ) (xs : List X) (x : X) (n m k : ℕ) → m ≡ n + 1 → n < length xs → x ≡ get_or xs n x →
-    last_some (map f (take m xs)) ≡ last_some (map f xs) → f x ≡ Some k → Some k ≡ last_some (map f xs)
-found_at f xs x n m k is there at rest found =
-    sym (ap (λ o. option_or o (last_some (map f (take n xs)))) (ap f (sym at) ∙ found)) ∙ sym (last_before f xs x n m is there) ∙ rest
-
--- there is none at the end
-pub none_at : {X : Type 0} (f : X → Option ℕ) (xs : List X) (x : X) (n m : ℕ) → m ≡ n + 1 → n < length xs → x ≡ get_or xs n x →
-    last_some (map f (take m xs)) ≡ last_some (map f xs) → f x ≡ None → last_some (map f (take n xs)) ≡ last_some (map f xs)
-none_at f xs x n m is there at rest none =
-    sym (ap (λ o. option_or o (last_some (map f (take n xs)))) (ap f (sym at) ∙ none)) ∙ sym (last_before f xs x n m is there) ∙ rest
+-- a name that is given a number twice has the second
+pub given_twice : (b : Bool) (first second old new once : Option ℕ) → new ≡ cond b second once → once ≡ cond b first old → new ≡ (if b then second else old)
+given_twice true first second old new once is was = is
+given_twice false first second old new once is was = is ∙ was
 
 -- the first place in one list and then in another
 position-append : {X : Type 0} (p : X → Bool) (i j : ℕ) (xs ys : List X) → j ≡ i + length xs →
@@ -82,7 +58,7 @@ number_kept bindings more text scope all =
 
 -- a binding of the scope is added
 pub number_bound : (bindings : List Bound) (text : List ℕ) (scope : Located) (b : Bound) → b.scope.number ≡ scope.number →
-    number_in (bindings ++ b ∷ []) text scope ≡ number_or (number_in bindings text scope) b.text text (length bindings)
+    number_in (bindings ++ b ∷ []) text scope ≡ option_or (number_in bindings text scope) (if bytes_eq b.text text then Some (length bindings) else None)
 number_bound bindings text scope b same =
     position-append (binds scope text) 0 (length bindings) bindings (b ∷ []) (omega arith)
     ∙ ap (λ test. option_or (number_in bindings text scope) (cond (test && bytes_eq b.text text) (Some (length bindings)) None))
@@ -99,3 +75,97 @@ pub number_stays : (bindings more : List Bound) (text : List ℕ) (scope : Locat
 number_stays bindings more text scope n is =
     position-append (binds scope text) 0 (length bindings) bindings more (omega arith)
     ∙ ap (λ o. option_or o (position_from (binds scope text) (length bindings) more)) is
+
+-- the same inside
+pub some_same : {X : Type 0} (x y : X) → Some x ≡ Some y → x ≡ y
+some_same x y e = ap (λ o. unwrap_or o x) e
+
+-- an element stays where others are added behind it
+pub get_kept : {X : Type 0} (xs ys : List X) (n : ℕ) → n < length xs → slice_get (xs ++ ys) n ≡ slice_get xs n
+get_kept [] ys n l = absurd (omega (arith, l))
+get_kept (x ∷ xs) ys zero l = refl
+get_kept (x ∷ xs) ys (suc n) l = get_kept xs ys n (omega (arith, l))
+
+-- the last element is the one that is added
+pub get_last : {X : Type 0} (xs : List X) (x : X) → slice_get (xs ++ x ∷ []) (length xs) ≡ Some x
+get_last [] x = refl
+get_last (y ∷ xs) x = get_last xs x
+
+-- an element is the one that is added, or was there before
+pub get_pushed : {X : Type 0} (xs : List X) (x y : X) (n : ℕ) → slice_get (xs ++ x ∷ []) n ≡ Some y →
+    ((n ≡ length xs) × (x ≡ y)) ⊎ ((n < length xs) × (slice_get xs n ≡ Some y))
+get_pushed [] x y zero e = inl (refl, some_same x y e)
+get_pushed [] x y (suc n) e = absurd (none-some y e)
+get_pushed (z ∷ xs) x y zero e = inr (omega arith, e)
+get_pushed (z ∷ xs) x y (suc n) e = elim (get_pushed xs x y n e) [
+  | inl same ↦ inl (omega (arith, same.0), same.1)
+  | inr old ↦ inr (omega (arith, old.0), old.1)
+]
+
+-- what is found is at its place, and passes the test
+pub record FoundAt {X : Type 0} (p : X → Bool) (i : ℕ) (xs : List X) (n : ℕ) : Type 0 where
+  pub place : ℕ
+  pub is : n ≡ i + place
+  pub element : X
+  pub at : slice_get xs place ≡ Some element
+  pub passes : p element ≡ true
+
+position_found : {X : Type 0} (p : X → Bool) (i : ℕ) (xs : List X) (n : ℕ) → position_from p i xs ≡ Some n → FoundAt p i xs n
+position_found p i [] n e = absurd (none-some n e)
+position_found {X} p i (x ∷ xs) n e = chosen (p x) refl e (position_found p (i + 1) xs n)
+  where
+    chosen : (b : Bool) → p x ≡ b → cond b (Some i) (position_from p (i + 1) xs) ≡ Some n → (position_from p (i + 1) xs ≡ Some n → FoundAt p (i + 1) xs n) →
+        FoundAt p i (x ∷ xs) n
+    chosen true passes e more = record { place = 0; is = omega (arith, some_same i n e); element = x; at = refl; passes = passes }
+    chosen false passes e more =
+        let found = more e in
+        record { place = suc found.place; is = omega (arith, found.is); element = found.element; at = found.at; passes = found.passes }
+
+-- what passes at a place is found, there or before
+position_there : {X : Type 0} (p : X → Bool) (i : ℕ) (xs : List X) (n : ℕ) (x : X) → slice_get xs n ≡ Some x → p x ≡ true → IsSome (position_from p i xs)
+position_there p i [] n x at passes = absurd (none-some x at)
+position_there p i (y ∷ xs) zero x at passes =
+    ap is_some (cond-true (p y) (Some i) (position_from p (i + 1) xs) (ap p (some_same y x at) ∙ passes))
+position_there p i (y ∷ xs) (suc n) x at passes = chosen (p y) (position_there p (i + 1) xs n x at passes)
+  where
+    chosen : (b : Bool) → IsSome (position_from p (i + 1) xs) → IsSome (cond b (Some i) (position_from p (i + 1) xs))
+    chosen true more = refl
+    chosen false more = more
+
+-- the binding of a number that a name has in a scope is one of that name there
+pub record BindsAt (bindings : List Bound) (text : List ℕ) (scope : Located) (n : ℕ) : Type 0 where
+  pub binding : Bound
+  pub at : slice_get bindings n ≡ Some binding
+  pub scoped : binding.scope.number ≡ scope.number
+  pub named : bytes_eq binding.text text ≡ true
+
+-- so it is of each number
+pub number_binds : (bindings : List Bound) (text : List ℕ) (scope : Located) (n : ℕ) → number_in bindings text scope ≡ Some n →
+    BindsAt bindings text scope n
+number_binds bindings text scope n e =
+    let found = position_found (binds scope text) 0 bindings n e in
+    let place : found.place ≡ n = omega (arith, found.is) in
+    record {
+      binding = found.element;
+      at = ap (slice_get bindings) (sym place) ∙ found.at;
+      scoped = same _ _ (first_true _ _ found.passes);
+      named = second_true _ _ found.passes;
+    }
+  where
+    same : (a b : ℕ) → (a == b) ≡ true → a ≡ b
+    same a b e = grind (arith, nat_tests)
+
+    first_true : (a b : Bool) → (a && b) ≡ true → a ≡ true
+    first_true true b e = refl
+    first_true false b e = e
+
+    second_true : (a b : Bool) → (a && b) ≡ true → b ≡ true
+    second_true true b e = e
+    second_true false b e = absurd (false≢true e)
+
+-- a name that is bound in a scope has a number there
+pub number_there : (bindings : List Bound) (scope : Located) (n : ℕ) (b : Bound) → slice_get bindings n ≡ Some b → b.scope.number ≡ scope.number →
+    IsSome (number_in bindings b.text scope)
+number_there bindings scope n b at same =
+    position_there (binds scope b.text) 0 bindings n b at
+    (ap (λ test. test && bytes_eq b.text b.text) (is_same b.scope.number scope.number same) ∙ (bytes_eq-Decides b.text b.text).1 refl)

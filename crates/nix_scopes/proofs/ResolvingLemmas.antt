@@ -1,12 +1,12 @@
 -- What is found so far while a text is resolved.
-use Rattle.std.proofs.Common.{◌≡◌, ℕ, ◌+◌, ◌≤◌, List, [], ◌∷◌, ◌++◌, length, drop, map, true, false, refl, ap, sym, ◌∙◌, subst, arith, append_assoc}
+use Rattle.std.proofs.Common.{◌≡◌, ℕ, ◌+◌, ◌≤◌, List, [], ◌∷◌, ◌++◌, length, drop, map, true, false, None, refl, ap, sym, ◌∙◌, subst, append_assoc}
 use Rattle.{std.{proofs.lemmas.List.map-append, specs.Prelude.{flat_map, ◌||◌, ◌&&◌, is_some}}, rnix_green.specs.{Tree.{Located, item_of}, Walk.Event}}
 use Rattle.rnix_green.specs.{Walk.{NodeEvent, node_events, preorder_of, nodes_in, elements_of}, Equality.{same_kind, same_kind-decides}}
 use Rattle.{rnix_base.specs.Select.token_of, nix_scopes.specs.declared.{resolution.{Binding.Binding, Reference.Reference}, environment.Environment.Environment}}
 use Rattle.nix_scopes.specs.{Names.Named, Binders.{is_binder, is_scope}, References.{references_at, references_in}, Bound.{bound_of, resolved_of, name_of}}
-use Rattle.nix_scopes.specs.{Bound.AreFirst, Scopes.{Resolved, bindings_at, bindings_in, around, resolved_among, resolved_at, resolved_in}, Resolving.Sees}
+use Rattle.nix_scopes.specs.{Scopes.{Resolved, bindings_at, bindings_in, around, resolved_among, resolved_at, resolved_in}, Resolving.{Sees, number_by}}
 use Rattle.nix_scopes.{specs.Resolving.resolve_at, proofs.{WalkLemmas.{entered, walk_entered}, OpenLemmas.{open_nodes, Placed, walk_placed}}}
-use Rattle.nix_scopes.proofs.{ScopeLemmas.sees_begun, ResolvedLemmas.{bound_later, seen_resolved}}
+use Rattle.nix_scopes.proofs.{ScopeLemmas.seen_begun, ResolvedLemmas.{bound_later, seen_resolved}}
 use Rattle.rnix_kinds.specs.declared.kinds.SyntaxKind.TheVariants as k
 
 -- what is found of a text before some events of the walk
@@ -42,9 +42,10 @@ map_alike f g same (x ∷ xs) = ap (λ y. y ∷ map f xs) (same x) ∙ ap (λ ys
 
 -- nothing is found before the walk
 pub found_begun : (root : Located) (bindings : List Binding) (references : List Reference) (env : Environment) (events : List Event) →
-    events ≡ preorder_of root → bindings ≡ [] → references ≡ [] → env.scopes.items ≡ [] → env.with_bodies.items ≡ [] →
+    events ≡ preorder_of root → bindings ≡ [] → references ≡ [] → ((text : List ℕ) → number_by env.sight.numbers text ≡ None) →
+    env.sight.hidden.items ≡ [] → env.sight.scopes.items ≡ [] → env.with_bodies.items ≡ [] →
     IsFound root bindings references env (node_events events)
-found_begun root bindings references env events is none no_references no_scopes no_bodies =
+found_begun root bindings references env events is none no_references no_numbers no_hidden no_scopes no_bodies =
     let walk : node_events events ≡ node_events (preorder_of root) = ap node_events is in
     let walked = walk_placed root in
     record {
@@ -53,10 +54,7 @@ found_begun root bindings references env events is none no_references no_scopes 
       sees =
           subst (Sees bindings env root.number) (sym (ap open_nodes walk ∙ walked.opened))
           (record {
-            scopes = record {
-              around = sees_begun (map bound_of bindings) env.scopes.items root.number (ap (map bound_of) none) no_scopes;
-              firsts = subst AreFirst (sym none) (λ k d l. absurd (omega (arith, l)));
-            };
+            scopes = seen_begun bindings env.sight root.number none no_numbers no_hidden no_scopes;
             bodies = ap length no_bodies;
           });
       bound =
@@ -88,9 +86,8 @@ found_entered root bindings more references others env inner events later e foun
         more_listed bindings_at (map bound_of bindings) (map bound_of more) (bindings_in root) e (entered later) h.bound bound in
         let same : map (resolve_at inner e) (references_at e) ≡ resolved_at root e =
         map_alike (resolve_at inner e) (resolved_among (bindings_in root) (around root e) e)
-        (λ name. seen_resolved (map bound_of more) (flat_map bindings_at (entered later)) (bindings_in root) (e.number + 1) inner.scopes.items
-        inner.with_bodies.items e nodes name (sym bound_is) (bound_later root (e.number + 1) later h.placed.4) (inherit_no_scope e) h.placed.3
-        inside.scopes.around inside.bodies
+        (λ name. seen_resolved more (flat_map bindings_at (entered later)) (bindings_in root) inner (e.number + 1) e nodes name (sym bound_is)
+        (bound_later root (e.number + 1) later h.placed.4) (inherit_no_scope e) h.placed.3 inside
         ∙ ap (λ around. resolved_among (bindings_in root) around e name) (sym around_is))
         (references_at e) in
         record {
@@ -102,6 +99,25 @@ found_entered root bindings more references others env inner events later e foun
               more_listed (resolved_at root) (map resolved_of references) (map resolved_of others) (resolved_in root) e (entered later) h.listing
               (referred ∙ ap (λ rs. map resolved_of references ++ rs) same);
         }
+
+-- a node is left
+pub found_left : (root : Located) (bindings same : List Binding) (references : List Reference) (env outer : Environment) (events later : List NodeEvent)
+    (e : Located) → IsFound root bindings references env events → events ≡ (false, e) ∷ later → same ≡ bindings →
+    ((n : ℕ) → (nodes : List Located) → Sees same env n (e ∷ nodes) → Sees same outer n nodes) → IsFound root bindings references outer later
+found_left root bindings same references env outer events later e found is same_is sees =
+    go (subst (IsFound root bindings references env) is found)
+    (subst (λ bs. (n : ℕ) → (nodes : List Located) → Sees bs env n (e ∷ nodes) → Sees bs outer n nodes) same_is sees)
+  where
+    go : IsFound root bindings references env ((false, e) ∷ later) →
+        ((n : ℕ) → (nodes : List Located) → Sees bindings env n (e ∷ nodes) → Sees bindings outer n nodes) →
+        IsFound root bindings references outer later
+    go h left = record {
+      number = h.number;
+      placed = h.placed;
+      sees = left h.number (open_nodes later) h.sees;
+      bound = h.bound;
+      listing = h.listing;
+    }
 
 -- the names of what is resolved in a text are its references
 pub names_resolved : (root : Located) (references : List Reference) → map resolved_of references ≡ resolved_in root →

@@ -1,11 +1,13 @@
--- What is known of the open scopes while a text is resolved.
-use Rattle.std.proofs.Common.{◌≡◌, ℕ, ◌+◌, ◌-◌, ◌<◌, ◌≤◌, List, [], ◌∷◌, ◌++◌, length, get_or, take, map, true, false, Some, refl, ap, sym, ◌∙◌, subst, arith}
+-- What is known of the names in sight while a text is resolved.
+use Rattle.std.proofs.Common.{◌≡◌, ℕ, ◌+◌, ◌-◌, ◌<◌, ◌≤◌, List, [], ◌∷◌, ◌++◌, length, map, Option, Some, None, refl, ap, sym, ◌∙◌, subst, arith, inl, inr}
 use Rattle.std.proofs.{Common.append_assoc, lemmas.List.{length-map, map-append, map_more, map_push, length_push, Elements.{All-append, All-weaker, All-push}}}
-use Rattle.std.{proofs.lemmas.{List.Elements.All-map, Bool.{cond-true, cond-false}}, specs.{Prelude.filter, List.All, Option.option_or, Str.bytes_eq}}
-use Rattle.{std.specs.{Borrow.Bor, Map.lookup}, rnix_green.specs.Tree.Located, nix_scopes.specs.{declared.resolution.Binding.Binding, Names.Named}}
-use Rattle.nix_scopes.specs.{Binders.{is_scope, names_bound}, Bound.{bound_of, IsFirstOf, AreFirst}, Scopes.{Bound, bound_in, number_in, innermost}}
-use Rattle.nix_scopes.{specs.Resolving.{SeesScopes, Numbers, number_by, number_or, found_in, AreNumbers, AreOpen, IsAround}, proofs.NumberLemmas.last_mapped}
-use Rattle.nix_scopes.proofs.NumberLemmas.{none_below, number_kept, number_bound, number_stays}
+use Rattle.std.{proofs.lemmas.{List.{same_from_push, Elements.{All-cons, All-tail}}, Bool.{cond-true, cond-false, le-leb, lt-leb, false≢true}}, proofs.Common.get_or}
+use Rattle.std.specs.{Prelude.{nat_le, slice_get, option_map, take, is_some, IsSome, if◌then◌else◌}, List.All, Option.option_or, Str.bytes_eq}
+use Rattle.{std.proofs.lemmas.{Slice.Eq.bytes_eq-Decides}, rnix_green.specs.Tree.Located, nix_scopes.specs.declared.resolution.Binding.Binding}
+use Rattle.nix_scopes.specs.{declared.sight.{Scope.Scope, Sight.Sight}, Bound.{bound_of, IsFirstOf, AreFirst}, Scopes.{Bound, number_in, innermost}}
+use Rattle.nix_scopes.specs.Resolving.{number_by, hidden_by, outside_of, IsLonger, IsOpen, IsBinding, IsHidden, IsShownAgain, AreOpen, IsSeen, first_of, outer_by}
+use Rattle.nix_scopes.specs.Resolving.{outer_number, Numbers, own_of}
+use Rattle.nix_scopes.proofs.{NumberLemmas.{number_binds, number_stays, number_there, get_last}, SightLemmas.{innermost_low, innermost_kept, all_kept, binding_begun, binding_more, number_own}}
 
 -- one more is mapped twice
 pub mapped_more : {X Y Z : Type 0} (g : X → Y) (f : Y → Z) (xs : List X) (i : ℕ) (x : X) (old bs more : List Z) → i < length xs → x ≡ get_or xs i x →
@@ -16,177 +18,202 @@ mapped_more g f xs i x old bs more l at is added =
     (sym (ap (map f) (map_more g xs i x l) ∙ map_push f (map g (take i xs)) (g (get_or xs i x))
     ∙ ap (λ y. map f (map g (take i xs)) ++ f (g y) ∷ []) (sym at)))
 
-module _ {S : Type 0} where
-  -- a scope that has bound nothing yet
-  pub numbers_begun : (bindings : List Bound) (scope : Located) (numbers : Numbers S) → numbers.entries ≡ [] →
-      All (λ (b : Bound). b.scope.number < scope.number) bindings → AreNumbers bindings scope numbers
-  numbers_begun bindings scope numbers none all text =
-      ap (λ entries. lookup (λ (key : Bor (List ℕ)). bytes_eq text key.now) entries) none ∙ sym (none_below bindings text scope all)
+-- a scope binds one name more
+pub names_more : {S : Type 0} (outer : List ℕ → Option ℕ) (bindings more : List Binding) (old new : Numbers S) (hidden shown : List (Option ℕ))
+    (first number own : ℕ) (was hid : Option ℕ) (scope : Located) (b : Bound) → b.scope.number ≡ scope.number →
+    map bound_of more ≡ map bound_of bindings ++ b ∷ [] → number ≡ length bindings → was ≡ number_by old b.text →
+    own ≡ own_of (number_by old b.text) first number →
+    hid ≡ outside_of was first hidden → shown ≡ hidden ++ hid ∷ [] →
+    ((text : List ℕ) → number_by new text ≡ (if bytes_eq b.text text then Some own else number_by old text)) →
+    IsBinding outer (map bound_of bindings) old hidden first scope →
+    IsBinding outer (map bound_of more) new shown first scope × (number_in (map bound_of more) b.text scope ≡ Some own)
+names_more outer bindings more old new hidden shown first number own was hid scope b same is count was_is own_is hid_is pushed added h =
+    let bs : List Bound = map bound_of bindings in
+    let given : own ≡ own_of (number_by old b.text) first (length bs) =
+    own_is ∙ ap (own_of (number_by old b.text) first) (count ∙ sym (length-map bindings bound_of)) in
+    let hides : hidden ++ outside_of (number_by old b.text) first hidden ∷ [] ≡ shown =
+    ap (λ o. hidden ++ o ∷ []) (sym (hid_is ∙ ap (λ o. outside_of o first hidden) was_is)) ∙ sym pushed in (
+      subst (λ hs. IsBinding outer (map bound_of more) new hs first scope) hides
+          (subst (λ all. IsBinding outer all new (hidden ++ outside_of (number_by old b.text) first hidden ∷ []) first scope) (sym is)
+          (binding_more outer bs old new hidden first scope b same h own given added)),
+      ap (λ all. number_in all b.text scope) is ∙ number_own outer bs old new hidden first scope b same h own given,
+    )
 
-  -- a scope binds one name more
-  pub numbers_more : (bindings more : List Bound) (scope : Located) (b : Bound) (old new : Numbers S) → more ≡ bindings ++ b ∷ [] → b.scope ≡ scope →
-      ((text : List ℕ) → number_by new text ≡ number_or (number_by old text) b.text text (length bindings)) →
-      AreNumbers bindings scope old → AreNumbers more scope new
-  numbers_more bindings more scope b old new is same added known text =
-      added text ∙ ap (λ o. number_or o b.text text (length bindings)) (known text)
-      ∙ sym (number_bound bindings text scope b (ap (λ (e : Located). e.number) same)) ∙ ap (λ bs. number_in bs text scope) (sym is)
+-- and each binding names the first of its name
+pub firsts_more : (bindings more : List Binding) (b : Binding) → more ≡ bindings ++ b ∷ [] →
+    number_in (map bound_of more) b.text.now b.scope ≡ Some b.first → AreFirst bindings → AreFirst more
+firsts_more bindings more b is found firsts =
+    subst (All (IsFirstOf more)) (sym is)
+    (All-push (IsFirstOf more) bindings b (All-weaker (IsFirstOf bindings) (IsFirstOf more) stays bindings firsts) found)
+  where
+    stays : (x : Binding) → IsFirstOf bindings x → IsFirstOf more x
+    stays x first =
+        ap (λ bs. number_in (map bound_of bs) x.text.now x.scope) is
+        ∙ ap (λ bs. number_in bs x.text.now x.scope) (map-append bound_of bindings (b ∷ []))
+        ∙ number_stays (map bound_of bindings) (map bound_of (b ∷ [])) x.text.now x.scope x.first first
 
-  -- bindings of scopes of higher numbers leave the open ones as they are
-  open_kept : (bindings more : List Bound) (n m : ℕ) (maps : List (Numbers S)) (scopes : List Located) → n ≤ m → All (λ (b : Bound). n ≤ b.scope.number) more →
-      AreOpen bindings n maps scopes → AreOpen (bindings ++ more) m maps scopes
-  open_kept bindings more n m maps [] l all h = h
-  open_kept bindings more n m maps (scope ∷ outer) l all h = (
-    h.0,
-    h.1,
-    h.2,
-    omega (arith, l, h.3),
-    λ text. h.4 text ∙ sym (number_kept bindings more text scope (λ k d i. omega (arith, h.3, all k d i))),
-    open_kept bindings more n m h.1 outer l all h.5,
-  )
+-- nothing is in sight at the beginning
+pub seen_begun : (bindings : List Binding) (sight : Sight) (n : ℕ) → bindings ≡ [] → ((text : List ℕ) → number_by sight.numbers text ≡ None) →
+    sight.hidden.items ≡ [] → sight.scopes.items ≡ [] → IsSeen bindings sight n []
+seen_begun bindings sight n none no_numbers no_hidden no_scopes = record {
+  behind = subst (λ bs. All (λ (b : Bound). b.scope.number < n) (map bound_of bs)) (sym none) (λ k d l. absurd (omega (arith, l)));
+  around = λ k d l. absurd (omega (arith, l));
+  count = ap length no_hidden ∙ sym (ap length none);
+  in_sight = no_numbers;
+  are_open = no_scopes;
+  firsts = subst AreFirst (sym none) (λ k d l. absurd (omega (arith, l)));
+}
 
-  -- the last number that is found is that of the innermost scope that binds the name
-  found_open : (bindings : List Bound) (n : ℕ) (maps : List (Numbers S)) (scopes : List Located) (text : List ℕ) → AreOpen bindings n maps scopes →
-      found_in maps text ≡ innermost bindings text scopes
-  found_open bindings n maps [] text h = ap (λ ms. found_in ms text) h
-  found_open bindings n maps (scope ∷ outer) text h =
-      ap (λ ms. found_in ms text) h.2 ∙ last_mapped (λ numbers. number_by numbers text) h.1 h.0
-      ∙ ap (λ o. option_or o (found_in h.1 text)) (h.4 text) ∙ ap (option_or (number_in bindings text scope)) (found_open bindings n h.1 outer text h.5)
+-- a scope has bound nothing yet where it is entered
+pub seen_binding : (bindings : List Binding) (sight : Sight) (n : ℕ) (scope : Located) (scopes : List Located) → n ≤ scope.number →
+    IsSeen bindings sight n scopes →
+    IsBinding (λ text. innermost (map bound_of bindings) text scopes) (map bound_of bindings) sight.numbers sight.hidden.items (length bindings) scope
+seen_binding bindings sight n scope scopes l h =
+    let count : length (map bound_of bindings) ≡ length bindings = length-map bindings bound_of in
+    subst
+    (λ first. IsBinding (λ text. innermost (map bound_of bindings) text scopes) (map bound_of bindings) sight.numbers sight.hidden.items first scope) count
+    (binding_begun (λ text. innermost (map bound_of bindings) text scopes) (map bound_of bindings) sight.numbers sight.hidden.items scope
+    (λ k d i. omega (arith, h.behind k d i, l)) h.in_sight (λ text m is. innermost_low (map bound_of bindings) text scopes m is) (h.count ∙ sym count))
 
-  -- so it is among all bindings
-  pub found_in_all : (bindings more all : List Bound) (n : ℕ) (maps : List (Numbers S)) (scopes : List Located) (text : List ℕ) → all ≡ bindings ++ more →
-      All (λ (b : Bound). n ≤ b.scope.number) more → AreOpen bindings n maps scopes → found_in maps text ≡ innermost all text scopes
-  found_in_all bindings more all n maps scopes text is later h =
-      found_open (bindings ++ more) n maps scopes text (open_kept bindings more n n maps scopes (omega arith) later h)
-      ∙ ap (λ bs. innermost bs text scopes) (sym is)
+-- the same outside
+open_same : (outer others : List ℕ → Option ℕ) (bindings : List Bound) (hidden : List (Option ℕ)) (first end : ℕ) (scope : Located) →
+    ((text : List ℕ) → others text ≡ outer text) → IsOpen outer bindings hidden first end scope → IsOpen others bindings hidden first end scope
+open_same outer others bindings hidden first end scope same h = record {
+  bounds = h.bounds;
+  before = λ text n is. h.before text n (sym (same text) ∙ is);
+  inside = h.inside;
+  own = h.own;
+  hides = λ n b low high at. h.hides n b low high at ∙ sym (same b.text);
+}
 
-  -- all but the last
-  but_last : (xs ys : List (Numbers S)) (x : Numbers S) → xs ≡ ys ++ x ∷ [] → take (length xs - 1) xs ≡ ys
-  but_last xs ys x is =
-      let count : length xs - 1 ≡ length ys = omega (arith, ap length is, length_push ys x) in
-      ap (λ n. take n xs) count ∙ ap (take (length ys)) is ∙ take_front ys (x ∷ [])
-    where
-      take_front : (us vs : List (Numbers S)) → take (length us) (us ++ vs) ≡ us
-      take_front [] [] = refl
-      take_front [] (v ∷ vs) = refl
-      take_front (u ∷ us) vs = ap (λ ws. u ∷ ws) (take_front us vs)
+-- a scope is entered, and its names are bound
+pub scope_entered : (bindings more : List Binding) (names : List Bound) (old new : Sight) (own : Scope) (n : ℕ) (scope : Located) (scopes : List Located) →
+    n ≤ scope.number → map bound_of more ≡ map bound_of bindings ++ names → All (λ (b : Bound). b.scope.number ≡ scope.number) names →
+    new.scopes.items ≡ old.scopes.items ++ own ∷ [] → own.first ≡ length bindings → own.end ≡ length more → IsLonger old.hidden.items new.hidden.items →
+    ((outer : List ℕ → Option ℕ) → IsBinding outer (map bound_of bindings) old.numbers old.hidden.items (length bindings) scope →
+    IsBinding outer (map bound_of more) new.numbers new.hidden.items (length bindings) scope) →
+    ((outer : List ℕ → Option ℕ) → IsBinding outer (map bound_of bindings) old.numbers old.hidden.items (length bindings) scope →
+    AreFirst bindings → AreFirst more) →
+    IsSeen bindings old n scopes → IsSeen more new (scope.number + 1) (scope ∷ scopes)
+scope_entered bindings more names old new own n scope scopes l is owned pushed first end longer binding firsts h =
+    let outer : List ℕ → Option ℕ = λ text. innermost (map bound_of bindings) text scopes in
+    let begun = seen_binding bindings old n scope scopes l h in
+    let bound = binding outer begun in
+    let later : All (λ (b : Bound). n ≤ b.scope.number) names = λ k d i. omega (arith, owned k d i, l) in
+    let same : (text : List ℕ) → innermost (map bound_of more) text scopes ≡ outer text =
+    λ text. ap (λ bs. innermost bs text scopes) is ∙ innermost_kept (map bound_of bindings) names text n scopes h.around later in
+    let count : length (map bound_of more) ≡ length more = length-map more bound_of in
+    record {
+      behind =
+          subst (All (λ (b : Bound). b.scope.number < scope.number + 1)) (sym is)
+          (All-append (λ (b : Bound). b.scope.number < scope.number + 1) (map bound_of bindings) names (λ k d i. omega (arith, h.behind k d i, l))
+          (λ k d i. omega (arith, owned k d i)));
+      around =
+          All-cons (λ (e : Located). e.number < scope.number + 1) scope scopes (omega arith) (λ k d i. omega (arith, h.around k d i, l));
+      count = bound.count ∙ count;
+      in_sight = λ text. bound.in_sight text ∙ ap (option_or (number_in (map bound_of more) text scope)) (sym (same text));
+      are_open = (
+        own,
+        old.scopes.items,
+        pushed,
+        open_same outer (λ text. innermost (map bound_of more) text scopes) (map bound_of more) new.hidden.items own.first own.end scope same
+            (subst (λ a. IsOpen outer (map bound_of more) new.hidden.items a own.end scope) (sym first)
+            (subst (λ a. IsOpen outer (map bound_of more) new.hidden.items (length bindings) a scope) (count ∙ sym end) bound.is_open)),
+        subst (λ bs. AreOpen bs new.hidden.items old.scopes.items scopes) (sym is)
+            (all_kept (map bound_of bindings) names old.hidden.items new.hidden.items n old.scopes.items scopes h.around later longer h.are_open),
+      );
+      firsts = firsts outer begun h.firsts;
+    }
 
-  -- the scopes outside of the innermost one
-  pub outer_open : (bindings : List Bound) (n : ℕ) (maps : List (Numbers S)) (scope : Located) (outer : List Located) →
-      AreOpen bindings n maps (scope ∷ outer) →
-      AreOpen bindings n (take (length maps - 1) maps) outer
-  outer_open bindings n maps scope outer h = subst (λ ms. AreOpen bindings n ms outer) (sym (but_last maps h.1 h.0 h.2)) h.5
+-- a node that is no scope is entered
+pub still_seen : (bindings : List Binding) (sight : Sight) (n m : ℕ) (scopes : List Located) → n ≤ m → IsSeen bindings sight n scopes → IsSeen bindings sight m scopes
+still_seen bindings sight n m scopes l h = record {
+  behind = λ k d i. omega (arith, h.behind k d i, l);
+  around = λ k d i. omega (arith, h.around k d i, l);
+  count = h.count;
+  in_sight = h.in_sight;
+  are_open = h.are_open;
+  firsts = h.firsts;
+}
 
-  -- nothing is seen at the beginning
-  pub sees_begun : (bindings : List Bound) (maps : List (Numbers S)) (n : ℕ) → bindings ≡ [] → maps ≡ [] → IsAround bindings maps n []
-  sees_begun bindings maps n none no_maps =
-      record { behind = subst (All (λ (b : Bound). b.scope.number < n)) (sym none) (λ k d l. absurd (omega (arith, l))); are_open = no_maps }
+-- a scope is left
+pub scope_left : (bindings : List Binding) (old new : Sight) (own : Scope) (n : ℕ) (scope : Located) (outer : List Located) →
+    old.scopes.items ≡ new.scopes.items ++ own ∷ [] → new.hidden.items ≡ old.hidden.items →
+    ((out : List ℕ → Option ℕ) → IsHidden out (map bound_of bindings) old.numbers old.hidden.items own → (text : List ℕ) →
+    IsShownAgain out (map bound_of bindings) own.first own.end old.numbers new.numbers text) →
+    IsSeen bindings old n (scope ∷ outer) → IsSeen bindings new n outer
+scope_left bindings old new own n scope outer popped same_hidden shown h =
+    let bs : List Bound = map bound_of bindings in
+    let same = same_from_push new.scopes.items h.are_open.1 own h.are_open.0 (sym popped ∙ h.are_open.2) in
+    let opened : IsOpen (λ text. innermost bs text outer) bs old.hidden.items own.first own.end scope =
+    subst (λ (o : Scope). IsOpen (λ text. innermost bs text outer) bs old.hidden.items o.first o.end scope) (sym same.1) h.are_open.3 in
+    let hidden : IsHidden (λ text. innermost bs text outer) bs old.numbers old.hidden.items own = record {
+      hides = opened.hides;
+      in_sight = λ m b low high at.
+          ap is_some (h.in_sight b.text)
+          ∙ some_or (number_in bs b.text scope) (innermost bs b.text outer) (number_there bs scope m b at (opened.own m b low high at));
+    } in
+    record {
+      behind = h.behind;
+      around = All-tail (λ (e : Located). e.number < n) scope outer h.around;
+      count = ap length same_hidden ∙ h.count;
+      in_sight = λ text. again text (shown (λ text. innermost bs text outer) hidden text) (number_in bs text scope) refl opened;
+      are_open =
+          subst (λ hs. AreOpen bs hs new.scopes.items outer) (sym same_hidden)
+          (subst (λ owns. AreOpen bs old.hidden.items owns outer) (sym same.0) h.are_open.4);
+      firsts = h.firsts;
+    }
+  where
+    some_or : (o p : Option ℕ) → IsSome o → IsSome (option_or o p)
+    some_or None p e = absurd (false≢true e)
+    some_or (Some m) p e = refl
 
-  -- a scope is entered
-  pub sees_scope : (bindings new more : List Bound) (maps wider : List (Numbers S)) (numbers : Numbers S) (n : ℕ) (e : Located) (nodes : List Located) →
-      is_scope e ≡ true →
-      n ≤ e.number → more ≡ bindings ++ new → wider ≡ maps ++ numbers ∷ [] → All (λ (b : Bound). b.scope.number ≡ e.number) new → AreNumbers more e numbers →
-      IsAround bindings maps n nodes → IsAround more wider (e.number + 1) (e ∷ nodes)
-  sees_scope bindings new more maps wider numbers n e nodes scope l is pushed own known h = record {
-    behind =
-        subst (All (λ (b : Bound). b.scope.number < e.number + 1)) (sym is)
-        (All-append (λ (b : Bound). b.scope.number < e.number + 1) bindings new (λ k d i. omega (arith, h.behind k d i, l))
-        (λ k d i. omega (arith, own k d i)));
-    are_open =
-        subst (AreOpen more (e.number + 1) wider) (sym (cond-true (is_scope e) (e ∷ filter is_scope nodes) (filter is_scope nodes) scope)) (
-          numbers,
-          maps,
-          pushed,
-          omega arith,
-          known,
-          subst (λ bs. AreOpen bs (e.number + 1) maps (filter is_scope nodes)) (sym is)
-              (open_kept bindings new n (e.number + 1) maps (filter is_scope nodes) (omega (arith, l)) (λ k d i. omega (arith, own k d i, l)) h.are_open),
-        );
-  }
+    again : (text : List ℕ) →
+        IsShownAgain (λ text. innermost (map bound_of bindings) text outer) (map bound_of bindings) own.first own.end old.numbers new.numbers text →
+        (o : Option ℕ) → number_in (map bound_of bindings) text scope ≡ o →
+        IsOpen (λ text. innermost (map bound_of bindings) text outer) (map bound_of bindings) old.hidden.items own.first own.end scope →
+        number_by new.numbers text ≡ innermost (map bound_of bindings) text outer
+    again text (inl e) o is opened = e
+    again text (inr e) None is opened =
+        e.0 ∙ h.in_sight text ∙ ap (λ o. option_or o (innermost (map bound_of bindings) text outer)) is
+    again text (inr e) (Some m) is opened =
+        let found = number_binds (map bound_of bindings) text scope m is in
+        let inside = opened.inside text m is in
+        absurd (false≢true (sym (e.1 m found.binding inside.0 inside.1 found.at) ∙ found.named))
 
-  -- another node is entered
-  pub sees_node : (bindings : List Bound) (maps : List (Numbers S)) (n : ℕ) (e : Located) (nodes : List Located) → is_scope e ≡ false →
-      n ≤ e.number → IsAround bindings maps n nodes → IsAround bindings maps (e.number + 1) (e ∷ nodes)
-  sees_node bindings maps n e nodes no_scope l h = record {
-    behind = λ k d i. omega (arith, h.behind k d i, l);
-    are_open =
-        subst (AreOpen bindings (e.number + 1) maps) (sym (cond-false (is_scope e) (e ∷ filter is_scope nodes) (filter is_scope nodes) no_scope))
-        (wider_open (filter is_scope nodes) maps h.are_open);
-  }
-    where
-      wider_open : (scopes : List Located) (ms : List (Numbers S)) → AreOpen bindings n ms scopes → AreOpen bindings (e.number + 1) ms scopes
-      wider_open [] ms k = k
-      wider_open (scope ∷ outer) ms k = (k.0, k.1, k.2, omega (arith, l, k.3), k.4, wider_open outer k.1 k.5)
+-- where a scope is open, there is one to leave
+pub none_left : (bindings : List Binding) (old new : Sight) (n : ℕ) (scope : Located) (outer : List Located) → old.scopes.items ≡ [] →
+    IsSeen bindings old n (scope ∷ outer) → IsSeen bindings new n outer
+none_left bindings old new n scope outer none h =
+    absurd (omega (arith, ap length none, ap length h.are_open.2, length_push h.are_open.1 h.are_open.0))
 
-  -- a scope is left
-  pub leaves_scope : (bindings : List Bound) (maps narrower : List (Numbers S)) (n : ℕ) (e : Located) (nodes : List Located) → is_scope e ≡ true →
-      narrower ≡ take (length maps - 1) maps → IsAround bindings maps n (e ∷ nodes) → IsAround bindings narrower n nodes
-  leaves_scope bindings maps narrower n e nodes scope is h = record {
-    behind = h.behind;
-    are_open =
-        subst (λ ms. AreOpen bindings n ms (filter is_scope nodes)) (sym is)
-        (outer_open bindings n maps e (filter is_scope nodes)
-        (subst (AreOpen bindings n maps) (cond-true (is_scope e) (e ∷ filter is_scope nodes) (filter is_scope nodes) scope) h.are_open));
-  }
+-- the number of a name outside of the innermost scope
+pub outer_found : (bindings : List Binding) (sight : Sight) (n : ℕ) (scope : Located) (outer : List Located) (text : List ℕ) →
+    IsSeen bindings sight n (scope ∷ outer) → outer_number sight text ≡ innermost (map bound_of bindings) text outer
+outer_found bindings sight n scope outer text h =
+    let owns : first_of sight.scopes.items ≡ Some h.are_open.0.first =
+    ap first_of h.are_open.2
+    ∙ ap (λ k. option_map (λ (own : Scope). own.first) (slice_get (h.are_open.1 ++ h.are_open.0 ∷ []) k)) (last h.are_open.1 h.are_open.0)
+    ∙ ap (option_map (λ (own : Scope). own.first)) (get_last h.are_open.1 h.are_open.0) in
+    ap (λ first. outer_by first (number_by sight.numbers text) sight.hidden.items) owns
+    ∙ ap (λ o. outside_of o h.are_open.0.first sight.hidden.items) (h.in_sight text)
+    ∙ chosen (number_in (map bound_of bindings) text scope) refl (innermost (map bound_of bindings) text outer) refl
+  where
+    last : (xs : List Scope) (x : Scope) → length (xs ++ x ∷ []) - 1 ≡ length xs
+    last xs x = omega (arith, length_push xs x)
 
-  -- another node is left
-  pub leaves_node : (bindings : List Bound) (maps : List (Numbers S)) (n : ℕ) (e : Located) (nodes : List Located) → is_scope e ≡ false →
-      IsAround bindings maps n (e ∷ nodes) → IsAround bindings maps n nodes
-  leaves_node bindings maps n e nodes no_scope h = record {
-    behind = h.behind;
-    are_open = subst (AreOpen bindings n maps) (cond-false (is_scope e) (e ∷ filter is_scope nodes) (filter is_scope nodes) no_scope) h.are_open;
-  }
-
-  -- a scope binds one name more, which has the number n where it has none
-  pub names_more : (bindings more : List Binding) (scope : Located) (name : Named) (number : ℕ) (old new : Numbers S) →
-      map bound_of more ≡ map bound_of bindings ++ bound_in scope name ∷ [] → number ≡ length bindings →
-      ((text : List ℕ) → number_by new text ≡ number_or (number_by old text) name.text text number) →
-      AreNumbers (map bound_of bindings) scope old → AreNumbers (map bound_of more) scope new
-  names_more bindings more scope name number old new is count added known =
-      numbers_more (map bound_of bindings) (map bound_of more) scope (bound_in scope name) old new is refl
-      (λ text. added text ∙ ap (number_or (number_by old text) name.text text) (count ∙ sym (length-map bindings bound_of))) known
-
-  -- and each binding names the first of its name
-  pub firsts_more : (bindings more : List Binding) (b : Binding) (numbers : Numbers S) → more ≡ bindings ++ b ∷ [] →
-      AreNumbers (map bound_of more) b.scope numbers → number_by numbers b.text.now ≡ Some b.first → AreFirst bindings → AreFirst more
-  firsts_more bindings more b numbers is known found firsts =
-      subst (All (IsFirstOf more)) (sym is)
-      (All-push (IsFirstOf more) bindings b (All-weaker (IsFirstOf bindings) (IsFirstOf more) stays bindings firsts) (sym (known b.text.now) ∙ found))
-    where
-      stays : (x : Binding) → IsFirstOf bindings x → IsFirstOf more x
-      stays x first =
-          ap (λ bs. number_in (map bound_of bs) x.text.now x.scope) is
-          ∙ ap (λ bs. number_in bs x.text.now x.scope) (map-append bound_of bindings (b ∷ []))
-          ∙ number_stays (map bound_of bindings) (map bound_of (b ∷ [])) x.text.now x.scope x.first first
-
-  -- a scope is entered, and its names are bound
-  pub scope_entered : (bindings more : List Binding) (maps wider : List (Numbers S)) (numbers : Numbers S) (e : Located) → is_scope e ≡ true →
-      map bound_of more ≡ map bound_of bindings ++ map (bound_in e) (names_bound e) → wider ≡ maps ++ numbers ∷ [] →
-      (All (λ (b : Bound). b.scope.number < e.number) (map bound_of bindings) → AreNumbers (map bound_of more) e numbers) →
-      (All (λ (b : Bound). b.scope.number < e.number) (map bound_of bindings) → AreFirst bindings → AreFirst more) →
-      (n : ℕ) (nodes : List Located) → n ≤ e.number → SeesScopes bindings maps n nodes → SeesScopes more wider (e.number + 1) (e ∷ nodes)
-  scope_entered bindings more maps wider numbers e scope is pushed known firsts n nodes l h =
-      let below : All (λ (b : Bound). b.scope.number < e.number) (map bound_of bindings) = λ k d i. omega (arith, h.around.behind k d i, l) in
-      record {
-        around =
-            sees_scope (map bound_of bindings) (map (bound_in e) (names_bound e)) (map bound_of more) maps wider numbers n e nodes scope l is pushed
-            (All-map (λ (b : Bound). b.scope.number ≡ e.number) (bound_in e) (names_bound e) (λ k d i. refl)) (known below) h.around;
-        firsts = firsts below h.firsts;
-      }
-
-  -- another node is entered
-  pub node_entered : (bindings : List Binding) (maps : List (Numbers S)) (e : Located) → is_scope e ≡ false → (n : ℕ) (nodes : List Located) → n ≤ e.number →
-      SeesScopes bindings maps n nodes → SeesScopes bindings maps (e.number + 1) (e ∷ nodes)
-  node_entered bindings maps e no_scope n nodes l h =
-      record { around = sees_node (map bound_of bindings) maps n e nodes no_scope l h.around; firsts = h.firsts }
-
-  -- a scope is left
-  pub scope_left : (bindings : List Binding) (maps narrower : List (Numbers S)) (e : Located) → is_scope e ≡ true → narrower ≡ take (length maps - 1) maps →
-      (n : ℕ) (nodes : List Located) → SeesScopes bindings maps n (e ∷ nodes) → SeesScopes bindings narrower n nodes
-  scope_left bindings maps narrower e scope is n nodes h =
-      record { around = leaves_scope (map bound_of bindings) maps narrower n e nodes scope is h.around; firsts = h.firsts }
-
-  -- another node is left
-  pub node_left : (bindings : List Binding) (maps : List (Numbers S)) (e : Located) → is_scope e ≡ false → (n : ℕ) (nodes : List Located) →
-      SeesScopes bindings maps n (e ∷ nodes) → SeesScopes bindings maps n nodes
-  node_left bindings maps e no_scope n nodes h =
-      record { around = leaves_node (map bound_of bindings) maps n e nodes no_scope h.around; firsts = h.firsts }
+    chosen : (o : Option ℕ) → number_in (map bound_of bindings) text scope ≡ o → (p : Option ℕ) → innermost (map bound_of bindings) text outer ≡ p →
+        outside_of (option_or o (innermost (map bound_of bindings) text outer)) h.are_open.0.first sight.hidden.items
+        ≡ innermost (map bound_of bindings) text outer
+    chosen (Some m) is p out =
+        let inside = h.are_open.3.inside text m is in
+        let found = number_binds (map bound_of bindings) text scope m is in
+        cond-true (nat_le h.are_open.0.first m) (hidden_by sight.hidden.items m) (Some m) (le-leb h.are_open.0.first m inside.0)
+        ∙ h.are_open.3.hides m found.binding inside.0 inside.1 found.at
+        ∙ ap (λ t. innermost (map bound_of bindings) t outer) ((bytes_eq-Decides found.binding.text text).0 found.named)
+    chosen None is None out = ap (λ o. outside_of o h.are_open.0.first sight.hidden.items) out ∙ sym out
+    chosen None is (Some m) out =
+        ap (λ o. outside_of o h.are_open.0.first sight.hidden.items) out
+        ∙ cond-false (nat_le h.are_open.0.first m) (hidden_by sight.hidden.items m) (Some m)
+        (lt-leb h.are_open.0.first m (h.are_open.3.before text m out))
+        ∙ sym out

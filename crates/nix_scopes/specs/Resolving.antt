@@ -1,5 +1,6 @@
--- What is kept while a text is resolved: the numbers of what the open scopes bind.
-use Rattle.std.specs.Prelude.{◌≡◌, ℕ, ◌<◌, ◌-◌, ◌==◌, Bool, false, not, List, [], ◌∷◌, ◌++◌, map, take, filter, length, Option, Some, None, if◌then◌else◌}
+-- What is kept while a text is resolved: the numbers of the names in sight, and what the open scopes hide.
+use Rattle.std.specs.Prelude.{◌≡◌, ℕ, ◌<◌, ◌≤◌, ◌==◌, ◌⊎◌, nat_le, Bool, false, not, List, [], ◌∷◌, ◌++◌, map, filter, length, get_or, slice_get}
+use Rattle.std.specs.Prelude.{Option, Some, None, IsSome, option_map, ◌-◌, if◌then◌else◌}
 use Rattle.std.specs.List.{All}
 use Rattle.std.specs.Option.{option_or}
 use Rattle.std.specs.Str.{bytes_eq}
@@ -9,11 +10,13 @@ use Rattle.rnix_green.specs.Tree.{Located, item_of}
 use Rattle.rnix_green.specs.Relatives.{parent_of}
 use Rattle.rnix_kinds.specs.declared.kinds.SyntaxKind.TheVariants as k
 use Rattle.rnix_green.specs.Equality.{same_kind}
+use Rattle.nix_scopes.specs.declared.sight.Scope.{Scope}
+use Rattle.nix_scopes.specs.declared.sight.Sight.{Sight}
 use Rattle.nix_scopes.specs.declared.environment.Environment.{Environment}
 use Rattle.nix_scopes.specs.declared.resolution.Binding.{Binding}
 use Rattle.nix_scopes.specs.Names.{Named}
 use Rattle.nix_scopes.specs.Binders.{is_scope}
-use Rattle.nix_scopes.specs.Scopes.{Bound, Resolved, resolved, number_in, is_with_body}
+use Rattle.nix_scopes.specs.Scopes.{Bound, Resolved, resolved, number_in, innermost, is_with_body}
 use Rattle.nix_scopes.specs.Bound.{bound_of, AreFirst}
 
 -- numbers of names
@@ -24,39 +27,73 @@ Numbers S = HashMap (Bor (List ℕ)) ℕ S
 abbrev pub number_by : {S : Type 0} → Numbers S → List ℕ → Option ℕ
 number_by numbers text = get_by (λ key. bytes_eq text key.now) numbers
 
--- the number that a name has, or gets where it is this one
-abbrev pub number_or : Option ℕ → List ℕ → List ℕ → ℕ → Option ℕ
-number_or old text other number = option_or old (if bytes_eq text other then Some number else None)
+-- the number that the name of a binding has outside of its scope
+abbrev pub hidden_by : List (Option ℕ) → ℕ → Option ℕ
+hidden_by hidden number = get_or hidden number None
 
--- the last that there is
-abbrev pub last_some : List (Option ℕ) → Option ℕ
-last_some [] = None
-last_some (o ∷ os) = option_or (last_some os) o
+-- the number of a name outside of a scope of these numbers, where it has this one inside
+abbrev pub outside_of : Option ℕ → ℕ → List (Option ℕ) → Option ℕ
+outside_of None first hidden = None
+outside_of (Some own) first hidden = if nat_le first own then hidden_by hidden own else Some own
 
--- the number of a name in the last of these that has one
-abbrev pub found_in : {S : Type 0} → List (Numbers S) → List ℕ → Option ℕ
-found_in scopes text = last_some (map (λ numbers. number_by numbers text) scopes)
+-- the number that a name has in a scope whose numbers begin with the first, or else this one
+abbrev pub own_of : Option ℕ → ℕ → ℕ → ℕ
+own_of None first number = number
+own_of (Some own) first number = if nat_le first own then own else number
 
--- the numbers are those of the first bindings of the scope's names
-abbrev pub AreNumbers : {S : Type 0} → List Bound → Located → Numbers S → Type 0
-AreNumbers bindings scope numbers = (text : List ℕ) → number_by numbers text ≡ number_in bindings text scope
+-- what is hidden grows, and what it was it stays
+pub record IsLonger (hidden more : List (Option ℕ)) : Type 0 where
+  pub longer : length hidden ≤ length more
+  pub same : (number : ℕ) → number < length hidden → hidden_by more number ≡ hidden_by hidden number
 
--- the numbers, the last first, are those of these scopes, all of which are below the number n
-abbrev pub AreOpen : {S : Type 0} → List Bound → ℕ → List (Numbers S) → List Located → Type 0
-AreOpen bindings n maps [] = maps ≡ []
-AreOpen {S} bindings n maps (scope ∷ outer) =
-    (numbers : Numbers S) × (below : List (Numbers S)) × (maps ≡ below ++ numbers ∷ []) × (scope.number < n)
-    × AreNumbers bindings scope numbers × AreOpen bindings n below outer
+-- the bindings from the first to the end, exclusive, are those of a scope, and their names have these numbers outside of it
+pub record IsOpen (outer : List ℕ → Option ℕ) (bindings : List Bound) (hidden : List (Option ℕ)) (first end : ℕ) (scope : Located) : Type 0 where
+  pub bounds : (first ≤ end) × (end ≤ length bindings) × (end ≤ length hidden)
+  pub before : (text : List ℕ) → (number : ℕ) → outer text ≡ Some number → number < first
+  pub inside : (text : List ℕ) → (number : ℕ) → number_in bindings text scope ≡ Some number → (first ≤ number) × (number < end)
+  pub own : (number : ℕ) → (b : Bound) → first ≤ number → number < end → slice_get bindings number ≡ Some b → b.scope.number ≡ scope.number
+  pub hides : (number : ℕ) → (b : Bound) → first ≤ number → number < end → slice_get bindings number ≡ Some b → hidden_by hidden number ≡ outer b.text
 
--- these are bound in scopes below the number n, and the numbers are those of the scopes among the open nodes
-pub record IsAround {S : Type 0} (bindings : List Bound) (maps : List (Numbers S)) (n : ℕ) (nodes : List Located) : Type 0 where
-  pub behind : All (λ (b : Bound). b.scope.number < n) bindings
-  pub are_open : AreOpen bindings n maps (filter is_scope nodes)
+-- a scope binds its names: those that it has bound are in sight, and behind them the names outside of it
+pub record IsBinding {S : Type 0} (outer : List ℕ → Option ℕ) (bindings : List Bound) (numbers : Numbers S) (hidden : List (Option ℕ)) (first : ℕ)
+    (scope : Located) : Type 0 where
+  pub in_sight : (text : List ℕ) → number_by numbers text ≡ option_or (number_in bindings text scope) (outer text)
+  pub count : length hidden ≡ length bindings
+  pub is_open : IsOpen outer bindings hidden first (length bindings) scope
 
--- so it is of the bindings that were found, each of which names the first of its name
-pub record SeesScopes {S : Type 0} (bindings : List Binding) (maps : List (Numbers S)) (n : ℕ) (nodes : List Located) : Type 0 where
-  pub around : IsAround (map bound_of bindings) maps n nodes
+-- the names of a scope are in sight, and hide their numbers outside of it
+pub record IsHidden {S : Type 0} (outer : List ℕ → Option ℕ) (bindings : List Bound) (numbers : Numbers S) (hidden : List (Option ℕ)) (own : Scope)
+    : Type 0 where
+  pub hides : (number : ℕ) → (b : Bound) → own.first ≤ number → number < own.end → slice_get bindings number ≡ Some b → hidden_by hidden number ≡ outer b.text
+  pub in_sight : (number : ℕ) → (b : Bound) → own.first ≤ number → number < own.end → slice_get bindings number ≡ Some b → IsSome (number_by numbers b.text)
+
+-- a name has its number outside of a scope again, or no binding from the first to the end, exclusive, hides it, and it keeps its number
+abbrev pub IsShownAgain : {S : Type 0} → (List ℕ → Option ℕ) → List Bound → ℕ → ℕ → Numbers S → Numbers S → List ℕ → Type 0
+IsShownAgain outer bindings first end old new text =
+    (number_by new text ≡ outer text)
+    ⊎ ((number_by new text ≡ number_by old text)
+    × ((number : ℕ) → (b : Bound) → first ≤ number → number < end → slice_get bindings number ≡ Some b → bytes_eq b.text text ≡ false))
+
+-- these are the bindings of the scopes, the innermost last, and each of them hides what its names are outside of it
+abbrev pub AreOpen : List Bound → List (Option ℕ) → List Scope → List Located → Type 0
+AreOpen bindings hidden owns [] = owns ≡ []
+AreOpen bindings hidden owns (scope ∷ outer) =
+    (own : Scope) × (below : List Scope) × (owns ≡ below ++ own ∷ [])
+    × IsOpen (λ text. innermost bindings text outer) bindings hidden own.first own.end scope × AreOpen bindings hidden below outer
+
+-- what these scopes bind is in sight, all of which are below the number n, as are the scopes of all bindings that were found; each of these names
+-- the first of its name
+pub record IsSeen (bindings : List Binding) (sight : Sight) (n : ℕ) (scopes : List Located) : Type 0 where
+  pub behind : All (λ (b : Bound). b.scope.number < n) (map bound_of bindings)
+  pub around : All (λ (scope : Located). scope.number < n) scopes
+  pub count : length sight.hidden.items ≡ length bindings
+  pub in_sight : (text : List ℕ) → number_by sight.numbers text ≡ innermost (map bound_of bindings) text scopes
+  pub are_open : AreOpen (map bound_of bindings) sight.hidden.items sight.scopes.items scopes
   pub firsts : AreFirst bindings
+
+-- so it is of the scopes among these nodes
+abbrev pub SeesScopes : List Binding → Sight → ℕ → List Located → Type 0
+SeesScopes bindings sight n nodes = IsSeen bindings sight n (filter is_scope nodes)
 
 -- as many bodies of `with` are around as are among the open nodes
 abbrev pub SeesBodies : List Located → List Located → Type 0
@@ -64,27 +101,43 @@ SeesBodies bodies nodes = length bodies ≡ length (filter is_with_body nodes)
 
 -- what is known of what is around the place where these nodes are open
 pub record Sees (bindings : List Binding) (around : Environment) (n : ℕ) (nodes : List Located) : Type 0 where
-  pub scopes : SeesScopes bindings around.scopes.items n nodes
+  pub scopes : SeesScopes bindings around.sight n nodes
   pub bodies : SeesBodies around.with_bodies.items nodes
+
+-- the number of the first binding of the last of these scopes
+abbrev pub first_of : List Scope → Option ℕ
+first_of owns = option_map (λ own. own.first) (slice_get owns (length owns - 1))
+
+-- the number of a name outside of the innermost scope, if there is one
+abbrev pub outer_by : Option ℕ → Option ℕ → List (Option ℕ) → Option ℕ
+outer_by None number hidden = number
+outer_by (Some first) number hidden = outside_of number first hidden
+
+-- the number of a name outside of the innermost scope
+abbrev pub outer_number : Sight → List ℕ → Option ℕ
+outer_number sight text = outer_by (first_of sight.scopes.items) (number_by sight.numbers text) sight.hidden.items
 
 -- whether the parent is a scope
 abbrev pub is_in_scope : Option Located → Bool
 is_in_scope None = false
 is_in_scope (Some parent) = is_scope parent
 
--- how many of the scopes around an `inherit` are around its `let` or set
-abbrev pub outer_count : {S : Type 0} → List (Numbers S) → Located → ℕ
-outer_count maps inherit = if is_in_scope (parent_of inherit) then length maps - 1 else length maps
+-- the number of a name, outside of the innermost scope or in all scopes
+abbrev pub number_in_sight : Sight → Bool → List ℕ → Option ℕ
+number_in_sight sight is_outer text = if is_outer then outer_number sight text else number_by sight.numbers text
 
--- what a name refers to in the outermost scopes, so many
-abbrev pub resolve_name : Environment → ℕ → Bool → Named → Resolved
-resolve_name around depth is_inherited name =
-    resolved is_inherited (not (length around.with_bodies.items == 0)) (found_in (take depth around.scopes.items) name.text) name
+-- a name that refers to the binding of a number, or has none
+abbrev pub referring : Environment → Option ℕ → Bool → Named → Resolved
+referring around binding is_inherited name = resolved is_inherited (not (length around.with_bodies.items == 0)) binding name
 
--- in how many of the scopes a name is looked for that a node is, or has as an `inherit`
-abbrev pub depth_at : {S : Type 0} → List (Numbers S) → Located → ℕ
-depth_at maps e = if same_kind k.NODE_INHERIT (item_of e).kind then outer_count maps e else length maps
+-- what a name refers to, outside of the innermost scope or in all scopes
+abbrev pub resolve_name : Environment → Bool → Bool → Named → Resolved
+resolve_name around is_outer is_inherited name = referring around (number_in_sight around.sight is_outer name.text) is_inherited name
+
+-- whether names of a node are looked for outside of the innermost scope: an `inherit` takes them from around its set or `let`
+abbrev pub is_from_outside : Located → Bool
+is_from_outside e = if same_kind k.NODE_INHERIT (item_of e).kind then is_in_scope (parent_of e) else false
 
 -- what the names refer to that a node is, or has as an `inherit`
 abbrev pub resolve_at : Environment → Located → Named → Resolved
-resolve_at around e name = resolve_name around (depth_at around.scopes.items e) (same_kind k.NODE_INHERIT (item_of e).kind) name
+resolve_at around e name = resolve_name around (is_from_outside e) (same_kind k.NODE_INHERIT (item_of e).kind) name

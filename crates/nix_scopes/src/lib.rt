@@ -9,6 +9,7 @@ mod renaming;
 mod resolution;
 mod resolving;
 mod scopes;
+mod sight;
 
 pub use occurrences::name_at;
 pub use resolution::{Binding, Reference, Resolution};

@@ -1,35 +1,35 @@
 //! Going over a text, what its names refer to.
 
-ghost use Rattle.std.specs.Prelude.{◌≡◌, ◌≤◌, ◌++◌, [], ◌∷◌, length, map, IfOk, OnOk, true};
+ghost use Rattle.std.specs.Prelude.{◌≡◌, ◌++◌, [], ◌∷◌, map, IfOk, OnOk, true};
+ghost use Rattle.rnix_green.specs.Relatives.{parent_of};
 ghost use Rattle.nix_scopes.specs.Bound.{bindings_of, references_of, listed, bound_of, resolved_of, AreFirst};
 ghost use Rattle.nix_scopes.specs.Names.{attr_text, named_if};
 ghost use Rattle.nix_scopes.specs.Binders.{named};
 ghost use Rattle.nix_scopes.specs.References.{inherited_at, references_at, references_in};
 ghost use Rattle.nix_scopes.specs.Scopes.{bindings_in, resolved_in};
-ghost use Rattle.nix_scopes.specs.Resolving.{outer_count, resolve_name, resolve_at};
+ghost use Rattle.nix_scopes.specs.Resolving.{is_in_scope, number_in_sight, referring, resolve_name, resolve_at};
 
 use crate::environment::Environment;
 use crate::names::{Name, attr_text};
 use crate::places::is_expression;
 use crate::resolution::{Reference, Resolution};
 use crate::scopes::is_scope;
+use crate::sight::Sight;
 use rnix::ast::{AstNode, Inherit};
 use rnix::{SyntaxNode, WalkEvent};
 use std::alloc::{AllocError, Global};
 
-// Adds a name with the binding that it has in the outermost `depth` scopes.
+// Adds a name that refers to the binding of a number, or has none.
 fn add_reference<'t>(
     around: &Environment<'t>,
-    depth: usize,
+    binding: Option<usize>,
     is_inherited: bool,
     name: Name<'t>,
     references: &mut Vec<Reference<'t>>,
 ) -> Result<(), AllocError>
-    requires { depth ≤ length around.now.scopes.items }
     ensures { OnOk result (map resolved_of references.new.items ≡ map resolved_of references.old.items
-        ++ resolve_name around.now depth is_inherited (named name.entry) ∷ []) }
+        ++ referring around.now binding is_inherited (named name.entry) ∷ []) }
 {
-    let binding = around.binding(depth, name.text);
     references.push(Reference {
         text: name.text,
         node: name.node,
@@ -40,35 +40,44 @@ fn add_reference<'t>(
     Ok(())
 }
 
-// Adds a name that is inherited, if it is written out.
+// Adds a name that is inherited, if it is written out; from outside of the innermost scope, if that is the set or the `let` of the `inherit`.
 fn add_inherited<'t>(
     around: &Environment<'t>,
-    depth: usize,
+    in_scope: bool,
     node: &SyntaxNode<'t>,
     references: &mut Vec<Reference<'t>>,
 ) -> Result<(), AllocError>
-    requires { depth ≤ length around.now.scopes.items }
     ensures { OnOk result (map resolved_of references.new.items ≡ map resolved_of references.old.items
-        ++ map (resolve_name around.now depth true) (named_if node.now (attr_text node.now))) }
+        ++ map (resolve_name around.now in_scope true) (named_if node.now (attr_text node.now))) }
 {
     match attr_text(node) {
         Some(text) => {
+            let binding = number_of(&around.sight, in_scope, text);
             let node = node.clone();
-            add_reference(around, depth, true, Name { text, node }, references)
+            add_reference(around, binding, true, Name { text, node }, references)
         }
         None => Ok(()),
     }
 }
 
-// Returns how many of the scopes around an `inherit` are around its `let` or set.
-fn outer_depth(around: &Environment<'_>, inherit: &SyntaxNode<'_>) -> usize
-    ensures count { result ≡ outer_count around.now.scopes.items inherit.now }
-    ensures fits { result ≤ length around.now.scopes.items }
+// The number of a name, outside of the innermost scope or in all scopes.
+fn number_of<'t>(sight: &Sight<'t>, is_outer: bool, text: &'t str) -> Option<usize>
+    ensures { result ≡ number_in_sight sight.now is_outer text.now }
 {
-    let depth = around.depth();
-    match inherit.parent() {
-        Some(parent) if is_scope(&parent) => depth.saturating_sub(1),
-        _ => depth,
+    if is_outer {
+        sight.outer_number(text)
+    } else {
+        sight.number(text)
+    }
+}
+
+// Whether the parent of a node is a scope.
+fn is_in_scope(node: &SyntaxNode<'_>) -> bool
+    ensures { result ≡ is_in_scope (parent_of node.now) }
+{
+    match node.parent() {
+        Some(parent) => is_scope(&parent),
+        None => false,
     }
 }
 
@@ -79,14 +88,14 @@ fn add_all_inherited<'t>(
     references: &mut Vec<Reference<'t>>,
 ) -> Result<(), AllocError>
     ensures { OnOk result (map resolved_of references.new.items ≡ map resolved_of references.old.items
-        ++ map (resolve_name around.now (outer_count around.now.scopes.items inherit.now) true) (inherited_at inherit.now)) }
+        ++ map (resolve_name around.now (is_in_scope (parent_of inherit.now)) true) (inherited_at inherit.now)) }
 {
     if inherit.from().is_some() {
         return Ok(());
     }
-    let depth = outer_depth(around, inherit.syntax());
+    let in_scope = is_in_scope(inherit.syntax());
     for attr in inherit.attrs() {
-        add_inherited(around, depth, attr.syntax(), references)?;
+        add_inherited(around, in_scope, attr.syntax(), references)?;
     }
     Ok(())
 }
@@ -102,13 +111,8 @@ fn add_references<'t>(
 {
     if is_expression(&node) {
         let text = node.text();
-        return add_reference(
-            around,
-            around.depth(),
-            false,
-            Name { text, node },
-            references,
-        );
+        let binding = around.sight.number(text);
+        return add_reference(around, binding, false, Name { text, node }, references);
     }
     match Inherit::cast(node) {
         Some(inherit) => add_all_inherited(around, &inherit, references),
@@ -132,7 +136,7 @@ pub fn resolve<'t>(alloc: Global, root: &SyntaxNode<'t>) -> Result<Resolution<'t
                 around.enter(alloc, &node, &mut bindings)?;
                 add_references(&around, node, &mut references)?;
             }
-            WalkEvent::Leave(node) => around.leave(&node),
+            WalkEvent::Leave(node) => around.leave(&node, &bindings),
         }
     }
     Ok(Resolution {

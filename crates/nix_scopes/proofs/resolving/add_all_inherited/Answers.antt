@@ -1,6 +1,7 @@
 use Rattle.{std.proofs.Common.{◌≡◌, ◌++◌, ◌∙◌, map, true, None, ap, sym, rules}, rnix_base.specs.Select.those_of, rnix.specs.NodeKinds.is_attr}
 use Rattle.{rnix.specs.Sums.attr_node, nix_scopes.specs.{Names.{named_if, attr_text, names_written}, Bound.resolved_of, References.inherited_at}}
-use Rattle.nix_scopes.{specs.{References.inherited_from, Resolving.{outer_count, resolve_name}}, proofs.ResolvingLemmas.mapped_next}
+use Rattle.nix_scopes.{specs.{References.inherited_from, Resolving.{is_in_scope, resolve_name}}, proofs.ResolvingLemmas.mapped_next}
+use Rattle.rnix_green.specs.Relatives.{parent_of}
 use Rattle.nix_scopes.proofs.resolving.add_all_inherited.Goals as goal
 
 pub loop-attr-init : goal.loop-attr-init
@@ -14,19 +15,19 @@ loop-attr-init c =
       next = tt;
       ends = tt;
       listing =
-          ap (λ names. map resolved_of c.args.references.now.items ++ map (resolve_name c.args.around.now c.outer_depth-depth.result true) names) inherited
-          ∙ ap (λ depth. map resolved_of c.args.references.now.items ++ map (resolve_name c.args.around.now depth true) (inherited_at c.args.inherit.now))
-          (c.outer_depth-depth.ensures.count ∙ ap (outer_count c.args.around.now.scopes.items) c.syntax.ensures.node);
+          ap (λ names. map resolved_of c.args.references.now.items ++ map (resolve_name c.args.around.now c.is_in_scope-in_scope.result true) names) inherited
+          ∙ ap (λ is_outer. map resolved_of c.args.references.now.items ++ map (resolve_name c.args.around.now is_outer true) (inherited_at c.args.inherit.now))
+          (c.is_in_scope-in_scope.ensures ∙ ap (λ e. is_in_scope (parent_of e)) c.syntax.ensures.node);
     }
 
 pub loop-attr-preserved : goal.loop-attr-preserved
 loop-attr-preserved c = record {
   next = tt;
   ends = tt;
-  listing = mapped_next (λ e. named_if e (attr_text e)) (resolve_name c.args.around.now c.outer_depth-depth.result true)
+  listing = mapped_next (λ e. named_if e (attr_text e)) (resolve_name c.args.around.now c.is_in_scope-in_scope.result true)
       (map resolved_of c.loop-attr.references.items)
       (map resolved_of c.add_inherited.new.references.items)
-      (map resolved_of c.args.references.now.items ++ map (resolve_name c.args.around.now (outer_count c.args.around.now.scopes.items c.args.inherit.now) true)
+      (map resolved_of c.args.references.now.items ++ map (resolve_name c.args.around.now (is_in_scope (parent_of c.args.inherit.now)) true)
       (inherited_at c.args.inherit.now))
       (those_of is_attr c.loop-attr.attr-iterator) (those_of is_attr c.next.new.self) (attr_node c.in-Some.attr) c.syntax-in-loop-attr.result.now
       c.loop-attr.invariant.listing c.in-Some.ensures.steps c.syntax-in-loop-attr.ensures.node c.in_ok-add_inherited.ensures;
