@@ -8,6 +8,7 @@ use nix_values::{Data, Item, Notation, Value, kept};
 use rnix::Root;
 use rnix::ast::AstNode;
 use std::alloc::{AllocError, Global};
+use std::test::Fail;
 
 // Nix, of which the data that were read are compared.
 struct Nix;
@@ -118,24 +119,25 @@ const NAMES: [&str; 13] = [
 ];
 
 #[test]
-fn writes_words(rt: HostRuntime) {
+fn writes_words(rt: HostRuntime) -> Result<(), Fail> {
     for word in WORDS {
         for is_float in [false, true] {
             for (depth, other) in [(0, 1), (1, 1), (1, 0), (1, 2), (2, 1)] {
                 let alloc = rt.alloc();
                 let values = (
-                    words(alloc, is_float, word).unwrap(),
-                    words(alloc, is_float, "2.5").unwrap(),
+                    words(alloc, is_float, word)?,
+                    words(alloc, is_float, "2.5")?,
                 );
-                let items = pair(alloc, Value::List, ("", ""), values, (depth, other)).unwrap();
-                assert!(rt; is_alike(alloc, items).unwrap(), "{word} at {depth}");
+                let items = pair(alloc, Value::List, ("", ""), values, (depth, other))?;
+                assert!(rt; is_alike(alloc, items)?, "{word} at {depth}");
             }
         }
     }
+    Ok(())
 }
 
 #[test]
-fn writes_names(rt: HostRuntime) {
+fn writes_names(rt: HostRuntime) -> Result<(), Fail> {
     for one in NAMES {
         for other in ["", "a", "\0", "null"] {
             for (first, depth) in [
@@ -146,25 +148,27 @@ fn writes_names(rt: HostRuntime) {
             ] {
                 let alloc = rt.alloc();
                 let values = (first, Value::Set);
-                let items = pair(alloc, Value::Set, (one, other), values, (1, depth)).unwrap();
-                assert!(rt; is_alike(alloc, items).unwrap(), "{one} and {other}");
+                let items = pair(alloc, Value::Set, (one, other), values, (1, depth))?;
+                assert!(rt; is_alike(alloc, items)?, "{one} and {other}");
             }
         }
     }
+    Ok(())
 }
 
 #[test]
-fn writes_integers(rt: HostRuntime) {
+fn writes_integers(rt: HostRuntime) -> Result<(), Fail> {
     for number in [i64::MIN, i64::MIN + 1, -1, 0, 1, i64::MAX] {
         for other in [0, i64::MIN] {
             for around in [Value::Set, Value::List] {
                 let alloc = rt.alloc();
                 let values = (Value::Integer(number), Value::Integer(other));
-                let items = pair(alloc, around, ("a", "b"), values, (1, 1)).unwrap();
-                assert!(rt; is_alike(alloc, items).unwrap(), "{number} and {other}");
+                let items = pair(alloc, around, ("a", "b"), values, (1, 1))?;
+                assert!(rt; is_alike(alloc, items)?, "{number} and {other}");
             }
         }
     }
+    Ok(())
 }
 
 // Lists in one another.
@@ -177,9 +181,10 @@ fn nested(alloc: Global, levels: usize) -> Result<Vec<Item>, AllocError> {
 }
 
 #[test]
-fn writes_nested_lists(rt: HostRuntime) {
+fn writes_nested_lists(rt: HostRuntime) -> Result<(), Fail> {
     for levels in [0, 1, 2, 250, 511, 512, 513, 514, 1023, 1024, 1025] {
-        let items = nested(rt.alloc(), levels).unwrap();
-        assert!(rt; is_alike(rt.alloc(), items).unwrap(), "{levels} levels");
+        let items = nested(rt.alloc(), levels)?;
+        assert!(rt; is_alike(rt.alloc(), items)?, "{levels} levels");
     }
+    Ok(())
 }

@@ -157,6 +157,7 @@ impl Attributes {
 #[cfg(test)]
 mod tests {
     use super::*;
+    use std::test::Fail;
 
     // Values, each an attribute of one of three sets.
     #[derive(Drop)]
@@ -227,18 +228,20 @@ mod tests {
     }
 
     #[test]
-    fn finds_what_is_repeated(rt: HostRuntime) {
+    fn finds_what_is_repeated(rt: HostRuntime) -> Result<(), Fail> {
         for count in [0, 1, 2, 7, 8, 9, 15, 16, 17, 33, 600] {
-            let made = repeated(rt.alloc(), count).unwrap();
-            assert!(rt; are_alike(rt.alloc(), made).unwrap(), "with {count} names");
+            let made = repeated(rt.alloc(), count)?;
+            assert!(rt; are_alike(rt.alloc(), made)?, "with {count} names");
         }
+        Ok(())
     }
 
     #[test]
-    fn finds_what_is_crowded(rt: HostRuntime) {
+    fn finds_what_is_crowded(rt: HostRuntime) -> Result<(), Fail> {
         for count in [48, 51, 120] {
-            let made = crowded(rt.alloc(), count).unwrap();
-            assert!(rt; are_alike(rt.alloc(), made).unwrap(), "with {count} names");
+            let made = crowded(rt.alloc(), count)?;
+            assert!(rt; are_alike(rt.alloc(), made)?, "with {count} names");
         }
+        Ok(())
     }
 }

@@ -5,6 +5,7 @@ use crate::json_reader::data_of_json;
 use crate::json_writer::{json_of, written};
 use crate::notation::{Notation, kept};
 use std::alloc::{AllocError, Global};
+use std::test::Fail;
 
 // JSON, of which the data that were read are compared.
 struct Json;
@@ -93,24 +94,25 @@ const WORDS: [&str; 26] = [
 ];
 
 #[test]
-fn writes_words(rt: HostRuntime) {
+fn writes_words(rt: HostRuntime) -> Result<(), Fail> {
     for word in WORDS {
         for is_float in [false, true] {
             for (depth, other) in [(0, 1), (1, 1), (1, 0), (1, 2), (2, 1)] {
                 let alloc = rt.alloc();
                 let values = (
-                    words(alloc, is_float, word).unwrap(),
-                    words(alloc, is_float, "2.5").unwrap(),
+                    words(alloc, is_float, word)?,
+                    words(alloc, is_float, "2.5")?,
                 );
-                let items = pair(alloc, Value::List, ("", ""), values, (depth, other)).unwrap();
-                assert!(rt; is_alike(alloc, items).unwrap(), "{word} at {depth}");
+                let items = pair(alloc, Value::List, ("", ""), values, (depth, other))?;
+                assert!(rt; is_alike(alloc, items)?, "{word} at {depth}");
             }
         }
     }
+    Ok(())
 }
 
 #[test]
-fn writes_names(rt: HostRuntime) {
+fn writes_names(rt: HostRuntime) -> Result<(), Fail> {
     for one in ["", "a", "b", "\0", "a\r", "\"", "\\", "\u{e9}", "1"] {
         for other in ["", "a", "\0", "\\"] {
             for (first, depth) in [
@@ -122,25 +124,27 @@ fn writes_names(rt: HostRuntime) {
             ] {
                 let alloc = rt.alloc();
                 let values = (first, Value::Set);
-                let items = pair(alloc, Value::Set, (one, other), values, (1, depth)).unwrap();
-                assert!(rt; is_alike(alloc, items).unwrap(), "{one} and {other}");
+                let items = pair(alloc, Value::Set, (one, other), values, (1, depth))?;
+                assert!(rt; is_alike(alloc, items)?, "{one} and {other}");
             }
         }
     }
+    Ok(())
 }
 
 #[test]
-fn writes_integers(rt: HostRuntime) {
+fn writes_integers(rt: HostRuntime) -> Result<(), Fail> {
     for number in [i64::MIN, i64::MIN + 1, -1, 0, 1, i64::MAX] {
         for other in [0, i64::MIN] {
             for around in [Value::Set, Value::List] {
                 let alloc = rt.alloc();
                 let values = (Value::Integer(number), Value::Integer(other));
-                let items = pair(alloc, around, ("a", "b"), values, (1, 1)).unwrap();
-                assert!(rt; is_alike(alloc, items).unwrap(), "{number} and {other}");
+                let items = pair(alloc, around, ("a", "b"), values, (1, 1))?;
+                assert!(rt; is_alike(alloc, items)?, "{number} and {other}");
             }
         }
     }
+    Ok(())
 }
 
 // Lists in one another.
@@ -153,9 +157,10 @@ fn nested(alloc: Global, levels: usize) -> Result<Vec<Item>, AllocError> {
 }
 
 #[test]
-fn writes_nested_lists(rt: HostRuntime) {
+fn writes_nested_lists(rt: HostRuntime) -> Result<(), Fail> {
     for levels in [0, 1, 2, 31, 32, 33, 511, 512, 513, 514] {
-        let items = nested(rt.alloc(), levels).unwrap();
-        assert!(rt; is_alike(rt.alloc(), items).unwrap(), "{levels} levels");
+        let items = nested(rt.alloc(), levels)?;
+        assert!(rt; is_alike(rt.alloc(), items)?, "{levels} levels");
     }
+    Ok(())
 }

@@ -155,6 +155,7 @@ pub fn push_json_string(value: &str, text: &mut String) -> Result<(), AllocError
 #[cfg(test)]
 mod tests {
     use super::*;
+    use std::test::Fail;
 
     // Writes a string, one character after the other.
     fn push_characters(value: &str, text: &mut String) -> Result<(), AllocError> {
@@ -242,19 +243,17 @@ mod tests {
     ];
 
     #[test]
-    fn reads_and_writes_pieces(rt: HostRuntime) {
+    fn reads_and_writes_pieces(rt: HostRuntime) -> Result<(), Fail> {
         for one in PIECES {
             for two in PIECES {
                 for three in PIECES {
-                    let text = format!(in rt.alloc(); "\"{one}{two}{three}\"").unwrap();
+                    let text = format!(in rt.alloc(); "\"{one}{two}{three}\"")?;
                     let text = text.as_str();
-                    assert!(rt;
-                        is_written_alike(rt.alloc(), text).unwrap(),
-                        "writing {text}"
-                    );
+                    assert!(rt; is_written_alike(rt.alloc(), text)?, "writing {text}");
                     assert!(rt; is_read_alike(rt.alloc(), text, 1), "reading {text}");
                 }
             }
         }
+        Ok(())
     }
 }
