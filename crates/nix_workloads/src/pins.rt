@@ -45,7 +45,7 @@ pub fn flat(alloc: Global, seed: u64, names: usize) -> Result<String, AllocError
 pub fn numbers(alloc: Global, seed: u64, count: usize) -> Result<String, AllocError> {
     let mut draft = Draft::new(alloc, seed);
     draft.push("[\n")?;
-    draft.repeat(alloc, "  %0%1%2,\n  %3,\n", count / 2)?;
+    draft.repeat(alloc, "  1%0%1%2,\n  %3,\n", count / 2)?;
     draft.push("  0\n]\n")?;
     Ok(draft.into_text())
 }
