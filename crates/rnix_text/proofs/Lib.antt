@@ -1,6 +1,5 @@
 pub mod ByteSteps
 pub mod MarkLemmas
-pub mod LineMarks
 pub mod PositionLemmas
 pub mod MarkOffsets
 pub mod ChangeLemmas

@@ -1,6 +1,5 @@
 -- Marks: the offsets behind bytes that move the column otherwise than the offset.
-use Rattle.std.specs.Prelude.{◌≡◌, ◌<◌, length, ℕ, ◌+◌, ◌-◌, ◌==◌, ◌&&◌, ◌||◌, not, nat_lt, nat_le, Bool, List, [], ◌∷◌, fold, if◌then◌else◌}
-use Rattle.std.specs.List.{position_or_len, before_first, after_first}
+use Rattle.std.specs.Prelude.{ℕ, ◌+◌, ◌-◌, ◌==◌, ◌&&◌, ◌||◌, not, nat_lt, nat_le, Bool, List, [], ◌∷◌, if◌then◌else◌}
 use Rattle.rnix_text.specs.declared.line_column.ColumnUnit.{ColumnUnit}
 use Rattle.rnix_text.specs.declared.line_column.Position.{Position}
 use Rattle.rnix_text.specs.declared.line_column.Mark.{Mark}
@@ -24,19 +23,6 @@ marks_behind unit m [] = []
 marks_behind unit m (b ∷ bs) =
     if is_plain unit b then marks_behind unit (mark_behind unit m b) bs
     else mark_behind unit m b ∷ marks_behind unit (mark_behind unit m b) bs
-
--- the place behind these bytes
-abbrev pub mark_after : ColumnUnit → Mark → List ℕ → Mark
-mark_after unit m bs = fold (mark_behind unit) m bs
-
--- whether a byte ends a line
-abbrev pub is_newline : ℕ → Bool
-is_newline b = b == newline
-
--- a text is a line, a newline and a rest
-abbrev pub IsFirstLine : List ℕ → List ℕ → List ℕ → Type 0
-IsFirstLine text line rest = (line ≡ before_first is_newline text) × (rest ≡ after_first is_newline text)
-    × (position_or_len is_newline text < length text)
 
 -- the marks of a text
 abbrev pub marks_of : ColumnUnit → List ℕ → List Mark

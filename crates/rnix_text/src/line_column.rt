@@ -30,7 +30,7 @@ pub(crate) struct Mark {
 }
 
 // The byte that ends a line.
-pub(crate) const NEWLINE: u8 = b'\n';
+const NEWLINE: u8 = b'\n';
 // The first byte that begins no character of one byte.
 const CONTINUATION: u8 = 0x80;
 // The first byte that begins a character of several bytes.

@@ -1,13 +1,12 @@
 //! The lines and columns of a text.
 
-ghost use Rattle.std.specs.Prelude.{◌≡◌, ◌+◌, ◌*◌, ◌<◌, ◌^◌, ◌↔◌, ◌++◌, length, Some, SomeIff, IfSome, IfOk, OnOk, IsTrue, MatchOption, ℕ};
-ghost use Rattle.std.specs.List.{position_or_len};
+ghost use Rattle.std.specs.Prelude.{◌≡◌, ◌<◌, ◌^◌, ◌↔◌, length, Some, SomeIff, IfSome, IfOk, IsTrue, ℕ};
 ghost use Rattle.std.specs.Str.{IsCharBoundary};
 ghost use Rattle.rnix_text.specs.Positions.{position_at, IsAt};
 ghost use Rattle.rnix_text.specs.TextColumns.{last_mark};
-ghost use Rattle.rnix_text.specs.Marks.{marks_of, marks_behind, mark_after, is_newline, IsFirstLine, is_before, is_up_to};
+ghost use Rattle.rnix_text.specs.Marks.{marks_of, is_before, is_up_to};
 
-use crate::line_column::{ColumnUnit, Mark, NEWLINE, Position, moves_alike};
+use crate::line_column::{ColumnUnit, Mark, Position, moves_alike};
 use std::alloc::{AllocError, Global};
 use std::marker::Model;
 
@@ -32,74 +31,19 @@ impl<'t> Model for LineIndex<'t> {
     ghost invariant = { λ i. i.marks.items ≡ marks_of i.unit i.text.now };
 }
 
-// Adds the marks behind a mark in some bytes that follow it. Returns the place behind them.
-fn add_marks(
-    marks: &mut Vec<Mark>,
-    start: Mark,
-    bytes: &[u8],
-    unit: ColumnUnit,
-) -> Result<Mark, AllocError>
-    requires offset { start.offset + length bytes.now < 2 ^ 64 }
-    requires line { start.position.line + length bytes.now < 2 ^ 64 }
-    requires column { start.position.column + 2 * length bytes.now < 2 ^ 64 }
-    ensures place { IfOk result (λ mark. mark ≡ mark_after unit start bytes.now) }
-    ensures marks { OnOk result (marks.new.items ≡ marks.old.items ++ marks_behind unit start bytes.now) }
+// Returns the marks of a text.
+fn marks_of(alloc: Global, bytes: &[u8], unit: ColumnUnit) -> Result<Vec<Mark>, AllocError>
+    ensures { IfOk result (λ marks. marks.items ≡ marks_of unit bytes.now) }
 {
-    let mut mark = start;
+    let mut mark = Mark::first();
+    let mut marks = Vec::new(alloc);
+    marks.push(mark)?;
     for byte in bytes {
         mark = mark.behind(unit, *byte);
         if !moves_alike(unit, *byte) {
             marks.push(mark)?;
         }
     }
-    Ok(mark)
-}
-
-// Adds the marks behind a mark in a line that follows it, which is without `\n`. Returns the place behind the line.
-fn add_line(
-    marks: &mut Vec<Mark>,
-    start: Mark,
-    line: &str,
-    unit: ColumnUnit,
-) -> Result<Mark, AllocError>
-    requires one { position_or_len is_newline line.now ≡ length line.now }
-    requires offset { start.offset + length line.now < 2 ^ 64 }
-    requires line { start.position.line + length line.now < 2 ^ 64 }
-    requires column { start.position.column + 2 * length line.now < 2 ^ 64 }
-    ensures place { IfOk result (λ mark. mark ≡ mark_after unit start line.now) }
-    ensures marks { OnOk result (marks.new.items ≡ marks.old.items ++ marks_behind unit start line.now) }
-{
-    if !line.is_ascii() {
-        return add_marks(marks, start, line.as_bytes(), unit);
-    }
-    let offset = start.offset + line.len();
-    Ok(Mark {
-        offset,
-        position: start.position_of(offset),
-    })
-}
-
-// Returns the first line of a text and what follows its `\n`, if it has one.
-fn first_line(text: &str) -> Option<(&str, &str)>
-    ensures { MatchOption result (position_or_len is_newline text.now ≡ length text.now) (λ parts. IsFirstLine text.now parts.0.now parts.1.now) }
-{
-    text.split_once('\n')
-}
-
-// Returns the marks of a text.
-fn marks_of(alloc: Global, text: &str, unit: ColumnUnit) -> Result<Vec<Mark>, AllocError>
-    ensures { IfOk result (λ marks. marks.items ≡ marks_of unit text.now) }
-{
-    let mut mark = Mark::first();
-    let mut marks = Vec::new(alloc);
-    marks.push(mark)?;
-    let mut rest = text;
-    while let Some((line, after)) = first_line(rest) {
-        mark = add_line(&mut marks, mark, line, unit)?.behind(unit, NEWLINE);
-        marks.push(mark)?;
-        rest = after;
-    }
-    let _end = add_line(&mut marks, mark, rest, unit)?;
     Ok(marks)
 }
 
@@ -108,7 +52,7 @@ impl<'t> LineIndex<'t> {
     pub fn new(alloc: Global, text: &'t str, unit: ColumnUnit) -> Result<Self, AllocError>
         ensures { IfOk result (λ index. index ≡ record { text = text.now; unit = unit }) }
     {
-        let marks = marks_of(alloc, text, unit)?;
+        let marks = marks_of(alloc, text.as_bytes(), unit)?;
         Ok(LineIndex { text, unit, marks })
     }
 
