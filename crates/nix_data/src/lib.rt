@@ -10,6 +10,8 @@ mod nix_reader;
 mod nix_writer;
 mod no_data;
 mod quoted;
+#[cfg(test)]
+mod quoted_letters;
 mod readable;
 mod scalars;
 

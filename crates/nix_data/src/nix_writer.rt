@@ -139,14 +139,14 @@ pub(crate) fn is_meant(alloc: Global, root: &Root<'_>, whole: &Data) -> Result<b
 fn is_read_as(alloc: Global, text: &str, whole: &Data) -> Result<bool, AllocError>
     ensures { IfOk result (λ is_read. IsTrue is_read → IsWritten text.now (contents whole.now)) }
 {
+    if !is_readable(alloc, whole)? {
+        return Ok(false);
+    }
     let parse = Root::parse(alloc, text)?;
     let Ok(root) = parse.ok() else {
         return Ok(false);
     };
-    if !is_meant(alloc, &root, whole)? {
-        return Ok(false);
-    }
-    Ok(is_readable(alloc, whole)?)
+    Ok(is_meant(alloc, &root, whole)?)
 }
 
 /// Returns data as a Nix text, or `None` if the text would be read as other data. The text has no errors, and its expression means the data.

@@ -54,16 +54,17 @@ impl Taker for Comparing<'_> {
 
 /// Returns whether a JSON text is read as some data.
 pub fn is_read_as(alloc: Global, text: &str, data: &Data) -> Result<bool, AllocError> {
+    if !data.has_unique_names(alloc)? {
+        return Ok(false);
+    }
     let comparing = Comparing {
         items: data.items.as_slice(),
         count: 0,
         is_same: true,
     };
     match read(alloc, text, comparing) {
-        Ok(found) if found.is_same && found.count == data.items.len() => {
-            Ok(data.has_unique_names(alloc)?)
-        }
-        Ok(_) | Err(JsonStop::Refused(_)) => Ok(false),
+        Ok(found) => Ok(found.is_same && found.count == data.items.len()),
+        Err(JsonStop::Refused(_)) => Ok(false),
         Err(JsonStop::Memory) => Err(AllocError),
     }
 }
