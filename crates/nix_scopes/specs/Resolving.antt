@@ -64,8 +64,10 @@ pub record IsBinding {S : Type 0} (outer : List ℕ → Option ℕ) (bindings : 
 -- the names of a scope are in sight, and hide their numbers outside of it
 pub record IsHidden {S : Type 0} (outer : List ℕ → Option ℕ) (bindings : List Bound) (numbers : Numbers S) (hidden : List (Option ℕ)) (own : Scope)
     : Type 0 where
-  pub hides : (number : ℕ) → (b : Bound) → own.first ≤ number → number < own.end → slice_get bindings number ≡ Some b → hidden_by hidden number ≡ outer b.text
-  pub in_sight : (number : ℕ) → (b : Bound) → own.first ≤ number → number < own.end → slice_get bindings number ≡ Some b → IsSome (number_by numbers b.text)
+  pub hides : (number : ℕ) → (b : Bound) → own.first ≤ number → number < own.end → slice_get bindings number ≡ Some b →
+      hidden_by hidden number ≡ outer b.text
+  pub in_sight : (number : ℕ) → (b : Bound) → own.first ≤ number → number < own.end → slice_get bindings number ≡ Some b →
+      IsSome (number_by numbers b.text)
 
 -- a name has its number outside of a scope again, or no binding from the first to the end, exclusive, hides it, and it keeps its number
 abbrev pub IsShownAgain : {S : Type 0} → (List ℕ → Option ℕ) → List Bound → ℕ → ℕ → Numbers S → Numbers S → List ℕ → Type 0

@@ -1,13 +1,15 @@
 //! The names in sight at the current node of a walk.
 
-ghost use Rattle.std.specs.Prelude.{◌≡◌, ℕ, ◌<◌, ◌≤◌, ◌+◌, ◌++◌, [], ◌∷◌, List, Option, Some, None, length, map, slice_get, is_some, IsTrue, IsSome, IfOk, OnOk, if◌then◌else◌};
+ghost use Rattle.std.specs.Prelude.{◌≡◌, ℕ, ◌<◌, ◌≤◌, ◌+◌, ◌++◌, [], ◌∷◌, List, Option, Some, None, length, map, slice_get};
+ghost use Rattle.std.specs.Prelude.{is_some, IsTrue, IsSome, IfOk, OnOk, if◌then◌else◌};
 ghost use Rattle.std.specs.Str.{bytes_eq};
 ghost use Rattle.rnix_green.specs.Tree.{Located};
 ghost use Rattle.nix_scopes.specs.declared.resolution.Binding.{Binding as Declared};
 ghost use Rattle.nix_scopes.specs.Binders.{named, names_bound};
 ghost use Rattle.nix_scopes.specs.Scopes.{Bound, bound_in};
 ghost use Rattle.nix_scopes.specs.Bound.{bound_of, AreFirst};
-ghost use Rattle.nix_scopes.specs.Resolving.{number_by, hidden_by, outside_of, own_of, IsBinding, IsLonger, IsHidden, IsShownAgain, IsSeen, outer_number};
+ghost use Rattle.nix_scopes.specs.Resolving.{number_by, hidden_by, outside_of, own_of, outer_number};
+ghost use Rattle.nix_scopes.specs.Resolving.{IsBinding, IsLonger, IsHidden, IsShownAgain, IsSeen};
 
 use crate::names::{Name, names_bound};
 use crate::resolution::Binding;
@@ -113,7 +115,8 @@ fn bind_names<'t>(
     numbers: &mut HashMap<&'t str, usize>,
     hidden: &mut Vec<Option<usize>>,
 ) -> Result<(), AllocError>
-    ensures bindings { OnOk result (map bound_of bindings.new.items ≡ map bound_of bindings.old.items ++ map (bound_in scope.now) (names_bound scope.now)) }
+    ensures bindings { OnOk result (map bound_of bindings.new.items ≡ map bound_of bindings.old.items
+        ++ map (bound_in scope.now) (names_bound scope.now)) }
     ensures binding { OnOk result ((outer : List ℕ → Option ℕ) →
         IsBinding outer (map bound_of bindings.old.items) numbers.old hidden.old.items (length bindings.old.items) scope.now →
         IsBinding outer (map bound_of bindings.new.items) numbers.new hidden.new.items (length bindings.old.items) scope.now) }
@@ -201,7 +204,8 @@ impl<'t> Sight<'t> {
     ) -> Result<(), AllocError>
         ensures sees { OnOk result ((n : ℕ) → (scopes : List Located) → n ≤ scope.now.number →
             IsSeen bindings.old.items self.old n scopes → IsSeen bindings.new.items self.new (scope.now.number + 1) (scope.now ∷ scopes)) }
-        ensures bindings { OnOk result (map bound_of bindings.new.items ≡ map bound_of bindings.old.items ++ map (bound_in scope.now) (names_bound scope.now)) }
+        ensures bindings { OnOk result (map bound_of bindings.new.items ≡ map bound_of bindings.old.items
+            ++ map (bound_in scope.now) (names_bound scope.now)) }
     {
         let first = bindings.len();
         bind_names(alloc, scope, bindings, &mut self.numbers, &mut self.hidden)?;
