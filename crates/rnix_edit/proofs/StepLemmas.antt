@@ -1,7 +1,7 @@
 -- Steps of a walk that are collected and compared.
 use Rattle.std.proofs.Common.{◌≡◌, List, [], ◌∷◌, ◌++◌, map, Bool, true, false, Option, Some, None, refl, sym, ap, ◌∙◌, append_assoc}
 use Rattle.std.proofs.lemmas.List.{append-nil}
-use Rattle.std.specs.{Prelude.{◌||◌, if◌then◌else◌, slice_get}, List.list_any}
+use Rattle.std.specs.{Prelude.{◌||◌, if◌then◌else◌, slice_get}, Bool.Decides, List.list_any}
 use Rattle.rnix_green.specs.{Tree.Located, Walk.Event}
 use Rattle.rnix_edit.specs.declared.place.Place.{Place}
 use Rattle.rnix_edit.specs.declared.steps.Step.{Step as Made}
@@ -62,3 +62,17 @@ entered (Some step) = step.enters
 pub first_entered : (steps : List Made) → entered (slice_get steps 0) ≡ enters_first (map step_of steps)
 first_entered [] = refl
 first_entered (step ∷ steps) = refl
+
+-- one walk ends: both have the same steps if the other one ends too
+pub walks_end : (a b whole_a whole_b : List Step) (ended : Bool) → (a ≡ b → whole_a ≡ whole_b) → (whole_a ≡ whole_b → a ≡ b) → a ≡ [] →
+    Decides ended (b ≡ []) → Decides ended (whole_a ≡ whole_b)
+walks_end a b whole_a whole_b ended there back end tested =
+    (λ is. there (end ∙ sym (tested.0 is)), λ same. tested.1 (sym (back same) ∙ end))
+
+-- both walks pass the same step: what they have left is the same just if what they had left is
+pub both_passed : (x y : Step) (a b all_a all_b : List Step) → all_a ≡ x ∷ a → all_b ≡ y ∷ b → x ≡ y → a ≡ b → all_a ≡ all_b
+both_passed x y a b all_a all_b first second same rests = cc
+
+-- the converse
+pub both_left : (x y : Step) (a b all_a all_b : List Step) → all_a ≡ x ∷ a → all_b ≡ y ∷ b → all_a ≡ all_b → a ≡ b
+both_left x y a b all_a all_b first second same = cc

@@ -6,8 +6,8 @@ ghost use Rattle.rnix_edit.specs.Edited.{IsAround, IsWithout, IsWith, IsAfter, I
 
 use crate::place::{Place, has_node};
 use crate::steps::{
-    add_from, are_comments_before, are_from, are_same, enters_first, steps_after, steps_before,
-    steps_in,
+    add_from, are_comments_before, are_from, are_same, are_same_after, are_same_before,
+    enters_first, steps_after, steps_before, steps_in,
 };
 use rnix::SyntaxNode;
 use std::alloc::{AllocError, Global};
@@ -32,12 +32,11 @@ pub fn is_around(
 ) -> Result<bool, AllocError>
     ensures { IfOk result (λ passes. Decides passes (IsAround root.now old other.now new)) }
 {
-    let is_there = has_node(other, new);
-    let before = steps_before(alloc, other, new)?;
-    let old_before = steps_before(alloc, root, old)?;
-    let after = steps_after(alloc, other, new)?;
-    let old_after = steps_after(alloc, root, old)?;
-    Ok(is_there && are_same(&before, &old_before) && are_same(&after, &old_after))
+    Ok(
+        has_node(other, new)
+            && are_same_before(root, old, other, new)
+            && are_same_after(root, old, other, new),
+    )
 }
 
 /// Returns whether a tree is another one without the node at a place and this number of comments after it.

@@ -1,11 +1,11 @@
 //! A tree as the steps of a walk over it, without white space.
 
-ghost use Rattle.std.specs.Prelude.{◌≡◌, ◌≤◌, ◌++◌, [], ◌∷◌, length, take, drop, map, IfOk, OnOk};
+ghost use Rattle.std.specs.Prelude.{◌≡◌, ◌≤◌, ◌++◌, [], ◌∷◌, length, take, drop, map, IfOk, OnOk, IsSomeAnd, MatchOption};
 ghost use Rattle.rnix_green.specs.Tree.{item_of, text_at};
 ghost use Rattle.std.specs.Bool.{Decides};
 ghost use Rattle.std.specs.List.{list_all};
 ghost use Rattle.rnix_tree.specs.Spots.{event_of};
-ghost use Rattle.rnix_edit.specs.Steps.{step_of, token_steps, node_step, step_at, steps_of, steps_in, enters, leaves, events_after, steps_before, steps_after, is_comment, enters_first};
+ghost use Rattle.rnix_edit.specs.Steps.{step_of, token_steps, node_step, step_at, steps_of, steps_in, enters, leaves, events_before, events_after, steps_before, steps_after, is_comment, enters_first};
 
 use crate::place::{Place, is_at};
 use rnix::{
@@ -21,36 +21,31 @@ pub struct Step<'t> {
     pub text: &'t str,
 }
 
-// Adds the step of a token, if it is not white space.
-fn add_token<'t>(token: &SyntaxToken<'t>, steps: &mut Vec<Step<'t>>) -> Result<(), AllocError>
-    ensures { OnOk result (map step_of steps.new.items ≡ map step_of steps.old.items ++ token_steps (item_of token.now).kind (text_at token.now)) }
+// Returns the step of a token, if it is not white space.
+fn token_step<'t>(token: &SyntaxToken<'t>) -> Option<Step<'t>>
+    ensures { MatchOption result (token_steps (item_of token.now).kind (text_at token.now) ≡ [])
+        (λ step. token_steps (item_of token.now).kind (text_at token.now) ≡ step_of step ∷ []) }
 {
     let kind = token.kind();
     if kind == SyntaxKind::TOKEN_WHITESPACE {
-        return Ok(());
+        return None;
     }
-    steps.push(Step {
+    Some(Step {
         enters: true,
         kind,
         text: token.text(),
-    })?;
-    Ok(())
+    })
 }
 
-// Adds the step of a node that is entered or left.
-fn add_node<'t>(
-    node: &SyntaxNode<'t>,
-    enters: bool,
-    steps: &mut Vec<Step<'t>>,
-) -> Result<(), AllocError>
-    ensures { OnOk result (map step_of steps.new.items ≡ map step_of steps.old.items ++ node_step enters (item_of node.now).kind ∷ []) }
+// Returns the step of a node that is entered or left.
+fn node_step<'t>(node: &SyntaxNode<'t>, enters: bool) -> Step<'t>
+    ensures { step_of result ≡ node_step enters (item_of node.now).kind }
 {
-    steps.push(Step {
+    Step {
         enters,
         kind: node.kind(),
         text: "",
-    })?;
-    Ok(())
+    }
 }
 
 // Adds the step of an event, if it has one.
@@ -60,12 +55,10 @@ fn add_step<'t>(
 ) -> Result<(), AllocError>
     ensures { OnOk result (map step_of steps.new.items ≡ map step_of steps.old.items ++ step_at (event_of event.now)) }
 {
-    match event {
-        WalkEvent::Enter(NodeOrToken::Node(node)) => add_node(node, true, steps),
-        WalkEvent::Leave(NodeOrToken::Node(node)) => add_node(node, false, steps),
-        WalkEvent::Enter(NodeOrToken::Token(token)) => add_token(token, steps),
-        WalkEvent::Leave(NodeOrToken::Token(_)) => Ok(()),
+    if let Some(step) = step_at(event) {
+        steps.push(step)?;
     }
+    Ok(())
 }
 
 // Returns the steps of the rest of a walk.
@@ -214,6 +207,117 @@ pub fn are_comments_before(steps: &[Step<'_>], end: usize) -> bool
     ensures { result ≡ list_all is_comment (take end (map step_of steps.now)) }
 {
     are_comments(&steps[..end])
+}
+
+// Returns the step of an event, if it has one.
+fn step_at<'t>(event: &WalkEvent<SyntaxElement<'t>>) -> Option<Step<'t>>
+    ensures { MatchOption result (step_at (event_of event.now) ≡ []) (λ step. step_at (event_of event.now) ≡ step_of step ∷ []) }
+{
+    match event {
+        WalkEvent::Enter(NodeOrToken::Node(node)) => Some(node_step(node, true)),
+        WalkEvent::Leave(NodeOrToken::Node(node)) => Some(node_step(node, false)),
+        WalkEvent::Enter(NodeOrToken::Token(token)) => token_step(token),
+        WalkEvent::Leave(NodeOrToken::Token(_)) => None,
+    }
+}
+
+// Takes the next step of a walk.
+fn next_step<'t>(events: &mut PreorderWithTokens<'t>) -> Option<Step<'t>>
+    ensures { MatchOption result (steps_of events.old ≡ []) (λ step. steps_of events.old ≡ step_of step ∷ steps_of events.new) }
+{
+    while let Some(event) = events.next() {
+        if let Some(step) = step_at(&event) {
+            return Some(step);
+        }
+    }
+    None
+}
+
+// Takes the next step of a walk before the node at a place.
+fn next_before<'t>(events: &mut PreorderWithTokens<'t>, place: Place) -> Option<Step<'t>>
+    ensures { MatchOption result (steps_of (events_before place events.old) ≡ [])
+        (λ step. steps_of (events_before place events.old) ≡ step_of step ∷ steps_of (events_before place events.new)) }
+{
+    while let Some(event) = events.next() {
+        if enters(&event, place) {
+            return None;
+        }
+        if let Some(step) = step_at(&event) {
+            return Some(step);
+        }
+    }
+    None
+}
+
+// Returns whether two steps are equal.
+fn is_step<'t>(a: Step<'t>, b: Step<'t>) -> bool
+    ensures { Decides result (step_of a.entry ≡ step_of b.entry) }
+{
+    a == b
+}
+
+// Returns whether no step is left.
+fn are_done(mut events: PreorderWithTokens<'_>) -> bool
+    ensures { Decides result (steps_of events.entry ≡ []) }
+{
+    match next_step(&mut events) {
+        Some(_) => false,
+        None => true,
+    }
+}
+
+// Returns whether no step is left before the node at a place.
+fn are_done_before(mut events: PreorderWithTokens<'_>, place: Place) -> bool
+    ensures { Decides result (steps_of (events_before place events.entry) ≡ []) }
+{
+    match next_before(&mut events, place) {
+        Some(_) => false,
+        None => true,
+    }
+}
+
+// Returns whether the rests of two walks have the same steps.
+fn are_same_walks<'t>(mut a: PreorderWithTokens<'t>, mut b: PreorderWithTokens<'t>) -> bool
+    ensures { Decides result (steps_of a.entry ≡ steps_of b.entry) }
+{
+    while let Some(step) = next_step(&mut a) {
+        match next_step(&mut b) {
+            Some(other) if is_step(step, other) => {}
+            _ => return false,
+        }
+    }
+    are_done(b)
+}
+
+/// Returns whether two trees have the same steps before the nodes at two places.
+pub fn are_same_before(
+    root: &SyntaxNode<'_>,
+    old: Place,
+    other: &SyntaxNode<'_>,
+    new: Place,
+) -> bool
+    ensures { Decides result (steps_before new other.now ≡ steps_before old root.now) }
+{
+    let mut events = root.preorder_with_tokens();
+    let mut others = other.preorder_with_tokens();
+    while let Some(step) = next_before(&mut others, new) {
+        match next_before(&mut events, old) {
+            Some(other) if is_step(step, other) => {}
+            _ => return false,
+        }
+    }
+    are_done_before(events, old)
+}
+
+/// Returns whether two trees have the same steps after the nodes at two places.
+pub fn are_same_after(root: &SyntaxNode<'_>, old: Place, other: &SyntaxNode<'_>, new: Place) -> bool
+    ensures { Decides result (steps_after new other.now ≡ steps_after old root.now) }
+{
+    let mut events = root.preorder_with_tokens();
+    skip_node(&mut events, old);
+    let mut others = other.preorder_with_tokens();
+    skip_node(&mut others, new);
+    are_same_walks(others, events)
 }
 
 /// Returns whether the first step enters a node or passes a token.
