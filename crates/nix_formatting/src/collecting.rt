@@ -1,17 +1,17 @@
 //! From the tree to pieces and groups, in one walk.
 
 use crate::absorbing::{absorbs, own_target, takes_target};
-use crate::comments::set_gaps;
+use crate::comments::{plain_gap, set_gaps};
 use crate::frame::{Frame, NO_FRAME, has_group};
-use crate::grouping::{child_of, is_atom};
+use crate::grouping::{child_of, is_atom, plain_child};
 use crate::layout::{Group, Layout, Target};
 use crate::lines::with_lines;
 use crate::piece::{Piece, line_feeds_in};
 use crate::spacing::{
-    Child, Spacing, behind_first_comma, broken, distant, keeps_distance, spacing_in,
+    Child, Spacing, around_text, behind_first_comma, broken, distant, keeps_distance, spacing_in,
 };
 use rnix::ast::BinOpKind;
-use rnix::{NodeOrToken, SyntaxElement, SyntaxKind, SyntaxNode, SyntaxToken};
+use rnix::{NodeOrToken, SyntaxElement, SyntaxKind, SyntaxNode, SyntaxToken, TextRange};
 use rnix_base::first_binary;
 use std::alloc::{AllocError, Global};
 
@@ -30,7 +30,7 @@ struct Collector {
     // The number of the first piece whose gap is not set yet.
     unset: usize,
     // The spacing and the group of the next piece.
-    spacing: Option<Spacing>,
+    spacing: Spacing,
     group: usize,
     // The kind of the last item.
     last: SyntaxKind,
@@ -50,7 +50,7 @@ impl Collector {
             atom_end: 0,
             line_feeds: 0,
             unset: 0,
-            spacing: None,
+            spacing: around_text(),
             group: 0,
             last: SyntaxKind::NODE_ROOT,
         }
@@ -129,7 +129,7 @@ impl Collector {
                 } else {
                     frame.group
                 };
-                self.spacing = Some(wanted);
+                self.spacing = wanted;
             }
             self.frames[top].before = Some(child.kind);
         }
@@ -159,51 +159,54 @@ impl Collector {
         }
     }
 
+    // Sets the gaps up to the last piece as around the text.
+    fn settle_first(&mut self) {
+        self.settle(around_text(), 0);
+    }
+
+    // The spacing before an item of a kind.
+    fn spacing_before(&self, kind: SyntaxKind) -> Spacing {
+        if keeps_distance(self.last, kind) {
+            distant(self.spacing)
+        } else {
+            self.spacing
+        }
+    }
+
     // Adds a piece that is not a comment, and sets the gaps up to it.
     fn add_item(&mut self, piece: Piece, kind: SyntaxKind) -> Result<(), AllocError> {
         self.add_piece(piece)?;
-        match self.spacing {
-            Some(wanted) if keeps_distance(self.last, kind) => {
-                self.settle(distant(wanted), self.group)
-            }
-            Some(wanted) => self.settle(wanted, self.group),
-            None => self.settle_first(),
-        }
+        self.settle(self.spacing_before(kind), self.group);
         self.last = kind;
         Ok(())
     }
 
-    // Sets the gaps up to the first item of the text.
-    fn settle_first(&mut self) {
-        let wanted = spacing_in(
-            SyntaxKind::NODE_ROOT,
-            SyntaxKind::NODE_ROOT,
-            Child {
-                kind: SyntaxKind::NODE_ROOT,
-                is_empty: false,
-                is_named_lambda: false,
-            },
-        );
-        self.settle(wanted, 0);
-    }
-
-    // The piece of a string or a path.
-    fn atom_piece(&mut self, node: &SyntaxNode<'_>) -> Result<Piece, AllocError> {
-        let piece = Piece::new(node.text_range().start(), node.text());
-        if node.kind() == SyntaxKind::NODE_STRING {
-            with_lines(self.alloc, node, piece, &mut self.layout.lines)
-        } else {
-            Ok(piece)
+    // Adds a token or a name: a piece that gets its gap at once, if no comment precedes it.
+    fn add_word(&mut self, range: TextRange, kind: SyntaxKind) -> Result<(), AllocError> {
+        let word = Piece::of_word(range.start(), range.end());
+        if self.unset < self.layout.pieces.len() {
+            return self.add_item(word, kind);
         }
+        let line_feeds = self.line_feeds;
+        let gap = plain_gap(self.spacing_before(kind), self.group, line_feeds);
+        self.layout.pieces.push(Piece {
+            line_feeds,
+            gap,
+            ..word
+        })?;
+        self.line_feeds = 0;
+        self.unset = self.layout.pieces.len();
+        self.last = kind;
+        Ok(())
     }
 
-    // Enters a string or a path, which is one piece.
-    fn enter_atom(&mut self, node: &SyntaxNode<'_>) -> Result<(), AllocError> {
-        self.atom_end = self.end_of(node);
+    // Enters a string, which is one piece.
+    fn enter_string(&mut self, node: &SyntaxNode<'_>) -> Result<(), AllocError> {
         let number = self.layout.pieces.len();
-        let piece = self.atom_piece(node)?;
+        let text = Piece::new(node.text_range().start(), node.text());
+        let piece = with_lines(self.alloc, node, text, &mut self.layout.lines)?;
         self.add_item(piece, node.kind())?;
-        if node.kind() == SyntaxKind::NODE_STRING && piece.last_width.is_some() {
+        if piece.last_width.is_some() {
             let target = Target {
                 open: number,
                 close: number,
@@ -212,6 +215,22 @@ impl Collector {
             self.offer_target(node.kind(), Some(target));
         }
         Ok(())
+    }
+
+    // Enters a string, a path or a name, which is one piece.
+    fn enter_atom(&mut self, node: &SyntaxNode<'_>) -> Result<(), AllocError> {
+        self.atom_end = self.end_of(node);
+        let kind = node.kind();
+        self.note_child(plain_child(kind));
+        if kind == SyntaxKind::NODE_STRING {
+            return self.enter_string(node);
+        }
+        let range = node.text_range();
+        if kind == SyntaxKind::NODE_IDENT {
+            self.add_word(range, kind)
+        } else {
+            self.add_item(Piece::new(range.start(), node.text()), kind)
+        }
     }
 
     // The number of elements up to the end of a node that is entered.
@@ -227,8 +246,8 @@ impl Collector {
         }
     }
 
-    // Enters a node.
-    fn enter_node(&mut self, node: &SyntaxNode<'_>) -> Result<(), AllocError> {
+    // Enters a node that is not one piece.
+    fn enter_inner(&mut self, node: &SyntaxNode<'_>) -> Result<(), AllocError> {
         let kind = node.kind();
         let operator = if kind == SyntaxKind::NODE_BIN_OP {
             first_binary(node)
@@ -239,9 +258,6 @@ impl Collector {
         let around = self.frames.last().map_or(0, |frame| frame.group);
         let child = child_of(node);
         self.note_child(child);
-        if is_atom(kind) {
-            return self.enter_atom(node);
-        }
         let group = if is_own {
             self.open_group(around, kind)?
         } else {
@@ -268,33 +284,43 @@ impl Collector {
         Ok(())
     }
 
+    // Enters a node.
+    fn enter_node(&mut self, node: &SyntaxNode<'_>) -> Result<(), AllocError> {
+        if is_atom(node.kind()) {
+            self.enter_atom(node)
+        } else {
+            self.enter_inner(node)
+        }
+    }
+
     // Closes the group of the innermost node's condition.
     fn close_condition(&mut self) {
         let inner = self.frames.last().map_or(0, |frame| frame.inner);
         self.close_group(inner, None);
     }
 
+    // Enters a comment.
+    fn enter_comment(&mut self, token: &SyntaxToken<'_>) -> Result<(), AllocError> {
+        let text = token.text();
+        self.add_piece(Piece {
+            is_comment: true,
+            ends_line: text.starts_with('#'),
+            ..Piece::new(token.text_range().start(), text)
+        })
+    }
+
     // Enters a token.
     fn enter_token(&mut self, token: &SyntaxToken<'_>) -> Result<(), AllocError> {
-        let (kind, text) = (token.kind(), token.text());
+        let kind = token.kind();
         if kind == SyntaxKind::TOKEN_WHITESPACE {
-            self.line_feeds = line_feeds_in(text);
+            self.line_feeds = line_feeds_in(token.text());
             return Ok(());
         }
-        let piece = Piece::new(token.text_range().start(), text);
         if kind == SyntaxKind::TOKEN_COMMENT {
-            return self.add_piece(Piece {
-                is_comment: true,
-                ends_line: text.starts_with('#'),
-                ..piece
-            });
+            return self.enter_comment(token);
         }
-        self.note_child(Child {
-            kind,
-            is_empty: true,
-            is_named_lambda: false,
-        });
-        self.add_item(piece, kind)?;
+        self.note_child(plain_child(kind));
+        self.add_word(token.text_range(), kind)?;
         match kind {
             SyntaxKind::TOKEN_THEN => self.close_condition(),
             SyntaxKind::TOKEN_L_BRACE => self.note_bracket(),
@@ -342,7 +368,9 @@ impl Collector {
         if number < self.atom_end {
             return Ok(());
         }
-        self.leave_nodes(number);
+        if self.ends_before(number) {
+            self.leave_nodes(number);
+        }
         match element {
             NodeOrToken::Node(node) => self.enter_node(node),
             NodeOrToken::Token(token) => self.enter_token(token),

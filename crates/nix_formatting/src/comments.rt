@@ -3,8 +3,8 @@
 use crate::piece::{Gap, Level, Piece};
 use crate::spacing::Spacing;
 
-// The gap with a spacing, for a piece with a number of line feeds before it.
-fn plain_gap(spacing: Spacing, group: usize, line_feeds: usize) -> Gap {
+/// The gap with a spacing, for a piece with a number of line feeds before it.
+pub fn plain_gap(spacing: Spacing, group: usize, line_feeds: usize) -> Gap {
     Gap {
         blanks: spacing.blanks,
         can_break: spacing.can_break,

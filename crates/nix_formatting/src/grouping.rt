@@ -3,11 +3,12 @@
 use crate::spacing::Child;
 use rnix::{SyntaxKind, SyntaxNode};
 
-/// Whether nodes of a kind are written as they are: strings and paths.
+/// Whether nodes of a kind are written as they are: names, strings and paths.
 pub fn is_atom(kind: SyntaxKind) -> bool {
     matches!(
         kind,
-        SyntaxKind::NODE_STRING
+        SyntaxKind::NODE_IDENT
+            | SyntaxKind::NODE_STRING
             | SyntaxKind::NODE_PATH_ABS
             | SyntaxKind::NODE_PATH_HOME
             | SyntaxKind::NODE_PATH_REL
@@ -39,6 +40,15 @@ fn is_named_lambda(node: &SyntaxNode<'_>) -> bool {
     match node.first_child() {
         Some(parameter) => parameter.kind() == SyntaxKind::NODE_IDENT_PARAM,
         None => false,
+    }
+}
+
+/// Describes a token, or a node that is written as it is.
+pub fn plain_child(kind: SyntaxKind) -> Child {
+    Child {
+        kind,
+        is_empty: false,
+        is_named_lambda: false,
     }
 }
 

@@ -7,12 +7,19 @@ use std::alloc::{AllocError, Global};
 /// Widths and ends of lines, up to each piece.
 #[derive(Drop)]
 pub struct Measures {
-    // The column at which each piece ends, if all pieces are written on one line.
-    ends: Vec<usize>,
-    // The number of unconditional line ends before the gap of each piece, and last, in the whole text.
-    breaks: Vec<usize>,
-    // The number of columns from each gap to the next place where the line may end.
+    // For each piece, and last, for the whole text.
+    sums: Vec<Sum>,
+    // The number of columns from each gap to the next place where the line may end, in reverse: first 0, for the end of the text.
     tails: Vec<usize>,
+}
+
+// What is counted up to a piece.
+#[derive(Clone, Copy)]
+struct Sum {
+    // The column at which the piece ends, if all pieces are written on one line; 0 for the whole text.
+    end: usize,
+    // The number of unconditional line ends before its gap, or in the whole text.
+    breaks: usize,
 }
 
 /// The room for a group on its line.
@@ -41,34 +48,25 @@ fn several_lines(piece: &Piece) -> usize {
     usize::from(piece.last_width.is_some())
 }
 
-// The column at which each piece ends.
-fn ends_of(alloc: Global, pieces: &[Piece]) -> Result<Vec<usize>, AllocError> {
-    let mut ends = Vec::new(alloc);
-    let mut column = 0usize;
+// The column at which each piece ends, and the number of line ends before it.
+fn sums_of(alloc: Global, pieces: &[Piece]) -> Result<Vec<Sum>, AllocError> {
+    let mut sums = Vec::new(alloc);
+    let mut end = 0usize;
+    let mut breaks = 0usize;
     for piece in pieces {
-        column = column
+        end = end
             .saturating_add(piece.gap.blanks)
             .saturating_add(piece.width);
-        ends.push(column)?;
-    }
-    Ok(ends)
-}
-
-// The number of line ends before each piece.
-fn breaks_of(alloc: Global, pieces: &[Piece]) -> Result<Vec<usize>, AllocError> {
-    let mut breaks = Vec::new(alloc);
-    let mut count = 0usize;
-    breaks.push(count)?;
-    for piece in pieces {
-        count = count
+        sums.push(Sum { end, breaks })?;
+        breaks = breaks
             .saturating_add(hard_gap(piece))
             .saturating_add(several_lines(piece));
-        breaks.push(count)?;
     }
-    Ok(breaks)
+    sums.push(Sum { end: 0, breaks })?;
+    Ok(sums)
 }
 
-// The number of columns from each gap to the next place where the line may end; last, 0 for the end of the text.
+// The number of columns from each gap to the next place where the line may end, in reverse: first 0, for the end of the text.
 fn tails_of(alloc: Global, pieces: &[Piece]) -> Result<Vec<usize>, AllocError> {
     let mut tails = Vec::new(alloc);
     let mut tail = 0usize;
@@ -83,42 +81,46 @@ fn tails_of(alloc: Global, pieces: &[Piece]) -> Result<Vec<usize>, AllocError> {
         }
         tails.push(tail)?;
     }
-    tails.reverse();
     Ok(tails)
-}
-
-// The number at an index, or 0 beyond the end.
-fn at(numbers: &[usize], place: usize) -> usize {
-    numbers.get(place).copied().unwrap_or(0)
 }
 
 impl Measures {
     /// The measures of a layout.
     pub fn of(alloc: Global, layout: &Layout) -> Result<Measures, AllocError> {
         Ok(Measures {
-            ends: ends_of(alloc, &layout.pieces)?,
-            breaks: breaks_of(alloc, &layout.pieces)?,
+            sums: sums_of(alloc, &layout.pieces)?,
             tails: tails_of(alloc, &layout.pieces)?,
         })
     }
 
     /// The number of columns from the gap before a piece to the next place where the line may end.
     pub fn tail(&self, piece: usize) -> usize {
-        at(&self.tails, piece)
+        let place = self.tails.len().checked_sub(piece.saturating_add(1));
+        place.map_or(0, |place| self.tails.get(place).copied().unwrap_or(0))
+    }
+
+    // The column at which a piece ends, or 0 beyond the last piece.
+    fn end(&self, piece: usize) -> usize {
+        self.sums.get(piece).map_or(0, |sum| sum.end)
+    }
+
+    // The number of line ends before the gap of a piece, or in the whole text, or 0 beyond it.
+    fn breaks(&self, piece: usize) -> usize {
+        self.sums.get(piece).map_or(0, |sum| sum.breaks)
     }
 
     // The width of the pieces from `first` to `last` on one line.
     fn width(&self, pieces: &[Piece], first: usize, last: usize) -> usize {
         let own = pieces.get(first).map_or(0, |piece| piece.width);
-        let between = at(&self.ends, last).saturating_sub(at(&self.ends, first));
+        let between = self.end(last).saturating_sub(self.end(first));
         between.saturating_add(own)
     }
 
     // The number of unconditional line ends after the gap of `first` and up to the piece `end`.
     fn breaks_inside(&self, pieces: &[Piece], first: usize, end: usize) -> usize {
         let gap = pieces.get(first).map_or(0, |piece| hard_gap(piece));
-        at(&self.breaks, end)
-            .saturating_sub(at(&self.breaks, first))
+        self.breaks(end)
+            .saturating_sub(self.breaks(first))
             .saturating_sub(gap)
     }
 
@@ -142,14 +144,10 @@ impl Measures {
     // Whether the pieces from the one that closes the target on fit on the last line.
     fn fits_behind(&self, pieces: &[Piece], group: &Group, target: Target, room: Room) -> bool {
         let close = pieces.get(target.close).map_or(0, last_width);
-        let behind = at(&self.ends, group.end.saturating_sub(1)).saturating_sub(at(
-            &self.ends,
-            target.close,
-        ));
-        let breaks = at(&self.breaks, group.end).saturating_sub(at(
-            &self.breaks,
-            target.close.saturating_add(1),
-        ));
+        let last = self.end(group.end.saturating_sub(1));
+        let behind = last.saturating_sub(self.end(target.close));
+        let before = self.breaks(target.close.saturating_add(1));
+        let breaks = self.breaks(group.end).saturating_sub(before);
         let column = room.indent.saturating_add(close).saturating_add(behind);
         breaks == 0 && column.saturating_add(room.tail) <= room.limit
     }
@@ -179,3 +177,6 @@ impl Measures {
 fn last_width(piece: &Piece) -> usize {
     piece.last_width.unwrap_or(piece.width)
 }
+
+#[cfg(test)]
+pub mod tests;

@@ -113,6 +113,21 @@ fn first_line(text: &str) -> FirstLine {
 }
 
 impl Piece {
+    /// A part of the old text whose characters are all of ASCII and no line feeds, with no gap yet: any token but a comment or a part of a string.
+    pub fn of_word(start: usize, end: usize) -> Piece {
+        Piece {
+            start,
+            end,
+            width: end.saturating_sub(start),
+            last_width: None,
+            moves: None,
+            is_comment: false,
+            ends_line: false,
+            line_feeds: 0,
+            gap: Gap::nothing(),
+        }
+    }
+
     /// A piece of the old text, with no gap yet.
     pub fn new(start: usize, text: &str) -> Piece {
         let first = first_line(text);
@@ -122,15 +137,9 @@ impl Piece {
             text.rsplit_once('\n').map(|(_, last)| last.chars().count())
         };
         Piece {
-            start,
-            end: start.saturating_add(text.len()),
             width: first.width,
             last_width,
-            moves: None,
-            is_comment: false,
-            ends_line: false,
-            line_feeds: 0,
-            gap: Gap::nothing(),
+            ..Piece::of_word(start, start.saturating_add(text.len()))
         }
     }
 }

@@ -30,7 +30,7 @@ pub struct Spacing {
 #[derive(Clone, Copy)]
 pub struct Child {
     pub kind: SyntaxKind,
-    /// Whether it contains no node, as `{ }`.
+    /// Whether it is a set or a list without a node inside, as `{ }`.
     pub is_empty: bool,
     /// Whether it is a function whose parameter is a name.
     pub is_named_lambda: bool,
@@ -259,13 +259,11 @@ fn in_operation(next: SyntaxKind) -> Spacing {
 
 /// Whether two items would become other tokens without white space between them: a path may begin with `-`, and a URI may contain a comma.
 pub fn keeps_distance(before: SyntaxKind, next: SyntaxKind) -> bool {
-    matches!(
-        (before, next),
-        (
-            SyntaxKind::TOKEN_SUB,
-            SyntaxKind::NODE_PATH_ABS | SyntaxKind::NODE_PATH_REL
-        ) | (SyntaxKind::TOKEN_URI, SyntaxKind::TOKEN_COMMA)
-    )
+    match next {
+        SyntaxKind::NODE_PATH_ABS | SyntaxKind::NODE_PATH_REL => before == SyntaxKind::TOKEN_SUB,
+        SyntaxKind::TOKEN_COMMA => before == SyntaxKind::TOKEN_URI,
+        _ => false,
+    }
 }
 
 /// The same white space, with at least one space.
@@ -289,10 +287,15 @@ pub fn behind_first_comma() -> Spacing {
     SPACED
 }
 
+/// The white space before the first item of a text, and behind the last one.
+pub fn around_text() -> Spacing {
+    airy(level(GLUED))
+}
+
 /// The white space between a child of a node and the next one.
 pub fn spacing_in(parent: SyntaxKind, before: SyntaxKind, next: Child) -> Spacing {
     match parent {
-        SyntaxKind::NODE_ROOT => airy(level(GLUED)),
+        SyntaxKind::NODE_ROOT => around_text(),
         SyntaxKind::NODE_LIST | SyntaxKind::NODE_ATTR_SET => bracketed(before, next.kind),
         SyntaxKind::NODE_LEGACY_LET if before == SyntaxKind::TOKEN_LET => SPACED,
         SyntaxKind::NODE_LEGACY_LET => hard(bracketed(before, next.kind)),

@@ -3,7 +3,9 @@
 use super::{Collector, layout_of};
 use crate::grouping::{child_of, is_atom};
 use crate::layout::Layout;
+use crate::measuring::tests::check_measures;
 use crate::piece::Piece;
+use crate::writing::tests::check_written;
 use rnix::{NodeOrToken, Root, SyntaxElement, SyntaxKind, SyntaxNode, WalkEvent};
 use std::alloc::{AllocError, Global};
 use std::process::Abort;
@@ -112,6 +114,42 @@ fn layout_by_events(alloc: Global, root: &SyntaxNode<'_>) -> Result<Layout, Allo
     Ok(collector.layout)
 }
 
+// Enters a name as a node with a token inside, or another element as it is entered.
+fn enter_name(
+    collector: &mut Collector,
+    element: &SyntaxElement<'_>,
+    depth: usize,
+) -> Result<usize, AllocError> {
+    match element.as_node() {
+        Some(node) if depth == 0 && node.kind() == SyntaxKind::NODE_IDENT => {
+            collector.enter_inner(node)?;
+            Ok(0)
+        }
+        _ => enter(collector, element, depth),
+    }
+}
+
+// The layout by a walk that enters and leaves each element, names as the nodes that they are.
+fn layout_by_nodes(alloc: Global, root: &SyntaxNode<'_>) -> Result<Layout, AllocError> {
+    let mut collector = Collector::new(alloc);
+    let mut depth = 0usize;
+    for event in root.preorder_with_tokens() {
+        match event {
+            WalkEvent::Enter(element) => depth = enter_name(&mut collector, &element, depth)?,
+            WalkEvent::Leave(element) => depth = leave(&mut collector, &element, depth),
+        }
+    }
+    collector.settle_first();
+    Ok(collector.layout)
+}
+
+// Whether two layouts are the same.
+fn are_same(old: &Layout, new: &Layout) -> bool {
+    old.pieces.as_slice() == new.pieces.as_slice()
+        && old.groups.as_slice() == new.groups.as_slice()
+        && old.lines.as_slice() == new.lines.as_slice()
+}
+
 // The numbers of characters of the first and the last line of a text.
 fn widths(text: &str) -> (usize, Option<usize>) {
     match (text.split_once('\n'), text.rsplit_once('\n')) {
@@ -130,6 +168,22 @@ fn is_named(node: &SyntaxNode<'_>) -> bool {
     }
 }
 
+// Compares what is measured of a word: a name, or a token other than white space, comments and the contents of strings.
+fn check_word(rt: &impl Abort, element: &SyntaxElement<'_>) {
+    let text = match element {
+        NodeOrToken::Node(node) => node.text(),
+        NodeOrToken::Token(token) => token.text(),
+    };
+    let is_word = match element.kind() {
+        SyntaxKind::NODE_IDENT => true,
+        SyntaxKind::TOKEN_COMMENT
+        | SyntaxKind::TOKEN_WHITESPACE
+        | SyntaxKind::TOKEN_STRING_CONTENT => false,
+        _ => element.as_token().is_some(),
+    };
+    assert!(rt; !is_word || Piece::of_word(3, text.len().saturating_add(3)) == Piece::new(3, text));
+}
+
 // Compares what is measured of a node or a token.
 fn check_element(rt: &impl Abort, element: &SyntaxElement<'_>) {
     let text = match element {
@@ -139,6 +193,7 @@ fn check_element(rt: &impl Abort, element: &SyntaxElement<'_>) {
     let piece = Piece::new(0, text);
     let (width, last_width) = widths(text);
     assert!(rt; piece.width == width && piece.last_width == last_width && piece.end == text.len());
+    check_word(rt, element);
     if let NodeOrToken::Node(node) = element {
         let child = child_of(node);
         let is_bracketed = matches!(
@@ -163,7 +218,9 @@ fn check(rt: &(impl Abort + AllocGlobal), text: &str) -> Result<(), AllocError> 
     assert!(rt; old.pieces.as_slice() == new.pieces.as_slice());
     assert!(rt; old.groups.as_slice() == new.groups.as_slice());
     assert!(rt; old.lines.as_slice() == new.lines.as_slice());
-    Ok(())
+    assert!(rt; are_same(&layout_by_nodes(rt.alloc(), &root)?, &new));
+    check_measures(rt, &new)?;
+    check_written(rt, text, &new)
 }
 
 #[test]
