@@ -139,13 +139,13 @@ pub(crate) fn is_meant(alloc: Global, root: &Root<'_>, whole: &Data) -> Result<b
 fn is_read_as(alloc: Global, text: &str, whole: &Data) -> Result<bool, AllocError>
     ensures { IfOk result (λ is_read. IsTrue is_read → IsWritten text.now (contents whole.now)) }
 {
-    if !is_readable(alloc, whole)? {
-        return Ok(false);
-    }
     let parse = Root::parse(alloc, text)?;
     let Ok(root) = parse.ok() else {
         return Ok(false);
     };
+    if !is_readable(alloc, whole)? {
+        return Ok(false);
+    }
     Ok(is_meant(alloc, &root, whole)?)
 }
 

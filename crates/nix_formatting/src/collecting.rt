@@ -23,7 +23,7 @@ struct Collector {
     frames: Vec<Frame>,
     // The number of elements that were passed.
     passed: usize,
-    // The number of elements up to the end of the last string or path.
+    // The number of elements up to the end of the last string, path or name.
     atom_end: usize,
     // The number of line feeds after the last piece.
     line_feeds: usize,
@@ -361,7 +361,7 @@ impl Collector {
         }
     }
 
-    // Passes a node or a token, unless it is inside a string or a path.
+    // Passes a node or a token, unless it is inside a string, a path or a name.
     fn pass(&mut self, element: &SyntaxElement<'_>) -> Result<(), AllocError> {
         let number = self.passed;
         self.passed = number.saturating_add(1);

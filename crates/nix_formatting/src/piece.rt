@@ -113,7 +113,8 @@ fn first_line(text: &str) -> FirstLine {
 }
 
 impl Piece {
-    /// A part of the old text whose characters are all of ASCII and no line feeds, with no gap yet: any token but a comment or a part of a string.
+    /// A part of the old text whose characters are all of ASCII and no line feeds, with no gap yet: a name, or a token of a text without errors that is
+    /// no white space, no comment and no part of a string.
     pub fn of_word(start: usize, end: usize) -> Piece {
         Piece {
             start,
