@@ -1,39 +1,37 @@
 -- Tests of several facts.
-use Rattle.std.proofs.Common.{◌≡◌, ℕ, ◌≤◌, Bool, true, length, take, drop, ◌++◌, sym, ◌∙◌, subst}
-use Rattle.std.proofs.lemmas.Bool.Decides.{Decides-like, Decides-and}
-use Rattle.std.specs.{Prelude.◌&&◌, Bool.Decides, List.list_all}
+use Rattle.std.proofs.Common.{◌≡◌, ℕ, Bool, true, List, ◌++◌, ap, sym, ◌∙◌}
+use Rattle.std.proofs.lemmas.{Bool.Decides.{Decides-like}, List.append_cancel_left}
+use Rattle.std.specs.Bool.{Decides}
 use Rattle.rnix_green.specs.Tree.{Located}
 use Rattle.rnix_edit.specs.declared.place.Place.{Place}
-use Rattle.rnix_edit.specs.{Steps.{steps_in, steps_before, steps_after, is_comment, enters_first}, Edited.{IsWith, IsAfter, IsLastIn, IsWithout}}
+use Rattle.rnix_edit.specs.Steps.{Step, has_node, steps_in, steps_before, steps_after, IsTaken, AreCommentsTaken}
+use Rattle.rnix_edit.specs.Edited.{IsWith, IsWithout}
 
--- a test that equals another one decides whether that one holds
-decides_same : (a b : Bool) → a ≡ b → Decides a (b ≡ true)
-decides_same a b is = (λ holds. sym is ∙ holds, λ holds. is ∙ holds)
+-- steps are some first ones, which were taken, and the rest just if the rest is left
+pub taken_tested : (taken same : Bool) (first all left rest : List Step) → IsTaken taken first all left → taken ≡ true → Decides same (left ≡ rest) →
+    Decides same (all ≡ first ++ rest)
+taken_tested taken same first all left rest comes is tested =
+    let so : all ≡ first ++ left = comes.passed is in
+    Decides-like same (λ same_rest. so ∙ ap (λ steps. first ++ steps) same_rest)
+    (λ whole. append_cancel_left first left rest (sym so ∙ whole)) tested
 
-module _ (root : Located) (old : Place) (comments : ℕ) (other : Located) (fits : comments ≤ length (steps_after old root)) where
-  -- the tests of a node that comes after another one
-  pub after_tested : (new : Place) (a b c r : Bool) → Decides a (IsWith root other new) →
-      b ≡ list_all is_comment (take comments (steps_after old root)) → Decides c (steps_after new other ≡ drop comments (steps_after old root)) →
-      r ≡ (a && (b && c)) → Decides r (IsAfter root old comments other new)
-  after_tested new a b c r added are rest is =
-      subst (λ x. Decides x (IsAfter root old comments other new)) (sym is)
-      (Decides-like (a && (b && c)) (λ p. record { added = p.0; fits = fits; are_comments = p.1.0; after = p.1.1 })
-      (λ h. (h.added, (h.are_comments, h.after))) (Decides-and a (b && c) added (Decides-and b c (decides_same b _ are) rest)))
+-- the tests of a node without which a tree is another one
+pub with_tested : (root other : Located) (new : Place) (there same : Bool) → there ≡ has_node new other → there ≡ true →
+    Decides same (steps_in root ≡ steps_before new other ++ steps_after new other) → Decides same (IsWith root other new)
+with_tested root other new there same is holds tested =
+    Decides-like same (λ rest. record { is_there = sym is ∙ holds; rest = rest }) (λ h. h.rest) tested
 
-  -- the tests of a tree without a node
-  pub without_tested : (b c r : Bool) → b ≡ list_all is_comment (take comments (steps_after old root)) →
-      Decides c (steps_in other ≡ steps_before old root ++ drop comments (steps_after old root)) → r ≡ (b && c) →
-      Decides r (IsWithout root old comments other)
-  without_tested b c r are rest is =
-      subst (λ x. Decides x (IsWithout root old comments other)) (sym is)
-      (Decides-like (b && c) (λ p. record { fits = fits; are_comments = p.0; rest = p.1 }) (λ h. (h.are_comments, h.rest))
-      (Decides-and b c (decides_same b _ are) rest))
-
--- the tests of a node that comes last in another one
-pub inside_tested : (root : Located) (old : Place) (other : Located) (new : Place) (a b c r : Bool) → 2 ≤ length (steps_after new other) →
-    Decides a (IsWith root other new) → b ≡ enters_first (steps_after new other) → Decides c (steps_after old root ≡ drop 2 (steps_after new other)) →
-    r ≡ (a && (b && c)) → Decides r (IsLastIn root old other new)
-inside_tested root old other new a b c r fits added enters rest is =
-    subst (λ x. Decides x (IsLastIn root old other new)) (sym is)
-    (Decides-like (a && (b && c)) (λ p. record { added = p.0; fits = fits; token = p.1.0; after = p.1.1 })
-    (λ h. (h.added, (h.token, h.after))) (Decides-and a (b && c) added (Decides-and b c (decides_same b _ enters) rest)))
+-- the tests of a tree without a node, behind which comments were taken
+pub without_tested : (root : Located) (old : Place) (comments : ℕ) (other : Located) (left : List Step) (taken same : Bool) →
+    AreCommentsTaken taken comments (steps_after old root) left → taken ≡ true → Decides same (steps_in other ≡ steps_before old root ++ left) →
+    Decides same (IsWithout root old comments other)
+without_tested root old comments other left taken same comes is tested =
+    let passed = comes.passed is in
+    Decides-like same
+    (λ rest. record {
+      fits = passed.0.0;
+      are_comments = passed.0.1;
+      rest = rest ∙ ap (λ steps. steps_before old root ++ steps) passed.1;
+    })
+    (λ h. h.rest ∙ ap (λ steps. steps_before old root ++ steps) (sym passed.1))
+    tested

@@ -1,33 +1,9 @@
--- Steps of a walk that are collected and compared.
-use Rattle.std.proofs.Common.{◌≡◌, List, [], ◌∷◌, ◌++◌, map, Bool, true, false, Option, Some, None, refl, sym, ap, ◌∙◌, append_assoc}
-use Rattle.std.proofs.lemmas.List.{append-nil}
-use Rattle.std.specs.{Prelude.{◌||◌, if◌then◌else◌, slice_get}, Bool.Decides, List.list_any}
+-- Steps of a walk that are compared.
+use Rattle.std.proofs.Common.{◌≡◌, ℕ, List, [], ◌∷◌, ◌++◌, drop, Bool, true, false, sym, ap, ◌∙◌}
+use Rattle.std.specs.{Prelude.{◌||◌, if◌then◌else◌}, Bool.Decides, List.{list_any}}
 use Rattle.rnix_green.specs.{Tree.Located, Walk.Event}
 use Rattle.rnix_edit.specs.declared.place.Place.{Place}
-use Rattle.rnix_edit.specs.declared.steps.Step.{Step as Made}
-use Rattle.rnix_edit.specs.Steps.{Step, step_of, is_at, step_at, steps_of, enters, leaves, events_before, events_after, enters_first}
-
--- one more event is passed
-pub events_more : (steps more all : List Step) (events rest : List Event) (event : Event) → steps ++ steps_of events ≡ all →
-    events ≡ event ∷ rest → more ≡ steps ++ step_at event → more ++ steps_of rest ≡ all
-events_more steps more all events rest event so_far next is =
-    ap (λ xs. xs ++ steps_of rest) is ∙ append_assoc steps (step_at event) (steps_of rest)
-    ∙ ap (λ es. steps ++ steps_of es) (sym next) ∙ so_far
-
--- one more event is passed before a node
-pub before_more : (place : Place) (steps more all : List Step) (events rest : List Event) (event : Event) →
-    steps ++ steps_of (events_before place events) ≡ all → events ≡ event ∷ rest → enters place event ≡ false → more ≡ steps ++ step_at event →
-    more ++ steps_of (events_before place rest) ≡ all
-before_more place steps more all events rest event so_far next fails is =
-    events_more steps more all (events_before place events) (events_before place rest) event so_far
-    (ap (events_before place) next ∙ ap (λ b. if b then [] else event ∷ events_before place rest) fails) is
-
--- the node is entered: what was passed is all before it
-pub before_found : (place : Place) (steps all : List Step) (events rest : List Event) (event : Event) →
-    steps ++ steps_of (events_before place events) ≡ all → events ≡ event ∷ rest → enters place event ≡ true → steps ≡ all
-before_found place steps all events rest event so_far next found =
-    sym (append-nil steps)
-    ∙ ap (λ es. steps ++ steps_of es) (sym (ap (events_before place) next ∙ ap (λ b. if b then [] else event ∷ events_before place rest) found)) ∙ so_far
+use Rattle.rnix_edit.specs.Steps.{Step, is_at, leaves, events_after, AreComments}
 
 -- one more event is passed up to the end of a node
 pub after_more : (place : Place) (events rest all : List Event) (event : Event) → events_after place events ≡ all → events ≡ event ∷ rest →
@@ -53,16 +29,6 @@ pub node_found : (place : Place) (nodes rest : List Located) (node : Located) (a
 node_found place nodes rest node all so_far next found =
     sym (ap (list_any (is_at place)) next ∙ ap (λ b. b || list_any (is_at place) rest) found) ∙ so_far
 
--- whether a step enters, if there is one
-abbrev pub entered : Option Made → Bool
-entered None = false
-entered (Some step) = step.enters
-
--- the first step is the one at index 0
-pub first_entered : (steps : List Made) → entered (slice_get steps 0) ≡ enters_first (map step_of steps)
-first_entered [] = refl
-first_entered (step ∷ steps) = refl
-
 -- one walk ends: both have the same steps if the other one ends too
 pub walks_end : (a b whole_a whole_b : List Step) (ended : Bool) → (a ≡ b → whole_a ≡ whole_b) → (whole_a ≡ whole_b → a ≡ b) → a ≡ [] →
     Decides ended (b ≡ []) → Decides ended (whole_a ≡ whole_b)
@@ -76,3 +42,14 @@ both_passed x y a b all_a all_b first second same rests = cc
 -- the converse
 pub both_left : (x y : Step) (a b all_a all_b : List Step) → all_a ≡ x ∷ a → all_b ≡ y ∷ b → all_a ≡ all_b → a ≡ b
 both_left x y a b all_a all_b first second same = cc
+
+-- the steps of one walk go on with those of another just if what was left of both does
+pub record GoesOn (first all first_left all_left : List Step) : Type 0 where
+  pub there : (rest : List Step) → all_left ≡ first_left ++ rest → all ≡ first ++ rest
+  pub back : (rest : List Step) → all ≡ first ++ rest → all_left ≡ first_left ++ rest
+
+-- so many comments come first in all steps just if as many as are left do in those that are left
+pub record CommentsGoOn (count : ℕ) (all : List Step) (left : ℕ) (steps : List Step) : Type 0 where
+  pub there : AreComments left steps → AreComments count all
+  pub back : AreComments count all → AreComments left steps
+  pub rest : drop left steps ≡ drop count all

@@ -1,8 +1,8 @@
 -- A tree as the steps of a walk over it, without white space.
-use Rattle.std.specs.Prelude.{ℕ, ◌-◌, ◌==◌, ◌&&◌, Bool, true, false, not, List, [], ◌∷◌, flat_map, if◌then◌else◌}
+use Rattle.std.specs.Prelude.{◌≡◌, ℕ, ◌-◌, ◌≤◌, ◌==◌, ◌&&◌, Bool, true, false, not, List, [], ◌∷◌, ◌++◌, flat_map, length, take, drop, if◌then◌else◌}
 use Rattle.std.specs.Bool.{beq}
 use Rattle.std.specs.Str.{bytes_eq}
-use Rattle.std.specs.List.{list_any}
+use Rattle.std.specs.List.{list_any, list_all}
 use Rattle.rnix_kinds.specs.declared.kinds.SyntaxKind.{SyntaxKind}
 use Rattle.rnix_kinds.specs.declared.kinds.SyntaxKind.TheVariants as k
 use Rattle.rnix_green.specs.Equality.{same_kind}
@@ -101,3 +101,26 @@ is_comment step = same_kind step.kind k.TOKEN_COMMENT
 abbrev pub enters_first : List Step → Bool
 enters_first [] = false
 enters_first (step ∷ steps) = step.enters
+
+-- steps begin with some others, which are taken, and these are left; none are taken where they do not
+pub record IsTaken (taken : Bool) (first all left : List Step) : Type 0 where
+  pub passed : taken ≡ true → all ≡ first ++ left
+  pub found : (rest : List Step) → all ≡ first ++ rest → taken ≡ true
+
+-- so many steps come first, all of which pass comments
+abbrev pub AreComments : ℕ → List Step → Type 0
+AreComments count all = (count ≤ length all) × (list_all is_comment (take count all) ≡ true)
+
+-- so many comments are taken, if they come first, and these steps are left
+pub record AreCommentsTaken (taken : Bool) (count : ℕ) (all left : List Step) : Type 0 where
+  pub passed : taken ≡ true → AreComments count all × (left ≡ drop count all)
+  pub found : AreComments count all → taken ≡ true
+
+-- two steps come first, and the first one enters an element
+abbrev pub IsClosing : List Step → Type 0
+IsClosing all = (2 ≤ length all) × (enters_first all ≡ true)
+
+-- these two are taken, if they come first, and these steps are left
+pub record IsClosingTaken (taken : Bool) (all left : List Step) : Type 0 where
+  pub passed : taken ≡ true → IsClosing all × (left ≡ drop 2 all)
+  pub found : IsClosing all → taken ≡ true

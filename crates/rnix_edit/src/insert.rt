@@ -67,7 +67,7 @@ pub fn insert_after(
     };
     let place = place_in(&gap, kind, new)?;
     let old = place_of(node);
-    if is_after(alloc, root, old, gap.comments, &read.syntax(), place)? {
+    if is_after(root, old, gap.comments, &read.syntax(), place) {
         Ok(Edited::Done(made))
     } else {
         Ok(Edited::Refused(Refusal::ReadOtherwise))
@@ -94,7 +94,7 @@ pub fn insert_inside(
     };
     let place = place_in(&gap, kind, new)?;
     let old = place_of(node);
-    if is_inside(alloc, root, old, &read.syntax(), place)? {
+    if is_inside(root, old, &read.syntax(), place) {
         Ok(Edited::Done(made))
     } else {
         Ok(Edited::Refused(Refusal::ReadOtherwise))

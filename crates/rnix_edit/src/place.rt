@@ -1,6 +1,6 @@
 //! Places of nodes.
 
-ghost use Rattle.std.specs.Prelude.{◌≡◌};
+ghost use Rattle.std.specs.Prelude.{◌≡◌, ◌==◌, ◌&&◌};
 ghost use Rattle.rnix_edit.specs.Steps.{place_of, is_at, has_node};
 
 use rnix::{SyntaxKind, SyntaxNode};
@@ -25,12 +25,18 @@ pub fn place_of(node: &SyntaxNode<'_>) -> Place
     }
 }
 
+// Returns whether two places begin at the same offset and have the same length.
+fn are_same_ranges(a: Place, b: Place) -> bool
+    ensures { result ≡ (a.start == b.start && a.len == b.len) }
+{
+    a.start == b.start && a.len == b.len
+}
+
 /// Returns whether a node is at a place.
 pub fn is_at(node: &SyntaxNode<'_>, place: Place) -> bool
     ensures { result ≡ is_at place node.now }
 {
-    let own = place_of(node);
-    own.kind == place.kind && own.start == place.start && own.len == place.len
+    node.kind() == place.kind && are_same_ranges(place_of(node), place)
 }
 
 /// Returns whether a node inside this one, or itself, is at a place.

@@ -28,7 +28,7 @@ pub fn remove(
         Tried::Refused(refusal) => return Ok(Edited::Refused(refusal)),
     };
     let old = place_of(node);
-    if is_without(alloc, root, old, cut.comments, &read.syntax())? {
+    if is_without(root, old, cut.comments, &read.syntax()) {
         Ok(Edited::Done(made))
     } else {
         Ok(Edited::Refused(Refusal::ReadOtherwise))

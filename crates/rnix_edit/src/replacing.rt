@@ -40,17 +40,16 @@ fn place_at(kind: SyntaxKind, start: usize, new: &str) -> Place
 
 // Returns whether a tree has a node of a kind in place of another one, and else is as it was.
 fn is_replaced(
-    alloc: Global,
     root: &SyntaxNode<'_>,
     node: &SyntaxNode<'_>,
     kind: SyntaxKind,
     new: &str,
     other: &SyntaxNode<'_>,
-) -> Result<bool, AllocError>
-    ensures { IfOk result (λ passes. Decides passes (IsTreeReplaced root.now node.now kind new.now other.now)) }
+) -> bool
+    ensures { Decides result (IsTreeReplaced root.now node.now kind new.now other.now) }
 {
     let old = place_of(node);
-    is_around(alloc, root, old, other, place_at(kind, old.start, new))
+    is_around(root, old, other, place_at(kind, old.start, new))
 }
 
 /// Returns the text with a new text in place of a node. The new text must be read as one node of this kind.
@@ -70,7 +69,7 @@ pub fn replace(
         Tried::Read(made, read) => (made, read),
         Tried::Refused(refusal) => return Ok(Edited::Refused(refusal)),
     };
-    if is_replaced(alloc, root, node, kind, new, &read.syntax())? {
+    if is_replaced(root, node, kind, new, &read.syntax()) {
         Ok(Edited::Done(made))
     } else {
         Ok(Edited::Refused(Refusal::ReadOtherwise))

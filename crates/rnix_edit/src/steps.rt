@@ -1,17 +1,17 @@
 //! A tree as the steps of a walk over it, without white space.
 
-ghost use Rattle.std.specs.Prelude.{◌≡◌, ◌≤◌, ◌++◌, [], ◌∷◌, length, take, drop, map, IfOk, OnOk, IsSomeAnd, MatchOption};
+ghost use Rattle.std.specs.Prelude.{◌≡◌, [], ◌∷◌, MatchOption};
 ghost use Rattle.rnix_green.specs.Tree.{item_of, text_at};
+ghost use Rattle.rnix_green.specs.Walk.{preorder_of};
 ghost use Rattle.std.specs.Bool.{Decides};
-ghost use Rattle.std.specs.List.{list_all};
 ghost use Rattle.rnix_tree.specs.Spots.{event_of};
-ghost use Rattle.rnix_edit.specs.Steps.{step_of, token_steps, node_step, step_at, steps_of, steps_in, enters, leaves, events_before, events_after, steps_before, steps_after, is_comment, enters_first};
+ghost use Rattle.rnix_edit.specs.Steps.{step_of, token_steps, node_step, step_at, steps_of, enters, leaves, events_before, events_after};
+ghost use Rattle.rnix_edit.specs.Steps.{steps_before, steps_after, is_comment, IsTaken, AreCommentsTaken, IsClosingTaken};
 
 use crate::place::{Place, is_at};
 use rnix::{
     NodeOrToken, PreorderWithTokens, SyntaxElement, SyntaxKind, SyntaxNode, SyntaxToken, WalkEvent,
 };
-use std::alloc::{AllocError, Global};
 
 /// A node is entered or left, and then has no text, or a token is passed.
 #[derive(Clone, Copy)]
@@ -48,37 +48,6 @@ fn node_step<'t>(node: &SyntaxNode<'t>, enters: bool) -> Step<'t>
     }
 }
 
-// Adds the step of an event, if it has one.
-fn add_step<'t>(
-    event: &WalkEvent<SyntaxElement<'t>>,
-    steps: &mut Vec<Step<'t>>,
-) -> Result<(), AllocError>
-    ensures { OnOk result (map step_of steps.new.items ≡ map step_of steps.old.items ++ step_at (event_of event.now)) }
-{
-    if let Some(step) = step_at(event) {
-        steps.push(step)?;
-    }
-    Ok(())
-}
-
-// Returns the steps of the rest of a walk.
-fn steps_of<'t>(alloc: Global, events: PreorderWithTokens<'t>) -> Result<Vec<Step<'t>>, AllocError>
-    ensures { IfOk result (λ steps. map step_of steps.items ≡ steps_of events.entry) }
-{
-    let mut steps = Vec::new(alloc);
-    for event in events {
-        add_step(&event, &mut steps)?;
-    }
-    Ok(steps)
-}
-
-/// Returns the steps of a walk over a node.
-pub fn steps_in<'t>(alloc: Global, root: &SyntaxNode<'t>) -> Result<Vec<Step<'t>>, AllocError>
-    ensures { IfOk result (λ steps. map step_of steps.items ≡ steps_in root.now) }
-{
-    steps_of(alloc, root.preorder_with_tokens())
-}
-
 // Returns whether an event enters the node at a place.
 fn enters(event: &WalkEvent<SyntaxElement<'_>>, place: Place) -> bool
     ensures { result ≡ enters place (event_of event.now) }
@@ -99,24 +68,6 @@ fn leaves(event: &WalkEvent<SyntaxElement<'_>>, place: Place) -> bool
     }
 }
 
-/// Returns the steps before the node at a place is entered.
-pub fn steps_before<'t>(
-    alloc: Global,
-    root: &SyntaxNode<'t>,
-    place: Place,
-) -> Result<Vec<Step<'t>>, AllocError>
-    ensures { IfOk result (λ steps. map step_of steps.items ≡ steps_before place root.now) }
-{
-    let mut steps = Vec::new(alloc);
-    for event in root.preorder_with_tokens() {
-        if enters(&event, place) {
-            return Ok(steps);
-        }
-        add_step(&event, &mut steps)?;
-    }
-    Ok(steps)
-}
-
 // Takes the events up to the one that leaves the node at a place.
 fn skip_node(events: &mut PreorderWithTokens<'_>, place: Place)
     ensures { events.new ≡ events_after place events.old }
@@ -128,17 +79,13 @@ fn skip_node(events: &mut PreorderWithTokens<'_>, place: Place)
     }
 }
 
-/// Returns the steps after the node at a place is left.
-pub fn steps_after<'t>(
-    alloc: Global,
-    root: &SyntaxNode<'t>,
-    place: Place,
-) -> Result<Vec<Step<'t>>, AllocError>
-    ensures { IfOk result (λ steps. map step_of steps.items ≡ steps_after place root.now) }
+/// Returns the walk over a tree after the node at a place is left.
+pub fn walk_after<'t>(root: &SyntaxNode<'t>, place: Place) -> PreorderWithTokens<'t>
+    ensures { result ≡ events_after place (preorder_of root.now) }
 {
     let mut events = root.preorder_with_tokens();
     skip_node(&mut events, place);
-    steps_of(alloc, events)
+    events
 }
 
 impl<'t> PartialEq for Step<'t> {
@@ -154,59 +101,11 @@ impl<'t> PartialEq for Step<'t> {
     }
 }
 
-/// Returns whether two lists of steps are equal.
-pub fn are_same<'t>(a: &[Step<'t>], b: &[Step<'t>]) -> bool
-    ensures { Decides result (map step_of a.now ≡ map step_of b.now) }
-{
-    a == b
-}
-
-/// Returns whether a list of steps is another one from an index on.
-pub fn are_from<'t>(a: &[Step<'t>], b: &[Step<'t>], start: usize) -> bool
-    requires { start ≤ length b.now }
-    ensures { Decides result (map step_of a.now ≡ drop start (map step_of b.now)) }
-{
-    are_same(a, &b[start..])
-}
-
-/// Adds the steps of another list from an index on.
-pub fn add_from<'t>(
-    steps: &mut Vec<Step<'t>>,
-    more: &[Step<'t>],
-    start: usize,
-) -> Result<(), AllocError>
-    requires { start ≤ length more.now }
-    ensures { OnOk result (map step_of steps.new.items ≡ map step_of steps.old.items ++ drop start (map step_of more.now)) }
-{
-    steps.extend_from_slice(&more[start..])?;
-    Ok(())
-}
-
 // Returns whether a step passes a comment.
 fn is_comment(step: &Step<'_>) -> bool
     ensures { result ≡ is_comment (step_of step.now) }
 {
     step.kind == SyntaxKind::TOKEN_COMMENT
-}
-
-// Returns whether all steps pass comments.
-fn are_comments(steps: &[Step<'_>]) -> bool
-    ensures { result ≡ list_all is_comment (map step_of steps.now) }
-{
-    for step in steps {
-        if !is_comment(step) {
-            return false;
-        }
-    }
-    true
-}
-
-/// Returns whether all steps before an index pass comments.
-pub fn are_comments_before(steps: &[Step<'_>], end: usize) -> bool
-    requires { end ≤ length steps.now }
-    ensures { result ≡ list_all is_comment (take end (map step_of steps.now)) }
-{
-    are_comments(&steps[..end])
 }
 
 // Returns the step of an event, if it has one.
@@ -276,8 +175,8 @@ fn are_done_before(mut events: PreorderWithTokens<'_>, place: Place) -> bool
     }
 }
 
-// Returns whether the rests of two walks have the same steps.
-fn are_same_walks<'t>(mut a: PreorderWithTokens<'t>, mut b: PreorderWithTokens<'t>) -> bool
+/// Returns whether the rests of two walks have the same steps.
+pub fn are_same_walks<'t>(mut a: PreorderWithTokens<'t>, mut b: PreorderWithTokens<'t>) -> bool
     ensures { Decides result (steps_of a.entry ≡ steps_of b.entry) }
 {
     while let Some(step) = next_step(&mut a) {
@@ -313,19 +212,47 @@ pub fn are_same_before(
 pub fn are_same_after(root: &SyntaxNode<'_>, old: Place, other: &SyntaxNode<'_>, new: Place) -> bool
     ensures { Decides result (steps_after new other.now ≡ steps_after old root.now) }
 {
-    let mut events = root.preorder_with_tokens();
-    skip_node(&mut events, old);
-    let mut others = other.preorder_with_tokens();
-    skip_node(&mut others, new);
-    are_same_walks(others, events)
+    are_same_walks(walk_after(other, new), walk_after(root, old))
 }
 
-/// Returns whether the first step enters a node or passes a token.
-pub fn enters_first(steps: &[Step<'_>]) -> bool
-    ensures { result ≡ enters_first (map step_of steps.now) }
+/// Takes the steps of a tree before the node at a place from a walk, if it goes on with them.
+pub fn takes_before(
+    events: &mut PreorderWithTokens<'_>,
+    root: &SyntaxNode<'_>,
+    place: Place,
+) -> bool
+    ensures { IsTaken result (steps_before place root.now) (steps_of events.old) (steps_of events.new) }
 {
-    match steps.first() {
-        Some(step) => step.enters,
-        None => false,
+    let mut wanted = root.preorder_with_tokens();
+    while let Some(step) = next_before(&mut wanted, place) {
+        match next_step(events) {
+            Some(other) if is_step(step, other) => {}
+            _ => return false,
+        }
+    }
+    true
+}
+
+/// Takes so many steps from a walk, if they pass comments.
+pub fn takes_comments(events: &mut PreorderWithTokens<'_>, count: usize) -> bool
+    ensures { AreCommentsTaken result count (steps_of events.old) (steps_of events.new) }
+{
+    let mut left = count;
+    while left > 0 {
+        match next_step(events) {
+            Some(step) if is_comment(&step) => left -= 1,
+            _ => return false,
+        }
+    }
+    true
+}
+
+/// Takes the last token of a node and the end of the node from a walk: two steps, of which the first enters an element.
+pub fn takes_closing(events: &mut PreorderWithTokens<'_>) -> bool
+    ensures { IsClosingTaken result (steps_of events.old) (steps_of events.new) }
+{
+    match next_step(events) {
+        Some(bracket) if bracket.enters => next_step(events).is_some(),
+        _ => false,
     }
 }

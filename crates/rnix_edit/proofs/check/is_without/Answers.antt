@@ -1,18 +1,18 @@
-use Rattle.std.proofs.Common.{rules, ◌≡◌, ◌≤◌, ◌++◌, map, length, take, drop, ap}
-use Rattle.std.proofs.lemmas.List.{length-map}
-use Rattle.std.specs.{Bool.Decides, List.list_all}
-use Rattle.rnix_edit.specs.Steps.{step_of, steps_in, steps_before, steps_after, is_comment}
-use Rattle.rnix_edit.proofs.CheckLemmas.{without_tested}
+use Rattle.std.proofs.Common.{rules, ◌≡◌, subst, true}
+use Rattle.rnix_edit.specs.Steps.{steps_of, steps_in, steps_before, steps_after, IsTaken, AreCommentsTaken}
+use Rattle.rnix_edit.proofs.CheckLemmas.{taken_tested, without_tested}
 use Rattle.rnix_edit.proofs.check.is_without.Goals as goal
 
-pub returns : goal.returns
-returns c =
-    let old = steps_after c.args.old c.args.root.now in
+pub returns-then-takes_before : goal.returns-then-takes_before
+returns-then-takes_before c =
     let before = steps_before c.args.old c.args.root.now in
-    let old_is : map step_of c.in_ok-after.after.items ≡ old = c.in_ok-after.ensures in
-    let long : length c.in_ok-after.after.items ≡ length old = search (rules, length-map c.in_ok-after.after.items step_of, ap length old_is) in
-    let fits : c.args.comments ≤ length old = search rules in
-    let are : c.are_comments_before-are_comments.result ≡ list_all is_comment (take c.args.comments old) = search rules in
-    let wanted : map step_of c.add_from.new.steps.items ≡ before ++ drop c.args.comments old = search rules in
-    let rest : Decides c.are_same-is_rest.result (steps_in c.args.other.now ≡ before ++ drop c.args.comments old) = search rules in
-    without_tested c.args.root.now c.args.old c.args.comments c.args.other.now fits _ _ c.all_hold.result are rest c.all_hold.ensures
+    let all = steps_in c.args.other.now in
+    let left = steps_of c.takes_before.new.events in
+    let rest = steps_of c.takes_comments.new.events in
+    let is : c.takes_comments.result ≡ true = search rules in
+    let comes : AreCommentsTaken c.takes_comments.result c.args.comments (steps_after c.args.old c.args.root.now) rest =
+    subst (λ events. AreCommentsTaken c.takes_comments.result c.args.comments (steps_of events) rest) c.walk_after-rest.ensures c.takes_comments.ensures in
+    let taken : IsTaken c.takes_before.result before all left =
+    subst (λ events. IsTaken c.takes_before.result before (steps_of events) left) c.preorder_with_tokens-events.ensures.walk c.takes_before.ensures in
+    without_tested c.args.root.now c.args.old c.args.comments c.args.other.now rest _ _ comes is
+    (taken_tested _ _ before all left rest taken c.if-takes_before.true c.are_same_walks.ensures)

@@ -16,8 +16,8 @@ returns-in-Refused-clause-refused c =
     (hindered text gap.start gap.end put (so gap) c.in-Refused.refusal
     (subst (IfNotRead (λ refusal. IsUnread refusal text gap.start gap.end put)) c.in-Refused.is c.in_ok-made.ensures.refused))
 
-pub returns-then-branch-clause-done : goal.returns-then-branch-clause-done
-returns-then-branch-clause-done c =
+pub returns-then-is_after-clause-done : goal.returns-then-is_after-clause-done
+returns-then-is_after-clause-done c =
     let gap = gap_of c.in_ok-gap.gap in
     let text = c.args.text.now in
     let put = put_in gap c.args.new.now in
@@ -28,7 +28,7 @@ returns-then-branch-clause-done c =
     let holds : so gap c.syntax.result =
     subst (λ place. IsAfter c.args.root.now (place_of c.args.node.now) c.in_ok-gap.gap.comments c.syntax.result place) c.in_ok-place.ensures
     (subst (λ old. IsAfter c.args.root.now old c.in_ok-gap.gap.comments c.syntax.result c.in_ok-place.place) c.place_of-old.ensures
-    (c.in_ok-is_after.ensures.0 c.if-branch.true)) in
+    (c.is_after.ensures.0 c.if-is_after.true)) in
     subst (λ gap. IsFilled so text c.args.new.now gap made) c.in_ok-gap.ensures
     (made_so text gap.start gap.end put (so gap) made c.in-Read.read read.0 read.1 (subst (so gap) root holds))
 
@@ -43,6 +43,6 @@ returns-clause-refused c =
     let fails : ¬ so gap c.syntax.result =
     subst (λ place. ¬ IsAfter c.args.root.now (place_of c.args.node.now) c.in_ok-gap.gap.comments c.syntax.result place) c.in_ok-place.ensures
     (subst (λ old. ¬ IsAfter c.args.root.now old c.in_ok-gap.gap.comments c.syntax.result c.in_ok-place.place) c.place_of-old.ensures
-    (λ holds. false≢true (sym c.if-branch.false ∙ c.in_ok-is_after.ensures.1 holds))) in
+    (λ holds. false≢true (sym c.if-is_after.false ∙ c.is_after.ensures.1 holds))) in
     subst (IsNotFilled so refusal.ReadOtherwise text c.args.new.now) c.in_ok-gap.ensures
     (otherwise text gap.start gap.end put (so gap) c.in-Read.read read.1 (subst (λ r. ¬ so gap r) root fails))

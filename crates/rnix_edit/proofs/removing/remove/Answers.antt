@@ -14,8 +14,8 @@ returns-in-Refused-clause-refused c =
     (hindered text cut.start cut.end [] so c.in-Refused.refusal
     (subst (IfNotRead (λ refusal. IsUnread refusal text cut.start cut.end [])) c.in-Refused.is c.in_ok-made.ensures.refused))
 
-pub returns-then-branch-clause-done : goal.returns-then-branch-clause-done
-returns-then-branch-clause-done c =
+pub returns-then-is_without-clause-done : goal.returns-then-is_without-clause-done
+returns-then-is_without-clause-done c =
     let cut = c.cut_of-cut.result in
     let text = c.args.text.now in
     let made = string_bytes c.in-Read.made in
@@ -23,12 +23,12 @@ returns-then-branch-clause-done c =
     let read = subst (IfRead (spliced text cut.start cut.end [])) c.in-Read.is c.in_ok-made.ensures.read in
     let root : c.syntax.result ≡ root_of c.in-Read.read = search rules in
     let holds : so c.syntax.result =
-    subst (λ old. IsWithout c.args.root.now old cut.comments c.syntax.result) c.place_of-old.ensures (c.in_ok-is_without.ensures.0 c.if-branch.true) in
+    subst (λ old. IsWithout c.args.root.now old cut.comments c.syntax.result) c.place_of-old.ensures (c.is_without.ensures.0 c.if-is_without.true) in
     subst (λ cut. IsCutOut text c.args.root.now c.args.node.now cut made) c.cut_of-cut.ensures
     (made_so text cut.start cut.end [] so made c.in-Read.read read.0 read.1 (subst so root holds))
 
-pub returns-else-branch-clause-refused : goal.returns-else-branch-clause-refused
-returns-else-branch-clause-refused c =
+pub returns-else-is_without-clause-refused : goal.returns-else-is_without-clause-refused
+returns-else-is_without-clause-refused c =
     let cut = c.cut_of-cut.result in
     let text = c.args.text.now in
     let so = IsWithout c.args.root.now (place_of c.args.node.now) cut.comments in
@@ -36,6 +36,6 @@ returns-else-branch-clause-refused c =
     let root : c.syntax.result ≡ root_of c.in-Read.read = search rules in
     let fails : ¬ so c.syntax.result =
     subst (λ old. ¬ IsWithout c.args.root.now old cut.comments c.syntax.result) c.place_of-old.ensures
-    (λ holds. false≢true (sym c.if-branch.false ∙ c.in_ok-is_without.ensures.1 holds)) in
+    (λ holds. false≢true (sym c.if-is_without.false ∙ c.is_without.ensures.1 holds)) in
     subst (IsNotCutOut refusal.ReadOtherwise text c.args.root.now c.args.node.now) c.cut_of-cut.ensures
     (otherwise text cut.start cut.end [] so c.in-Read.read read.1 (subst (λ r. ¬ so r) root fails))
