@@ -101,7 +101,7 @@ fn first_piece(text: &str, multiline: bool) -> Option<(&str, &str)>
 pub fn unescape(alloc: Global, text: &str, multiline: bool) -> Result<String, AllocError>
     ensures { IfOk result (λ value. string_bytes value ≡ unescaped multiline text.now) }
 {
-    let mut value = String::with_capacity(alloc, text.len())?;
+    let mut value = String::new(alloc);
     let mut rest = text;
     while let Some((piece, more)) = first_piece(rest, multiline) {
         value.push_str(piece)?;

@@ -127,7 +127,7 @@ pub(crate) fn unindented(
     ensures kept { IfOk result (λ r. string_bytes r.0 ≡ kept least left text.now) }
     ensures left { IfOk result (λ r. r.1 ≡ left_behind least left text.now) }
 {
-    let mut kept = String::with_capacity(alloc, text.len())?;
+    let mut kept = String::new(alloc);
     let mut left = left;
     let mut rest = text;
     while !rest.is_empty() {
