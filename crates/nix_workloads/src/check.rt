@@ -3,35 +3,63 @@
 use crate::digest::Digest;
 use crate::numbers::mixed;
 use crate::packages::{file, generated, listing};
-use nix_diagnostics::diagnostics;
+use nix_diagnostics::{Note, diagnostics};
 use nix_formatting::{Formatting, formatted};
-use nix_scopes::resolve;
-use rnix::{Parse, Root};
+use nix_scopes::{Binding, resolve};
+use rnix::{Parse, Root, TextRange};
 use std::alloc::{AllocError, Global};
 use std::io;
+
+// Adds a range.
+fn add_range(range: TextRange, digest: &mut Digest) {
+    digest.add_number(range.start());
+    digest.add_number(range.end());
+}
+
+// Adds the notes on a mistake.
+fn add_notes(notes: &[Note], digest: &mut Digest) {
+    for note in notes {
+        if let Some(range) = note.range {
+            add_range(range, digest);
+        }
+        digest.add_text(note.message);
+    }
+    digest.add_number(notes.len());
+}
 
 /// Adds the mistakes of a text that was read.
 pub fn add_mistakes(alloc: Global, read: &Parse, digest: &mut Digest) -> Result<(), AllocError> {
     let found = diagnostics(alloc, read)?;
     for diagnostic in &found {
-        digest.add_number(diagnostic.range.start());
-        digest.add_number(diagnostic.range.end());
+        add_range(diagnostic.range, digest);
         digest.add_text(diagnostic.message.as_str());
-        digest.add_number(diagnostic.notes.len());
+        digest.add_number(diagnostic.first_error);
+        digest.add_number(diagnostic.end_error);
+        add_notes(&diagnostic.notes, digest);
     }
     Ok(())
+}
+
+// Adds the names that a text binds.
+fn add_bindings(bindings: &[Binding<'_>], digest: &mut Digest) {
+    for binding in bindings {
+        digest.add_text(binding.text);
+        digest.add_number(binding.node.text_range().start());
+        add_range(binding.scope.text_range(), digest);
+        digest.add_number(binding.first);
+    }
 }
 
 /// Adds what the names of a text refer to.
 pub fn add_names(alloc: Global, read: &Parse, digest: &mut Digest) -> Result<(), AllocError> {
     let names = resolve(alloc, &read.syntax())?;
-    for binding in names.bindings() {
-        digest.add_number(binding.node.text_range().start());
-        digest.add_number(binding.first);
-    }
+    add_bindings(names.bindings(), digest);
     for reference in names.references() {
+        digest.add_text(reference.text);
         digest.add_number(reference.node.text_range().start());
         digest.add_number(reference.binding.unwrap_or(usize::MAX));
+        digest.add_number(usize::from(reference.is_inherited));
+        digest.add_number(usize::from(reference.is_open));
     }
     Ok(())
 }

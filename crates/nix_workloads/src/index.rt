@@ -10,67 +10,66 @@ use rnix::ast::{AstNode, AttrpathValue, InterpolPart, Select, Str};
 use rnix::{Root, SyntaxNode};
 use rnix_print::run;
 use rnix_text::{ColumnUnit, LineIndex};
-use rnix_tree::dump;
 use std::alloc::{AllocError, Global};
 use std::io::{self, Write};
 
-// Writes the place of a node.
-fn write_place<W: Write>(
-    index: &LineIndex<'_>,
-    node: &SyntaxNode<'_>,
-    out: &mut W,
-) -> io::Result<()> {
+// Writes where a node begins and ends.
+fn write_range<W: Write>(node: &SyntaxNode<'_>, out: &mut W) -> io::Result<()> {
     let range = node.text_range();
-    let place = index.position(range.start()).unwrap_or_default();
-    let (line, column) = (place.line, place.column);
     let (start, end) = (range.start(), range.end());
-    write!(
-        out,
-        "\"line\":{line},\"column\":{column},\"start\":{start},\"end\":{end}"
-    )
+    write!(out, "\"start\":{start},\"end\":{end}")
 }
 
 // Writes the line of a name.
 fn write_name<W: Write>(
-    file: &str,
     index: &LineIndex<'_>,
     node: &SyntaxNode<'_>,
     name: &str,
     other: Option<&SyntaxNode<'_>>,
     out: &mut W,
 ) -> io::Result<()> {
-    out.write_all(b"{\"file\":")?;
-    write_json_string(file, out)?;
-    out.write_all(b",\"name\":")?;
+    let place = index
+        .position(node.text_range().start())
+        .unwrap_or_default();
+    let (line, column) = (place.line, place.column);
+    out.write_all(b"{\"name\":")?;
     write_json_string(name, out)?;
-    out.write_all(b",")?;
-    write_place(index, node, out)?;
+    write!(out, ",\"line\":{line},\"column\":{column},")?;
+    write_range(node, out)?;
     if let Some(node) = other {
         out.write_all(b",\"other\":{")?;
-        write_place(index, node, out)?;
+        write_range(node, out)?;
         out.write_all(b"}")?;
     }
     out.write_all(b"}\n")
 }
 
-// Writes the lines of all names.
-fn write_names<W: Write>(
-    file: &str,
+// Writes the lines of the names that a text binds.
+fn write_bindings<W: Write>(
+    index: &LineIndex<'_>,
+    bindings: &[Binding<'_>],
+    out: &mut W,
+) -> io::Result<()> {
+    for binding in bindings {
+        let scope = Some(&binding.scope);
+        write_name(index, &binding.node, binding.text, scope, out)?;
+    }
+    Ok(())
+}
+
+// Writes the lines of the names that a text uses.
+fn write_references<W: Write>(
     index: &LineIndex<'_>,
     bindings: &[Binding<'_>],
     references: &[Reference<'_>],
     out: &mut W,
 ) -> io::Result<()> {
-    for binding in bindings {
-        let scope = Some(&binding.scope);
-        write_name(file, index, &binding.node, binding.text, scope, out)?;
-    }
     for reference in references {
         let bound = match reference.binding {
             Some(number) => bindings.get(number).map(|binding| &binding.node),
             None => None,
         };
-        write_name(file, index, &reference.node, reference.text, bound, out)?;
+        write_name(index, &reference.node, reference.text, bound, out)?;
     }
     Ok(())
 }
@@ -120,14 +119,14 @@ fn index_text(alloc: Global, text: &str, digest: &mut Digest) -> io::Result<()> 
     let index = LineIndex::new(alloc, text, ColumnUnit::Chars)?;
     let names = resolve(alloc, &root)?;
     let mut out: Vec<u8> = Vec::new(alloc);
-    let file = "pkgs/development/tools/default.nix";
-    write_names(file, &index, names.bindings(), names.references(), &mut out)?;
+    write_bindings(&index, names.bindings(), &mut out)?;
+    write_references(&index, names.bindings(), names.references(), &mut out)?;
     digest.add_bytes(&out);
     add_nodes(alloc, &root, &index, digest)?;
     Ok(())
 }
 
-// Prints the tree of a text, once from its bytes and once as a tree.
+// Prints the tree of a text.
 fn print_text(alloc: Global, text: &str, digest: &mut Digest) -> io::Result<()> {
     let mut out: Vec<u8> = Vec::new(alloc);
     let mut input = text.as_bytes();
