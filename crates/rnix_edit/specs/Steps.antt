@@ -102,7 +102,7 @@ abbrev pub enters_first : List Step → Bool
 enters_first [] = false
 enters_first (step ∷ steps) = step.enters
 
--- steps begin with some others, which are taken, and these are left; none are taken where they do not
+-- whether steps begin with some others; if so, these were taken, and those are left
 pub record IsTaken (taken : Bool) (first all left : List Step) : Type 0 where
   pub passed : taken ≡ true → all ≡ first ++ left
   pub found : (rest : List Step) → all ≡ first ++ rest → taken ≡ true
@@ -111,7 +111,7 @@ pub record IsTaken (taken : Bool) (first all left : List Step) : Type 0 where
 abbrev pub AreComments : ℕ → List Step → Type 0
 AreComments count all = (count ≤ length all) × (list_all is_comment (take count all) ≡ true)
 
--- so many comments are taken, if they come first, and these steps are left
+-- whether so many comments come first; if so, they were taken, and these steps are left
 pub record AreCommentsTaken (taken : Bool) (count : ℕ) (all left : List Step) : Type 0 where
   pub passed : taken ≡ true → AreComments count all × (left ≡ drop count all)
   pub found : AreComments count all → taken ≡ true
@@ -120,7 +120,7 @@ pub record AreCommentsTaken (taken : Bool) (count : ℕ) (all left : List Step) 
 abbrev pub IsClosing : List Step → Type 0
 IsClosing all = (2 ≤ length all) × (enters_first all ≡ true)
 
--- these two are taken, if they come first, and these steps are left
+-- whether these two come first; if so, they were taken, and these steps are left
 pub record IsClosingTaken (taken : Bool) (all left : List Step) : Type 0 where
   pub passed : taken ≡ true → IsClosing all × (left ≡ drop 2 all)
   pub found : IsClosing all → taken ≡ true
