@@ -1,6 +1,7 @@
 pub mod WalkLemmas
 pub mod OpenLemmas
 pub mod NumberLemmas
+pub mod EndLemmas
 pub mod SightLemmas
 pub mod ScopeLemmas
 pub mod ResolvedLemmas

@@ -1,41 +1,20 @@
--- Which nodes are open at each step of a walk: those around the node that is entered.
-use Rattle.std.proofs.Common.{◌≡◌, ℕ, zero, suc, ◌+◌, ◌≤◌, ◌<◌, List, [], ◌∷◌, ◌++◌, length, map, drop, Option, Some, None, Bool, true, false, refl, ap, sym}
-use Rattle.std.proofs.{Common.{◌∙◌, subst, arith, inl, inr, append_assoc, length-append}, lemmas.Bool.{cases_lt, cond-true, cond-false, le-leb, lt-leb}}
-use Rattle.{std.{proofs.lemmas.List.{map-append, append-nil}, specs.Prelude.{filter, nat_le, nat_lt, if◌then◌else◌}}, rnix_green.specs.Forest.{Forest, empty}}
-use Rattle.rnix_green.specs.{Forest.{leaf, node, text_of, element_count}, Tree.{Tree, Item, Located, items_from, items_of, item, item_of, part_at, forest_of}}
-use Rattle.rnix_green.specs.{Walk.{NodeEvent, event_at, steps_from, preorder_of, node_events, holders, ancestors_of}, Relatives.{parent_of, located}}
-use Rattle.rnix_green.proofs.{PartLemmas.{IsPart, IsOne, one_leaf, one_node, part_there, one_there}, PieceLemmas.length-items_from}
-use Rattle.{rnix_green.proofs.{ParentLemmas.parent_is_before, InsideLemmas.elements_in_all}, rnix_kinds.specs.declared.kinds.SyntaxKind.SyntaxKind}
-use Rattle.{nix_scopes.{specs.Scopes.around, proofs.WalkLemmas.{node_events-append, absent_part}}, rnix_tree.specs.Around.ancestors_if}
-use Rattle.rnix_tree.proofs.{AncestorLemmas.ancestors_step, ItemsAt.{HasItemsAt, first_item, front_items, back_items}}
-
--- the nodes that are left later and are not entered before: those that are open, the innermost first
-abbrev pub open_nodes : List NodeEvent → List Located
-open_nodes [] = []
-open_nodes ((true, e) ∷ es) = drop 1 (open_nodes es)
-open_nodes ((false, e) ∷ es) = e ∷ open_nodes es
+-- Which nodes are open where a walk over the elements of a text enters a node: those around it.
+use Rattle.std.proofs.Common.{◌≡◌, ℕ, zero, suc, ◌+◌, ◌-◌, ◌≤◌, ◌<◌, List, [], ◌∷◌, length, drop, Option, Some, None, Bool, true, false, refl, ap, sym}
+use Rattle.std.proofs.{Common.{◌∙◌, subst, arith, inl, inr}, lemmas.{List.length_push, Bool.{cases_lt, cond-true, cond-false, le-leb, lt-leb, false≢true}}}
+use Rattle.std.{proofs.lemmas.List.{Elements.{All-cons, All-filter, All-head, All-tail}, Kept.{AllPairs-cons, AllPairs-filter}}, specs.List.{All, AllPairs}}
+use Rattle.std.specs.Prelude.{cond, filter, nat_le, nat_lt, if◌then◌else◌}
+use Rattle.rnix_green.specs.{Tree.{Tree, Located, items_of, item}, Walk.{holders, ancestors_of}, Relatives.{parent_of, located}}
+use Rattle.rnix_green.proofs.{ParentLemmas.parent_is_before, InsideLemmas.ends_inside, NumberTests.{is_below, is_not_below}}
+use Rattle.{nix_scopes.specs.{Scopes.around, Resolving.{last_in, count_behind, counts_behind, still_open}}, rnix_tree.specs.Around.ancestors_if}
+use Rattle.rnix_tree.proofs.AncestorLemmas.{holds, passes, ancestors_step}
 
 -- the innermost of these nodes, if there is one, is the parent of a node
 abbrev pub IsBelow : Located → List Located → Type 0
 IsBelow e [] = Unit {0}
 IsBelow e (parent ∷ nodes) = parent_of e ≡ Some parent
 
--- each node is entered where those around it are open, at higher and higher numbers
-abbrev pub Placed : Located → ℕ → List NodeEvent → Type 0
-Placed root n [] = Unit {0}
-Placed root n ((true, e) ∷ es) =
-    (n ≤ e.number) × (open_nodes es ≡ around root e) × (around root e ≡ e ∷ drop 1 (open_nodes es)) × IsBelow e (drop 1 (open_nodes es))
-    × Placed root (e.number + 1) es
-Placed root n ((false, e) ∷ es) = Placed root n es
-
--- numbers are also higher than a lower one
-pub placed_lower : (root : Located) (n m : ℕ) (es : List NodeEvent) → n ≤ m → Placed root m es → Placed root n es
-placed_lower root n m [] l h = tt
-placed_lower root n m ((true, e) ∷ es) l h = (omega (arith, l, h.0), h.1, h.2, h.3, h.4)
-placed_lower root n m ((false, e) ∷ es) l h = placed_lower root n m es l h
-
 -- whether an element is inside the root
-abbrev within : Located → Located → Bool
+abbrev pub within : Located → Located → Bool
 within root a = nat_le root.number a.number
 
 passed : (b : Bool) (root : Located) (x : Located) (xs : List Located) → filter (within root) xs ≡ [] → within root x ≡ false →
@@ -50,36 +29,8 @@ none_held root t n (suc k) l =
     passed (nat_lt (k + (item t k).below) n) root (record { tree = t; number = k }) (holders t n k)
     (none_held root t n k (omega (arith, l))) (lt-leb root.number k (omega (arith, l)))
 
--- around the root is the root alone
-around_root : (root : Located) → root.number < length (items_of root.tree) → around root root ≡ root ∷ []
-around_root root l =
-    ap (filter (within root)) (ancestors_step root.tree root.number l)
-    ∙ cond-true (within root root) (root ∷ filter (within root) (ancestors_if root.tree (item_of root).parent)) _ (le-leb root.number root.number (omega arith))
-    ∙ ap (λ xs. root ∷ xs) (outside (item_of root).parent refl)
-  where
-    outside : (parent : Option ℕ) → (item_of root).parent ≡ parent → filter (within root) (ancestors_if root.tree parent) ≡ []
-    outside None e = refl
-    outside (Some p) e = none_held root root.tree p (p + 1) (omega (arith, parent_is_before root.tree root.number p l e))
-
--- around an element is the element, and what is around its parent
-around_child : (root : Located) (t : Tree) (n p : ℕ) → n < length (items_of t) → (item t n).parent ≡ Some p → root.number ≤ n →
-    around root (record { tree = t; number = n }) ≡ record { tree = t; number = n } ∷ around root (record { tree = t; number = p })
-around_child root t n p l e inside =
-    ap (filter (within root)) (ancestors_step t n l)
-    ∙ cond-true (within root (record { tree = t; number = n })) (record { tree = t; number = n } ∷ filter (within root) (ancestors_if t (item t n).parent)) _
-    (le-leb root.number n inside)
-    ∙ ap (λ parent. record { tree = t; number = n } ∷ filter (within root) (ancestors_if t parent)) e
-
--- the first item of a row that stands in the tree is there
-there : (t : Tree) (n : ℕ) (i : Item) (is : List Item) → HasItemsAt t n (i ∷ is) → n < length (items_of t)
-there t n i is h = omega (arith, ap length h.split, length-append h.before ((i ∷ is) ++ h.after), h.counted)
-
--- a part of the tree stands in it
-part_items : (t : Tree) (n : ℕ) (part : Forest) (h : IsPart 0 n part (items_of t)) → HasItemsAt t n (items_from n h.start h.parent part)
-part_items t n part h = record { before = h.before; after = h.after; split = h.split; counted = omega (arith, h.counted) }
-
 -- the parent of an element is the next node around it
-parent_around : (root : Located) (t : Tree) (n : ℕ) → n < length (items_of t) → root.number ≤ n →
+pub parent_around : (root : Located) (t : Tree) (n : ℕ) → n < length (items_of t) → root.number ≤ n →
     IsBelow (record { tree = t; number = n }) (drop 1 (around root (record { tree = t; number = n })))
 parent_around root t n l inside =
     let all : around root (record { tree = t; number = n }) ≡ record { tree = t; number = n } ∷ filter (within root) (ancestors_if t (item t n).parent) =
@@ -103,109 +54,141 @@ parent_around root t n l inside =
           subst (IsBelow (record { tree = t; number = n })) (sym first) (ap (located t) e)
     ]
 
--- what is known where a row of elements is walked, and what comes later
-pub record IsWalked (root : Located) (n : ℕ) (events later : List NodeEvent) : Type 0 where
-  pub placed : Placed root n events
-  pub opened : open_nodes events ≡ open_nodes later
+-- whether an element holds the one of a number, which is not before it
+abbrev pub reaches : ℕ → Located → Bool
+reaches n e = nat_le n (last_in e)
 
--- the events of a row, and what comes later
-abbrev row : Tree → ℕ → Forest → List NodeEvent → List NodeEvent
-row t n f later = node_events (map (event_at t) (steps_from n f)) ++ later
+-- the open nodes, the innermost first, hold what all elements before the number hold that are inside the root, and an outer one ends no sooner
+pub record HoldLater (root : Located) (n : ℕ) (nodes : List Located) : Type 0 where
+  pub nested : AllPairs (λ (a b : Located). last_in a ≤ last_in b) nodes
+  pub hold : (k : ℕ) → n ≤ k → filter (reaches k) nodes ≡ filter (within root) (holders root.tree k n)
 
--- a token has no events of its own
-token_row : (t : Tree) (n : ℕ) (k : SyntaxKind) (x : List ℕ) (f : Forest) (later : List NodeEvent) → (item t n).is_node ≡ false →
-    row t n (leaf k x f) later ≡ row t (n + 1) f later
-token_row t n k x f later token =
-    let here : Located = record { tree = t; number = n } in
-    let rest : List NodeEvent = node_events (map (event_at t) (steps_from (n + 1) f)) in
-    ap (λ b. (if b then (true, here) ∷ (if b then (false, here) ∷ rest else rest) else (if b then (false, here) ∷ rest else rest)) ++ later) token
+-- nothing is open before the root
+pub begun : (root : Located) → HoldLater root root.number []
+begun root = record {
+  nested = λ i j d l h. absurd (omega (arith, h));
+  hold = λ k l. sym (none_held root root.tree k root.number (omega arith));
+}
 
--- a node is entered, then what is inside it is walked, then it is left
-node_row : (t : Tree) (n : ℕ) (k : SyntaxKind) (c f : Forest) (later : List NodeEvent) → (item t n).is_node ≡ true →
-    row t n (node k c f) later
-    ≡ (true, record { tree = t; number = n }) ∷ row t (n + 1) c ((false, record { tree = t; number = n }) ∷ row t (n + 1 + element_count c) f later)
-node_row t n k c f later is_node =
-    let here : Located = record { tree = t; number = n } in
-    let outer : List NodeEvent = node_events (map (event_at t) (steps_from (n + 1 + element_count c) f)) in
-    ap (λ b. (if b then (true, here) ∷ node_events (map (event_at t) (steps_from (n + 1) c ++ (false, n) ∷ steps_from (n + 1 + element_count c) f))
-    else node_events (map (event_at t) (steps_from (n + 1) c ++ (false, n) ∷ steps_from (n + 1 + element_count c) f))) ++ later) is_node
-    ∙ ap (λ es. (true, here) ∷ (node_events es ++ later)) (map-append (event_at t) (steps_from (n + 1) c) _)
-    ∙ ap (λ es. (true, here) ∷ (es ++ later)) (node_events-append (map (event_at t) (steps_from (n + 1) c)) _)
-    ∙ ap (λ es. (true, here) ∷ es) (append_assoc (node_events (map (event_at t) (steps_from (n + 1) c))) _ later)
-    ∙ ap (λ b. (true, here) ∷ (node_events (map (event_at t) (steps_from (n + 1) c)) ++ ((if b then (false, here) ∷ outer else outer) ++ later))) is_node
+-- a token holds nothing
+pub past_token : (root : Located) (n : ℕ) (nodes : List Located) → (item root.tree n).below ≡ 0 → HoldLater root n nodes →
+    HoldLater root (n + 1) nodes
+past_token root n nodes none h = record {
+  nested = h.nested;
+  hold = λ k l.
+      let one : suc n ≡ n + 1 = omega arith in
+      h.hold k (omega (arith, l))
+      ∙ ap (filter (within root)) (sym (passes root.tree k n (omega (arith, l, none))) ∙ ap (holders root.tree k) one);
+}
 
--- each node of a row is entered where those around it are open
-walked_row : (root : Located) (t : Tree) (n s p : ℕ) (f : Forest) (later : List NodeEvent) → HasItemsAt t n (items_from n s (Some p) f) →
-    root.number ≤ n → open_nodes later ≡ around root (record { tree = t; number = p }) → Placed root (n + element_count f) later →
-    IsWalked root n (row t n f later) later
-walked_row root t n s p empty later has_items inside are_open placed = record { placed = placed_lower root n (n + 0) later (omega arith) placed; opened = refl }
-walked_row root t n s p (leaf k x f) later has_items inside are_open placed =
-    let own = first_item t n _ _ has_items in
-    let more = walked_row root t (n + 1) (s + length x) p f later (back_items t n (n + 1) (_ ∷ []) _ (omega arith) has_items) (omega (arith, inside)) are_open
-    (placed_lower root (n + 1 + element_count f) (n + suc (element_count f)) later (omega arith) placed) in
-    subst (λ es. IsWalked root n es later) (sym (token_row t n k x f later (ap (λ (i : Item). i.is_node) own)))
-    (record { placed = placed_lower root n (n + 1) (row t (n + 1) f later) (omega arith) more.placed; opened = more.opened })
-walked_row root t n s p (node k c f) later has_items inside are_open placed =
-    let here : Located = record { tree = t; number = n } in
-    let own = first_item t n _ _ has_items in
-    let behind = back_items t n (n + 1) (_ ∷ []) _ (omega arith) has_items in
-    let count = length-items_from (n + 1) s (Some n) c in
-    let around_here = around_child root t n p (there t n _ _ has_items) (ap (λ (i : Item). i.parent) own) inside in
-    let after = walked_row root t (n + 1 + element_count c) (s + length (text_of c)) p f later
-    (back_items t (n + 1) (n + 1 + element_count c) (items_from (n + 1) s (Some n) c) _ (omega (arith, count)) behind)
-    (omega (arith, inside)) are_open
-    (placed_lower root (n + 1 + element_count c + element_count f) (n + suc (element_count c + element_count f)) later (omega arith) placed) in
-    let left : List NodeEvent = (false, here) ∷ row t (n + 1 + element_count c) f later in
-    let left_open : open_nodes left ≡ around root here = ap (λ es. here ∷ es) (after.opened ∙ are_open) ∙ sym around_here in
-    let inner =
-    walked_row root t (n + 1) s n c left (front_items t (n + 1) (items_from (n + 1) s (Some n) c) _ behind) (omega (arith, inside)) left_open after.placed in
-    subst (λ es. IsWalked root n es later) (sym (node_row t n k c f later (ap (λ (i : Item). i.is_node) own)))
-    (record {
-      placed = (
-        omega arith,
-        inner.opened ∙ left_open,
-        sym left_open ∙ ap (λ es. here ∷ drop 1 es) (sym inner.opened),
-        subst (λ es. IsBelow here (drop 1 es)) (sym (inner.opened ∙ left_open)) (parent_around root t n (there t n _ _ has_items) inside),
-        inner.placed,
-      );
-      opened = ap (drop 1) inner.opened ∙ after.opened;
-    })
-
--- a walk enters each node where those around it are open
-pub walk_placed : (root : Located) → IsWalked root root.number (node_events (preorder_of root)) []
-walk_placed root = elim (cases_lt root.number (length (items_of root.tree))) [
-  | inl there ↦ walked (part_at root) (part_there root.tree root.number there) (one_there root.tree root.number there) there
-  | inr absent ↦
-      let none : part_at root ≡ empty = absent_part root.number 0 (forest_of root.tree) (omega (arith, elements_in_all root.tree)) in
-      subst (λ f. IsWalked root root.number (node_events (map (event_at root.tree) (steps_from root.number f))) []) (sym none)
-      (record { placed = tt; opened = refl })
-]
+-- two tests of which one passes only where the other does
+test_twice : {X : Type 0} (p q : X → Bool) → ((x : X) → p x ≡ false → q x ≡ false) → (xs : List X) → filter q (filter p xs) ≡ filter q xs
+test_twice p q fails [] = refl
+test_twice {X} p q fails (x ∷ xs) = chosen (p x) refl (test_twice p q fails xs)
   where
-    walked : (part : Forest) → IsPart 0 root.number part (items_of root.tree) → IsOne part → root.number < length (items_of root.tree) →
-        IsWalked root root.number (node_events (map (event_at root.tree) (steps_from root.number part))) []
-    walked _ h (one_leaf k x) l =
-        let own = first_item root.tree root.number _ _ (part_items root.tree root.number _ h) in
-        let none : row root.tree root.number (leaf k x empty) [] ≡ [] = token_row root.tree root.number k x empty [] (ap (λ (i : Item). i.is_node) own) in
-        subst (λ es. IsWalked root root.number es []) (sym (sym (append-nil (node_events (map (event_at root.tree) (steps_from root.number (leaf k x empty)))))
-        ∙ none)) (record { placed = tt; opened = refl })
-    walked _ h (one_node k c) l =
-        let has_items = part_items root.tree root.number _ h in
-        let own = first_item root.tree root.number _ _ has_items in
-        let behind = back_items root.tree root.number (root.number + 1) (_ ∷ []) _ (omega arith) has_items in
-        let left : List NodeEvent = (false, root) ∷ [] in
-        let left_open : open_nodes left ≡ around root root = sym (around_root root l) in
-        let inner = walked_row root root.tree (root.number + 1) h.start root.number c left
-        (front_items root.tree (root.number + 1) (items_from (root.number + 1) h.start (Some root.number) c) _ behind) (omega arith) left_open tt in
-        subst (λ es. IsWalked root root.number es [])
-        (sym (sym (append-nil (node_events (map (event_at root.tree) (steps_from root.number (node k c empty)))))
-        ∙ node_row root.tree root.number k c empty [] (ap (λ (i : Item). i.is_node) own)))
-        (record {
-          placed = (
-            omega arith,
-            inner.opened ∙ left_open,
-            sym left_open ∙ ap (λ es. root ∷ drop 1 es) (sym inner.opened),
-            subst (λ es. IsBelow root (drop 1 es)) (sym inner.opened) tt,
-            inner.placed,
-          );
-          opened = ap (drop 1) inner.opened;
-        })
+    chosen : (b : Bool) → p x ≡ b → filter q (filter p xs) ≡ filter q xs → filter q (cond b (x ∷ filter p xs) (filter p xs)) ≡ filter q (x ∷ xs)
+    chosen true e more = ap (λ ys. cond (q x) (x ∷ ys) ys) more
+    chosen false e more = more ∙ sym (cond-false (q x) (x ∷ filter q xs) (filter q xs) (fails x e))
+
+-- all pass
+test_all : {X : Type 0} (p : X → Bool) (xs : List X) → All (λ x. p x ≡ true) xs → filter p xs ≡ xs
+test_all p [] all = refl
+test_all p (x ∷ xs) all =
+    cond-true (p x) (x ∷ filter p xs) (filter p xs) (All-head (λ x. p x ≡ true) x xs all)
+    ∙ ap (λ ys. x ∷ ys) (test_all p xs (All-tail (λ x. p x ≡ true) x xs all))
+
+-- what holds an element ends where that ends, or behind it
+holders_end : (t : Tree) (n k : ℕ) → n < length (items_of t) → k ≤ n → All (λ (a : Located). n + (item t n).below ≤ last_in a) (holders t n k)
+holders_end t n zero there l = λ i d h. absurd (omega (arith, h))
+holders_end t n (suc k) there l =
+    let more = holders_end t n k there (omega (arith, l)) in
+    elim (cases_lt (k + (item t k).below) n) [
+      | inl short ↦ subst (All (λ (a : Located). n + (item t n).below ≤ last_in a)) (sym (passes t n k short)) more
+      | inr long ↦
+          subst (All (λ (a : Located). n + (item t n).below ≤ last_in a)) (sym (holds t n k long))
+          (All-cons (λ (a : Located). n + (item t n).below ≤ last_in a) (record { tree = t; number = k }) (holders t n k)
+          (ends_inside t k n (omega (arith, there, l)) (omega (arith, l)) long) more)
+    ]
+
+module _ (root : Located) (n : ℕ) (nodes : List Located) (inside : root.number ≤ n) (h : HoldLater root n nodes) where
+  abbrev here : Located
+  here = record { tree = root.tree; number = n }
+
+  -- around a node are itself, and the open nodes that have not ended
+  pub around_is : around root here ≡ here ∷ filter (reaches n) nodes
+  around_is =
+      let one : n + 1 ≡ suc n = omega arith in
+      ap (filter (within root)) (ap (holders root.tree n) one ∙ holds root.tree n n (omega arith))
+      ∙ cond-true (within root here) (here ∷ filter (within root) (holders root.tree n n)) _ (le-leb root.number n inside)
+      ∙ ap (λ xs. here ∷ xs) (sym (h.hold n (omega arith)))
+
+  -- a node is entered, after those that have ended are left
+  pub past_node : n < length (items_of root.tree) → HoldLater root (n + 1) (here ∷ filter (reaches n) nodes)
+  past_node there = record {
+    nested =
+        AllPairs-cons (λ (a b : Located). last_in a ≤ last_in b) here (filter (reaches n) nodes)
+        (subst (All (λ (a : Located). last_in here ≤ last_in a)) (sym (h.hold n (omega arith)))
+        (All-filter (within root) (λ (a : Located). last_in here ≤ last_in a) (holders root.tree n n)
+        (holders_end root.tree n n there (omega arith))))
+        (AllPairs-filter (λ (a b : Located). last_in a ≤ last_in b) (reaches n) nodes h.nested);
+    hold = held;
+  }
+    where
+      outer : (k : ℕ) → n + 1 ≤ k → filter (reaches k) (filter (reaches n) nodes) ≡ filter (within root) (holders root.tree k n)
+      outer k l = test_twice (reaches n) (reaches k) (sooner k l) nodes ∙ h.hold k (omega (arith, l))
+        where
+          sooner : (k : ℕ) → n + 1 ≤ k → (a : Located) → reaches n a ≡ false → reaches k a ≡ false
+          sooner k l a e = elim (cases_lt (last_in a) n) [
+            | inl short ↦ lt-leb k (last_in a) (omega (arith, short, l))
+            | inr long ↦ absurd (false≢true (sym e ∙ le-leb n (last_in a) long))
+          ]
+
+      held : (k : ℕ) → n + 1 ≤ k → filter (reaches k) (here ∷ filter (reaches n) nodes) ≡ filter (within root) (holders root.tree k (n + 1))
+      held k l =
+          let one : suc n ≡ n + 1 = omega arith in
+          elim (cases_lt (n + (item root.tree n).below) k) [
+            | inl short ↦
+                cond-false (reaches k here) (here ∷ filter (reaches k) (filter (reaches n) nodes)) (filter (reaches k) (filter (reaches n) nodes))
+                (lt-leb k (last_in here) short)
+                ∙ outer k l ∙ ap (filter (within root)) (sym (passes root.tree k n short) ∙ ap (holders root.tree k) one)
+            | inr long ↦
+                cond-true (reaches k here) (here ∷ filter (reaches k) (filter (reaches n) nodes)) (filter (reaches k) (filter (reaches n) nodes))
+                (le-leb k (last_in here) long)
+                ∙ ap (λ xs. here ∷ xs) (outer k l)
+                ∙ sym (cond-true (within root here) (here ∷ filter (within root) (holders root.tree k n)) _ (le-leb root.number n inside))
+                ∙ ap (filter (within root)) (sym (holds root.tree k n long) ∙ ap (holders root.tree k) one)
+          ]
+
+module _ (root : Located) (left n : ℕ) (count : left ≡ last_in root - n) (inside : n ≤ last_in root) where
+  -- none ends before the element of the number
+  all_open : (es : List Located) → All (λ (a : Located). n ≤ last_in a) es → still_open root left es ≡ es
+  all_open [] all = refl
+  all_open (e ∷ es) all =
+      ap (λ b. if b then still_open root left es else e ∷ es)
+      (is_not_below left (count_behind root e) (omega (arith, count, All-head (λ (a : Located). n ≤ last_in a) e es all)))
+
+  -- those are still open that do not end before it, where an outer one ends no sooner
+  pub still_open_is : (p : Located → Bool) (es : List Located) → AllPairs (λ (a b : Located). last_in a ≤ last_in b) es →
+      still_open root left (filter p es) ≡ filter p (filter (reaches n) es)
+  still_open_is p [] nested = refl
+  still_open_is p (e ∷ es) nested = elim (cases_lt (last_in e) n) [
+    | inl short ↦
+        passed (p e) (is_below left (count_behind root e) (omega (arith, count, short, inside)))
+        ∙ still_open_is p es (λ i j d l m. nested (suc i) (suc j) d (omega (arith, l)) (omega (arith, m)))
+        ∙ ap (filter p) (sym (cond-false (reaches n e) (e ∷ filter (reaches n) es) (filter (reaches n) es) (lt-leb n (last_in e) short)))
+    | inr long ↦
+        let all : All (λ (a : Located). n ≤ last_in a) (e ∷ es) =
+        All-cons (λ (a : Located). n ≤ last_in a) e es long (λ k d l. omega (arith, long, nested 0 (suc k) d (omega arith) (omega (arith, l)))) in
+        all_open (filter p (e ∷ es)) (All-filter p (λ (a : Located). n ≤ last_in a) (e ∷ es) all)
+        ∙ ap (filter p) (sym (test_all (reaches n) (e ∷ es) (λ k d l. le-leb n _ (all k d l))))
+  ]
+    where
+      passed : (b : Bool) → nat_lt left (count_behind root e) ≡ true →
+          still_open root left (cond b (e ∷ filter p es) (filter p es)) ≡ still_open root left (filter p es)
+      passed true ends = ap (λ b. if b then still_open root left (filter p es) else e ∷ filter p es) ends
+      passed false ends = refl
+
+-- as many ends as elements
+pub counts_length : (root : Located) (es : List Located) → length (counts_behind root es) ≡ length es
+counts_length root [] = refl
+counts_length root (e ∷ es) = (let more = counts_length root es in omega (arith, length_push (counts_behind root es) (count_behind root e), more))

@@ -1,12 +1,13 @@
 -- What the names refer to where a walk stands is what they refer to in the whole text.
-use Rattle.std.proofs.Common.{◌≡◌, ℕ, suc, ◌+◌, ◌≤◌, ◌<◌, List, [], ◌∷◌, ◌++◌, length, drop, map, Bool, true, false, None, refl, ap, sym, ◌∙◌, subst, arith, ◌==◌}
+use Rattle.std.proofs.Common.{◌≡◌, ℕ, zero, suc, ◌+◌, ◌≤◌, ◌<◌, List, [], ◌∷◌, ◌++◌, length, drop, map, Bool, true, false, None, refl, ap, sym, ◌∙◌, subst, arith, ◌==◌}
 use Rattle.std.{proofs.lemmas.{List.{Elements.{All-append, All-map, All-tail}}, Bool.cond-false}, specs.Prelude.{cond, filter, not, ◌||◌, flat_map}}
-use Rattle.{std.specs.{Prelude.if◌then◌else◌, List.{All, list_any}}, rnix_green.{proofs.NumberTests.is_above, specs.{Tree.{Located, item_of}, Walk.NodeEvent}}}
+use Rattle.{std.specs.{Prelude.if◌then◌else◌, List.{All, list_any}}, rnix_green.{proofs.NumberTests.is_above, specs.Tree.{Tree, Located, item, item_of}}}
+use Rattle.rnix_green.specs.Walk.{spot_at, counted, nodes_in}
 use Rattle.{rnix_green.specs.{Equality.same_kind, Relatives.parent_of}, nix_scopes.specs.{Names.Named, Binders.{is_scope, names_bound}, Bound.bound_of}}
 use Rattle.nix_scopes.specs.{declared.{resolution.Binding.Binding, sight.Sight.Sight, environment.Environment.Environment}}
 use Rattle.nix_scopes.specs.Resolving.{IsSeen, Sees, number_by, is_in_scope, first_of, outer_by, number_in_sight, is_from_outside, resolve_at}
 use Rattle.nix_scopes.specs.Scopes.{Bound, is_with_body, resolved, bound_in, bindings_at, innermost, resolved_among}
-use Rattle.nix_scopes.proofs.{WalkLemmas.entered, OpenLemmas.{Placed, IsBelow, placed_lower}, SightLemmas.innermost_kept, ScopeLemmas.outer_found}
+use Rattle.nix_scopes.proofs.{OpenLemmas.{IsBelow, counts_length}, SightLemmas.innermost_kept, ScopeLemmas.outer_found}
 use Rattle.rnix_kinds.specs.declared.kinds.SyntaxKind.TheVariants as k
 
 -- whether there are some among those that are counted
@@ -26,14 +27,21 @@ own_scope e = chosen (is_scope e)
     chosen true = All-map (λ (b : Bound). b.scope.number ≡ e.number) (bound_in e) (names_bound e) (λ k d l. refl)
     chosen false = λ k d l. absurd (omega (arith, l))
 
--- what is bound later is bound in scopes of higher numbers
-pub bound_later : (root : Located) (n : ℕ) (es : List NodeEvent) → Placed root n es →
-    All (λ (b : Bound). n ≤ b.scope.number) (flat_map bindings_at (entered es))
-bound_later root n [] h = λ k d l. absurd (omega (arith, l))
-bound_later root n ((true, e) ∷ es) h =
-    All-append (λ (b : Bound). n ≤ b.scope.number) (bindings_at e) (flat_map bindings_at (entered es)) (λ k d l. omega (arith, own_scope e k d l, h.0))
-    (bound_later root n es (placed_lower root n (e.number + 1) es (omega (arith, h.0)) h.4))
-bound_later root n ((false, e) ∷ es) h = bound_later root n es h
+-- what the elements from a number on bind is bound in scopes from there on
+pub bound_later : (t : Tree) (n count : ℕ) →
+    All (λ (b : Bound). n ≤ b.scope.number) (flat_map bindings_at (nodes_in (map (spot_at t) (counted n count))))
+bound_later t n zero = λ k d l. absurd (omega (arith, l))
+bound_later t n (suc count) = chosen (item t n).is_node (λ k d l. omega (arith, bound_later t (n + 1) count k d l))
+  where
+    others : List Located
+    others = nodes_in (map (spot_at t) (counted (n + 1) count))
+
+    chosen : (b : Bool) → All (λ (b : Bound). n ≤ b.scope.number) (flat_map bindings_at others) →
+        All (λ (b : Bound). n ≤ b.scope.number) (flat_map bindings_at (if b then record { tree = t; number = n } ∷ others else others))
+    chosen true later =
+        All-append (λ (b : Bound). n ≤ b.scope.number) (bindings_at record { tree = t; number = n }) (flat_map bindings_at others)
+        (λ k d l. omega (arith, own_scope (record { tree = t; number = n }) k d l)) later
+    chosen false later = later
 
 module _ (bindings : List Binding) (more all : List Bound) (sight : Sight) (n : ℕ) (e : Located) (text : List ℕ)
     (is : all ≡ map bound_of bindings ++ more) (later : All (λ (b : Bound). n ≤ b.scope.number) more) where
@@ -76,12 +84,17 @@ module _ (bindings : List Binding) (more all : List Bound) (sight : Sight) (n : 
   found_at_node nodes false no_scope below h = found_in_scopes (filter is_scope (e ∷ nodes)) h
 
 -- what a name refers to that a node is, or has as an `inherit`
-pub seen_resolved : (bindings : List Binding) (more all : List Bound) (around : Environment) (n : ℕ) (e : Located) (nodes : List Located) (name : Named) →
-    all ≡ map bound_of bindings ++ more → All (λ (b : Bound). n ≤ b.scope.number) more →
-    (same_kind k.NODE_INHERIT (item_of e).kind ≡ true → is_scope e ≡ false) → IsBelow e nodes → Sees bindings around n (e ∷ nodes) →
+pub seen_resolved : (root : Located) (bindings : List Binding) (more all : List Bound) (around : Environment) (n : ℕ) (e : Located)
+    (nodes : List Located) (name : Named) → all ≡ map bound_of bindings ++ more → All (λ (b : Bound). n ≤ b.scope.number) more →
+    (same_kind k.NODE_INHERIT (item_of e).kind ≡ true → is_scope e ≡ false) → IsBelow e nodes →
+    Sees root bindings around n (filter is_scope (e ∷ nodes)) (filter is_with_body (e ∷ nodes)) →
     resolve_at around e name ≡ resolved_among all (e ∷ nodes) e name
-seen_resolved bindings more all around n e nodes name is later no_scope below h =
-    ap (λ with_bodies. resolved (same_kind k.NODE_INHERIT (item_of e).kind) with_bodies (number_in_sight around.sight (is_from_outside e) name.text) name)
-    (ap (λ k. not (k == 0)) h.bodies ∙ any_counted is_with_body (e ∷ nodes))
+seen_resolved root bindings more all around n e nodes name is later no_scope below h =
+    let count : length around.body_ends.items ≡ length (filter is_with_body (e ∷ nodes)) =
+    ap length h.sees_bodies ∙ counts_length root (filter is_with_body (e ∷ nodes)) in
+    ap (λ below_with. resolved (same_kind k.NODE_INHERIT (item_of e).kind) below_with
+    (number_in_sight around.sight (is_from_outside e) name.text) name)
+    (ap (λ k. not (k == 0)) count ∙ any_counted is_with_body (e ∷ nodes))
     ∙ ap (λ binding. resolved (same_kind k.NODE_INHERIT (item_of e).kind) (list_any is_with_body (e ∷ nodes)) binding name)
-    (found_at_node bindings more all around.sight n e name.text is later nodes (same_kind k.NODE_INHERIT (item_of e).kind) no_scope below h.scopes)
+    (found_at_node bindings more all around.sight n e name.text is later nodes (same_kind k.NODE_INHERIT (item_of e).kind) no_scope below
+    h.sees_scopes.0)

@@ -1,21 +1,28 @@
 -- What is found so far while a text is resolved.
-use Rattle.std.proofs.Common.{◌≡◌, ℕ, ◌+◌, ◌≤◌, List, [], ◌∷◌, ◌++◌, length, drop, map, true, false, None, refl, ap, sym, ◌∙◌, subst, append_assoc}
-use Rattle.{std.{proofs.lemmas.List.map-append, specs.Prelude.{flat_map, ◌||◌, ◌&&◌, is_some}}, rnix_green.specs.{Tree.{Located, item_of}, Walk.Event}}
-use Rattle.rnix_green.specs.{Walk.{NodeEvent, node_events, preorder_of, nodes_in, elements_of}, Equality.{same_kind, same_kind-decides}}
+use Rattle.std.proofs.Common.{◌≡◌, ℕ, suc, ◌+◌, ◌-◌, ◌≤◌, List, [], ◌∷◌, ◌++◌, drop, map, Bool, true, false, None, refl, ap, sym, ◌∙◌, subst, append_assoc}
+use Rattle.std.{proofs.{Common.arith, lemmas.List.map-append}, specs.{List.All, Prelude.{flat_map, filter, if◌then◌else◌, ◌||◌, ◌&&◌, is_some}}}
+use Rattle.rnix_green.specs.{Tree.{Located, item_of}, Walk.{Spot, spot_at, counted, nodes_in, elements_of}, Equality.{same_kind, same_kind-decides}}
 use Rattle.{rnix_base.specs.Select.token_of, nix_scopes.specs.declared.{resolution.{Binding.Binding, Reference.Reference}, environment.Environment.Environment}}
 use Rattle.nix_scopes.specs.{Names.Named, Binders.{is_binder, is_scope}, References.{references_at, references_in}, Bound.{bound_of, resolved_of, name_of}}
-use Rattle.nix_scopes.specs.{Scopes.{Resolved, bindings_at, bindings_in, around, resolved_among, resolved_at, resolved_in}, Resolving.{Sees, number_by}}
-use Rattle.nix_scopes.{specs.Resolving.resolve_at, proofs.{WalkLemmas.{entered, walk_entered}, OpenLemmas.{open_nodes, Placed, walk_placed}}}
-use Rattle.nix_scopes.proofs.{ScopeLemmas.seen_begun, ResolvedLemmas.{bound_later, seen_resolved}}
+use Rattle.nix_scopes.specs.Scopes.{Bound, Resolved, bindings_at, bindings_in, around, is_with_body, resolved_among, resolved_at, resolved_in}
+use Rattle.nix_scopes.specs.Resolving.{Sees, number_by, resolve_at, last_in, still_open}
+use Rattle.nix_scopes.proofs.{WalkLemmas.{node_there, token_alone, taken}, OpenLemmas.{IsBelow, HoldLater, reaches, begun, past_token, past_node}}
+use Rattle.nix_scopes.proofs.{OpenLemmas.{around_is, still_open_is, parent_around}, ScopeLemmas.{seen_begun, still_seen}, ResolvedLemmas.{bound_later, seen_resolved}}
+use Rattle.rnix_tree.specs.InsideCounts.{inside_count}
 use Rattle.rnix_kinds.specs.declared.kinds.SyntaxKind.TheVariants as k
 
--- what is found of a text before some events of the walk
-pub record IsFound (root : Located) (bindings : List Binding) (references : List Reference) (env : Environment) (events : List NodeEvent) : Type 0 where
+-- what is found of a text before the elements of a walk that are left, of which the first has the number
+pub record IsFound (root : Located) (bindings : List Binding) (references : List Reference) (env : Environment) (left : ℕ)
+    (spots : List Spot) : Type 0 where
   pub number : ℕ
-  pub placed : Placed root number events
-  pub sees : Sees bindings env number (open_nodes events)
-  pub bound : map bound_of bindings ++ flat_map bindings_at (entered events) ≡ bindings_in root
-  pub listing : map resolved_of references ++ flat_map (resolved_at root) (entered events) ≡ resolved_in root
+  pub inside : root.number ≤ number
+  pub count : left ≡ last_in root - number
+  pub walk : spots ≡ map (spot_at root.tree) (counted number (suc (last_in root) - number))
+  pub nodes : List Located
+  pub are_open : HoldLater root number nodes
+  pub sees : Sees root bindings env number (filter is_scope nodes) (filter is_with_body nodes)
+  pub bound : map bound_of bindings ++ flat_map bindings_at (nodes_in spots) ≡ bindings_in root
+  pub listing : map resolved_of references ++ flat_map (resolved_at root) (nodes_in spots) ≡ resolved_in root
 
 -- an `inherit` is no scope
 inherit_no_scope : (e : Located) → same_kind k.NODE_INHERIT (item_of e).kind ≡ true → is_scope e ≡ false
@@ -41,83 +48,155 @@ map_alike f g same [] = refl
 map_alike f g same (x ∷ xs) = ap (λ y. y ∷ map f xs) (same x) ∙ ap (λ ys. g x ∷ ys) (map_alike f g same xs)
 
 -- nothing is found before the walk
-pub found_begun : (root : Located) (bindings : List Binding) (references : List Reference) (env : Environment) (events : List Event) →
-    events ≡ preorder_of root → bindings ≡ [] → references ≡ [] → ((text : List ℕ) → number_by env.sight.numbers text ≡ None) →
-    env.sight.hidden.items ≡ [] → env.sight.scopes.items ≡ [] → env.with_bodies.items ≡ [] →
-    IsFound root bindings references env (node_events events)
-found_begun root bindings references env events is none no_references no_numbers no_hidden no_scopes no_bodies =
-    let walk : node_events events ≡ node_events (preorder_of root) = ap node_events is in
-    let walked = walk_placed root in
+pub found_begun : (root : Located) (bindings : List Binding) (references : List Reference) (env : Environment) (left : ℕ) (spots : List Spot) →
+    left ≡ inside_count root → spots ≡ elements_of root → bindings ≡ [] → references ≡ [] →
+    ((text : List ℕ) → number_by env.sight.numbers text ≡ None) → env.sight.hidden.items ≡ [] → env.sight.scopes.items ≡ [] →
+    env.scope_ends.items ≡ [] → env.body_ends.items ≡ [] →
+    IsFound root bindings references env left spots
+found_begun root bindings references env left spots count is none no_references no_numbers no_hidden no_scopes no_ends no_bodies =
+    let all : 1 + inside_count root ≡ suc (last_in root) - root.number = omega arith in
     record {
       number = root.number;
-      placed = subst (Placed root root.number) (sym walk) walked.placed;
-      sees =
-          subst (Sees bindings env root.number) (sym (ap open_nodes walk ∙ walked.opened))
-          (record {
-            scopes = seen_begun bindings env.sight root.number none no_numbers no_hidden no_scopes;
-            bodies = ap length no_bodies;
-          });
-      bound =
-          ap (λ bs. map bound_of bs ++ flat_map bindings_at (entered (node_events events))) none ∙ ap (λ es. flat_map bindings_at (entered es)) walk
-          ∙ ap (flat_map bindings_at) (walk_entered root);
+      inside = omega arith;
+      count = omega (arith, count);
+      walk = is ∙ ap (λ k. map (spot_at root.tree) (counted root.number k)) all;
+      nodes = [];
+      are_open = begun root;
+      sees = record {
+        sees_scopes = (seen_begun bindings env.sight root.number none no_numbers no_hidden no_scopes, no_ends);
+        sees_bodies = no_bodies;
+      };
+      bound = ap (λ bs. map bound_of bs ++ flat_map bindings_at (nodes_in spots)) none ∙ ap (λ es. flat_map bindings_at (nodes_in es)) is;
       listing =
-          ap (λ rs. map resolved_of rs ++ flat_map (resolved_at root) (entered (node_events events))) no_references
-          ∙ ap (λ es. flat_map (resolved_at root) (entered es)) walk ∙ ap (flat_map (resolved_at root)) (walk_entered root);
+          ap (λ rs. map resolved_of rs ++ flat_map (resolved_at root) (nodes_in spots)) no_references
+          ∙ ap (λ es. flat_map (resolved_at root) (nodes_in es)) is;
     }
 
--- a node is entered
-pub found_entered : (root : Located) (bindings more : List Binding) (references others : List Reference) (env inner : Environment)
-    (events later : List NodeEvent)
-    (e : Located) → IsFound root bindings references env events → events ≡ (true, e) ∷ later →
-    ((n : ℕ) → (nodes : List Located) → n ≤ e.number → Sees bindings env n nodes → Sees more inner (e.number + 1) (e ∷ nodes)) →
+-- one element less is left
+one_less : (last n others : ℕ) → suc last - n ≡ suc others → others ≡ suc last - (n + 1)
+one_less last n others is = omega (arith, is)
+
+-- a token is passed
+pub found_token : (root : Located) (bindings : List Binding) (references : List Reference) (env : Environment) (left less : ℕ)
+    (spots later : List Spot) (e : Located) → IsFound root bindings references env left spots → spots ≡ (false, e) ∷ later → less ≡ left - 1 →
+    IsFound root bindings references env less later
+found_token root bindings references env left less spots later e h is one =
+    let first = taken root.tree h.number (suc (last_in root) - h.number) spots (false, e) later h.walk is in
+    let none = token_alone root.tree h.number (sym (ap (λ (s : Spot). s.0) first.first)) in
+    let nodes_are : nodes_in spots ≡ nodes_in later = ap nodes_in is in
+    record {
+      number = h.number + 1;
+      inside = omega (arith, h.inside);
+      count = omega (arith, one, h.count);
+      walk =
+          first.are ∙ ap (λ k. map (spot_at root.tree) (counted (h.number + 1) k)) (one_less (last_in root) h.number first.others first.one_more);
+      nodes = h.nodes;
+      are_open = past_token root h.number h.nodes none h.are_open;
+      sees = record {
+        sees_scopes = (
+          still_seen bindings env.sight h.number (h.number + 1) (filter is_scope h.nodes) (omega arith) h.sees.sees_scopes.0,
+          h.sees.sees_scopes.1,
+        );
+        sees_bodies = h.sees.sees_bodies;
+      };
+      bound = ap (λ es. map bound_of bindings ++ flat_map bindings_at es) (sym nodes_are) ∙ h.bound;
+      listing = ap (λ es. map resolved_of references ++ flat_map (resolved_at root) es) (sym nodes_are) ∙ h.listing;
+    }
+
+-- what the names of a node are found to refer to
+here_resolved : (root : Located) (bindings : List Binding) (later : List Bound) (env : Environment) (n : ℕ) (e : Located) (nodes : List Located) →
+    map bound_of bindings ++ later ≡ bindings_in root → All (λ (b : Bound). n ≤ b.scope.number) later → IsBelow e nodes → around root e ≡ e ∷ nodes →
+    Sees root bindings env n (filter is_scope (e ∷ nodes)) (filter is_with_body (e ∷ nodes)) →
+    map (resolve_at env e) (references_at e) ≡ resolved_at root e
+here_resolved root bindings later env n e nodes bound high below around_is sees =
+    map_alike (resolve_at env e) (resolved_among (bindings_in root) (around root e) e)
+    (λ name. seen_resolved root bindings later (bindings_in root) env n e nodes name (sym bound) high (inherit_no_scope e) below sees
+    ∙ ap (λ around. resolved_among (bindings_in root) around e name) (sym around_is))
+    (references_at e)
+
+-- a node is entered where those around it are open
+found_entered : (root : Located) (bindings more : List Binding) (references others : List Reference) (env : Environment) (left n : ℕ)
+    (later : List Spot) (e : Located) (nodes : List Located) → root.number ≤ n → left ≡ last_in root - n →
+    later ≡ map (spot_at root.tree) (counted n (suc (last_in root) - n)) →
+    HoldLater root n (e ∷ nodes) → IsBelow e nodes → around root e ≡ e ∷ nodes →
+    Sees root more env n (filter is_scope (e ∷ nodes)) (filter is_with_body (e ∷ nodes)) →
+    map bound_of bindings ++ flat_map bindings_at (e ∷ nodes_in later) ≡ bindings_in root →
+    map resolved_of references ++ flat_map (resolved_at root) (e ∷ nodes_in later) ≡ resolved_in root →
+    map bound_of more ≡ map bound_of bindings ++ bindings_at e →
+    map resolved_of others ≡ map resolved_of references ++ map (resolve_at env e) (references_at e) →
+    IsFound root more others env left later
+found_entered root bindings more references others env left n later e nodes inside count_is walk are_open below around_is sees so_far listed bound
+    referred =
+    let bound_is : map bound_of more ++ flat_map bindings_at (nodes_in later) ≡ bindings_in root =
+    more_listed bindings_at (map bound_of bindings) (map bound_of more) (bindings_in root) e (nodes_in later) so_far bound in
+    let high : All (λ (b : Bound). n ≤ b.scope.number) (flat_map bindings_at (nodes_in later)) =
+    subst (λ spots. All (λ (b : Bound). n ≤ b.scope.number) (flat_map bindings_at (nodes_in spots))) (sym walk)
+    (bound_later root.tree n (suc (last_in root) - n)) in
+    record {
+      number = n;
+      inside = inside;
+      count = count_is;
+      walk = walk;
+      nodes = e ∷ nodes;
+      are_open = are_open;
+      sees = sees;
+      bound = bound_is;
+      listing =
+          more_listed (resolved_at root) (map resolved_of references) (map resolved_of others) (resolved_in root) e (nodes_in later) listed
+          (referred ∙ ap (λ rs. map resolved_of references ++ rs)
+          (here_resolved root more (flat_map bindings_at (nodes_in later)) env n e nodes bound_is high below around_is sees));
+    }
+
+-- those that have ended are left, and a node is entered
+pub found_node : (root : Located) (bindings same more : List Binding) (references others : List Reference) (env outer inner : Environment)
+    (left less : ℕ) (spots later : List Spot) (e : Located) → IsFound root bindings references env left spots → spots ≡ (true, e) ∷ later →
+    less ≡ left - 1 → same ≡ bindings → ((root : Located) → (n : ℕ) → (scopes bodies : List Located) → Sees root same env n scopes bodies →
+    Sees root same outer n (still_open root left scopes) (still_open root left bodies)) →
+    ((root : Located) → (n : ℕ) → (scopes bodies : List Located) → n ≤ e.number → left ≡ last_in root - e.number →
+    Sees root bindings outer n scopes bodies →
+    Sees root more inner (e.number + 1) (if is_scope e then e ∷ scopes else scopes) (if is_with_body e then e ∷ bodies else bodies)) →
     map bound_of more ≡ map bound_of bindings ++ bindings_at e →
     map resolved_of others ≡ map resolved_of references ++ map (resolve_at inner e) (references_at e) →
-    IsFound root more others inner later
-found_entered root bindings more references others env inner events later e found is sees bound referred =
-    go (subst (IsFound root bindings references env) is found)
-  where
-    go : IsFound root bindings references env ((true, e) ∷ later) → IsFound root more others inner later
-    go h =
-        let nodes = drop 1 (open_nodes later) in
-        let around_is : around root e ≡ e ∷ nodes = h.placed.2 in
-        let opened : open_nodes later ≡ e ∷ nodes = h.placed.1 ∙ around_is in
-        let inside = sees h.number nodes h.placed.0 h.sees in
-        let bound_is : map bound_of more ++ flat_map bindings_at (entered later) ≡ bindings_in root =
-        more_listed bindings_at (map bound_of bindings) (map bound_of more) (bindings_in root) e (entered later) h.bound bound in
-        let same : map (resolve_at inner e) (references_at e) ≡ resolved_at root e =
-        map_alike (resolve_at inner e) (resolved_among (bindings_in root) (around root e) e)
-        (λ name. seen_resolved more (flat_map bindings_at (entered later)) (bindings_in root) inner (e.number + 1) e nodes name (sym bound_is)
-        (bound_later root (e.number + 1) later h.placed.4) (inherit_no_scope e) h.placed.3 inside
-        ∙ ap (λ around. resolved_among (bindings_in root) around e name) (sym around_is))
-        (references_at e) in
-        record {
-          number = e.number + 1;
-          placed = h.placed.4;
-          sees = subst (Sees more inner (e.number + 1)) (sym opened) inside;
-          bound = bound_is;
-          listing =
-              more_listed (resolved_at root) (map resolved_of references) (map resolved_of others) (resolved_in root) e (entered later) h.listing
-              (referred ∙ ap (λ rs. map resolved_of references ++ rs) same);
-        }
+    IsFound root more others inner less later
+found_node root bindings same more references others env outer inner left less spots later e h is one same_is leaves enters bound referred =
+    let first = taken root.tree h.number (suc (last_in root) - h.number) spots (true, e) later h.walk is in
+    let there = node_there root.tree h.number (sym (ap (λ (s : Spot). s.0) first.first)) in
+    let here : e ≡ record { tree = root.tree; number = h.number } = ap (λ (s : Spot). s.1) first.first in
+    let number : e.number ≡ h.number = ap (λ (x : Located). x.number) here in
+    let next : e.number + 1 ≡ h.number + 1 = ap (λ k. k + 1) number in
+    let high : h.number ≤ last_in root = omega (arith, first.one_more) in
+    let nodes : List Located = filter (reaches h.number) h.nodes in
+    let around_here = around_is root h.number h.nodes h.inside h.are_open in
+    let still : (p : Located → Bool) → still_open root left (filter p h.nodes) ≡ filter p nodes =
+    λ p. still_open_is root left h.number h.count high p h.nodes h.are_open.nested in
+    let left_open : Sees root bindings outer h.number (filter is_scope nodes) (filter is_with_body nodes) =
+    subst (λ scopes. Sees root bindings outer h.number scopes (filter is_with_body nodes)) (still is_scope)
+    (subst (λ bodies. Sees root bindings outer h.number (still_open root left (filter is_scope h.nodes)) bodies) (still is_with_body)
+    (subst (λ bs. Sees root bs env h.number (filter is_scope h.nodes) (filter is_with_body h.nodes) →
+    Sees root bs outer h.number (still_open root left (filter is_scope h.nodes)) (still_open root left (filter is_with_body h.nodes))) same_is
+    (leaves root h.number (filter is_scope h.nodes) (filter is_with_body h.nodes)) h.sees)) in
+    let entered : Sees root more inner (e.number + 1) (filter is_scope (e ∷ nodes)) (filter is_with_body (e ∷ nodes)) =
+    enters root h.number (filter is_scope nodes) (filter is_with_body nodes) (omega (arith, number)) (omega (arith, number, h.count)) left_open in
+    let listed : nodes_in spots ≡ e ∷ nodes_in later = ap nodes_in is in
+    found_entered root bindings more references others inner less (h.number + 1) later e nodes (omega (arith, h.inside)) (omega (arith, one, h.count))
+    (first.are ∙ ap (λ k. map (spot_at root.tree) (counted (h.number + 1) k)) (one_less (last_in root) h.number first.others first.one_more))
+    (subst (λ x. HoldLater root (h.number + 1) (x ∷ nodes)) (sym here) (past_node root h.number h.nodes h.inside h.are_open there))
+    (subst (λ x. IsBelow x nodes) (sym here)
+    (subst (λ xs. IsBelow (record { tree = root.tree; number = h.number }) (drop 1 xs)) around_here
+    (parent_around root root.tree h.number there h.inside)))
+    (subst (λ x. around root x ≡ x ∷ nodes) (sym here) around_here)
+    (subst (λ n. Sees root more inner n (filter is_scope (e ∷ nodes)) (filter is_with_body (e ∷ nodes))) next entered)
+    (ap (λ es. map bound_of bindings ++ flat_map bindings_at es) (sym listed) ∙ h.bound)
+    (ap (λ es. map resolved_of references ++ flat_map (resolved_at root) es) (sym listed) ∙ h.listing) bound referred
 
--- a node is left
-pub found_left : (root : Located) (bindings same : List Binding) (references : List Reference) (env outer : Environment) (events later : List NodeEvent)
-    (e : Located) → IsFound root bindings references env events → events ≡ (false, e) ∷ later → same ≡ bindings →
-    ((n : ℕ) → (nodes : List Located) → Sees same env n (e ∷ nodes) → Sees same outer n nodes) → IsFound root bindings references outer later
-found_left root bindings same references env outer events later e found is same_is sees =
-    go (subst (IsFound root bindings references env) is found)
-    (subst (λ bs. (n : ℕ) → (nodes : List Located) → Sees bs env n (e ∷ nodes) → Sees bs outer n nodes) same_is sees)
-  where
-    go : IsFound root bindings references env ((false, e) ∷ later) →
-        ((n : ℕ) → (nodes : List Located) → Sees bindings env n (e ∷ nodes) → Sees bindings outer n nodes) →
-        IsFound root bindings references outer later
-    go h left = record {
-      number = h.number;
-      placed = h.placed;
-      sees = left h.number (open_nodes later) h.sees;
-      bound = h.bound;
-      listing = h.listing;
-    }
+-- the same is found where all is the same
+pub found_same : (root : Located) (bindings others : List Binding) (references alike : List Reference) (env same : Environment) (left : ℕ)
+    (spots : List Spot) → others ≡ bindings → alike ≡ references → same ≡ env → IsFound root bindings references env left spots →
+    IsFound root others alike same left spots
+found_same root bindings others references alike env same left spots bindings_are references_are env_is h =
+    subst (λ bs. IsFound root bs alike same left spots) (sym bindings_are)
+    (subst (λ rs. IsFound root bindings rs same left spots) (sym references_are)
+    (subst (λ around. IsFound root bindings references around left spots) (sym env_is) h))
 
 -- the names of what is resolved in a text are its references
 pub names_resolved : (root : Located) (references : List Reference) → map resolved_of references ≡ resolved_in root →

@@ -1,5 +1,5 @@
 -- What is kept while a text is resolved: the numbers of the names in sight, and what the open scopes hide.
-use Rattle.std.specs.Prelude.{◌≡◌, ℕ, ◌<◌, ◌≤◌, ◌==◌, ◌⊎◌, nat_le, Bool, false, not, List, [], ◌∷◌, ◌++◌, map, filter, length, get_or, slice_get}
+use Rattle.std.specs.Prelude.{◌≡◌, ℕ, ◌+◌, ◌<◌, ◌≤◌, ◌==◌, ◌⊎◌, nat_le, nat_lt, Bool, false, not, List, [], ◌∷◌, ◌++◌, map, length, get_or, slice_get}
 use Rattle.std.specs.Prelude.{Option, Some, None, IsSome, option_map, ◌-◌, if◌then◌else◌}
 use Rattle.std.specs.List.{All}
 use Rattle.std.specs.Option.{option_or}
@@ -8,6 +8,7 @@ use Rattle.std.specs.Borrow.{Bor}
 use Rattle.std.specs.HashMap.{HashMap, get_by}
 use Rattle.rnix_green.specs.Tree.{Located, item_of}
 use Rattle.rnix_green.specs.Relatives.{parent_of}
+use Rattle.rnix_tree.specs.InsideCounts.{inside_count}
 use Rattle.rnix_kinds.specs.declared.kinds.SyntaxKind.TheVariants as k
 use Rattle.rnix_green.specs.Equality.{same_kind}
 use Rattle.nix_scopes.specs.declared.sight.Scope.{Scope}
@@ -16,7 +17,7 @@ use Rattle.nix_scopes.specs.declared.environment.Environment.{Environment}
 use Rattle.nix_scopes.specs.declared.resolution.Binding.{Binding}
 use Rattle.nix_scopes.specs.Names.{Named}
 use Rattle.nix_scopes.specs.Binders.{is_scope}
-use Rattle.nix_scopes.specs.Scopes.{Bound, Resolved, resolved, number_in, innermost, is_with_body}
+use Rattle.nix_scopes.specs.Scopes.{Bound, Resolved, resolved, number_in, innermost}
 use Rattle.nix_scopes.specs.Bound.{bound_of, AreFirst}
 
 -- numbers of names
@@ -93,18 +94,41 @@ pub record IsSeen (bindings : List Binding) (sight : Sight) (n : ℕ) (scopes : 
   pub are_open : AreOpen (map bound_of bindings) sight.hidden.items sight.scopes.items scopes
   pub firsts : AreFirst bindings
 
--- so it is of the scopes among these nodes
-abbrev pub SeesScopes : List Binding → Sight → ℕ → List Located → Type 0
-SeesScopes bindings sight n nodes = IsSeen bindings sight n (filter is_scope nodes)
+-- the number of the last element inside an element, or its own
+abbrev pub last_in : Located → ℕ
+last_in e = e.number + inside_count e
 
--- as many bodies of `with` are around as are among the open nodes
-abbrev pub SeesBodies : List Located → List Located → Type 0
-SeesBodies bodies nodes = length bodies ≡ length (filter is_with_body nodes)
+-- how many elements inside the root come after an element and what is inside it
+abbrev pub count_behind : Located → Located → ℕ
+count_behind root e = last_in root - last_in e
 
--- what is known of what is around the place where these nodes are open
-pub record Sees (bindings : List Binding) (around : Environment) (n : ℕ) (nodes : List Located) : Type 0 where
-  pub scopes : SeesScopes bindings around.sight n nodes
-  pub bodies : SeesBodies around.with_bodies.items nodes
+-- so many come after each of these elements; the count of the first is the last
+abbrev pub counts_behind : Located → List Located → List ℕ
+counts_behind root [] = []
+counts_behind root (e ∷ es) = counts_behind root es ++ count_behind root e ∷ []
+
+-- whether this count, if there is one, is more than what is left
+abbrev pub is_more : ℕ → Option ℕ → Bool
+is_more left None = false
+is_more left (Some behind) = nat_lt left behind
+
+-- so it is of the last of these counts
+abbrev pub has_ended : ℕ → List ℕ → Bool
+has_ended left ends = is_more left (slice_get ends (length ends - 1))
+
+-- these elements without the first ones that have ended, after which come more elements than are left
+abbrev pub still_open : Located → ℕ → List Located → List Located
+still_open root left [] = []
+still_open root left (e ∷ es) = if nat_lt left (count_behind root e) then still_open root left es else e ∷ es
+
+-- what these scopes bind is in sight, and these are their ends
+abbrev pub SeesScopes : Located → List Binding → Sight → List ℕ → ℕ → List Located → Type 0
+SeesScopes root bindings sight ends n scopes = IsSeen bindings sight n scopes × (ends ≡ counts_behind root scopes)
+
+-- what is known of what is around the place where these scopes and these bodies of `with` are open
+pub record Sees (root : Located) (bindings : List Binding) (around : Environment) (n : ℕ) (scopes bodies : List Located) : Type 0 where
+  pub sees_scopes : SeesScopes root bindings around.sight around.scope_ends.items n scopes
+  pub sees_bodies : around.body_ends.items ≡ counts_behind root bodies
 
 -- the number of the first binding of the last of these scopes
 abbrev pub first_of : List Scope → Option ℕ
@@ -130,7 +154,7 @@ number_in_sight sight is_outer text = if is_outer then outer_number sight text e
 
 -- a name that refers to the binding of a number, or has none
 abbrev pub referring : Environment → Option ℕ → Bool → Named → Resolved
-referring around binding is_inherited name = resolved is_inherited (not (length around.with_bodies.items == 0)) binding name
+referring around binding is_inherited name = resolved is_inherited (not (length around.body_ends.items == 0)) binding name
 
 -- what a name refers to, outside of the innermost scope or in all scopes
 abbrev pub resolve_name : Environment → Bool → Bool → Named → Resolved

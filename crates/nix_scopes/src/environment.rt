@@ -1,11 +1,12 @@
-//! What is around the current node of a walk: the names in sight, and the bodies of `with`.
+//! What is around the current node of a walk: the names in sight, and where the open scopes and bodies of `with` end.
 
-ghost use Rattle.std.specs.Prelude.{◌≡◌, ◌==◌, ◌≤◌, ◌++◌, ◌+◌, [], ◌∷◌, ℕ, List, None, length, map, not, OnOk};
+ghost use Rattle.std.specs.Prelude.{◌≡◌, ◌==◌, ◌≤◌, ◌++◌, ◌+◌, ◌-◌, [], ◌∷◌, ℕ, List, None, length, map, not, OnOk, if◌then◌else◌};
 ghost use Rattle.rnix_green.specs.Tree.{Located};
 ghost use Rattle.nix_scopes.specs.declared.resolution.Binding.{Binding as Declared};
-ghost use Rattle.nix_scopes.specs.Scopes.{bindings_at};
+ghost use Rattle.nix_scopes.specs.Binders.{is_scope};
+ghost use Rattle.nix_scopes.specs.Scopes.{is_with_body, bindings_at};
 ghost use Rattle.nix_scopes.specs.Bound.{bound_of};
-ghost use Rattle.nix_scopes.specs.Resolving.{number_by, SeesScopes, SeesBodies, Sees};
+ghost use Rattle.nix_scopes.specs.Resolving.{number_by, last_in, counts_behind, has_ended, still_open, SeesScopes, Sees};
 
 use crate::places::is_with_body;
 use crate::resolution::Binding;
@@ -14,55 +15,82 @@ use crate::sight::Sight;
 use rnix::SyntaxNode;
 use std::alloc::{AllocError, Global};
 
-/// What is around a place: the names in sight, and the bodies of `with`.
+/// What is around a place of a walk: the names in sight, and where the open scopes and bodies of `with` end, the innermost last. An end is
+/// told by the number of elements that the walk has after it.
 #[derive(Drop)]
 pub struct Environment<'t> {
     pub sight: Sight<'t>,
-    pub with_bodies: Vec<SyntaxNode<'t>>,
+    pub scope_ends: Vec<usize>,
+    pub body_ends: Vec<usize>,
 }
 
-// Enters a node: if it is a scope, its names come into sight.
+// Whether the last of these ends comes before an element, after which the walk has `left` more.
+fn has_ended(ends: &[usize], left: usize) -> bool
+    ensures { result ≡ has_ended left ends.now }
+{
+    match ends.last() {
+        Some(behind) => *behind > left,
+        None => false,
+    }
+}
+
+// Enters a node, after which the walk has `left` more elements: if it is a scope, its names come into sight.
 fn enter_scope<'t>(
     alloc: Global,
     node: &SyntaxNode<'t>,
+    left: usize,
     sight: &mut Sight<'t>,
+    ends: &mut Vec<usize>,
     bindings: &mut Vec<Binding<'t>>,
 ) -> Result<(), AllocError>
-    ensures sees { OnOk result ((n : ℕ) → (nodes : List Located) → n ≤ node.now.number →
-        SeesScopes bindings.old.items sight.old n nodes → SeesScopes bindings.new.items sight.new (node.now.number + 1) (node.now ∷ nodes)) }
+    ensures sees { OnOk result ((root : Located) → (n : ℕ) → (scopes : List Located) → n ≤ node.now.number → left ≡ last_in root - node.now.number →
+        SeesScopes root bindings.old.items sight.old ends.old.items n scopes →
+        SeesScopes root bindings.new.items sight.new ends.new.items (node.now.number + 1)
+        (if is_scope node.now then node.now ∷ scopes else scopes)) }
     ensures bindings { OnOk result (map bound_of bindings.new.items ≡ map bound_of bindings.old.items ++ bindings_at node.now) }
 {
     if is_scope(node) {
         sight.enter(alloc, node, bindings)?;
+        ends.push(left.saturating_sub(node.inside_count()))?;
     }
     Ok(())
 }
 
-// Leaves a node: if it is a scope, it is the innermost one.
-fn leave_scope<'t>(node: &SyntaxNode<'_>, sight: &mut Sight<'t>, bindings: &[Binding<'t>])
-    ensures { (n : ℕ) → (nodes : List Located) → SeesScopes bindings.now sight.old n (node.now ∷ nodes) → SeesScopes bindings.now sight.new n nodes }
+// Enters a node, after which the walk has `left` more elements: it may be the body of a `with`.
+fn enter_body(node: &SyntaxNode<'_>, left: usize, ends: &mut Vec<usize>) -> Result<(), AllocError>
+    ensures { OnOk result ((root : Located) → (bodies : List Located) → left ≡ last_in root - node.now.number →
+        ends.old.items ≡ counts_behind root bodies →
+        ends.new.items ≡ counts_behind root (if is_with_body node.now then node.now ∷ bodies else bodies)) }
 {
-    if is_scope(node) {
+    if is_with_body(node) {
+        ends.push(left.saturating_sub(node.inside_count()))?;
+    }
+    Ok(())
+}
+
+// Leaves the scopes that end before an element, after which the walk has `left` more.
+fn leave_scopes<'t>(
+    left: usize,
+    sight: &mut Sight<'t>,
+    ends: &mut Vec<usize>,
+    bindings: &[Binding<'t>],
+)
+    ensures { (root : Located) → (n : ℕ) → (scopes : List Located) → SeesScopes root bindings.now sight.old ends.old.items n scopes →
+        SeesScopes root bindings.now sight.new ends.new.items n (still_open root left scopes) }
+{
+    while has_ended(ends, left) {
+        let _end = ends.pop();
         sight.leave(bindings);
     }
 }
 
-// Enters a node that may be the body of a `with`.
-fn enter_body<'t>(node: &SyntaxNode<'t>, bodies: &mut Vec<SyntaxNode<'t>>) -> Result<(), AllocError>
-    ensures { OnOk result ((nodes : List Located) → SeesBodies bodies.old.items nodes → SeesBodies bodies.new.items (node.now ∷ nodes)) }
+// Leaves the bodies of `with` that end before an element, after which the walk has `left` more.
+fn leave_bodies(left: usize, ends: &mut Vec<usize>)
+    ensures { (root : Located) → (bodies : List Located) → ends.old.items ≡ counts_behind root bodies →
+        ends.new.items ≡ counts_behind root (still_open root left bodies) }
 {
-    if is_with_body(node) {
-        bodies.push(node.clone())?;
-    }
-    Ok(())
-}
-
-// Leaves a node that may be the body of a `with`, the innermost one.
-fn leave_body<'t>(node: &SyntaxNode<'_>, bodies: &mut Vec<SyntaxNode<'t>>)
-    ensures { (nodes : List Located) → SeesBodies bodies.old.items (node.now ∷ nodes) → SeesBodies bodies.new.items nodes }
-{
-    if is_with_body(node) {
-        let _innermost = bodies.pop();
+    while has_ended(ends, left) {
+        let _end = ends.pop();
     }
 }
 
@@ -72,42 +100,55 @@ impl<'t> Environment<'t> {
         ensures numbers { (text : List ℕ) → number_by result.sight.numbers text ≡ None }
         ensures hidden { result.sight.hidden.items ≡ [] }
         ensures scopes { result.sight.scopes.items ≡ [] }
-        ensures bodies { result.with_bodies.items ≡ [] }
+        ensures scope_ends { result.scope_ends.items ≡ [] }
+        ensures body_ends { result.body_ends.items ≡ [] }
     {
         Environment {
             sight: Sight::new(alloc),
-            with_bodies: Vec::new(alloc),
+            scope_ends: Vec::new(alloc),
+            body_ends: Vec::new(alloc),
         }
     }
 
-    /// Enters a node, whose names are bound, if it is a scope.
+    /// Enters a node, after which the walk has `left` more elements. Its names are bound, if it is a scope.
     pub fn enter(
         &mut self,
         alloc: Global,
         node: &SyntaxNode<'t>,
+        left: usize,
         bindings: &mut Vec<Binding<'t>>,
     ) -> Result<(), AllocError>
-        ensures sees { OnOk result ((n : ℕ) → (nodes : List Located) → n ≤ node.now.number →
-            Sees bindings.old.items self.old n nodes → Sees bindings.new.items self.new (node.now.number + 1) (node.now ∷ nodes)) }
+        ensures sees { OnOk result ((root : Located) → (n : ℕ) → (scopes bodies : List Located) → n ≤ node.now.number →
+            left ≡ last_in root - node.now.number → Sees root bindings.old.items self.old n scopes bodies →
+            Sees root bindings.new.items self.new (node.now.number + 1) (if is_scope node.now then node.now ∷ scopes else scopes)
+            (if is_with_body node.now then node.now ∷ bodies else bodies)) }
         ensures bindings { OnOk result (map bound_of bindings.new.items ≡ map bound_of bindings.old.items ++ bindings_at node.now) }
     {
-        enter_scope(alloc, node, &mut self.sight, bindings)?;
-        enter_body(node, &mut self.with_bodies)?;
+        enter_scope(
+            alloc,
+            node,
+            left,
+            &mut self.sight,
+            &mut self.scope_ends,
+            bindings,
+        )?;
+        enter_body(node, left, &mut self.body_ends)?;
         Ok(())
     }
 
-    /// Leaves a node.
-    pub fn leave(&mut self, node: &SyntaxNode<'_>, bindings: &[Binding<'t>])
-        ensures { (n : ℕ) → (nodes : List Located) → Sees bindings.now self.old n (node.now ∷ nodes) → Sees bindings.now self.new n nodes }
+    /// Leaves the scopes and the bodies of `with` that end before an element, after which the walk has `left` more.
+    pub fn leave_ended(&mut self, left: usize, bindings: &[Binding<'t>])
+        ensures { (root : Located) → (n : ℕ) → (scopes bodies : List Located) → Sees root bindings.now self.old n scopes bodies →
+            Sees root bindings.now self.new n (still_open root left scopes) (still_open root left bodies) }
     {
-        leave_scope(node, &mut self.sight, bindings);
-        leave_body(node, &mut self.with_bodies);
+        leave_scopes(left, &mut self.sight, &mut self.scope_ends, bindings);
+        leave_bodies(left, &mut self.body_ends);
     }
 
     /// Whether the place is in the body of a `with`.
     pub fn is_below_with(&self) -> bool
-        ensures { result ≡ not (length self.now.with_bodies.items == 0) }
+        ensures { result ≡ not (length self.now.body_ends.items == 0) }
     {
-        !self.with_bodies.is_empty()
+        !self.body_ends.is_empty()
     }
 }

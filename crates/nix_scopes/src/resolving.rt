@@ -16,7 +16,7 @@ use crate::resolution::{Reference, Resolution};
 use crate::scopes::is_scope;
 use crate::sight::Sight;
 use rnix::ast::{AstNode, Inherit};
-use rnix::{SyntaxNode, WalkEvent};
+use rnix::{NodeOrToken, SyntaxNode};
 use std::alloc::{AllocError, Global};
 
 // Adds a name that refers to the binding of a number, or has none.
@@ -130,17 +130,21 @@ pub fn resolve<'t>(alloc: Global, root: &SyntaxNode<'t>) -> Result<Resolution<'t
     let mut bindings = Vec::new(alloc);
     let mut references = Vec::new(alloc);
     let mut around = Environment::new(alloc);
-    for event in root.preorder() {
-        match event {
-            WalkEvent::Enter(node) => {
-                around.enter(alloc, &node, &mut bindings)?;
-                add_references(&around, node, &mut references)?;
-            }
-            WalkEvent::Leave(node) => around.leave(&node, &bindings),
+    // How many elements come after the current one.
+    let mut left = root.inside_count();
+    for element in root.descendants_with_tokens() {
+        if let NodeOrToken::Node(node) = element {
+            around.leave_ended(left, &bindings);
+            around.enter(alloc, &node, left, &mut bindings)?;
+            add_references(&around, node, &mut references)?;
         }
+        left = left.saturating_sub(1);
     }
     Ok(Resolution {
         bindings,
         references,
     })
 }
+
+#[cfg(test)]
+mod tests;

@@ -1,15 +1,18 @@
-use Rattle.std.proofs.{Common.{◌+◌, ◌∷◌, ◌∙◌, sym, subst, arith}, lemmas.Bool.{cond-true, cond-false}}
-use Rattle.{std.specs.Prelude.filter, nix_scopes.{specs.{Binders.is_scope, Resolving.IsSeen}, proofs.ScopeLemmas.still_seen}}
+use Rattle.std.proofs.{Common.{◌+◌, ◌-◌, ◌∷◌, ◌∙◌, ap, sym, subst, arith}, lemmas.Bool.{cond-true, cond-false}}
+use Rattle.nix_scopes.{specs.{Binders.is_scope, Resolving.SeesScopes}, proofs.{ScopeLemmas.still_seen, EndLemmas.end_added}}
 use Rattle.nix_scopes.proofs.environment.enter_scope.Goals as goal
 
-pub returns-in_ok-enter-clause-sees : goal.returns-in_ok-enter-clause-sees
-returns-in_ok-enter-clause-sees c = λ n nodes l h.
-    subst (IsSeen c.enter.new.bindings.items c.enter.new.self (c.args.node.now.number + 1))
-    (sym (cond-true (is_scope c.args.node.now) (c.args.node.now ∷ filter is_scope nodes) (filter is_scope nodes) (sym c.is_scope.ensures ∙ c.if-is_scope.true)))
-    (c.in_ok-enter.ensures.sees n (filter is_scope nodes) l h)
+pub returns-in_ok-push-clause-sees : goal.returns-in_ok-push-clause-sees
+returns-in_ok-push-clause-sees c = λ root n scopes l count h.
+    subst (SeesScopes root c.enter.new.bindings.items c.enter.new.self c.push.new.self.items (c.args.node.now.number + 1))
+    (sym (cond-true (is_scope c.args.node.now) (c.args.node.now ∷ scopes) scopes (sym c.is_scope.ensures ∙ c.if-is_scope.true))) (
+      c.in_ok-enter.ensures.sees n scopes l h.0,
+      end_added root c.args.left c.saturating_sub.result c.args.ends.now.items c.push.new.self.items c.args.node.now scopes count
+          (c.saturating_sub.ensures ∙ ap (λ k. c.args.left - k) c.inside_count.ensures) c.in_ok-push.ensures.items h.1,
+    )
 
 pub returns-else-is_scope-clause-sees : goal.returns-else-is_scope-clause-sees
-returns-else-is_scope-clause-sees c = λ n nodes l h.
-    subst (IsSeen c.args.bindings.now.items c.args.sight.now (c.args.node.now.number + 1))
-    (sym (cond-false (is_scope c.args.node.now) (c.args.node.now ∷ filter is_scope nodes) (filter is_scope nodes) (sym c.is_scope.ensures ∙ c.if-is_scope.false)))
-    (still_seen c.args.bindings.now.items c.args.sight.now n (c.args.node.now.number + 1) (filter is_scope nodes) (omega (arith, l)) h)
+returns-else-is_scope-clause-sees c = λ root n scopes l count h.
+    subst (SeesScopes root c.args.bindings.now.items c.args.sight.now c.args.ends.now.items (c.args.node.now.number + 1))
+    (sym (cond-false (is_scope c.args.node.now) (c.args.node.now ∷ scopes) scopes (sym c.is_scope.ensures ∙ c.if-is_scope.false)))
+    (still_seen c.args.bindings.now.items c.args.sight.now n (c.args.node.now.number + 1) scopes (omega (arith, l)) h.0, h.1)

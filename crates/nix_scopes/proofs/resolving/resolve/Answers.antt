@@ -1,36 +1,44 @@
-use Rattle.{std.proofs.Common.{rules, ◌≡◌, ◌∷◌, ◌∙◌, subst}, rnix_green.specs.Walk.node_events, rnix_tree.specs.Spots.node_event_of}
-use Rattle.nix_scopes.proofs.ResolvingLemmas.{found_begun, found_entered, found_left, names_resolved}
+use Rattle.{std.proofs.Common.{rules, ◌≡◌, ◌∷◌, ◌∙◌, ap, subst}, rnix_tree.specs.Spots.spot_of}
+use Rattle.nix_scopes.proofs.ResolvingLemmas.{found_begun, found_token, found_node, found_same, names_resolved}
+use Rattle.nix_scopes.proofs.resolving.resolve.Goals.{in-Node+in_ok-enter+in_ok-add_references, in_default}
 use Rattle.nix_scopes.proofs.resolving.resolve.Goals as goal
 
-pub loop-event-init : goal.loop-event-init
-loop-event-init c = record {
+pub loop-element-init : goal.loop-element-init
+loop-element-init c = record {
   next = tt;
   ends = tt;
-  found = found_begun c.args.root.now c.new-bindings.result.items c.new-references.result.items c.new-around.result c.into_iter-event-iterator.result
-      (c.into_iter-event-iterator.ensures.into_iter_gives ∙ c.preorder-event-items.ensures.walk) c.new-bindings.ensures.items c.new-references.ensures.items
-      c.new-around.ensures.numbers c.new-around.ensures.hidden c.new-around.ensures.scopes c.new-around.ensures.bodies;
+  found = found_begun c.args.root.now c.new-bindings.result.items c.new-references.result.items c.new-around.result c.inside_count-left.result
+      c.into_iter-element-iterator.result c.inside_count-left.ensures
+      (c.into_iter-element-iterator.ensures.into_iter_gives ∙ c.descendants_with_tokens-element-items.ensures.elements) c.new-bindings.ensures.items
+      c.new-references.ensures.items c.new-around.ensures.numbers c.new-around.ensures.hidden c.new-around.ensures.scopes
+      c.new-around.ensures.scope_ends c.new-around.ensures.body_ends;
 }
 
-pub loop-event-preserved-in-Continue-branch-2 : goal.loop-event-preserved-in-Continue-branch-2
-loop-event-preserved-in-Continue-branch-2 c = record {
+pub loop-element-preserved : goal.loop-element-preserved
+loop-element-preserved c = record {
   next = tt;
   ends = tt;
-  found = found_entered c.args.root.now c.loop-event.bindings.items c.enter.new.bindings.items c.loop-event.references.items
-      c.add_references.new.references.items c.loop-event.around c.enter.new.self (node_events c.loop-event.event-iterator) (node_events c.next.new.self)
-      c.in-Enter.node c.loop-event.invariant.found
-      (subst (λ event. node_events c.loop-event.event-iterator ≡ node_event_of event ∷ node_events c.next.new.self) c.in-Enter.is c.in-Some.ensures.steps)
-      c.in_ok-enter-in-Enter.ensures.sees c.in_ok-enter-in-Enter.ensures.bindings c.in_ok-add_references-in-Enter.ensures;
-}
-
-pub loop-event-preserved : goal.loop-event-preserved
-loop-event-preserved c = record {
-  next = tt;
-  ends = tt;
-  found = found_left c.args.root.now c.loop-event.bindings.items c.deref.result.now c.loop-event.references.items c.loop-event.around c.leave.new.self
-      (node_events c.loop-event.event-iterator) (node_events c.next.new.self) c.in-Leave.node c.loop-event.invariant.found
-      (subst (λ event. node_events c.loop-event.event-iterator ≡ node_event_of event ∷ node_events c.next.new.self) c.in-Leave.is c.in-Some.ensures.steps)
-      (search rules) c.leave.ensures;
+  found = elim c.match-element.branch [
+    | in-Node+in_ok-enter+in_ok-add_references w ↦
+        found_same c.args.root.now w.enter.new.bindings.items c.match-element.bindings.items w.add_references.new.references.items
+        c.match-element.references.items w.enter.new.self c.match-element.around c.saturating_sub-left.result c.next.new.self
+        (ap (λ v. v.items) w.bindings-is) (ap (λ v. v.items) w.references-is) w.around-is
+        (found_node c.args.root.now c.loop-element.bindings.items w.deref.result.now w.enter.new.bindings.items c.loop-element.references.items
+        w.add_references.new.references.items c.loop-element.around w.leave_ended.new.self w.enter.new.self c.loop-element.left
+        c.saturating_sub-left.result c.loop-element.element-iterator c.next.new.self w.in-Node.node c.loop-element.invariant.found
+        (subst (λ e. c.loop-element.element-iterator ≡ spot_of e ∷ c.next.new.self) w.in-Node.is c.in-Some.ensures.steps)
+        c.saturating_sub-left.ensures
+        (search rules) w.leave_ended.ensures w.in_ok-enter.ensures.sees w.in_ok-enter.ensures.bindings w.in_ok-add_references.ensures)
+    | in_default w ↦
+        found_same c.args.root.now c.loop-element.bindings.items c.match-element.bindings.items c.loop-element.references.items
+        c.match-element.references.items c.loop-element.around c.match-element.around c.saturating_sub-left.result c.next.new.self
+        (ap (λ v. v.items) w.bindings-is) (ap (λ v. v.items) w.references-is) w.around-is
+        (found_token c.args.root.now c.loop-element.bindings.items c.loop-element.references.items c.loop-element.around c.loop-element.left
+        c.saturating_sub-left.result c.loop-element.element-iterator c.next.new.self w.in_default.field-0 c.loop-element.invariant.found
+        (subst (λ e. c.loop-element.element-iterator ≡ spot_of e ∷ c.next.new.self) w.in_default.is c.in-Some.ensures.steps)
+        c.saturating_sub-left.ensures)
+  ];
 }
 
 pub returns-clause-references : goal.returns-clause-references
-returns-clause-references c = names_resolved c.args.root.now c.loop-event.references.items (search rules)
+returns-clause-references c = names_resolved c.args.root.now c.loop-element.references.items (search rules)

@@ -1,0 +1,150 @@
+//! What a text's names refer to is what a walk finds that enters and leaves each node.
+
+use super::{add_references, resolve};
+use crate::environment::Environment;
+use crate::places::is_with_body;
+use crate::resolution::{Binding, Reference, Resolution};
+use crate::scopes::is_scope;
+use rnix::{Root, SyntaxNode, SyntaxNodePtr, WalkEvent};
+use std::alloc::{AllocError, Global};
+use std::test::Fail;
+
+// Leaves a node, which is the innermost.
+fn leave<'t>(around: &mut Environment<'t>, node: &SyntaxNode<'_>, bindings: &[Binding<'t>]) {
+    if is_scope(node) {
+        around.sight.leave(bindings);
+    }
+    if is_with_body(node) {
+        let _end = around.body_ends.pop();
+    }
+}
+
+// Resolves the names inside a node by a walk that enters and leaves each node.
+fn resolve_by_events<'t>(
+    alloc: Global,
+    root: &SyntaxNode<'t>,
+) -> Result<Resolution<'t>, AllocError> {
+    let mut bindings = Vec::new(alloc);
+    let mut references = Vec::new(alloc);
+    let mut around = Environment::new(alloc);
+    for event in root.preorder() {
+        match event {
+            WalkEvent::Enter(node) => {
+                around.enter(alloc, &node, 0, &mut bindings)?;
+                add_references(&around, node, &mut references)?;
+            }
+            WalkEvent::Leave(node) => leave(&mut around, &node, &bindings),
+        }
+    }
+    Ok(Resolution {
+        bindings,
+        references,
+    })
+}
+
+// Whether two nodes of a tree are one.
+fn is_same_node(node: &SyntaxNode<'_>, other: &SyntaxNode<'_>) -> bool {
+    SyntaxNodePtr::new(node) == SyntaxNodePtr::new(other)
+}
+
+fn is_same_binding(binding: &Binding<'_>, other: &Binding<'_>) -> bool {
+    binding.text == other.text
+        && is_same_node(&binding.node, &other.node)
+        && is_same_node(&binding.scope, &other.scope)
+        && binding.first == other.first
+}
+
+fn is_same_reference(reference: &Reference<'_>, other: &Reference<'_>) -> bool {
+    reference.text == other.text
+        && is_same_node(&reference.node, &other.node)
+        && reference.is_inherited == other.is_inherited
+        && reference.binding == other.binding
+        && reference.is_open == other.is_open
+}
+
+fn are_same_bindings(bindings: &[Binding<'_>], others: &[Binding<'_>]) -> bool {
+    for (binding, other) in bindings.iter().zip(others) {
+        if !is_same_binding(binding, other) {
+            return false;
+        }
+    }
+    bindings.len() == others.len()
+}
+
+fn are_same_references(references: &[Reference<'_>], others: &[Reference<'_>]) -> bool {
+    for (reference, other) in references.iter().zip(others) {
+        if !is_same_reference(reference, other) {
+            return false;
+        }
+    }
+    references.len() == others.len()
+}
+
+// How many bindings and references are found inside a node, if the other walk finds the same.
+fn found_alike(alloc: Global, root: &SyntaxNode<'_>) -> Result<Option<(usize, usize)>, AllocError> {
+    let found = resolve(alloc, root)?;
+    let other = resolve_by_events(alloc, root)?;
+    let is_alike = are_same_bindings(&found.bindings, &other.bindings)
+        && are_same_references(&found.references, &other.references);
+    Ok(is_alike.then_some((found.bindings.len(), found.references.len())))
+}
+
+// The node of a text inside which the other walk finds something else, if there is one.
+fn unlike_node(alloc: Global, text: &str) -> Result<Option<usize>, AllocError> {
+    let read = Root::parse(alloc, text)?;
+    for (number, node) in read.syntax().descendants().enumerate() {
+        if found_alike(alloc, &node)?.is_none() {
+            return Ok(Some(number));
+        }
+    }
+    Ok(None)
+}
+
+// Scopes in scopes and behind them, some of which end at one place, bodies of `with`, what is inherited, names that are bound in parts or
+// twice, and texts with errors.
+const TEXTS: [&str; 20] = [
+    "",
+    "let x = 1; in let x = 2; y = x; in x + y",
+    "let x = 1; in [ (let x = 2; in x) x (x: x) x ({ x }: x) x rec { x = x; } x ]",
+    "rec { a = b; b = rec { a = 1; c = a; }; }",
+    "x: y: { z ? x, w }@args: x + y + z + args.w",
+    "{ a = x: y: let z = x; in z; b = x; }",
+    "with a; with b; [ c (with d; e) f ]",
+    "[ (with a; b) (with c; with d; e) f (with { g = with h; i; }; j) k ]",
+    "let a = 1; in with a; { inherit a b; inherit (c) d; }",
+    "a: let inherit a; b = a; in rec { inherit b; c = b; inherit \"a\" ${d}; }",
+    "let { body = a; a = 1; }",
+    "let a.b = 1; a.c = a; a = 2; in a",
+    "rec { ${a} = b; \"c\" = d; \"${e}\" = c; c = a; }",
+    "let in",
+    "[ x: y: with ]",
+    "with ; a",
+    "let a = ; in rec { a = ( let b = a in b",
+    "with a; b: with c; { inherit a b",
+    "rec { a = { b }: rec { c = b; } d; } a )",
+    "{ a, b ? a, ... }@c }: with a; b c",
+];
+
+#[test]
+fn the_same_is_found_inside_each_node(rt: HostRuntime) -> Result<(), Fail> {
+    for text in TEXTS {
+        let unlike = unlike_node(rt.alloc(), text)?;
+        assert!(rt; unlike.is_none(), "in {text}");
+    }
+    Ok(())
+}
+
+#[test]
+fn bindings_and_references_are_counted(rt: HostRuntime) -> Result<(), Fail> {
+    let rows = [
+        ("let x = 1; in let x = 2; y = x; in x + y", (3, 3)),
+        ("with a; with b; [ c (with d; e) f ]", (0, 6)),
+        ("a: let inherit a; b = a; in b", (3, 3)),
+    ];
+    for (text, wanted) in rows {
+        let read = Root::parse(rt.alloc(), text)?;
+        let found = found_alike(rt.alloc(), &read.syntax())?;
+        assert!(rt; found == Some(wanted), "in {text}");
+    }
+    Ok(())
+}
