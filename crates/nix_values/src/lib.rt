@@ -16,6 +16,8 @@ mod json_text;
 mod json_tokens;
 mod json_writer;
 mod layout;
+#[cfg(test)]
+mod model;
 mod nodes;
 mod notation;
 mod ordered;

@@ -1,0 +1,110 @@
+//! Data as JSON, which is read again and compared.
+
+use super::json_reader::data_of_json;
+use super::json_strings::push_json_string;
+use crate::data::{Data, Item, Value};
+use crate::layout::push_indentation;
+use crate::notation::{Notation, kept};
+use std::alloc::{AllocError, Global};
+
+// A text that is being written, with the lists and sets that are open, the innermost last: whether each is a set.
+#[derive(Drop)]
+struct Writing {
+    alloc: Global,
+    text: String,
+    open: Vec<bool>,
+}
+
+impl Writing {
+    // Begins a line.
+    fn begin_line(&mut self) -> Result<(), AllocError> {
+        self.text.push('\n')?;
+        push_indentation(self.open.len(), &mut self.text)
+    }
+
+    // Closes the lists and sets below a depth.
+    fn close(&mut self, depth: usize) -> Result<(), AllocError> {
+        for _open in depth..self.open.len() {
+            if let Some(is_set) = self.open.pop() {
+                self.begin_line()?;
+                self.text.push(if is_set { '}' } else { ']' })?;
+            }
+        }
+        Ok(())
+    }
+
+    // Begins a list or a set.
+    fn begin(&mut self, is_set: bool, is_empty: bool) -> Result<(), AllocError> {
+        self.text.push(if is_set { '{' } else { '[' })?;
+        if is_empty {
+            return self.text.push(if is_set { '}' } else { ']' });
+        }
+        self.open.push(is_set)?;
+        Ok(())
+    }
+
+    // Writes a value.
+    fn write_value(&mut self, value: &Value, is_empty: bool) -> Result<(), AllocError> {
+        match value {
+            Value::Null => self.text.push_str("null"),
+            Value::Bool(is_true) => self.text.push_str(if *is_true { "true" } else { "false" }),
+            Value::Integer(number) => self
+                .text
+                .push_str(format!(in self.alloc; "{number}")?.as_str()),
+            Value::Float(digits) => self.text.push_str(digits.as_str()),
+            Value::Text(value) => push_json_string(value.as_str(), &mut self.text),
+            Value::List => self.begin(false, is_empty),
+            Value::Set => self.begin(true, is_empty),
+        }
+    }
+
+    // Writes an item, which is empty if nothing is inside it, and the first of a list or a set if no other one was before it there.
+    fn write(&mut self, item: &Item, is_first: bool, is_empty: bool) -> Result<(), AllocError> {
+        self.close(item.depth)?;
+        if !self.open.is_empty() {
+            self.text.push_str(if is_first { "" } else { "," })?;
+            self.begin_line()?;
+        }
+        if self.open.last() == Some(&true) {
+            push_json_string(item.name.as_str(), &mut self.text)?;
+            self.text.push_str(": ")?;
+        }
+        self.write_value(&item.value, is_empty)
+    }
+}
+
+// Data as JSON.
+fn written(alloc: Global, data: &Data) -> Result<String, AllocError> {
+    let mut writing = Writing {
+        alloc,
+        text: String::new(alloc),
+        open: Vec::new(alloc),
+    };
+    let mut depth_before = 0;
+    for (number, item) in data.items.iter().enumerate() {
+        let next = data.items.get(number.saturating_add(1));
+        let is_empty = next.is_none_or(|next| next.depth <= item.depth);
+        writing.write(item, depth_before < item.depth, is_empty)?;
+        depth_before = item.depth;
+    }
+    writing.close(0)?;
+    writing.text.push('\n')?;
+    Ok(writing.text)
+}
+
+// JSON.
+struct Json;
+
+impl Notation for Json {
+    ghost reads = { λ text entries. Unit {0} };
+
+    fn read(&self, alloc: Global, text: &str) -> Result<Option<Data>, AllocError> {
+        Ok(data_of_json(alloc, text)?.ok())
+    }
+}
+
+/// Returns data as JSON, or nothing if the JSON does not read as the same data.
+pub fn json_of(alloc: Global, data: &Data) -> Result<Option<String>, AllocError> {
+    let text = written(alloc, data)?;
+    kept(alloc, &Json, text, data)
+}
