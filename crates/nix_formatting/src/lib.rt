@@ -12,6 +12,8 @@ mod indentation;
 mod layout;
 mod lines;
 mod measuring;
+#[cfg(test)]
+mod model;
 mod parts;
 mod piece;
 mod spacing;

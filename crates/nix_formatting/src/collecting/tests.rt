@@ -1,12 +1,14 @@
-//! Compares the layouts of many texts with those of a walk that leaves each element.
+//! Compares the layouts of many texts with those of the model, and of walks that leave each element.
 
 use super::{Collector, layout_of};
 use crate::grouping::{child_of, is_atom};
 use crate::layout::Layout;
 use crate::measuring::tests::check_measures;
+use crate::model;
 use crate::piece::Piece;
 use crate::spacing::Child;
 use crate::writing::tests::check_written;
+use crate::writing::written;
 use rnix::{NodeOrToken, Root, SyntaxElement, SyntaxKind, SyntaxNode, SyntaxToken, WalkEvent};
 use std::alloc::{AllocError, Global};
 use std::process::Abort;
@@ -237,6 +239,25 @@ fn check_element(rt: &impl Abort, element: &SyntaxElement<'_>) {
     }
 }
 
+// Compares a layout and its text with those of the model. The layouts of a text with errors may differ.
+fn check_model(
+    rt: &(impl Abort + AllocGlobal),
+    text: &str,
+    root: &SyntaxNode<'_>,
+    new: &Layout,
+    has_errors: bool,
+) -> Result<(), AllocError> {
+    let old = model::layout_of(rt.alloc(), root)?;
+    if has_errors && !are_same(&old, new) {
+        return Ok(());
+    }
+    assert!(rt; are_same(&old, new), "{text}");
+    let old_text = model::written(rt.alloc(), text, &old)?;
+    let new_text = written(rt.alloc(), text, new)?;
+    assert!(rt; old_text.as_str() == new_text.as_str(), "{text}");
+    Ok(())
+}
+
 // Compares the layouts of a text.
 fn check(rt: &(impl Abort + AllocGlobal), text: &str) -> Result<(), AllocError> {
     let parse = Root::parse(rt.alloc(), text)?;
@@ -249,6 +270,7 @@ fn check(rt: &(impl Abort + AllocGlobal), text: &str) -> Result<(), AllocError> 
     assert!(rt; old.pieces.as_slice() == new.pieces.as_slice());
     assert!(rt; old.groups.as_slice() == new.groups.as_slice());
     assert!(rt; old.lines.as_slice() == new.lines.as_slice());
+    check_model(rt, text, &root, &new, !parse.errors().is_empty())?;
     // Parts of strings stand outside strings in a text with errors alone, which has no layout.
     if parse.errors().is_empty() {
         assert!(rt;
@@ -259,6 +281,8 @@ fn check(rt: &(impl Abort + AllocGlobal), text: &str) -> Result<(), AllocError> 
     check_measures(rt, &new)?;
     check_written(rt, text, &new)
 }
+
+mod edges;
 
 #[test]
 fn layouts_are_the_same(rt: HostRuntime) -> Result<(), Fail> {

@@ -1,0 +1,181 @@
+//! Sums of widths of pieces, so that it takes constant time to see whether a group fits on a line.
+
+use crate::layout::{Group, Layout, Target};
+use crate::piece::Piece;
+use std::alloc::{AllocError, Global};
+
+/// Widths and ends of lines, up to each piece.
+#[derive(Drop)]
+pub struct Measures {
+    // The column at which each piece ends, if all pieces are written on one line.
+    ends: Vec<usize>,
+    // The number of unconditional line ends before the gap of each piece, and last, in the whole text.
+    breaks: Vec<usize>,
+    // The number of columns from each gap to the next place where the line may end.
+    tails: Vec<usize>,
+}
+
+/// The room for a group on its line.
+#[derive(Clone, Copy)]
+pub struct Room {
+    /// The column at which the group begins.
+    pub column: usize,
+    /// The column at which the line begins.
+    pub indent: usize,
+    /// The number of columns that have to follow on the same line.
+    pub tail: usize,
+    /// The columns of a line.
+    pub limit: usize,
+}
+
+// Parentheses wider than this are broken even if other arguments follow.
+const WIDE: usize = 40;
+
+// Whether the line always ends in the gap before a piece: 0 or 1.
+fn hard_gap(piece: &Piece) -> usize {
+    usize::from(piece.gap.is_hard)
+}
+
+// Whether a piece has several lines: 0 or 1.
+fn several_lines(piece: &Piece) -> usize {
+    usize::from(piece.last_width.is_some())
+}
+
+// The column at which each piece ends.
+fn ends_of(alloc: Global, pieces: &[Piece]) -> Result<Vec<usize>, AllocError> {
+    let mut ends = Vec::new(alloc);
+    let mut column = 0usize;
+    for piece in pieces {
+        column = column
+            .saturating_add(piece.gap.blanks)
+            .saturating_add(piece.width);
+        ends.push(column)?;
+    }
+    Ok(ends)
+}
+
+// The number of line ends before each piece.
+fn breaks_of(alloc: Global, pieces: &[Piece]) -> Result<Vec<usize>, AllocError> {
+    let mut breaks = Vec::new(alloc);
+    let mut count = 0usize;
+    breaks.push(count)?;
+    for piece in pieces {
+        count = count
+            .saturating_add(hard_gap(piece))
+            .saturating_add(several_lines(piece));
+        breaks.push(count)?;
+    }
+    Ok(breaks)
+}
+
+// The number of columns from each gap to the next place where the line may end; last, 0 for the end of the text.
+fn tails_of(alloc: Global, pieces: &[Piece]) -> Result<Vec<usize>, AllocError> {
+    let mut tails = Vec::new(alloc);
+    let mut tail = 0usize;
+    tails.push(tail)?;
+    for piece in pieces.iter().rev() {
+        let gap = piece.gap;
+        if gap.can_break || gap.is_hard || piece.is_comment {
+            tail = 0;
+        } else {
+            let rest = if piece.last_width.is_some() { 0 } else { tail };
+            tail = rest.saturating_add(gap.blanks).saturating_add(piece.width);
+        }
+        tails.push(tail)?;
+    }
+    tails.reverse();
+    Ok(tails)
+}
+
+// The number at an index, or 0 beyond the end.
+fn at(numbers: &[usize], place: usize) -> usize {
+    numbers.get(place).copied().unwrap_or(0)
+}
+
+impl Measures {
+    /// The measures of a layout.
+    pub fn of(alloc: Global, layout: &Layout) -> Result<Measures, AllocError> {
+        Ok(Measures {
+            ends: ends_of(alloc, &layout.pieces)?,
+            breaks: breaks_of(alloc, &layout.pieces)?,
+            tails: tails_of(alloc, &layout.pieces)?,
+        })
+    }
+
+    /// The number of columns from the gap before a piece to the next place where the line may end.
+    pub fn tail(&self, piece: usize) -> usize {
+        at(&self.tails, piece)
+    }
+
+    // The width of the pieces from `first` to `last` on one line.
+    fn width(&self, pieces: &[Piece], first: usize, last: usize) -> usize {
+        let own = pieces.get(first).map_or(0, |piece| piece.width);
+        let between = at(&self.ends, last).saturating_sub(at(&self.ends, first));
+        between.saturating_add(own)
+    }
+
+    // The number of unconditional line ends after the gap of `first` and up to the piece `end`.
+    fn breaks_inside(&self, pieces: &[Piece], first: usize, end: usize) -> usize {
+        let gap = pieces.get(first).map_or(0, |piece| hard_gap(piece));
+        at(&self.breaks, end)
+            .saturating_sub(at(&self.breaks, first))
+            .saturating_sub(gap)
+    }
+
+    /// Whether a group fits on the line.
+    pub fn fits(&self, pieces: &[Piece], group: &Group, room: Room) -> bool {
+        let width = self.width(pieces, group.first, group.end.saturating_sub(1));
+        self.breaks_inside(pieces, group.first, group.end) == 0
+            && room.column.saturating_add(width).saturating_add(room.tail) <= room.limit
+    }
+
+    // Whether the pieces up to the one that opens the target fit on the line.
+    fn fits_before(&self, pieces: &[Piece], group: &Group, target: Target, room: Room) -> bool {
+        let width = self.width(pieces, group.first, target.open);
+        let hard = pieces.get(target.open).map_or(0, |piece| hard_gap(piece));
+        let breaks = self.breaks_inside(pieces, group.first, target.open);
+        let is_first = target.open == group.first;
+        (is_first || breaks.saturating_add(hard) == 0)
+            && room.column.saturating_add(width) <= room.limit
+    }
+
+    // Whether the pieces from the one that closes the target on fit on the last line.
+    fn fits_behind(&self, pieces: &[Piece], group: &Group, target: Target, room: Room) -> bool {
+        let close = pieces.get(target.close).map_or(0, last_width);
+        let behind = at(&self.ends, group.end.saturating_sub(1)).saturating_sub(at(
+            &self.ends,
+            target.close,
+        ));
+        let breaks = at(&self.breaks, group.end).saturating_sub(at(
+            &self.breaks,
+            target.close.saturating_add(1),
+        ));
+        let column = room.indent.saturating_add(close).saturating_add(behind);
+        breaks == 0 && column.saturating_add(room.tail) <= room.limit
+    }
+
+    // Whether the target has to be broken: it has several lines, does not fit on the line, or ends the group.
+    fn has_to_break(&self, pieces: &[Piece], group: &Group, target: Target, room: Room) -> bool {
+        let width = self.width(pieces, group.first, target.close);
+        let behind = target.close.saturating_add(1);
+        let glued = self.tail(behind);
+        let is_last = behind >= group.end
+            || pieces.get(behind).map_or(0, |piece| piece.gap.blanks) == 0;
+        (target.is_paren && self.width(pieces, target.open, target.close) > WIDE)
+            || self.breaks_inside(pieces, target.open, target.close.saturating_add(1)) > 0
+            || is_last
+            || room.column.saturating_add(width).saturating_add(glued) > room.limit
+    }
+
+    /// Whether a group fits if its target is broken: the part before the target on the first line, and the part after it on the last one.
+    pub fn fits_around(&self, pieces: &[Piece], group: &Group, target: Target, room: Room) -> bool {
+        self.fits_before(pieces, group, target, room)
+            && self.fits_behind(pieces, group, target, room)
+            && self.has_to_break(pieces, group, target, room)
+    }
+}
+
+// The characters of the last line of a piece.
+fn last_width(piece: &Piece) -> usize {
+    piece.last_width.unwrap_or(piece.width)
+}
