@@ -1,5 +1,5 @@
 -- A tree as the steps of a walk over it, without white space.
-use Rattle.std.specs.Prelude.{◌≡◌, ℕ, ◌-◌, ◌≤◌, ◌==◌, ◌&&◌, Bool, true, false, not, List, [], ◌∷◌, ◌++◌, flat_map, length, take, drop, if◌then◌else◌}
+use Rattle.std.specs.Prelude.{◌≡◌, ℕ, ◌-◌, ◌≤◌, ◌==◌, ◌&&◌, Bool, true, false, not, List, [], ◌∷◌, ◌++◌, flat_map, length, take, drop, Option, IfSome, is_some, if◌then◌else◌}
 use Rattle.std.specs.Bool.{beq}
 use Rattle.std.specs.Str.{bytes_eq}
 use Rattle.std.specs.List.{list_any, list_all}
@@ -85,6 +85,15 @@ abbrev pub events_after : Place → List Event → List Event
 events_after place [] = []
 events_after place (event ∷ events) = if leaves place event then events else events_after place events
 
+-- the events after the node at a place is entered
+abbrev pub events_inside : Place → List Event → List Event
+events_inside place [] = []
+events_inside place (event ∷ events) = if enters place event then events else events_inside place events
+
+-- whether the node at a place is left
+abbrev pub is_left : Place → List Event → Bool
+is_left place events = list_any (leaves place) events
+
 -- the steps of a walk over an element before the node at a place
 abbrev pub steps_before : Place → Located → List Step
 steps_before place root = steps_of (events_before place (preorder_of root))
@@ -102,10 +111,10 @@ abbrev pub enters_first : List Step → Bool
 enters_first [] = false
 enters_first (step ∷ steps) = step.enters
 
--- whether steps begin with some others; if so, these were taken, and those are left
-pub record IsTaken (taken : Bool) (first all left : List Step) : Type 0 where
-  pub passed : taken ≡ true → all ≡ first ++ left
-  pub found : (rest : List Step) → all ≡ first ++ rest → taken ≡ true
+-- whether steps begin with some others; if so, these were taken, so many, and those are left
+pub record IsTaken (taken : Option ℕ) (first all left : List Step) : Type 0 where
+  pub passed : IfSome taken (λ count. (all ≡ first ++ left) × (count ≡ length first))
+  pub found : (rest : List Step) → all ≡ first ++ rest → is_some taken ≡ true
 
 -- so many steps come first, all of which pass comments
 abbrev pub AreComments : ℕ → List Step → Type 0

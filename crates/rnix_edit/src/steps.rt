@@ -1,12 +1,12 @@
 //! A tree as the steps of a walk over it, without white space.
 
-ghost use Rattle.std.specs.Prelude.{◌≡◌, [], ◌∷◌, MatchOption};
+ghost use Rattle.std.specs.Prelude.{◌≡◌, ◌<◌, ◌≤◌, ◌^◌, [], ◌∷◌, drop, length, MatchOption, IfSome, IfNone, IsTrue};
 ghost use Rattle.rnix_green.specs.Tree.{item_of, text_at};
 ghost use Rattle.rnix_green.specs.Walk.{preorder_of};
 ghost use Rattle.std.specs.Bool.{Decides};
 ghost use Rattle.rnix_tree.specs.Spots.{event_of};
-ghost use Rattle.rnix_edit.specs.Steps.{step_of, token_steps, node_step, step_at, steps_of, enters, leaves, events_before, events_after};
-ghost use Rattle.rnix_edit.specs.Steps.{steps_before, steps_after, is_comment, IsTaken, AreCommentsTaken, IsClosingTaken};
+ghost use Rattle.rnix_edit.specs.Steps.{step_of, token_steps, node_step, step_at, steps_of, enters, leaves, events_before, events_inside, events_after};
+ghost use Rattle.rnix_edit.specs.Steps.{is_left, is_comment, IsTaken, AreCommentsTaken, IsClosingTaken};
 
 use crate::place::{Place, is_at};
 use rnix::{
@@ -68,24 +68,17 @@ fn leaves(event: &WalkEvent<SyntaxElement<'_>>, place: Place) -> bool
     }
 }
 
-// Takes the events up to the one that leaves the node at a place.
-fn skip_node(events: &mut PreorderWithTokens<'_>, place: Place)
-    ensures { events.new ≡ events_after place events.old }
+/// Takes the events up to the one that leaves the node at a place, and returns whether there is one.
+pub fn skip_node(events: &mut PreorderWithTokens<'_>, place: Place) -> bool
+    ensures rest { events.new ≡ events_after place events.old }
+    ensures found { result ≡ is_left place events.old }
 {
     while let Some(event) = events.next() {
         if leaves(&event, place) {
-            return;
+            return true;
         }
     }
-}
-
-/// Returns the walk over a tree after the node at a place is left.
-pub fn walk_after<'t>(root: &SyntaxNode<'t>, place: Place) -> PreorderWithTokens<'t>
-    ensures { result ≡ events_after place (preorder_of root.now) }
-{
-    let mut events = root.preorder_with_tokens();
-    skip_node(&mut events, place);
-    events
+    false
 }
 
 impl<'t> PartialEq for Step<'t> {
@@ -120,6 +113,16 @@ fn step_at<'t>(event: &WalkEvent<SyntaxElement<'t>>) -> Option<Step<'t>>
     }
 }
 
+// Returns the number of steps of an event: one or none.
+fn step_count(event: &WalkEvent<SyntaxElement<'_>>) -> usize
+    ensures { result ≡ length (step_at (event_of event.now)) }
+{
+    match step_at(event) {
+        Some(_) => 1,
+        None => 0,
+    }
+}
+
 // Takes the next step of a walk.
 fn next_step<'t>(events: &mut PreorderWithTokens<'t>) -> Option<Step<'t>>
     ensures { MatchOption result (steps_of events.old ≡ []) (λ step. steps_of events.old ≡ step_of step ∷ steps_of events.new) }
@@ -132,10 +135,12 @@ fn next_step<'t>(events: &mut PreorderWithTokens<'t>) -> Option<Step<'t>>
     None
 }
 
-// Takes the next step of a walk before the node at a place.
+// Takes the next step of a walk before the node at a place, or else what is left up to where the walk enters that node.
 fn next_before<'t>(events: &mut PreorderWithTokens<'t>, place: Place) -> Option<Step<'t>>
-    ensures { MatchOption result (steps_of (events_before place events.old) ≡ [])
+    ensures steps { MatchOption result (steps_of (events_before place events.old) ≡ [])
         (λ step. steps_of (events_before place events.old) ≡ step_of step ∷ steps_of (events_before place events.new)) }
+    ensures entered { IfNone result (events.new ≡ events_inside place events.old) }
+    ensures inside { IfSome result (λ _. events_inside place events.new ≡ events_inside place events.old) }
 {
     while let Some(event) = events.next() {
         if enters(&event, place) {
@@ -165,16 +170,6 @@ fn are_done(mut events: PreorderWithTokens<'_>) -> bool
     }
 }
 
-// Returns whether no step is left before the node at a place.
-fn are_done_before(mut events: PreorderWithTokens<'_>, place: Place) -> bool
-    ensures { Decides result (steps_of (events_before place events.entry) ≡ []) }
-{
-    match next_before(&mut events, place) {
-        Some(_) => false,
-        None => true,
-    }
-}
-
 /// Returns whether the rests of two walks have the same steps.
 pub fn are_same_walks<'t>(mut a: PreorderWithTokens<'t>, mut b: PreorderWithTokens<'t>) -> bool
     ensures { Decides result (steps_of a.entry ≡ steps_of b.entry) }
@@ -188,49 +183,62 @@ pub fn are_same_walks<'t>(mut a: PreorderWithTokens<'t>, mut b: PreorderWithToke
     are_done(b)
 }
 
-/// Returns whether two trees have the same steps before the nodes at two places.
+/// Returns whether two walks have the same steps before the nodes at two places. If so, both have entered these nodes.
 pub fn are_same_before(
-    root: &SyntaxNode<'_>,
+    events: &mut PreorderWithTokens<'_>,
     old: Place,
-    other: &SyntaxNode<'_>,
+    others: &mut PreorderWithTokens<'_>,
     new: Place,
 ) -> bool
-    ensures { Decides result (steps_before new other.now ≡ steps_before old root.now) }
+    ensures same { Decides result (steps_of (events_before new others.old) ≡ steps_of (events_before old events.old)) }
+    ensures entered { IsTrue result → events.new ≡ events_inside old events.old }
+    ensures others { IsTrue result → others.new ≡ events_inside new others.old }
 {
-    let mut events = root.preorder_with_tokens();
-    let mut others = other.preorder_with_tokens();
-    while let Some(step) = next_before(&mut others, new) {
-        match next_before(&mut events, old) {
+    while let Some(step) = next_before(others, new) {
+        match next_before(events, old) {
             Some(other) if is_step(step, other) => {}
             _ => return false,
         }
     }
-    are_done_before(events, old)
+    next_before(events, old).is_none()
 }
 
-/// Returns whether two trees have the same steps after the nodes at two places.
-pub fn are_same_after(root: &SyntaxNode<'_>, old: Place, other: &SyntaxNode<'_>, new: Place) -> bool
-    ensures { Decides result (steps_after new other.now ≡ steps_after old root.now) }
+/// Takes the events up to the one that leaves the node at a place, and returns the number of their steps.
+pub fn steps_through(events: &mut PreorderWithTokens<'_>, place: Place) -> usize
+    requires { length events.old < 2 ^ 64 }
+    ensures rest { events.new ≡ events_after place events.old }
+    ensures steps { steps_of events.new ≡ drop result (steps_of events.old) }
+    ensures within { result ≤ length (steps_of events.old) }
 {
-    are_same_walks(walk_after(other, new), walk_after(root, old))
+    let mut count = 0;
+    while let Some(event) = events.next() {
+        count += step_count(&event);
+        if leaves(&event, place) {
+            return count;
+        }
+    }
+    count
 }
 
-/// Takes the steps of a tree before the node at a place from a walk, if it goes on with them.
+/// Takes the steps of a walk before the node at a place from another walk too, if it goes on with them, and returns their number. The first walk has
+/// then entered the node.
 pub fn takes_before(
     events: &mut PreorderWithTokens<'_>,
-    root: &SyntaxNode<'_>,
+    wanted: &mut PreorderWithTokens<'_>,
     place: Place,
-) -> bool
-    ensures { IsTaken result (steps_before place root.now) (steps_of events.old) (steps_of events.new) }
+) -> Option<usize>
+    requires { length wanted.old < 2 ^ 64 }
+    ensures taken { IsTaken result (steps_of (events_before place wanted.old)) (steps_of events.old) (steps_of events.new) }
+    ensures entered { IfSome result (λ _. wanted.new ≡ events_inside place wanted.old) }
 {
-    let mut wanted = root.preorder_with_tokens();
-    while let Some(step) = next_before(&mut wanted, place) {
+    let mut count = 0;
+    while let Some(step) = next_before(wanted, place) {
         match next_step(events) {
-            Some(other) if is_step(step, other) => {}
-            _ => return false,
+            Some(other) if is_step(step, other) => count += 1,
+            _ => return None,
         }
     }
-    true
+    Some(count)
 }
 
 /// Takes so many steps from a walk, if they pass comments.

@@ -1,6 +1,6 @@
-use Rattle.std.proofs.Common.{◌≡◌, ◌∷◌}
-use Rattle.rnix_edit.specs.Steps.{step_of, steps_of, events_before, steps_before}
-use Rattle.rnix_edit.proofs.StepLemmas.{walks_end, both_passed, both_left}
+use Rattle.std.proofs.Common.{◌≡◌, ◌∷◌, ◌∙◌}
+use Rattle.rnix_edit.specs.Steps.{step_of, steps_of, events_before}
+use Rattle.rnix_edit.proofs.StepLemmas.{walks_end, both_passed, both_left, none_tested}
 use Rattle.rnix_edit.proofs.steps.are_same_before.Goals as goal
 
 pub loop-step-preserved : goal.loop-step-preserved
@@ -9,16 +9,19 @@ loop-step-preserved c =
     let y = step_of c.in-Some-next_before.other in
     let a = steps_of (events_before c.args.new c.next_before.new.events) in
     let b = steps_of (events_before c.args.old c.next_before-in-Some.new.events) in
-    let first : steps_of (events_before c.args.new c.loop-step.others) ≡ x ∷ a = c.in-Some.ensures in
-    let second : steps_of (events_before c.args.old c.loop-step.events) ≡ y ∷ b = c.in-Some-next_before.ensures in
+    let first : steps_of (events_before c.args.new c.loop-step.others) ≡ x ∷ a = c.in-Some.ensures.steps in
+    let second : steps_of (events_before c.args.old c.loop-step.events) ≡ y ∷ b = c.in-Some-next_before.ensures.steps in
     let same : x ≡ y = c.is_step.ensures.0 c.if-is_step.true in
     record {
       there = λ rests. c.loop-step.invariant.there (both_passed x y a b _ _ first second same rests);
       back = λ whole. both_left x y a b _ _ first second (c.loop-step.invariant.back whole);
+      inside = c.in-Some-next_before.ensures.inside ∙ c.loop-step.invariant.inside;
+      others = c.in-Some.ensures.inside ∙ c.loop-step.invariant.others;
     }
 
-pub returns : goal.returns
-returns c =
+pub returns-clause-same : goal.returns-clause-same
+returns-clause-same c =
     walks_end (steps_of (events_before c.args.new c.loop-step.others)) (steps_of (events_before c.args.old c.loop-step.events))
-    (steps_before c.args.new c.args.other.now) (steps_before c.args.old c.args.root.now) _
-    c.loop-step.invariant.there c.loop-step.invariant.back c.in_default.ensures c.are_done_before.ensures
+    (steps_of (events_before c.args.new c.args.others.now)) (steps_of (events_before c.args.old c.args.events.now)) _
+    c.loop-step.invariant.there c.loop-step.invariant.back c.in_default.ensures.steps
+    (none_tested c.next_before-2.result _ _ _ c.next_before-2.ensures.steps c.is_none.ensures)

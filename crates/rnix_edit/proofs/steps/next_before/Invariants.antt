@@ -1,11 +1,12 @@
 use Rattle.std.proofs.Common.{◌≡◌}
-use Rattle.rnix_edit.specs.Steps.{steps_of, events_before}
+use Rattle.rnix_edit.specs.Steps.{steps_of, events_before, events_inside}
 use Rattle.rnix_edit.proofs.steps.next_before.Given as goal
 
--- the steps of the events left are those of all
+-- the steps of the events left are those of all, and the node is entered in both before the same events
 abbrev pub invariant-loop-event : goal.invariant-loop-event
 invariant-loop-event l = record {
   next : (goal.iterator-loop-event).can_next l.events;
   ends : (goal.iterator-loop-event).is_finite l.events;
   steps : steps_of (events_before l.place l.events) ≡ steps_of (events_before l.place l.fn.events);
+  inside : events_inside l.place l.events ≡ events_inside l.place l.fn.events;
 }
