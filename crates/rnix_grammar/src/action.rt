@@ -71,8 +71,9 @@ fn close_action(kind: SyntaxKind) -> Action
     }
 }
 
-// What is done with a token that continues an operand.
-fn follow(kind: SyntaxKind) -> Action
+/// Returns what the reader does with a token that goes on with an operand.
+#[inline(always)]
+pub fn follow(kind: SyntaxKind) -> Action
     ensures { result ≡ follow kind }
 {
     match kind {

@@ -11,7 +11,7 @@ mod position;
 mod rules;
 mod slot_table;
 
-pub use action::{Action, action_at, goes_on, is_past};
+pub use action::{Action, action_at, follow, goes_on, is_past};
 pub use begin::{Begin, begin_of};
 pub use error::ParseError;
 pub use expected_set::{ExpectedSet, operand_kinds, stops, wanted_kinds};
@@ -19,5 +19,6 @@ pub use level::{APPLICATION_LEVEL, EXPRESSION_LEVEL, NO_LEVEL, SELECTION_LEVEL};
 pub use position::Position;
 pub use rules::{Part, ROWS};
 pub use slot_table::{
-    APPLIED, BOUND_PATTERN, LAMBDA, LEGACY_LET, PAT_ENTRY, PATTERN, ROOT, SECOND_BIND, SLOTS, Slot,
+    APPLIED, BIN_OP_END, BOUND_PATTERN, LAMBDA, LEGACY_LET, PAT_ENTRY, PATTERN, ROOT, SECOND_BIND,
+    SLOTS, Slot,
 };

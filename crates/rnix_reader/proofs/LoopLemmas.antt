@@ -1,14 +1,16 @@
 -- Reading step by step: the machine goes with the reader.
-use Rattle.std.proofs.{Common.{◌≡◌, ◌<◌, ℕ, Bool, true, false, List, [], ◌∷◌, ◌++◌, length, refl, ap, sym, ◌∙◌, subst, arith}, lemmas.List.same_from_push}
+use Rattle.std.proofs.{Common.{◌≡◌, ◌<◌, ℕ, Bool, true, false, Option, Some, None, List, [], ◌∷◌, ◌++◌, length, refl, ap, sym, ◌∙◌, subst, arith}, lemmas.List.same_from_push}
+use Rattle.{std.{proofs.lemmas.Bool.false≢true, specs.Prelude.if◌then◌else◌}, rnix_kinds.specs.declared.kinds.{SyntaxKind.SyntaxKind, SyntaxKind.TheVariants.TOKEN_DOT}}
 use Rattle.{rnix_kinds.specs.declared.kinds.SyntaxKind.TheVariants.NODE_ROOT, rnix_green.specs.{Forest.{empty, node}, Draft.wrapped-join}}
 use Rattle.rnix_grammar.specs.{declared.{slot_table.TheConstants.ROOT, action.Action.Action, position.Position.Position}, AnnotatedForest.{Token, AnnotatedForest, blank}}
+use Rattle.rnix_grammar.specs.Actions.{action_at, follow, goes_on, more_action}
 use Rattle.rnix_grammar.specs.{AnnotatedForest.{forget, head_kind, touches}, Layout.{items, from_item}, Fault.Fault}
 use Rattle.rnix_proof_lemmas.specs.Allowed.{Allowed}
 use Rattle.rnix_proof_lemmas.specs.FrameKinds.{AreStacked}
 use Rattle.rnix_proof_lemmas.specs.Machine.{Head, Node, Machine, opened, with_leading, machine, begins, step, Runs}
 use Rattle.rnix_proof_lemmas.specs.Machine.{rest as here, then as further}
 use Rattle.{rnix_proof_lemmas.proofs.{StackedFrames.step_stacked, AllowedLemmas.allowed}, rnix_reader.specs.declared.mark.Mark.Mark}
-use Rattle.rnix_reader.specs.{declared.pattern_names.Names.Names, Placed.AreInOrder, PatternNames.entries_in, State.{State, with_marks, eaten, ended}, Erase.marks_of}
+use Rattle.rnix_reader.specs.{declared.pattern_names.Names.Names, Placed.AreInOrder, PatternNames.entries_in, State.{State, items_left, with_marks, eaten, ended}, Erase.marks_of}
 use Rattle.rnix_reader.specs.{Erase.{mark_of, erase, erase_with, popped}, Holds.{IsGoing, IsThrough, IsReadTo, work}, Performed.{Performed, NamesAfter, IsReady}}
 use Rattle.rnix_reader.{specs.Performed.{action_of, is_finish}, proofs.{StateLemmas.state_is, DocumentLemmas.root_through, EraseLemmas.erase-eaten}}
 use Rattle.rnix_reader.proofs.{StepsOfReader.{ready, performs}, GoesLemmas.Goes, PerformLemmas.perform_goes, WorkLemmas.{work_is, perform_less}}
@@ -39,6 +41,32 @@ starts s names e o k t = record {
 not_finish : (action : Action) → (action ≡ a.Finish → ⊥) → is_finish action ≡ false
 not_finish a.Finish h = absurd (h refl)
 not_finish action h = refl
+
+-- what goes on with an operand does not end the text
+follow_goes : (kind : SyntaxKind) → is_finish (follow kind) ≡ false
+follow_goes TOKEN_DOT = refl
+follow_goes kind = refl
+
+-- nor does what follows an operand
+more_goes : (min_bp max_bp : ℕ) (next : Option SyntaxKind) → is_finish (more_action min_bp max_bp next) ≡ false
+more_goes min_bp max_bp None = refl
+more_goes min_bp max_bp (Some kind) =
+    elim (goes_on min_bp max_bp kind) as (λ b. is_finish (if b then follow kind else a.EndOperand) ≡ false) [
+      | true ↦ follow_goes kind
+      | false ↦ refl
+    ]
+
+-- after an operand the text is not read to its end
+pub operand_goes : (position : Position) (min_bp max_bp : ℕ) (s : State) → position ≡ p.AfterOperand min_bp max_bp → action_of position s ≡ a.Finish → ⊥
+operand_goes position min_bp max_bp s is end =
+    false≢true (sym (more_goes min_bp max_bp (head_kind (items_left s))) ∙ ap is_finish (sym (ap (λ q. action_of q s) is) ∙ end))
+
+-- the action at a position of a row
+pub left_is : (x : Action) (position : Position) (left : ℕ) (next : Option SyntaxKind) (touch : Bool) (s : State) → x ≡ action_at (p.Left left) next touch →
+    next ≡ head_kind (items_left s) → touch ≡ touches s.prev_end (items_left s) → position ≡ p.Left left → x ≡ action_of position s
+left_is x position left next touch s act first touching is =
+    act ∙ ap (λ n. action_at (p.Left left) n touch) first ∙ ap (λ b. action_at (p.Left left) (head_kind (items_left s)) b) touching
+    ∙ ap (λ q. action_of q s) (sym is)
 
 -- the root over all trees
 root_ended : (h : Head) (position : Position) (d : ℕ) (row : AnnotatedForest) (ts : List Token) (n : ℕ) (es : List Fault) → h ≡ Node NODE_ROOT

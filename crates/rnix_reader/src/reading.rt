@@ -1,10 +1,8 @@
 //! Reading by the grammar's table: one step after another, until the root is complete.
 
 ghost use Rattle.std.specs.Prelude.{◌≡◌, ◌≤◌, ◌<◌, [], Bool, length, OnOk, true};
-ghost use Rattle.rnix_grammar.specs.declared.action.Action.TheVariants.{EndOperand};
 ghost use Rattle.rnix_grammar.specs.declared.begin.Begin.TheVariants.{Leaf};
-ghost use Rattle.rnix_grammar.specs.declared.position.Position.TheVariants.{Left};
-ghost use Rattle.rnix_grammar.specs.Actions.{action_at};
+ghost use Rattle.rnix_grammar.specs.declared.position.Position.TheVariants.{Left, AfterOperand};
 ghost use Rattle.rnix_grammar.specs.AnnotatedForest.{Token};
 ghost use Rattle.rnix_proof_lemmas.specs.Machine.{begins, min_bp_of};
 ghost use Rattle.rnix_reader.specs.Erase.{erase};
@@ -21,9 +19,9 @@ use crate::mark::Mark;
 use crate::parser::Parser;
 use crate::pattern_names::Names;
 use rnix_grammar::{
-    APPLICATION_LEVEL, APPLIED, Action, BOUND_PATTERN, Begin, EXPRESSION_LEVEL, ExpectedSet,
-    LEGACY_LET, NO_LEVEL, PATTERN, ParseError, Position, SECOND_BIND, SELECTION_LEVEL, action_at,
-    goes_on, is_past,
+    APPLICATION_LEVEL, APPLIED, Action, BIN_OP_END, BOUND_PATTERN, Begin, EXPRESSION_LEVEL,
+    ExpectedSet, LEGACY_LET, NO_LEVEL, PATTERN, ParseError, Position, SECOND_BIND, SELECTION_LEVEL,
+    action_at, follow, goes_on,
 };
 use rnix_green::TextRange;
 use rnix_kinds::SyntaxKind;
@@ -139,7 +137,7 @@ fn begin<'t>(
 }
 
 // Begins an operand of a level.
-#[inline(never)]
+#[inline(always)]
 fn operand<'t>(
     p: &mut Parser<'t>,
     names: &mut Names<'t>,
@@ -332,34 +330,30 @@ fn step<'t>(
     Ok(())
 }
 
-// Whether the position is after an operand that the next item does not continue.
+// Goes on with the operand that was read, if the next item continues it. Otherwise the operand is complete.
 #[inline(always)]
-fn ends_operand(position: Position, next: Option<SyntaxKind>) -> bool
-    ensures { (touches : Bool) → result ≡ true → action_at position next touches ≡ EndOperand }
+fn after_operand<'t>(
+    p: &mut Parser<'t>,
+    names: &mut Names<'t>,
+    mark: Mark,
+    min_bp: u8,
+    max_bp: u8,
+) -> Result<(), AllocError>
+    requires position { mark.position ≡ AfterOperand min_bp max_bp }
+    requires ready { IsReady (action_of mark.position (state p.old)) mark (state p.old) names.old }
+    ensures state { OnOk result (Performed (action_of mark.position (state p.old)) mark (state p.old) names.old (state p.new) names.new) }
+    ensures names { OnOk result (NamesAfter (action_of mark.position (state p.old)) mark (state p.old) names.old names.new) }
 {
-    match (position, next) {
-        (Position::AfterOperand(min_bp, max_bp), Some(kind)) => !goes_on(min_bp, max_bp, kind),
-        (Position::AfterOperand(_, _), None) => true,
-        _ => false,
+    if let Some(kind) = p.peek() {
+        if goes_on(min_bp, max_bp, kind) {
+            step(p, names, mark, follow(kind))?;
+        }
     }
-}
-
-// The action at a position; the most frequent ones are found without the table.
-#[inline(always)]
-fn next_action(p: &Parser<'_>, position: Position) -> Action
-    ensures { result ≡ action_of position (state p.now) }
-{
-    if is_past(position) {
-        return Action::Close;
-    }
-    let next = p.peek();
-    if ends_operand(position, next) {
-        return Action::EndOperand;
-    }
-    action_at(position, next, p.touches())
+    Ok(())
 }
 
 /// Reads until the root is complete.
+// The position is matched first, so that each of its forms has code for the actions that it can have.
 pub(crate) fn read_all<'t>(p: &mut Parser<'t>, names: &mut Names<'t>) -> Result<(), AllocError>
     requires state { state p.old ≡ erase (begins (state p.old).rest) }
     requires order { AreInOrder 0 (state p.old).rest }
@@ -368,13 +362,23 @@ pub(crate) fn read_all<'t>(p: &mut Parser<'t>, names: &mut Names<'t>) -> Result<
     ensures { OnOk result (IsReadTo (state p.old).rest (state p.new)) }
 {
     while let Some(mark) = p.marks.pop() {
-        let action = next_action(p, mark.position);
-        if let Action::Finish = action {
-            p.eat_trivia()?;
-            p.finish_node()?;
-            return Ok(());
+        match mark.position {
+            Position::AfterOperand(min_bp, max_bp) => {
+                after_operand(p, names, mark, min_bp, max_bp)?;
+            }
+            Position::Right(level) => {
+                step(p, names, mark, Action::Read(level, false, BIN_OP_END))?;
+            }
+            Position::Left(left) => {
+                let action = action_at(Position::Left(left), p.peek(), p.touches());
+                if let Action::Finish = action {
+                    p.eat_trivia()?;
+                    p.finish_node()?;
+                    return Ok(());
+                }
+                step(p, names, mark, action)?;
+            }
         }
-        step(p, names, mark, action)?;
     }
     Ok(())
 }
