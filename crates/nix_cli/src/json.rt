@@ -51,6 +51,16 @@ fn escape_of(byte: u8) -> ([u8; 6], usize)
     ([b'\\', byte, 0, 0, 0, 0], 2)
 }
 
+// Writes bytes, if there are any.
+fn write_some<W: Write>(bytes: &[u8], out: &mut W) -> io::Result<()>
+    ensures { OnOk result (Appends (W.contents out.old) (W.contents out.new) bytes.now) }
+{
+    if bytes.is_empty() {
+        return Ok(());
+    }
+    out.write_all(bytes)
+}
+
 // Writes the plain bytes that come first and what stands for the byte behind them, and returns how many bytes those are.
 fn write_run<W: Write>(bytes: &[u8], out: &mut W) -> io::Result<usize>
     ensures run { IfOk result (λ n. Appends (W.contents out.old) (W.contents out.new) (flat_map escape (take n bytes.now))) }
@@ -58,7 +68,7 @@ fn write_run<W: Write>(bytes: &[u8], out: &mut W) -> io::Result<usize>
     ensures some { IfOk result (λ n. 0 < length bytes.now → 0 < n) }
 {
     let plain = plain_len(bytes);
-    out.write_all(&bytes[..plain])?;
+    write_some(&bytes[..plain], out)?;
     if plain == bytes.len() {
         return Ok(plain);
     }

@@ -16,7 +16,7 @@ use rnix::SyntaxNode;
 use std::alloc::{AllocError, Global};
 
 /// What is around a place of a walk: the names in sight, and where the open scopes and bodies of `with` end, the innermost last. An end is
-/// told by the number of elements that the walk has after it.
+/// the number of elements that the walk has after it.
 #[derive(Drop)]
 pub struct Environment<'t> {
     pub sight: Sight<'t>,

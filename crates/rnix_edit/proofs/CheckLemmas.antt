@@ -8,7 +8,7 @@ use Rattle.rnix_edit.specs.declared.place.Place.{Place}
 use Rattle.rnix_edit.specs.Steps.{Step, steps_of, has_node, steps_in, steps_before, steps_after, events_inside, events_after, is_left}
 use Rattle.rnix_edit.specs.Steps.{IsTaken, AreComments, AreCommentsTaken, IsClosing}
 use Rattle.rnix_edit.specs.Edited.{IsAround, IsWith, IsWithout, IsAfter, IsLastIn}
-use Rattle.rnix_edit.proofs.{PlaceLemmas.{passed, left_or_not}, StepLemmas.few_steps}
+use Rattle.rnix_edit.proofs.{PassedLemmas.{passed, left_or_not}, StepLemmas.few_steps}
 
 -- a walk that entered the node at a place and then left it has the steps after that node left
 pub after_entered : (place : Place) (root : Located) (inside after : List Event) → inside ≡ events_inside place (preorder_of root) →

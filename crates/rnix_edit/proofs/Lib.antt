@@ -1,7 +1,7 @@
 pub mod BlankLemmas
 pub mod RestOfLineLemmas
 pub mod StepLemmas
-pub mod PlaceLemmas
+pub mod PassedLemmas
 pub mod CheckLemmas
 pub mod EditLemmas
 pub mod OneChange

@@ -22,7 +22,8 @@ passed_enter : (place : Place) (spot : Spot) (rest : List Event) → (is_there p
     IsPassed place ((true, spot) ∷ rest)
 passed_enter place spot rest later = record {
   after =
-      elim (is_there place spot) as (λ b. is_there place spot ≡ b → events_after place rest ≡ events_after place (if b then rest else events_inside place rest)) [
+      elim (is_there place spot) as (λ b. is_there place spot ≡ b →
+      events_after place rest ≡ events_after place (if b then rest else events_inside place rest)) [
         | true ↦ λ e. refl
         | false ↦ λ e. (later e).after
       ] refl;
@@ -115,7 +116,8 @@ left_row place t n (node k c f) =
     let spots =
     any_node place (spot_at t n) (map (spot_at t) (counted (n + 1) (element_count c + element_count f)))
     ∙ ap (λ ns. here || list_any (is_at place) (nodes_in (map (spot_at t) ns))) (counted_both (n + 1) (element_count c) (element_count f))
-    ∙ ap (λ ss. here || list_any (is_at place) (nodes_in ss)) (map-append (spot_at t) (counted (n + 1) (element_count c)) (counted (n + 1 + element_count c) (element_count f)))
+    ∙ ap (λ ss. here || list_any (is_at place) (nodes_in ss))
+    (map-append (spot_at t) (counted (n + 1) (element_count c)) (counted (n + 1 + element_count c) (element_count f)))
     ∙ ap (λ b. here || b) (any_nodes place inner outer) in
     walk ∙ swap (list_any (is_at place) (nodes_in inner)) here _ ∙ sym spots
   where
