@@ -1,13 +1,13 @@
 -- Steps of a walk that are compared.
 use Rattle.std.proofs.Common.{◌≡◌, ℕ, suc, ◌+◌, ◌≤◌, ◌<◌, ◌^◌, List, [], ◌∷◌, ◌++◌, length, drop, Bool, true, false, sym, ap, ◌∙◌, arith, length-append, Option, Some, None, refl, Fits, w64}
 use Rattle.std.proofs.{lemmas.{List.{drop-drop, length-drop}, Bool.false≢true}, Math.Seq.drop-append_seam}
-use Rattle.std.specs.{Prelude.{◌||◌, not, is_some, MatchOption, if◌then◌else◌}, Bool.Decides, List.{list_any}}
+use Rattle.std.specs.{Prelude.{◌||◌, not, is_some, MatchOption, if◌then◌else◌}, Bool.Decides}
 use Rattle.rnix_kinds.specs.declared.kinds.SyntaxKind.{SyntaxKind}
 use Rattle.rnix_kinds.specs.declared.kinds.SyntaxKind.TheVariants as k
-use Rattle.rnix_green.specs.{Equality.same_kind, Tree.{Located, item_of, text_at}, Walk.Event}
+use Rattle.rnix_green.specs.{Equality.same_kind, Tree.{item_of, text_at}, Walk.Event}
 use Rattle.rnix_edit.specs.declared.place.Place.{Place}
 use Rattle.rnix_edit.specs.declared.steps.Step.{Step as Made}
-use Rattle.rnix_edit.specs.Steps.{Step, step_of, node_step, token_step, token_steps, step_at, steps_of, is_at, enters, leaves, events_before, events_after}
+use Rattle.rnix_edit.specs.Steps.{Step, step_of, node_step, token_step, token_steps, step_at, steps_of, enters, leaves, events_before, events_after}
 use Rattle.rnix_edit.specs.Steps.{is_left, AreComments}
 
 -- one more event is passed up to the end of a node
@@ -33,18 +33,6 @@ pub left_found : (place : Place) (events rest : List Event) (all : Bool) (event 
     leaves place event ≡ true → true ≡ all
 left_found place events rest all event so_far next found =
     sym (ap (is_left place) next ∙ ap (λ b. b || is_left place rest) found) ∙ so_far
-
--- one more node is passed that is not at a place
-pub nodes_more : (place : Place) (nodes rest : List Located) (node : Located) (all : Bool) → list_any (is_at place) nodes ≡ all →
-    nodes ≡ node ∷ rest → is_at place node ≡ false → list_any (is_at place) rest ≡ all
-nodes_more place nodes rest node all so_far next fails =
-    sym (ap (list_any (is_at place)) next ∙ ap (λ b. b || list_any (is_at place) rest) fails) ∙ so_far
-
--- a node is at a place
-pub node_found : (place : Place) (nodes rest : List Located) (node : Located) (all : Bool) → list_any (is_at place) nodes ≡ all →
-    nodes ≡ node ∷ rest → is_at place node ≡ true → true ≡ all
-node_found place nodes rest node all so_far next found =
-    sym (ap (list_any (is_at place)) next ∙ ap (λ b. b || list_any (is_at place) rest) found) ∙ so_far
 
 -- one walk ends: both have the same steps if the other one ends too
 pub walks_end : (a b whole_a whole_b : List Step) (ended : Bool) → (a ≡ b → whole_a ≡ whole_b) → (whole_a ≡ whole_b → a ≡ b) → a ≡ [] →

@@ -1,7 +1,7 @@
 //! Places of nodes.
 
 ghost use Rattle.std.specs.Prelude.{◌≡◌, ◌==◌, ◌&&◌};
-ghost use Rattle.rnix_edit.specs.Steps.{place_of, is_at, has_node};
+ghost use Rattle.rnix_edit.specs.Steps.{place_of, is_at};
 
 use rnix::{SyntaxKind, SyntaxNode};
 
@@ -37,16 +37,4 @@ pub fn is_at(node: &SyntaxNode<'_>, place: Place) -> bool
     ensures { result ≡ is_at place node.now }
 {
     node.kind() == place.kind && are_same_ranges(place_of(node), place)
-}
-
-/// Returns whether a node inside this one, or itself, is at a place.
-pub fn has_node(root: &SyntaxNode<'_>, place: Place) -> bool
-    ensures { result ≡ has_node place root.now }
-{
-    for node in root.descendants() {
-        if is_at(&node, place) {
-            return true;
-        }
-    }
-    false
 }
