@@ -1,3 +1,3 @@
 pub mod PlainRuns
 mod JsonBytes
-mod ShownLemmas
+mod ExcerptLemmas

@@ -126,7 +126,8 @@ scope_entered bindings more names old new own n scope scopes l is owned pushed f
     }
 
 -- a node that is no scope is entered
-pub still_seen : (bindings : List Binding) (sight : Sight) (n m : ℕ) (scopes : List Located) → n ≤ m → IsSeen bindings sight n scopes → IsSeen bindings sight m scopes
+pub still_seen : (bindings : List Binding) (sight : Sight) (n m : ℕ) (scopes : List Located) → n ≤ m → IsSeen bindings sight n scopes →
+    IsSeen bindings sight m scopes
 still_seen bindings sight n m scopes l h = record {
   behind = λ k d i. omega (arith, h.behind k d i, l);
   around = λ k d i. omega (arith, h.around k d i, l);

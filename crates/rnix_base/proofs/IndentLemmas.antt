@@ -13,11 +13,13 @@ unchanged least b h =
     let other : is_byte 10 (Some b) ≡ false = grind (arith, nat_tests) in
     ap (λ x. if x then record { least = least; spaces = Some 0 } else has_text least) other
 
-line_passed : (least : ℕ) (bytes : List ℕ) → indent_behind (has_text least) bytes ≡ indent_behind (has_text least) (drop (prefix_len is_inside_line bytes) bytes)
+line_passed : (least : ℕ) (bytes : List ℕ) →
+    indent_behind (has_text least) bytes ≡ indent_behind (has_text least) (drop (prefix_len is_inside_line bytes) bytes)
 line_passed least [] = refl
 line_passed least (b ∷ bytes) = step (is_inside_line b) refl (line_passed least bytes)
   where
-    step : (inside : Bool) → is_inside_line b ≡ inside → indent_behind (has_text least) bytes ≡ indent_behind (has_text least) (drop (prefix_len is_inside_line bytes) bytes)
+    step : (inside : Bool) → is_inside_line b ≡ inside →
+        indent_behind (has_text least) bytes ≡ indent_behind (has_text least) (drop (prefix_len is_inside_line bytes) bytes)
         → indent_behind (has_text least) (b ∷ bytes)
         ≡ indent_behind (has_text least) (drop (cond (is_inside_line b) (1 + prefix_len is_inside_line bytes) 0) (b ∷ bytes))
     step true e more =

@@ -71,7 +71,8 @@ grown whole before after piece rest more e f h = e ∙ ap (λ t. before ++ t) f 
 -- so a line with its line feed stays, and the next loses as much as any
 stays_fed : (least left : ℕ) (line rest : List ℕ) → (0 < length line → is_lost left (Some (get_or line 0 0)) ≡ false)
     → ((k : ℕ) → k < length line → is_inside_line (get_or line k 0) ≡ true)
-    → (kept least left (line ++ 10 ∷ rest) ≡ (line ++ 10 ∷ []) ++ kept least least rest) × (left_behind least left (line ++ 10 ∷ rest) ≡ left_behind least least rest)
+    → (kept least left (line ++ 10 ∷ rest) ≡ (line ++ 10 ∷ []) ++ kept least least rest)
+    × (left_behind least left (line ++ 10 ∷ rest) ≡ left_behind least least rest)
 stays_fed least left [] rest first inside = stays_byte least left 10 least rest (grind (arith, nat_tests)) refl
 stays_fed least left (b ∷ line) rest first inside =
     let all = stays_line least left b line (10 ∷ rest) (first (omega arith)) inside in
@@ -118,7 +119,8 @@ module _ (least left lost : ℕ) (text line : List ℕ) (is : lost ≡ min (spac
     inside : (k : ℕ) → k < len → is_inside_line (get_or line k 0) ≡ true
     inside k l = prefix_len_passes is_inside_line line k 0 (omega (arith, l, run))
 
-    pub fed_line : (whole rest : List ℕ) → len < length line → whole ≡ take (len + 1) line → rest ≡ drop (len + 1) line → KeepsLine least left text whole rest least
+    pub fed_line : (whole rest : List ℕ) → len < length line → whole ≡ take (len + 1) line →
+        rest ≡ drop (len + 1) line → KeepsLine least left text whole rest least
     fed_line whole rest there e f =
         let body = take len line in
         let size : length body ≡ len = length-take-le len line (omega arith) in
@@ -127,7 +129,8 @@ module _ (least left lost : ℕ) (text line : List ℕ) (is : lost ≡ min (spac
         let feed : get_or line len 0 ≡ 10 = grind (arith, nat_tests) in
         let cut : line ≡ body ++ 10 ∷ drop (len + 1) line =
         sym (take-append-drop len line) ∙ ap (λ t. body ++ t) (drop_more line len 0 there ∙ ap (λ b. b ∷ drop (len + 1) line) feed) in
-        let front : take (len + 1) line ≡ body ++ 10 ∷ [] = (let one : len + 1 ≡ suc len = omega arith in ap (λ n. take n line) one) ∙ take-suc line len 0 there ∙ ap (λ b. body ++ b ∷ []) feed in
+        let front : take (len + 1) line ≡ body ++ 10 ∷ [] = (let one : len + 1 ≡ suc len = omega arith in ap (λ n. take n line) one)
+        ∙ take-suc line len 0 there ∙ ap (λ b. body ++ b ∷ []) feed in
         let all = stays_fed least (left - lost) body (drop (len + 1) line)
         (λ some. ap (λ b. is_lost (left - lost) (Some b)) (get_or-take len line 0 0 (omega (arith, some, size))) ∙ first_stays (omega (arith, there)))
         (λ k l. ap is_inside_line (get_or-take len line k 0 (omega (arith, l, size))) ∙ inside k (omega (arith, l, size))) in

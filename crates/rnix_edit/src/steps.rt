@@ -183,7 +183,8 @@ pub fn are_same_walks<'t>(mut a: PreorderWithTokens<'t>, mut b: PreorderWithToke
     are_done(b)
 }
 
-/// Returns whether two walks have the same steps before the nodes at two places. If so, both have entered these nodes.
+/// Returns whether two walks have the same steps before the nodes at two places. If so, both are behind where they enter these nodes, or at their
+/// ends.
 pub fn are_same_before(
     events: &mut PreorderWithTokens<'_>,
     old: Place,
@@ -220,8 +221,8 @@ pub fn steps_through(events: &mut PreorderWithTokens<'_>, place: Place) -> usize
     count
 }
 
-/// Takes the steps of a walk before the node at a place from another walk too, if it goes on with them, and returns their number. The first walk has
-/// then entered the node.
+/// Takes the steps of `wanted` before the node at a place from `events`, if these go on with them, and returns their number. `wanted` has then entered
+/// the node, or is at its end.
 pub fn takes_before(
     events: &mut PreorderWithTokens<'_>,
     wanted: &mut PreorderWithTokens<'_>,

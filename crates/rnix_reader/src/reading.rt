@@ -353,7 +353,7 @@ fn after_operand<'t>(
 }
 
 /// Reads until the root is complete.
-// The position is matched first, so that each of its forms has code for the actions that it can have.
+// The position is matched first: that saves two tests and two tables of jumps at each step.
 pub(crate) fn read_all<'t>(p: &mut Parser<'t>, names: &mut Names<'t>) -> Result<(), AllocError>
     requires state { state p.old ≡ erase (begins (state p.old).rest) }
     requires order { AreInOrder 0 (state p.old).rest }

@@ -1,18 +1,21 @@
 use Rattle.std.proofs.{Common.{ℕ, List, subst, sym, ◌∙◌}, lemmas.{Iterator.YieldsList-from_chars, Iterator.Consumers.YieldsList-end, List.map-id}}
 use Rattle.std.{proofs.lemmas.Result.on_ok_weaker, specs.{List.flat_map, Io.KnownBytes.Appends}}
-use Rattle.nix_cli.{specs.Excerpt.{carets}, proofs.ShownLemmas.{simple_carets, some_carets}}
+use Rattle.nix_cli.{specs.Excerpt.{carets}, proofs.ExcerptLemmas.{simple_carets, some_carets}}
 use Rattle.nix_cli.proofs.excerpt.write_carets.Goals as goal
 
 pub returns-then-are_simple : goal.returns-then-are_simple
 returns-then-are_simple g c =
     on_ok_weaker c.write_all-then-are_simple.result
     (λ e. subst (λ (bs : List ℕ). Appends (g.W.Write.contents c.args.out.now) (g.W.Write.contents c.write_all-then-are_simple.new.self) bs)
-    (simple_carets c.args.part.now 60 c.if-part-le60.true (c.are_simple.ensures c.if-are_simple.true) ∙ some_carets c.args.part.now _ c.is_empty.ensures c.if-is_empty.false) e)
+    (simple_carets c.args.part.now 60 c.if-part-le60.true (c.are_simple.ensures c.if-are_simple.true)
+    ∙ some_carets c.args.part.now _ c.is_empty.ensures c.if-is_empty.false) e)
     c.write_all-then-are_simple.ensures.bytes
 
 pub returns : goal.returns
 returns g c =
-    let t = YieldsList-end (YieldsList-from_chars c.args.part.now c.utf8.part cc) c.loop-letter.yielded _ c.loop-letter.yielded_by _ _ c.in-None.is c.next.ensures.steps in
-    subst (λ (bs : List ℕ). Appends (g.W.Write.contents c.args.out.now) (g.W.Write.contents c.loop-letter.out) bs) (some_carets c.args.part.now _ c.is_empty.ensures c.if-is_empty.false)
+    let t = YieldsList-end (YieldsList-from_chars c.args.part.now c.utf8.part cc) c.loop-letter.yielded _ c.loop-letter.yielded_by _ _ c.in-None.is
+    c.next.ensures.steps in
+    subst (λ (bs : List ℕ). Appends (g.W.Write.contents c.args.out.now) (g.W.Write.contents c.loop-letter.out) bs)
+    (some_carets c.args.part.now _ c.is_empty.ensures c.if-is_empty.false)
     (subst (λ (bs : List ℕ). Appends (g.W.Write.contents c.args.out.now) (g.W.Write.contents c.loop-letter.out) (flat_map carets bs))
     (sym (map-id c.loop-letter.yielded) ∙ t.0) c.loop-letter.invariant)
