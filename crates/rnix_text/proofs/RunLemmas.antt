@@ -24,7 +24,7 @@ module _ (v : Vec Edit Global) where
 
   -- a run with the same edits
   pub same_in_run : (runs : List (Vec Edit Global)) (i : ℕ) → i < length runs → v.items ≡ (get_or runs i v).items →
-    edits_of (slice_set runs i v) ≡ edits_of runs
+      edits_of (slice_set runs i v) ≡ edits_of runs
   same_in_run [] i l h = absurd (omega (arith, l))
   same_in_run (r ∷ rs) zero l h = ap (λ x. x ++ edits_of rs) h
   same_in_run (r ∷ rs) (suc i) l h = ap (λ x. r.items ++ x) (same_in_run rs i (omega (arith, l)) h)

@@ -8,5 +8,5 @@ loop-written-preserved g c =
     let start = c.loop-written.written in (
       omega (arith, simp (length-take, length-drop) at c.in_ok-written.ensures.within, c.loop-written.invariant.0),
       written_more _ _ _ _ (34 ∷ []) bytes _ start _ (between_to_end bytes start (length bytes) (omega arith))
-      c.loop-written.invariant.1 c.in_ok-written.ensures.run,
+          c.loop-written.invariant.1 c.in_ok-written.ensures.run,
     )
