@@ -3,7 +3,7 @@ use Rattle.std.proofs.{Common.{◌≡◌, ◌<◌, ℕ, Bool, true, false, Optio
 use Rattle.{std.{proofs.lemmas.Bool.false≢true, specs.Prelude.if◌then◌else◌}, rnix_kinds.specs.declared.kinds.{SyntaxKind.SyntaxKind, SyntaxKind.TheVariants.TOKEN_DOT}}
 use Rattle.{rnix_kinds.specs.declared.kinds.SyntaxKind.TheVariants.NODE_ROOT, rnix_green.specs.{Forest.{empty, node}, Draft.wrapped-join}}
 use Rattle.rnix_grammar.specs.{declared.{slot_table.TheConstants.ROOT, action.Action.Action, position.Position.Position}, AnnotatedForest.{Token, AnnotatedForest, blank}}
-use Rattle.rnix_grammar.specs.Actions.{action_at, follow, goes_on, more_action}
+use Rattle.rnix_grammar.specs.Actions.{follow, goes_on, more_action}
 use Rattle.rnix_grammar.specs.{AnnotatedForest.{forget, head_kind, touches}, Layout.{items, from_item}, Fault.Fault}
 use Rattle.rnix_proof_lemmas.specs.Allowed.{Allowed}
 use Rattle.rnix_proof_lemmas.specs.FrameKinds.{AreStacked}
@@ -60,13 +60,6 @@ more_goes min_bp max_bp (Some kind) =
 pub operand_goes : (position : Position) (min_bp max_bp : ℕ) (s : State) → position ≡ p.AfterOperand min_bp max_bp → action_of position s ≡ a.Finish → ⊥
 operand_goes position min_bp max_bp s is end =
     false≢true (sym (more_goes min_bp max_bp (head_kind (items_left s))) ∙ ap is_finish (sym (ap (λ q. action_of q s) is) ∙ end))
-
--- the action at a position of a row
-pub left_is : (x : Action) (position : Position) (left : ℕ) (next : Option SyntaxKind) (touch : Bool) (s : State) → x ≡ action_at (p.Left left) next touch →
-    next ≡ head_kind (items_left s) → touch ≡ touches s.prev_end (items_left s) → position ≡ p.Left left → x ≡ action_of position s
-left_is x position left next touch s act first touching is =
-    act ∙ ap (λ n. action_at (p.Left left) n touch) first ∙ ap (λ b. action_at (p.Left left) (head_kind (items_left s)) b) touching
-    ∙ ap (λ q. action_of q s) (sym is)
 
 -- the root over all trees
 root_ended : (h : Head) (position : Position) (d : ℕ) (row : AnnotatedForest) (ts : List Token) (n : ℕ) (es : List Fault) → h ≡ Node NODE_ROOT

@@ -103,6 +103,13 @@ abbrev pub is_finish : Action → Bool
 is_finish a.Finish = true
 is_finish action = false
 
+-- the action goes on with an operand
+abbrev pub continues : Action → Bool
+continues (a.Wrap k inside max_bp) = true
+continues a.Apply = true
+continues a.ApplyOr = true
+continues action = false
+
 -- a node may be opened where the mark begins
 abbrev pub IsCheckpoint : Mark → State → Type 0
 IsCheckpoint m s = IsTrue (is_checkpoint_of record { finished = s.trees; open_nodes = s.open_nodes } m.at)

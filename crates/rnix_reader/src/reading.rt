@@ -8,7 +8,7 @@ ghost use Rattle.rnix_proof_lemmas.specs.Machine.{begins, min_bp_of};
 ghost use Rattle.rnix_reader.specs.Erase.{erase};
 ghost use Rattle.rnix_reader.specs.Holds.{IsReadTo};
 ghost use Rattle.rnix_reader.specs.PatternNames.{entries_in, EntryNamed, PatternOpened};
-ghost use Rattle.rnix_reader.specs.Performed.{ArgumentNames, DoubleBindOpened, EntryReported, IsCheckpoint, IsReady, NamesAfter, NamesFor, PartNames, Performed, action_of, argument_read, begun_as, expression_read, opens_in, opens_on, opens_pattern, operand_read, part_read};
+ghost use Rattle.rnix_reader.specs.Performed.{ArgumentNames, DoubleBindOpened, EntryReported, IsCheckpoint, IsReady, NamesAfter, NamesFor, PartNames, Performed, action_of, argument_read, begun_as, continues, expression_read, opens_in, opens_on, opens_pattern, operand_read, part_read};
 ghost use Rattle.rnix_reader.specs.Placed.{token_of, AreInOrder};
 ghost use Rattle.rnix_reader.specs.Reported.{second_reported};
 ghost use Rattle.rnix_reader.specs.State.{state, items_left, IsNextItem};
@@ -21,7 +21,7 @@ use crate::pattern_names::Names;
 use rnix_grammar::{
     APPLICATION_LEVEL, APPLIED, Action, BIN_OP_END, BOUND_PATTERN, Begin, EXPRESSION_LEVEL,
     ExpectedSet, LEGACY_LET, NO_LEVEL, PATTERN, ParseError, Position, SECOND_BIND, SELECTION_LEVEL,
-    action_at, follow, goes_on,
+    action_at, follow, goes_on, is_past,
 };
 use rnix_green::TextRange;
 use rnix_kinds::SyntaxKind;
@@ -137,7 +137,7 @@ fn begin<'t>(
 }
 
 // Begins an operand of a level.
-#[inline(always)]
+#[inline(never)]
 fn operand<'t>(
     p: &mut Parser<'t>,
     names: &mut Names<'t>,
@@ -330,7 +330,34 @@ fn step<'t>(
     Ok(())
 }
 
+// Goes on with the operand that was read.
+#[inline(always)]
+fn go_on_with<'t>(
+    p: &mut Parser<'t>,
+    names: &mut Names<'t>,
+    mark: Mark,
+    min_bp: u8,
+    action: Action,
+) -> Result<(), AllocError>
+    requires action { continues action ≡ true }
+    requires level { min_bp ≡ min_bp_of mark.position }
+    requires ready { IsReady action mark (state p.old) names.old }
+    ensures state { OnOk result (Performed action mark (state p.old) names.old (state p.new) names.new) }
+    ensures names { OnOk result (NamesAfter action mark (state p.old) names.old names.new) }
+{
+    match action {
+        Action::Wrap(kind, inside, max_bp) => {
+            p.wrap_and_bump(mark, Position::AfterOperand(min_bp, max_bp), kind, inside)?;
+        }
+        Action::Apply => apply(p, names, mark, min_bp)?,
+        Action::ApplyOr => p.apply_or(mark, Position::AfterOperand(min_bp, APPLICATION_LEVEL))?,
+        _ => {}
+    }
+    Ok(())
+}
+
 // Goes on with the operand that was read, if the next item continues it. Otherwise the operand is complete.
+#[tactic(auto, using(crate::proofs::FollowLemmas::follow_continues))]
 #[inline(always)]
 fn after_operand<'t>(
     p: &mut Parser<'t>,
@@ -346,10 +373,22 @@ fn after_operand<'t>(
 {
     if let Some(kind) = p.peek() {
         if goes_on(min_bp, max_bp, kind) {
-            step(p, names, mark, follow(kind))?;
+            go_on_with(p, names, mark, min_bp, follow(kind))?;
         }
     }
     Ok(())
+}
+
+// The action at a place of a row. A row that is complete is closed without a look at the next item.
+#[inline(always)]
+fn action_in_row(p: &Parser<'_>, left: u8) -> Action
+    ensures { result ≡ action_of (Left left) (state p.now) }
+{
+    let position = Position::Left(left);
+    if is_past(position) {
+        return Action::Close;
+    }
+    action_at(position, p.peek(), p.touches())
 }
 
 /// Reads until the root is complete.
@@ -367,10 +406,10 @@ pub(crate) fn read_all<'t>(p: &mut Parser<'t>, names: &mut Names<'t>) -> Result<
                 after_operand(p, names, mark, min_bp, max_bp)?;
             }
             Position::Right(level) => {
-                step(p, names, mark, Action::Read(level, false, BIN_OP_END))?;
+                read_part(p, names, mark, level, false, BIN_OP_END)?;
             }
             Position::Left(left) => {
-                let action = action_at(Position::Left(left), p.peek(), p.touches());
+                let action = action_in_row(p, left);
                 if let Action::Finish = action {
                     p.eat_trivia()?;
                     p.finish_node()?;

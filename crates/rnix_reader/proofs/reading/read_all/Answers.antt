@@ -1,10 +1,9 @@
-use Rattle.std.proofs.Common.{◌≡◌, ◌<◌, false, length, refl, sym, ap, subst, ◌∙◌}
+use Rattle.std.proofs.Common.{◌<◌, false, length, refl, sym, ap, subst, ◌∙◌}
 use Rattle.std.proofs.lemmas.Bool.{false≢true}
-use Rattle.rnix_grammar.specs.declared.action.Action.{Action}
 use Rattle.rnix_grammar.specs.declared.action.Action.TheVariants as a
 use Rattle.rnix_grammar.specs.declared.slot_table.TheConstants.{BIN_OP_END}
 use Rattle.rnix_reader.specs.{State.{state, with_marks, ended}, Performed.{action_of, is_finish}}
-use Rattle.rnix_reader.proofs.LoopLemmas.{starts, turn, operand_goes, left_is}
+use Rattle.rnix_reader.proofs.LoopLemmas.{starts, turn, operand_goes}
 use Rattle.rnix_reader.proofs.reading.read_all.Goals as goal
 
 pub loop-mark-init : goal.loop-mark-init
@@ -33,45 +32,45 @@ loop-mark-smaller-in-Continue-branch-2 c =
     let s = with_marks c.pop.new.self.items (state c.loop-mark.p) in
     let t = turn c.loop-mark.invariant c.pop.new.self.items c.in-Some.mark (a.Read c.in-Right.level false BIN_OP_END) c.in-Some.ensures.items
     (sym (ap (λ q. action_of q s) c.in-Right.is)) in
-    (t.goes _ _ (λ e. false≢true (ap is_finish e)) c.in_ok-step-in-Right.ensures.state c.in_ok-step-in-Right.ensures.names).1
+    (t.goes _ _ (λ e. false≢true (ap is_finish e)) c.in_ok-read_part-in-Right.ensures.state c.in_ok-read_part-in-Right.ensures.names).1
 
 pub loop-mark-preserved-in-Continue-branch-2 : goal.loop-mark-preserved-in-Continue-branch-2
 loop-mark-preserved-in-Continue-branch-2 c =
     let s = with_marks c.pop.new.self.items (state c.loop-mark.p) in
     let t = turn c.loop-mark.invariant c.pop.new.self.items c.in-Some.mark (a.Read c.in-Right.level false BIN_OP_END) c.in-Some.ensures.items
     (sym (ap (λ q. action_of q s) c.in-Right.is)) in
-    (t.goes _ _ (λ e. false≢true (ap is_finish e)) c.in_ok-step-in-Right.ensures.state c.in_ok-step-in-Right.ensures.names).0
+    (t.goes _ _ (λ e. false≢true (ap is_finish e)) c.in_ok-read_part-in-Right.ensures.state c.in_ok-read_part-in-Right.ensures.names).0
 
 pub finish_node-requires : goal.finish_node-requires
 finish_node-requires c =
     let s = with_marks c.pop.new.self.items (state c.loop-mark.p) in
-    let t = turn c.loop-mark.invariant c.pop.new.self.items c.in-Some.mark c.action_at-action.result c.in-Some.ensures.items
-    (left_is _ _ c.in-Left.left _ _ s c.action_at-action.ensures c.peek.ensures c.touches.ensures c.in-Left.is) in
+    let t = turn c.loop-mark.invariant c.pop.new.self.items c.in-Some.mark c.action_in_row-action.result c.in-Some.ensures.items
+    (c.action_in_row-action.ensures ∙ ap (λ q. action_of q s) (sym c.in-Left.is)) in
     subst (λ x. 0 < length x) (sym c.in_ok-eat_trivia-in-Left.ensures.nodes) (t.root c.in-Finish.is)
 
 pub returns-in-Finish : goal.returns-in-Finish
 returns-in-Finish c =
     let s = with_marks c.pop.new.self.items (state c.loop-mark.p) in
-    let t = turn c.loop-mark.invariant c.pop.new.self.items c.in-Some.mark c.action_at-action.result c.in-Some.ensures.items
-    (left_is _ _ c.in-Left.left _ _ s c.action_at-action.ensures c.peek.ensures c.touches.ensures c.in-Left.is) in
+    let t = turn c.loop-mark.invariant c.pop.new.self.items c.in-Some.mark c.action_in_row-action.result c.in-Some.ensures.items
+    (c.action_in_row-action.ensures ∙ ap (λ q. action_of q s) (sym c.in-Left.is)) in
     t.finished _ c.in-Finish.is (c.in_ok-finish_node-in-Left.ensures ∙ ap ended c.in_ok-eat_trivia-in-Left.ensures.state)
 
-pub step-requires-in-Left : goal.step-requires-in-Left
-step-requires-in-Left c =
+pub step-requires : goal.step-requires
+step-requires c =
     let s = with_marks c.pop.new.self.items (state c.loop-mark.p) in
-    (turn c.loop-mark.invariant c.pop.new.self.items c.in-Some.mark c.action_at-action.result c.in-Some.ensures.items
-    (left_is _ _ c.in-Left.left _ _ s c.action_at-action.ensures c.peek.ensures c.touches.ensures c.in-Left.is)).ready
+    (turn c.loop-mark.invariant c.pop.new.self.items c.in-Some.mark c.action_in_row-action.result c.in-Some.ensures.items
+    (c.action_in_row-action.ensures ∙ ap (λ q. action_of q s) (sym c.in-Left.is))).ready
 
 pub loop-mark-smaller : goal.loop-mark-smaller
 loop-mark-smaller c =
     let s = with_marks c.pop.new.self.items (state c.loop-mark.p) in
-    let t = turn c.loop-mark.invariant c.pop.new.self.items c.in-Some.mark c.action_at-action.result c.in-Some.ensures.items
-    (left_is _ _ c.in-Left.left _ _ s c.action_at-action.ensures c.peek.ensures c.touches.ensures c.in-Left.is) in
+    let t = turn c.loop-mark.invariant c.pop.new.self.items c.in-Some.mark c.action_in_row-action.result c.in-Some.ensures.items
+    (c.action_in_row-action.ensures ∙ ap (λ q. action_of q s) (sym c.in-Left.is)) in
     (t.goes _ _ c.in_default-action.not-Finish c.in_ok-step-in-Left.ensures.state c.in_ok-step-in-Left.ensures.names).1
 
 pub loop-mark-preserved : goal.loop-mark-preserved
 loop-mark-preserved c =
     let s = with_marks c.pop.new.self.items (state c.loop-mark.p) in
-    let t = turn c.loop-mark.invariant c.pop.new.self.items c.in-Some.mark c.action_at-action.result c.in-Some.ensures.items
-    (left_is _ _ c.in-Left.left _ _ s c.action_at-action.ensures c.peek.ensures c.touches.ensures c.in-Left.is) in
+    let t = turn c.loop-mark.invariant c.pop.new.self.items c.in-Some.mark c.action_in_row-action.result c.in-Some.ensures.items
+    (c.action_in_row-action.ensures ∙ ap (λ q. action_of q s) (sym c.in-Left.is)) in
     (t.goes _ _ c.in_default-action.not-Finish c.in_ok-step-in-Left.ensures.state c.in_ok-step-in-Left.ensures.names).0
