@@ -14,7 +14,6 @@ pub mod RowLemmas
 pub mod OpenNames
 pub mod GoesLemmas
 pub mod PerformLemmas
-mod FollowLemmas
 pub mod LoopLemmas
 pub mod DocumentLemmas
 pub mod BeginLemmas

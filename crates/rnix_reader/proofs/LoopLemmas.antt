@@ -12,7 +12,7 @@ use Rattle.rnix_proof_lemmas.specs.Machine.{rest as here, then as further}
 use Rattle.{rnix_proof_lemmas.proofs.{StackedFrames.step_stacked, AllowedLemmas.allowed}, rnix_reader.specs.declared.mark.Mark.Mark}
 use Rattle.rnix_reader.specs.{declared.pattern_names.Names.Names, Placed.AreInOrder, PatternNames.entries_in, State.{State, items_left, with_marks, eaten, ended}, Erase.marks_of}
 use Rattle.rnix_reader.specs.{Erase.{mark_of, erase, erase_with, popped}, Holds.{IsGoing, IsThrough, IsReadTo, work}, Performed.{Performed, NamesAfter, IsReady}}
-use Rattle.rnix_reader.{specs.Performed.{action_of, is_finish}, proofs.{StateLemmas.state_is, DocumentLemmas.root_through, EraseLemmas.erase-eaten}}
+use Rattle.rnix_reader.{specs.Performed.{action_of, continues, is_finish}, proofs.{StateLemmas.state_is, DocumentLemmas.root_through, EraseLemmas.erase-eaten}}
 use Rattle.rnix_reader.proofs.{StepsOfReader.{ready, performs}, GoesLemmas.Goes, PerformLemmas.perform_goes, WorkLemmas.{work_is, perform_less}}
 use Rattle.rnix_grammar.specs.declared.position.Position.TheVariants as p
 use Rattle.rnix_grammar.specs.declared.action.Action.TheVariants as a
@@ -46,6 +46,11 @@ not_finish action h = refl
 follow_goes : (kind : SyntaxKind) → is_finish (follow kind) ≡ false
 follow_goes TOKEN_DOT = refl
 follow_goes kind = refl
+
+-- it goes on with an operand
+pub follow_continues : (kind : SyntaxKind) → continues (follow kind) ≡ true
+follow_continues TOKEN_DOT = refl
+follow_continues kind = refl
 
 -- nor does what follows an operand
 more_goes : (min_bp max_bp : ℕ) (next : Option SyntaxKind) → is_finish (more_action min_bp max_bp next) ≡ false

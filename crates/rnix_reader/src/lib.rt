@@ -3,6 +3,7 @@
 
 mod cursor;
 mod document;
+mod entries;
 mod leaf_kind;
 mod mark;
 mod operands;

@@ -3,27 +3,25 @@
 ghost use Rattle.std.specs.Prelude.{◌≡◌, ◌≤◌, ◌<◌, [], Bool, length, OnOk, true};
 ghost use Rattle.rnix_grammar.specs.declared.begin.Begin.TheVariants.{Leaf};
 ghost use Rattle.rnix_grammar.specs.declared.position.Position.TheVariants.{Left, AfterOperand};
-ghost use Rattle.rnix_grammar.specs.AnnotatedForest.{Token};
 ghost use Rattle.rnix_proof_lemmas.specs.Machine.{begins, min_bp_of};
 ghost use Rattle.rnix_reader.specs.Erase.{erase};
 ghost use Rattle.rnix_reader.specs.Holds.{IsReadTo};
-ghost use Rattle.rnix_reader.specs.PatternNames.{entries_in, EntryNamed, PatternOpened};
-ghost use Rattle.rnix_reader.specs.Performed.{ArgumentNames, DoubleBindOpened, EntryReported, IsCheckpoint, IsReady, NamesAfter, NamesFor, PartNames, Performed, action_of, argument_read, begun_as, continues, expression_read, opens_in, opens_on, opens_pattern, operand_read, part_read};
+ghost use Rattle.rnix_reader.specs.PatternNames.{entries_in, PatternOpened};
+ghost use Rattle.rnix_reader.specs.Performed.{ArgumentNames, IsCheckpoint, IsReady, NamesAfter, NamesFor, PartNames, Performed, action_of, argument_read, begun_as, continues, expression_read, opens_in, opens_on, opens_pattern, operand_read, part_read};
 ghost use Rattle.rnix_reader.specs.Placed.{token_of, AreInOrder};
-ghost use Rattle.rnix_reader.specs.Reported.{second_reported};
 ghost use Rattle.rnix_reader.specs.State.{state, items_left, IsNextItem};
-ghost use Rattle.rnix_reader.specs.FrameSteps.{bound_lambda_begun, entry_begun, legacy_let_begun, pattern_lambda_begun, second_begun};
+ghost use Rattle.rnix_reader.specs.FrameSteps.{bound_lambda_begun, legacy_let_begun, pattern_lambda_begun};
 
 use crate::cursor::PlacedToken;
+use crate::entries::{close_double_bind, close_entry, open_double_bind, open_entry};
 use crate::mark::Mark;
 use crate::parser::Parser;
 use crate::pattern_names::Names;
 use rnix_grammar::{
     APPLICATION_LEVEL, APPLIED, Action, BIN_OP_END, BOUND_PATTERN, Begin, EXPRESSION_LEVEL,
-    ExpectedSet, LEGACY_LET, NO_LEVEL, PATTERN, ParseError, Position, SECOND_BIND, SELECTION_LEVEL,
-    action_at, follow, goes_on, is_past,
+    ExpectedSet, LEGACY_LET, NO_LEVEL, PATTERN, Position, SELECTION_LEVEL, action_at, follow,
+    goes_on, is_past,
 };
-use rnix_green::TextRange;
 use rnix_kinds::SyntaxKind;
 use std::alloc::AllocError;
 
@@ -180,65 +178,6 @@ fn read<'t>(
     Ok(operand(p, names, level, depth + 1)?)
 }
 
-// Completes an entry of a pattern.
-fn close_entry<'t>(p: &mut Parser<'t>, names: &mut Names<'t>) -> Result<(), AllocError>
-    requires { 0 < length p.old.builder.draft.open_nodes }
-    ensures { OnOk result (EntryReported (state p.old) names.old (state p.new) names.new) }
-{
-    p.finish_node()?;
-    if let Some(error) = names.close_entry()? {
-        p.fail(error)?;
-    }
-    Ok(())
-}
-
-// Completes the second name of a pattern.
-#[tactic(auto, unfolding(crate::specs::State::ended))]
-fn close_double_bind(p: &mut Parser<'_>, start: usize) -> Result<(), AllocError>
-    requires open { 0 < length p.old.builder.draft.open_nodes }
-    requires order { start ≤ (state p.old).prev_end }
-    ensures { OnOk result (state p.new ≡ second_reported start (state p.old)) }
-{
-    p.finish_node()?;
-    p.fail(ParseError::UnexpectedDoubleBind(TextRange::new(start, p.prev_end)))?;
-    Ok(())
-}
-
-// Opens an entry of a pattern, with its name.
-fn open_entry<'t>(
-    p: &mut Parser<'t>,
-    names: &mut Names<'t>,
-    mark: Mark,
-    after: u8,
-) -> Result<(), AllocError>
-    ensures state { OnOk result (state p.new ≡ entry_begun (Left after) mark (state p.old)) }
-    ensures names { (t : Token) → IsNextItem t (state p.old) → OnOk result (EntryNamed t names.old names.new) }
-{
-    if let Some(name) = p.item() {
-        p.ordered();
-        names.open_entry(name.text, TextRange::new(name.start, name.end))?;
-    }
-    p.entry(mark, after)?;
-    Ok(())
-}
-
-// Opens the second name of a pattern, with its first token.
-fn open_double_bind<'t>(
-    p: &mut Parser<'t>,
-    names: &mut Names<'t>,
-    mark: Mark,
-    after: u8,
-) -> Result<(), AllocError>
-    ensures state { OnOk result (state p.new ≡ second_begun (Left after) mark (state p.old)) }
-    ensures names { (t : Token) → IsNextItem t (state p.old) → OnOk result (DoubleBindOpened t.start names.old names.new) }
-{
-    if let Some(first) = p.item() {
-        names.second = first.start;
-    }
-    p.open(mark, SyntaxKind::NODE_ERROR, SECOND_BIND, after)?;
-    Ok(())
-}
-
 // The lowest level of an operator that may continue an operand.
 fn min_bp_of(position: Position) -> u8
     ensures { result ≡ min_bp_of position }
@@ -357,7 +296,7 @@ fn go_on_with<'t>(
 }
 
 // Goes on with the operand that was read, if the next item continues it. Otherwise the operand is complete.
-#[tactic(auto, using(crate::proofs::FollowLemmas::follow_continues))]
+#[tactic(auto, using(crate::proofs::LoopLemmas::follow_continues))]
 #[inline(always)]
 fn after_operand<'t>(
     p: &mut Parser<'t>,
