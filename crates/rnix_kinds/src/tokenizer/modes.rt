@@ -57,9 +57,9 @@ impl Modes {
         }
     }
 
-    // Changes the modes as a token does that changes them.
-    #[inline(never)]
-    fn change_innermost(&mut self, change: Change) -> Result<(), AllocError>
+    /// Changes the modes as a token does. If an allocation fails, they stay as they were.
+    #[inline(always)]
+    pub fn change(&mut self, change: Change) -> Result<(), AllocError>
         ensures ok { OnOk result (self.new ≡ changed change self.old) }
         ensures err { OnErr result (self.new ≡ self.old) }
         ensures memory { OnErr result (opens change ≡ true) }
@@ -76,19 +76,5 @@ impl Modes {
             }
         }
         Ok(())
-    }
-
-    /// Changes the modes as a token does. If an allocation fails, they stay as they were.
-    // Most tokens change nothing: only the others take a call, which keeps the rest out of the loop over the tokens.
-    #[inline(always)]
-    pub fn change(&mut self, change: Change) -> Result<(), AllocError>
-        ensures ok { OnOk result (self.new ≡ changed change self.old) }
-        ensures err { OnErr result (self.new ≡ self.old) }
-        ensures memory { OnErr result (opens change ≡ true) }
-    {
-        match change {
-            Change::Stay => Ok(()),
-            _ => self.change_innermost(change),
-        }
     }
 }

@@ -1,5 +1,5 @@
 use Rattle.{std.proofs.Common.arith, rnix_kinds.proofs.LexicalLemmas.ModesLemmas.reverse-set_last}
-use Rattle.rnix_kinds.proofs.tokenizer.modes.Modes.change_innermost.Goals as goal
+use Rattle.rnix_kinds.proofs.tokenizer.modes.Modes.change.Goals as goal
 
 pub returns-then-n-gt0-clause-ok : goal.returns-then-n-gt0-clause-ok
 returns-then-n-gt0-clause-ok c =
