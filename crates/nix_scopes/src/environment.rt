@@ -2,7 +2,6 @@
 
 ghost use Rattle.std.specs.Prelude.{◌≡◌, ◌==◌, ◌≤◌, ◌++◌, ◌+◌, ◌-◌, [], ◌∷◌, ℕ, List, None, length, map, not, OnOk, if◌then◌else◌};
 ghost use Rattle.rnix_green.specs.Tree.{Located};
-ghost use Rattle.nix_scopes.specs.declared.resolution.Binding.{Binding as Declared};
 ghost use Rattle.nix_scopes.specs.Binders.{is_scope};
 ghost use Rattle.nix_scopes.specs.Scopes.{is_with_body, bindings_at};
 ghost use Rattle.nix_scopes.specs.Bound.{bound_of};

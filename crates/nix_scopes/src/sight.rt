@@ -1,10 +1,9 @@
 //! The names in sight at the current node of a walk.
 
 ghost use Rattle.std.specs.Prelude.{◌≡◌, ℕ, ◌<◌, ◌≤◌, ◌+◌, ◌++◌, [], ◌∷◌, List, Option, Some, None, length, map, slice_get};
-ghost use Rattle.std.specs.Prelude.{is_some, IsTrue, IsSome, IfOk, OnOk, if◌then◌else◌};
+ghost use Rattle.std.specs.Prelude.{IsSome, IfOk, OnOk, if◌then◌else◌};
 ghost use Rattle.std.specs.Str.{bytes_eq};
 ghost use Rattle.rnix_green.specs.Tree.{Located};
-ghost use Rattle.nix_scopes.specs.declared.resolution.Binding.{Binding as Declared};
 ghost use Rattle.nix_scopes.specs.Binders.{named, names_bound};
 ghost use Rattle.nix_scopes.specs.Scopes.{Bound, bound_in};
 ghost use Rattle.nix_scopes.specs.Bound.{bound_of, AreFirst};

@@ -1,5 +1,5 @@
 -- What follows on a line that has text.
-use Rattle.std.proofs.Common.{◌≡◌, ◌<◌, ◌+◌, ◌∙◌, ℕ, suc, List, [], ◌∷◌, Bool, true, false, Some, None, refl, ap, sym, length, drop, ◌≤◌, arith}
+use Rattle.std.proofs.Common.{◌≡◌, ◌+◌, ◌∙◌, ℕ, suc, List, [], ◌∷◌, Bool, true, false, Some, None, refl, ap, sym, drop, arith}
 use Rattle.std.{proofs.lemmas.Bool.Decides.nat_tests, specs.{List.prefix_len, Prelude.{cond, if◌then◌else◌}}}
 use Rattle.rnix_base.specs.{declared.indent.Indent.Indent, Normal.is_byte, Indent.{indent_after, indent_behind, is_inside_line}}
 

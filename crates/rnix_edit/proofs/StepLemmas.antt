@@ -78,7 +78,7 @@ few_steps (event ∷ events) = omega (arith, length-append (step_at event) (step
           ]
         ]
 
--- no more events than before the node at a place is entered
+-- the events before the node at a place is entered are no more than all events
 few_before : (place : Place) (events : List Event) → length (events_before place events) ≤ length events
 few_before place [] = omega arith
 few_before place (event ∷ events) =

@@ -111,7 +111,7 @@ abbrev pub enters_first : List Step → Bool
 enters_first [] = false
 enters_first (step ∷ steps) = step.enters
 
--- whether steps begin with some others; if so, these were taken, so many, and those are left
+-- whether steps begin with some others; if so, the number of these, and what is left when they are taken
 pub record IsTaken (taken : Option ℕ) (first all left : List Step) : Type 0 where
   pub passed : IfSome taken (λ count. (all ≡ first ++ left) × (count ≡ length first))
   pub found : (rest : List Step) → all ≡ first ++ rest → is_some taken ≡ true

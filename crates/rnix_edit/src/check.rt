@@ -12,6 +12,9 @@ use crate::steps::{
 };
 use rnix::SyntaxNode;
 
+// The number of steps from a closing bracket to the end of its node: the bracket, and leaving the node.
+const CLOSING_STEPS: usize = 2;
+
 /// Returns whether a node is at a place of a tree, and the tree around it is that around the place of another tree.
 pub fn is_around(root: &SyntaxNode<'_>, old: Place, other: &SyntaxNode<'_>, new: Place) -> bool
     ensures { Decides result (IsAround root.now old other.now new) }
@@ -43,7 +46,7 @@ pub fn is_without(
     takes_comments(&mut rest, comments) && are_same_walks(events, rest)
 }
 
-// Returns how many steps are before the node at a place, without which a tree is another one.
+// If `other` without the node at a place in it is `root`: returns how many steps are before that node.
 fn steps_before_new(root: &SyntaxNode<'_>, other: &SyntaxNode<'_>, new: Place) -> Option<usize>
     ensures { MatchOption result (¬ IsWith root.now other.now new)
         (λ count. IsWith root.now other.now new × (count ≡ length (steps_before new other.now))) }
@@ -57,7 +60,8 @@ fn steps_before_new(root: &SyntaxNode<'_>, other: &SyntaxNode<'_>, new: Place) -
     None
 }
 
-/// Returns whether a node is at a place of a tree, without which it is another tree, after a node there and this number of comments.
+/// Returns whether a node is at a place of `other`, without which that is `root`, after the node at a place of `root` and this number of comments.
+// Without the new node both have the same steps, so it is where it should be if as many of them come before it.
 pub fn is_after(
     root: &SyntaxNode<'_>,
     old: Place,
@@ -78,7 +82,8 @@ pub fn is_after(
     }
 }
 
-/// Returns whether a node is at a place of a tree, without which it is another tree, before the last token of a node there.
+/// Returns whether a node is at a place of `other`, without which that is `root`, before the last token of the node at a place of `root`.
+// As above, the number of steps before the new node tells where it is.
 pub fn is_inside(root: &SyntaxNode<'_>, old: Place, other: &SyntaxNode<'_>, new: Place) -> bool
     ensures { Decides result (IsLastIn root.now old other.now new) }
 {
@@ -90,7 +95,7 @@ pub fn is_inside(root: &SyntaxNode<'_>, old: Place, other: &SyntaxNode<'_>, new:
     let mut events = root.preorder_with_tokens();
     let through = steps_through(&mut events, old);
     match steps_before_new(root, other, new) {
-        Some(count) => count + 2 == through,
+        Some(count) => count + CLOSING_STEPS == through,
         None => false,
     }
 }

@@ -2,7 +2,6 @@
 
 ghost use Rattle.std.specs.Prelude.{◌≡◌, ◌<◌, ◌≤◌, ◌^◌, [], ◌∷◌, drop, length, MatchOption, IfSome, IfNone, IsTrue};
 ghost use Rattle.rnix_green.specs.Tree.{item_of, text_at};
-ghost use Rattle.rnix_green.specs.Walk.{preorder_of};
 ghost use Rattle.std.specs.Bool.{Decides};
 ghost use Rattle.rnix_tree.specs.Spots.{event_of};
 ghost use Rattle.rnix_edit.specs.Steps.{step_of, token_steps, node_step, step_at, steps_of, enters, leaves, events_before, events_inside, events_after};

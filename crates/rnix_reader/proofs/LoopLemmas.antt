@@ -42,15 +42,15 @@ not_finish : (action : Action) → (action ≡ a.Finish → ⊥) → is_finish a
 not_finish a.Finish h = absurd (h refl)
 not_finish action h = refl
 
+-- what the table has follow an operand goes on with it
+pub follow_continues : (kind : SyntaxKind) → continues (follow kind) ≡ true
+follow_continues TOKEN_DOT = refl
+follow_continues kind = refl
+
 -- what goes on with an operand does not end the text
 follow_goes : (kind : SyntaxKind) → is_finish (follow kind) ≡ false
 follow_goes TOKEN_DOT = refl
 follow_goes kind = refl
-
--- it goes on with an operand
-pub follow_continues : (kind : SyntaxKind) → continues (follow kind) ≡ true
-follow_continues TOKEN_DOT = refl
-follow_continues kind = refl
 
 -- nor does what follows an operand
 more_goes : (min_bp max_bp : ℕ) (next : Option SyntaxKind) → is_finish (more_action min_bp max_bp next) ≡ false

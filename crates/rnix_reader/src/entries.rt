@@ -1,4 +1,4 @@
-//! Entries of patterns, whose names are kept.
+//! Entries and second names of patterns. The names of entries are kept.
 
 ghost use Rattle.std.specs.Prelude.{◌≡◌, ◌≤◌, ◌<◌, length, OnOk};
 ghost use Rattle.rnix_grammar.specs.declared.position.Position.TheVariants.{Left};

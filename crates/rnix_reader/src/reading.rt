@@ -1,6 +1,6 @@
 //! Reading by the grammar's table: one step after another, until the root is complete.
 
-ghost use Rattle.std.specs.Prelude.{◌≡◌, ◌≤◌, ◌<◌, [], Bool, length, OnOk, true};
+ghost use Rattle.std.specs.Prelude.{◌≡◌, [], OnOk, true};
 ghost use Rattle.rnix_grammar.specs.declared.begin.Begin.TheVariants.{Leaf};
 ghost use Rattle.rnix_grammar.specs.declared.position.Position.TheVariants.{Left, AfterOperand};
 ghost use Rattle.rnix_proof_lemmas.specs.Machine.{begins, min_bp_of};
@@ -238,7 +238,6 @@ fn step<'t>(
     ensures state { OnOk result (Performed action mark (state p.old) names.old (state p.new) names.new) }
     ensures names { OnOk result (NamesAfter action mark (state p.old) names.old names.new) }
 {
-    let min_bp = min_bp_of(mark.position);
     match action {
         Action::Close => p.finish_node()?,
         Action::ClosePattern => {
@@ -260,16 +259,14 @@ fn step<'t>(
         Action::Entry(after) => open_entry(p, names, mark, after)?,
         Action::DoubleBind(after) => open_double_bind(p, names, mark, after)?,
         Action::Read(level, counted, after) => read_part(p, names, mark, level, counted, after)?,
-        Action::Wrap(kind, inside, max_bp) => {
-            p.wrap_and_bump(mark, Position::AfterOperand(min_bp, max_bp), kind, inside)?;
+        Action::Wrap(_, _, _) | Action::Apply | Action::ApplyOr => {
+            go_on_with(p, names, mark, min_bp_of(mark.position), action)?;
         }
-        Action::Apply => apply(p, names, mark, min_bp)?,
-        Action::ApplyOr => p.apply_or(mark, Position::AfterOperand(min_bp, APPLICATION_LEVEL))?,
     }
     Ok(())
 }
 
-// Goes on with the operand that was read.
+// Goes on with the operand that was read, by an action that does so.
 #[inline(always)]
 fn go_on_with<'t>(
     p: &mut Parser<'t>,
@@ -318,7 +315,7 @@ fn after_operand<'t>(
     Ok(())
 }
 
-// The action at a place of a row. A row that is complete is closed without a look at the next item.
+// The action at a place of a row. Where nothing but the end of the node is to be done, no item is looked at.
 #[inline(always)]
 fn action_in_row(p: &Parser<'_>, left: u8) -> Action
     ensures { result ≡ action_of (Left left) (state p.now) }
@@ -331,7 +328,7 @@ fn action_in_row(p: &Parser<'_>, left: u8) -> Action
 }
 
 /// Reads until the root is complete.
-// The position is matched first: that saves two tests and two tables of jumps at each step.
+// The position is matched first: that saves a test at each step, and after an operand and behind an operator the tables of positions and of actions.
 pub(crate) fn read_all<'t>(p: &mut Parser<'t>, names: &mut Names<'t>) -> Result<(), AllocError>
     requires state { state p.old ≡ erase (begins (state p.old).rest) }
     requires order { AreInOrder 0 (state p.old).rest }
