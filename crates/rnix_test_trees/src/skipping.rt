@@ -34,3 +34,41 @@ fn what_is_inside_a_node_is_left_out(rt: HostRuntime) -> Result<(), Fail> {
     assert!(rt; entered(&read.syntax()) == (8, 5));
     Ok(())
 }
+
+// Two walks behind where they enter the roots: whether the rest in the roots is skipped in both, and how many events are left in each.
+fn skipped(first: &SyntaxNode<'_>, second: &SyntaxNode<'_>) -> (bool, usize, usize) {
+    let mut walk = first.preorder_with_tokens();
+    let mut other = second.preorder_with_tokens();
+    let _roots = (walk.next(), other.next());
+    let is_skipped = walk.skip_alike(&mut other);
+    (is_skipped, walk.count(), other.count())
+}
+
+#[test]
+fn what_two_walks_pass_alike_is_left_out(rt: HostRuntime) -> Result<(), Fail> {
+    let first = Parsed::new(rt.alloc(), "[1 (2 + 3) 4]")?;
+    let second = Parsed::new(rt.alloc(), "[1 (2 + 3) 4]")?;
+    assert!(rt; skipped(&first.syntax(), &second.syntax()) == (true, 1, 1));
+    Ok(())
+}
+
+#[test]
+fn what_two_walks_pass_otherwise_is_not_left_out(rt: HostRuntime) -> Result<(), Fail> {
+    let first = Parsed::new(rt.alloc(), "[1 (2 + 3) 4]")?;
+    let all = first
+        .syntax()
+        .preorder_with_tokens()
+        .count()
+        .saturating_sub(1);
+    for text in [
+        "[1 (2 + 3) 5]",
+        "[1 (2 * 3) 4]",
+        "[1 ((23)) 4]",
+        "[1 (2 + 3)  ]",
+    ] {
+        let second = Parsed::new(rt.alloc(), text)?;
+        let (is_skipped, left, _) = skipped(&first.syntax(), &second.syntax());
+        assert!(rt; !is_skipped && left == all);
+    }
+    Ok(())
+}

@@ -22,3 +22,4 @@ pub mod SkipLemmas
 pub mod CountsInside
 pub mod ChainsFall
 pub mod DigitLemmas
+pub mod WalksAlikeLemmas

@@ -55,7 +55,8 @@ behind_root t root m (Some p) e =
     ap (λ b. if b then Done else (if nat_lt (m + 1 + (item t m).below) (p + 1 + (item t p).below) then Enter (m + 1 + (item t m).below) else Leave p))
     (is_same m root e)
 
-behind_inner : (t : Tree) (root m p : ℕ) → root < m → behind t root m (Some p)
+-- the same of an element below it
+pub behind_inner : (t : Tree) (root m p : ℕ) → root < m → behind t root m (Some p)
     ≡ (if nat_lt (m + 1 + (item t m).below) (p + 1 + (item t p).below) then Enter (m + 1 + (item t m).below) else Leave p)
 behind_inner t root m p l =
     ap (λ b. if b then Done else (if nat_lt (m + 1 + (item t m).below) (p + 1 + (item t p).below) then Enter (m + 1 + (item t m).below) else Leave p))

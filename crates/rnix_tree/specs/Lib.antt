@@ -11,3 +11,5 @@ pub mod ByKind
 pub mod Covering
 pub mod InsideCounts
 pub mod ChainMeasures
+pub mod WalksAlike
+pub mod AlikeRows

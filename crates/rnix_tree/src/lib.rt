@@ -16,6 +16,7 @@ mod offset;
 mod pointer;
 mod printing;
 mod relatives;
+mod rows;
 mod siblings;
 mod token;
 mod walk;
