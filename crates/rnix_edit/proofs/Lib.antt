@@ -6,3 +6,4 @@ pub mod CheckLemmas
 pub mod EditLemmas
 pub mod OneChange
 mod EditExamples
+pub mod StepsShown

@@ -133,3 +133,9 @@ IsClosing all = (2 ≤ length all) × (enters_first all ≡ true)
 pub record IsClosingTaken (taken : Bool) (all left : List Step) : Type 0 where
   pub passed : taken ≡ true → IsClosing all × (left ≡ drop 2 all)
   pub found : IsClosing all → taken ≡ true
+
+-- two walks went on by the same steps: what is left of both is the same just if all was, and no more is left
+pub record GoOnAlike (a b a_left b_left : List Step) : Type 0 where
+  pub there : a_left ≡ b_left → a ≡ b
+  pub back : a ≡ b → a_left ≡ b_left
+  pub shorter : length a_left ≤ length a

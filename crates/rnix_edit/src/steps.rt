@@ -5,12 +5,15 @@ ghost use Rattle.rnix_green.specs.Tree.{item_of, text_at};
 ghost use Rattle.std.specs.Bool.{Decides};
 ghost use Rattle.rnix_tree.specs.Spots.{event_of};
 ghost use Rattle.rnix_edit.specs.Steps.{step_of, token_steps, node_step, step_at, steps_of, enters, leaves, events_before, events_inside, events_after};
-ghost use Rattle.rnix_edit.specs.Steps.{is_left, is_comment, IsTaken, AreCommentsTaken, IsClosingTaken};
+ghost use Rattle.rnix_edit.specs.Steps.{is_left, is_comment, GoOnAlike, IsTaken, AreCommentsTaken, IsClosingTaken};
 
 use crate::place::{Place, is_at};
 use rnix::{
     NodeOrToken, PreorderWithTokens, SyntaxElement, SyntaxKind, SyntaxNode, SyntaxToken, WalkEvent,
 };
+
+// How often siblings may be found to differ before no more are compared by their elements first, so that the time stays linear.
+const MOST_MISSES: u8 = 2;
 
 /// A node is entered or left, and then has no text, or a token is passed.
 #[derive(Clone, Copy)]
@@ -169,14 +172,32 @@ fn are_done(mut events: PreorderWithTokens<'_>) -> bool
     }
 }
 
+// Skips what both walks pass alike up to where each leaves the innermost open node, unless that was missed too often. Returns how often it was missed.
+fn skip_alike<'t>(a: &mut PreorderWithTokens<'t>, b: &mut PreorderWithTokens<'t>, misses: u8) -> u8
+    ensures { GoOnAlike (steps_of a.old) (steps_of b.old) (steps_of a.new) (steps_of b.new) }
+{
+    if misses >= MOST_MISSES {
+        return misses;
+    }
+    if a.skip_alike(b) {
+        return misses;
+    }
+    misses + 1
+}
+
 /// Returns whether the rests of two walks have the same steps.
+// Siblings that are alike are skipped together: to compare their elements takes less than half of what their steps take.
 pub fn are_same_walks<'t>(mut a: PreorderWithTokens<'t>, mut b: PreorderWithTokens<'t>) -> bool
     ensures { Decides result (steps_of a.entry ≡ steps_of b.entry) }
 {
+    let mut misses = skip_alike(&mut a, &mut b, 0);
     while let Some(step) = next_step(&mut a) {
         match next_step(&mut b) {
             Some(other) if is_step(step, other) => {}
             _ => return false,
+        }
+        if !step.enters {
+            misses = skip_alike(&mut a, &mut b, misses);
         }
     }
     are_done(b)
