@@ -39,7 +39,8 @@ fn what_is_inside_a_node_is_left_out(rt: HostRuntime) -> Result<(), Fail> {
 fn skipped(first: &SyntaxNode<'_>, second: &SyntaxNode<'_>) -> (bool, usize, usize) {
     let mut walk = first.preorder_with_tokens();
     let mut other = second.preorder_with_tokens();
-    let _roots = (walk.next(), other.next());
+    walk.next();
+    other.next();
     let is_skipped = walk.skip_alike(&mut other);
     (is_skipped, walk.count(), other.count())
 }
