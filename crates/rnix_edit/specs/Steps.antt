@@ -134,7 +134,7 @@ pub record IsClosingTaken (taken : Bool) (all left : List Step) : Type 0 where
   pub passed : taken ≡ true → IsClosing all × (left ≡ drop 2 all)
   pub found : IsClosing all → taken ≡ true
 
--- two walks went on by the same steps: what is left of both is the same just if all was, and no more is left
+-- what is left of two walks is the same just if all was, and no more is left of the first one
 pub record GoOnAlike (a b a_left b_left : List Step) : Type 0 where
   pub there : a_left ≡ b_left → a ≡ b
   pub back : a ≡ b → a_left ≡ b_left

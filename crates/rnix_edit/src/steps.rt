@@ -1,7 +1,8 @@
 //! A tree as the steps of a walk over it, without white space.
 
-ghost use Rattle.std.specs.Prelude.{◌≡◌, ◌<◌, ◌≤◌, ◌^◌, [], ◌∷◌, drop, length, MatchOption, IfSome, IfNone, IsTrue};
+ghost use Rattle.std.specs.Prelude.{◌≡◌, ◌<◌, ◌≤◌, ◌+◌, ◌^◌, [], ◌∷◌, drop, length, MatchOption, IfSome, IfNone, IsTrue};
 ghost use Rattle.rnix_green.specs.Tree.{item_of, text_at};
+ghost use Rattle.rnix_green.specs.Walk.{from_leaving};
 ghost use Rattle.std.specs.Bool.{Decides};
 ghost use Rattle.rnix_tree.specs.Spots.{event_of};
 ghost use Rattle.rnix_edit.specs.Steps.{step_of, token_steps, node_step, step_at, steps_of, enters, leaves, events_before, events_inside, events_after};
@@ -12,7 +13,7 @@ use rnix::{
     NodeOrToken, PreorderWithTokens, SyntaxElement, SyntaxKind, SyntaxNode, SyntaxToken, WalkEvent,
 };
 
-// How often siblings may be found to differ before no more are compared by their elements first, so that the time stays linear.
+// How often walks may have nothing to skip before no more siblings are compared by their elements first, so that the time stays linear.
 const MOST_MISSES: u8 = 2;
 
 /// A node is entered or left, and then has no text, or a token is passed.
@@ -172,9 +173,11 @@ fn are_done(mut events: PreorderWithTokens<'_>) -> bool
     }
 }
 
-// Skips what both walks pass alike up to where each leaves the innermost open node, unless that was missed too often. Returns how often it was missed.
+// Skips what both walks pass alike up to where each leaves its innermost open node, unless they could not too often. Returns how often they could not.
 fn skip_alike<'t>(a: &mut PreorderWithTokens<'t>, b: &mut PreorderWithTokens<'t>, misses: u8) -> u8
-    ensures { GoOnAlike (steps_of a.old) (steps_of b.old) (steps_of a.new) (steps_of b.new) }
+    ensures alike { GoOnAlike (steps_of a.old) (steps_of b.old) (steps_of a.new) (steps_of b.new) }
+    ensures skipped { misses < MOST_MISSES → result ≡ misses → a.new ≡ from_leaving 0 a.old }
+    ensures counted { result ≤ misses + 1 }
 {
     if misses >= MOST_MISSES {
         return misses;
@@ -186,7 +189,7 @@ fn skip_alike<'t>(a: &mut PreorderWithTokens<'t>, b: &mut PreorderWithTokens<'t>
 }
 
 /// Returns whether the rests of two walks have the same steps.
-// Siblings that are alike are skipped together: to compare their elements takes less than half of what their steps take.
+// Siblings that are alike are skipped together, which saves entering and leaving each of them in both walks.
 pub fn are_same_walks<'t>(mut a: PreorderWithTokens<'t>, mut b: PreorderWithTokens<'t>) -> bool
     ensures { Decides result (steps_of a.entry ≡ steps_of b.entry) }
 {
