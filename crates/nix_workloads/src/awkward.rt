@@ -1,9 +1,13 @@
 //! Texts that nobody writes by hand.
 
 use crate::check::{add_formatted, check_text};
+use crate::convert::add_no_data;
 use crate::digest::Digest;
 use crate::draft::Draft;
 use crate::numbers::{Numbers, mixed};
+use crate::results::{add_edit, add_element, add_parse};
+use crate::template::Template;
+use crate::words::Words;
 use nix_data::data_of;
 use nix_values::json_of;
 use rnix::{Root, TextRange};
@@ -12,11 +16,17 @@ use std::alloc::{AllocError, Global};
 use std::io;
 
 // A text that begins with one template, has another one again and again, and ends with a third one.
-fn repeated(alloc: Global, seed: u64, row: [&str; 3], times: usize) -> Result<String, AllocError> {
-    let mut draft = Draft::new(alloc, seed);
-    draft.fill_by(alloc, row[0], seed)?;
-    draft.repeat(alloc, row[1], times)?;
-    draft.fill_by(alloc, row[2], seed)?;
+fn repeated(
+    alloc: Global,
+    words: &Words,
+    seed: u64,
+    row: [&'static str; 3],
+    times: usize,
+) -> Result<String, AllocError> {
+    let mut draft = Draft::new(alloc, words, seed);
+    draft.fill_by(&Template::new(alloc, row[0])?, seed)?;
+    draft.repeat(&Template::new(alloc, row[1])?, times)?;
+    draft.fill_by(&Template::new(alloc, row[2])?, seed)?;
     Ok(draft.into_text())
 }
 
@@ -38,32 +48,40 @@ const ROWS: [([&str; 3], usize); 9] = [
     (["''\n", "  %a ${%b}\n    %c ''$ %d\n", "''\n"], 150),
 ];
 
-// A name of the outermost of so many functions, used in the innermost one as often.
-fn scopes(alloc: Global, seed: u64, depth: usize) -> Result<String, AllocError> {
-    let mut draft = Draft::new(alloc, seed);
+// How many functions stand in one another at most: less than the 512 levels that the parser reads.
+const MOST_FUNCTIONS: usize = 480;
+
+// Names of the outermost of functions in functions and of none of them, all used in the innermost one.
+fn scopes(alloc: Global, words: &Words, seed: u64, uses: usize) -> Result<String, AllocError> {
+    let mut draft = Draft::new(alloc, words, seed);
+    let (function, names) = ("%a%%: ", "  outer\n  %a\n");
     draft.push("outer: ")?;
-    draft.repeat(alloc, "%a%%: ", depth)?;
+    let inner = uses.min(MOST_FUNCTIONS - 1);
+    draft.repeat(&Template::new(alloc, function)?, inner)?;
     draft.push("[\n")?;
-    draft.repeat(alloc, "  outer\n  %a\n", depth.saturating_mul(10))?;
+    draft.repeat(&Template::new(alloc, names)?, uses)?;
     draft.push("]\n")?;
     Ok(draft.into_text())
 }
 
 // A set of names that differ in their last letters alone, as Nix.
-fn alike(alloc: Global, seed: u64, names: usize) -> Result<String, AllocError> {
-    let mut draft = Draft::new(alloc, seed);
+fn alike(alloc: Global, words: &Words, seed: u64, names: usize) -> Result<String, AllocError> {
+    let mut draft = Draft::new(alloc, words, seed);
     draft.push("{\n")?;
     let row = "  an-attribute-whose-name-is-long-and-ends-in-%% = %0;\n";
-    draft.repeat(alloc, row, names)?;
+    draft.repeat(&Template::new(alloc, row)?, names)?;
     draft.push("}\n")?;
     Ok(draft.into_text())
 }
 
 // Adds the data of a text, as JSON.
 fn add_data(alloc: Global, text: &str, digest: &mut Digest) -> Result<(), AllocError> {
-    if let Ok(data) = data_of(alloc, text)? {
-        let json = json_of(alloc, &data)?.unwrap_or(String::new(alloc));
-        digest.add_text(json.as_str());
+    match data_of(alloc, text)? {
+        Ok(data) => match json_of(alloc, &data)? {
+            Some(json) => digest.add_text(json.as_str()),
+            None => digest.add_number(0),
+        },
+        Err(found) => add_no_data(&found, digest),
     }
     Ok(())
 }
@@ -76,8 +94,7 @@ fn edit_backwards(alloc: Global, text: &str, digest: &mut Digest) -> Result<(), 
         let Some(start) = text.get(..end).unwrap_or("").rfind('\n') else {
             break;
         };
-        let added = edits.replace(start..end, "\n");
-        digest.add_number(usize::from(added.is_ok()));
+        add_edit(edits.replace(start..end, "\n"), digest);
         end = start;
     }
     digest.add_text(edits.apply(alloc)?.as_str());
@@ -87,49 +104,53 @@ fn edit_backwards(alloc: Global, text: &str, digest: &mut Digest) -> Result<(), 
 // Adds what covers ranges of a text.
 fn add_covers(alloc: Global, text: &str, seed: u64, digest: &mut Digest) -> Result<(), AllocError> {
     let read = Root::parse(alloc, text)?;
+    add_parse(&read, digest);
     let root = read.syntax();
     let mut numbers = Numbers::new(seed);
     for _place in 0..100 {
         let start = numbers.below(text.len());
         let range = TextRange::new(start, start.saturating_add(2));
         if let Some(element) = root.covering_element(range) {
-            digest.add_number(element.text_range().start());
+            add_element(&element, digest);
         }
     }
     Ok(())
 }
 
-/// Reads texts of each shape, with repetitions by the size.
-pub fn awkward(alloc: Global, seed: u64, size: usize, digest: &mut Digest) -> io::Result<()> {
-    let seed = mixed(seed);
+// Reads texts that end as they begin, with rows of templates between.
+fn check_rows(
+    alloc: Global,
+    words: &Words,
+    seed: u64,
+    size: usize,
+    digest: &mut Digest,
+) -> Result<(), AllocError> {
     for (row, times) in ROWS {
-        let text = repeated(alloc, seed, row, times.saturating_mul(size))?;
+        let text = repeated(alloc, words, seed, row, times.saturating_mul(size))?;
         check_text(alloc, text.as_str(), digest)?;
     }
-    let long = repeated(
-        alloc,
-        mixed(seed),
-        ["[ ", "(%a 1) ", "]"],
-        size.saturating_mul(1000),
-    )?;
+    Ok(())
+}
+
+/// Reads texts of each shape, with repetitions by the size.
+pub fn awkward(
+    alloc: Global,
+    words: &Words,
+    seed: u64,
+    size: usize,
+    digest: &mut Digest,
+) -> io::Result<()> {
+    let seed = mixed(seed);
+    check_rows(alloc, words, seed, size, digest)?;
+    let (line, lines) = (["[ ", "(%a 1) ", "]"], ["[\n", "  %a\n", "]\n"]);
+    let long = repeated(alloc, words, mixed(seed), line, size.saturating_mul(1000))?;
     add_formatted(alloc, long.as_str(), digest)?;
-    let listed = repeated(
-        alloc,
-        seed ^ 1,
-        ["[\n", "  %a\n", "]\n"],
-        size.saturating_mul(300),
-    )?;
+    let listed = repeated(alloc, words, seed ^ 1, lines, size.saturating_mul(300))?;
     add_covers(alloc, listed.as_str(), seed, digest)?;
     edit_backwards(alloc, listed.as_str(), digest)?;
-    check_text(
-        alloc,
-        scopes(alloc, seed, size.saturating_mul(8))?.as_str(),
-        digest,
-    )?;
-    add_data(
-        alloc,
-        alike(alloc, seed, size.saturating_mul(200))?.as_str(),
-        digest,
-    )?;
+    let nested = scopes(alloc, words, seed, size.saturating_mul(80))?;
+    check_text(alloc, nested.as_str(), digest)?;
+    let named = alike(alloc, words, seed, size.saturating_mul(200))?;
+    add_data(alloc, named.as_str(), digest)?;
     Ok(())
 }

@@ -2,19 +2,15 @@
 
 use crate::digest::Digest;
 use crate::numbers::mixed;
-use crate::packages::{file, generated, listing};
+use crate::packages::{Files, generated, listing};
+use crate::results::{add_node, add_parse, add_range};
+use crate::words::Words;
 use nix_diagnostics::{Note, diagnostics};
 use nix_formatting::{Formatting, formatted};
-use nix_scopes::{Binding, resolve};
-use rnix::{Parse, Root, TextRange};
+use nix_scopes::{Binding, Reference, resolve};
+use rnix::{Parse, Root};
 use std::alloc::{AllocError, Global};
 use std::io;
-
-// Adds a range.
-fn add_range(range: TextRange, digest: &mut Digest) {
-    digest.add_number(range.start());
-    digest.add_number(range.end());
-}
 
 // Adds the notes on a mistake.
 fn add_notes(notes: &[Note], digest: &mut Digest) {
@@ -37,6 +33,7 @@ pub fn add_mistakes(alloc: Global, read: &Parse, digest: &mut Digest) -> Result<
         digest.add_number(diagnostic.end_error);
         add_notes(&diagnostic.notes, digest);
     }
+    digest.add_number(found.len());
     Ok(())
 }
 
@@ -44,23 +41,30 @@ pub fn add_mistakes(alloc: Global, read: &Parse, digest: &mut Digest) -> Result<
 fn add_bindings(bindings: &[Binding<'_>], digest: &mut Digest) {
     for binding in bindings {
         digest.add_text(binding.text);
-        digest.add_number(binding.node.text_range().start());
-        add_range(binding.scope.text_range(), digest);
+        add_node(&binding.node, digest);
+        add_node(&binding.scope, digest);
         digest.add_number(binding.first);
     }
+    digest.add_number(bindings.len());
+}
+
+// Adds the names that a text uses.
+fn add_references(references: &[Reference<'_>], digest: &mut Digest) {
+    for reference in references {
+        digest.add_text(reference.text);
+        add_node(&reference.node, digest);
+        digest.add_number(reference.binding.unwrap_or(usize::MAX));
+        digest.add_number(usize::from(reference.is_inherited));
+        digest.add_number(usize::from(reference.is_open));
+    }
+    digest.add_number(references.len());
 }
 
 /// Adds what the names of a text refer to.
 pub fn add_names(alloc: Global, read: &Parse, digest: &mut Digest) -> Result<(), AllocError> {
     let names = resolve(alloc, &read.syntax())?;
     add_bindings(names.bindings(), digest);
-    for reference in names.references() {
-        digest.add_text(reference.text);
-        digest.add_number(reference.node.text_range().start());
-        digest.add_number(reference.binding.unwrap_or(usize::MAX));
-        digest.add_number(usize::from(reference.is_inherited));
-        digest.add_number(usize::from(reference.is_open));
-    }
+    add_references(names.references(), digest);
     Ok(())
 }
 
@@ -81,20 +85,28 @@ pub fn add_formatted(alloc: Global, text: &str, digest: &mut Digest) -> Result<(
 pub fn check_text(alloc: Global, text: &str, digest: &mut Digest) -> Result<(), AllocError> {
     add_formatted(alloc, text, digest)?;
     let read = Root::parse(alloc, text)?;
+    add_parse(&read, digest);
     add_mistakes(alloc, &read, digest)?;
     add_names(alloc, &read, digest)
 }
 
 /// Checks so many files, a list of all packages, and a generated set.
-pub fn check(alloc: Global, seed: u64, size: usize, digest: &mut Digest) -> io::Result<()> {
+pub fn check(
+    alloc: Global,
+    words: &Words,
+    seed: u64,
+    size: usize,
+    digest: &mut Digest,
+) -> io::Result<()> {
     let seed = mixed(seed);
+    let files = Files::new(alloc)?;
     for number in 0..size {
-        let text = file(alloc, seed.wrapping_add(number as u64))?;
+        let text = files.file(alloc, words, seed.wrapping_add(number as u64))?;
         check_text(alloc, text.as_str(), digest)?;
     }
-    let listed = listing(alloc, mixed(seed ^ 1), size.saturating_mul(4))?;
+    let listed = listing(alloc, words, mixed(seed ^ 1), size.saturating_mul(4))?;
     check_text(alloc, listed.as_str(), digest)?;
-    let made = generated(alloc, mixed(seed ^ 2), size)?;
+    let made = generated(alloc, words, mixed(seed ^ 2), size)?;
     check_text(alloc, made.as_str(), digest)?;
     Ok(())
 }

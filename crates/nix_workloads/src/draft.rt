@@ -1,99 +1,84 @@
 //! Texts that are written by templates.
 
 use crate::numbers::{Numbers, mixed};
+use crate::template::{Sign, Template};
+use crate::words::Words;
 use std::alloc::{AllocError, Global};
 
-// Parts of words. No row of them is a keyword of Nix.
-const SYLLABLES: [&str; 32] = [
-    "ba", "ce", "di", "fo", "gu", "ha", "ki", "lo", "mu", "na", "pe", "ri", "so", "tu", "va", "wo",
-    "xi", "ya", "ze", "bo", "da", "fe", "go", "hu", "ja", "ko", "la", "mi", "no", "po", "ru", "sa",
-];
-
-/// A text that grows by templates. In a template, `%` and a small letter stand for a word, the same word for the same letter; `%` and a digit for a
-/// number, and `%%` for the number of templates before it in the text.
+/// A text that grows by templates.
 #[derive(Drop)]
-pub struct Draft {
+pub struct Draft<'w> {
+    words: &'w Words,
     numbers: Numbers,
     text: String,
-    count: usize,
+    count: u64,
 }
 
-// Adds a word that a number stands for.
-fn push_word(text: &mut String, number: u64) -> Result<(), AllocError> {
-    let mut left = mixed(number);
-    for _syllable in 0..2 + left % 3 {
-        left = left.rotate_right(5);
-        text.push_str(SYLLABLES[(left % 32) as usize])?;
-    }
-    Ok(())
-}
-
-impl Draft {
+impl<'w> Draft<'w> {
     /// An empty text, whose words and numbers are those of a seed.
-    pub fn new(alloc: Global, seed: u64) -> Draft {
+    pub fn new(alloc: Global, words: &'w Words, seed: u64) -> Draft<'w> {
         Draft {
+            words,
             numbers: Numbers::new(seed),
             text: String::new(alloc),
             count: 0,
         }
     }
 
+    // Adds the number of templates so far.
+    fn push_count(&mut self) -> Result<(), AllocError> {
+        if self.count >= 1000 {
+            self.text.push_str(self.words.number(self.count / 1000))?;
+            self.text.push_str(self.words.last_digits(self.count))
+        } else {
+            self.text.push_str(self.words.number(self.count))
+        }
+    }
+
     // Adds what a sign stands for, by the number of this use of the template.
-    fn push_sign(&mut self, alloc: Global, sign: u8, base: u64) -> Result<(), AllocError> {
+    fn push_sign(&mut self, sign: Sign, base: u64) -> Result<(), AllocError> {
         match sign {
-            b'0'..=b'9' => {
-                let number = mixed(base ^ u64::from(sign)) % 1000;
-                self.text.push_str(format!(in alloc; "{number}")?.as_str())
+            Sign::Word(letter) => {
+                let number = mixed(base.wrapping_add(u64::from(letter) << 40));
+                self.text.push_str(self.words.word(number))
             }
-            b'%' => {
-                let number = self.count;
-                self.text.push_str(format!(in alloc; "{number}")?.as_str())
+            Sign::Number(digit) => {
+                let number = mixed(base ^ u64::from(digit));
+                self.text.push_str(self.words.number(number))
             }
-            _ => push_word(&mut self.text, base.wrapping_add(u64::from(sign) << 40)),
+            Sign::Count => self.push_count(),
         }
     }
 
     /// Adds a template whose words and numbers are those of a number.
-    pub fn fill_by(&mut self, alloc: Global, template: &str, base: u64) -> Result<(), AllocError> {
-        let (mut from, mut at) = (0, 0);
-        for byte in template.bytes() {
-            if byte == b'%' && from <= at {
-                self.text.push_str(template.get(from..at).unwrap_or(""))?;
-                let sign = template.as_bytes().get(at.saturating_add(1)).copied();
-                self.push_sign(alloc, sign.unwrap_or(b'a'), base)?;
-                from = at.saturating_add(2);
-            }
-            at = at.saturating_add(1);
+    pub fn fill_by(&mut self, template: &Template, base: u64) -> Result<(), AllocError> {
+        for part in template.parts() {
+            self.text.push_str(part.text)?;
+            self.push_sign(part.sign, base)?;
         }
-        self.text.push_str(template.get(from..).unwrap_or(""))?;
         self.count = self.count.saturating_add(1);
-        Ok(())
+        self.text.push_str(template.end())
     }
 
     /// Adds a template with new words and numbers.
-    pub fn fill(&mut self, alloc: Global, template: &str) -> Result<(), AllocError> {
+    pub fn fill(&mut self, template: &Template) -> Result<(), AllocError> {
         let base = self.numbers.next();
-        self.fill_by(alloc, template, base)
+        self.fill_by(template, base)
     }
 
     /// Adds one of some templates, by chance.
-    pub fn fill_one(&mut self, alloc: Global, templates: &[&str]) -> Result<(), AllocError> {
+    pub fn fill_one(&mut self, templates: &[Template]) -> Result<(), AllocError> {
         let at = self.numbers.below(templates.len());
         match templates.get(at) {
-            Some(template) => self.fill(alloc, template),
+            Some(template) => self.fill(template),
             None => Ok(()),
         }
     }
 
     /// Adds a template again and again.
-    pub fn repeat(
-        &mut self,
-        alloc: Global,
-        template: &str,
-        times: usize,
-    ) -> Result<(), AllocError> {
+    pub fn repeat(&mut self, template: &Template, times: usize) -> Result<(), AllocError> {
         for _turn in 0..times {
-            self.fill(alloc, template)?;
+            self.fill(template)?;
         }
         Ok(())
     }
@@ -106,11 +91,6 @@ impl Draft {
     /// The numbers that are left.
     pub fn numbers(&mut self) -> &mut Numbers {
         &mut self.numbers
-    }
-
-    /// The text so far.
-    pub fn text(&self) -> &str {
-        self.text.as_str()
     }
 
     /// The text.

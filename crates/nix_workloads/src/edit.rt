@@ -3,10 +3,12 @@
 use crate::digest::Digest;
 use crate::numbers::{Numbers, mixed};
 use crate::pins::pins;
+use crate::results::{add_edit, add_node, add_parse, add_range};
 use crate::source::uses;
+use crate::words::Words;
 use nix_scopes::resolve;
 use rnix::ast::{AstNode, AttrpathValue};
-use rnix::{Root, SyntaxKind, SyntaxNode};
+use rnix::{Root, SyntaxKind, SyntaxNode, TextRange};
 use rnix_edit::{Edited, insert_after, insert_inside, remove, replace};
 use rnix_text::Edits;
 use std::alloc::{AllocError, Global};
@@ -15,19 +17,30 @@ use std::io;
 // Renames a binding and its uses, with the edits in the order of the text.
 fn rename(alloc: Global, text: &str, number: usize, digest: &mut Digest) -> Result<(), AllocError> {
     let read = Root::parse(alloc, text)?;
+    add_parse(&read, digest);
     let names = resolve(alloc, &read.syntax())?;
     let mut edits = Edits::new(alloc, text);
     if number < names.bindings().len() {
         for place in names.occurrences(alloc, number)? {
-            let added = edits.replace(place.start()..place.end(), "renamed");
-            digest.add_number(usize::from(added.is_ok()));
+            add_range(place, digest);
+            add_edit(edits.replace(place.start()..place.end(), "renamed"), digest);
         }
     }
     let made = edits.apply(alloc)?;
     digest.add_text(made.as_str());
-    let again = Root::parse(alloc, made.as_str())?;
-    digest.add_number(again.errors().len());
+    add_parse(&Root::parse(alloc, made.as_str())?, digest);
     Ok(())
+}
+
+// Returns where the identifiers of a tree stand.
+fn identifiers(alloc: Global, root: &SyntaxNode<'_>) -> Result<Vec<TextRange>, AllocError> {
+    let mut places = Vec::new(alloc);
+    for node in root.descendants() {
+        if node.kind() == SyntaxKind::NODE_IDENT {
+            places.push(node.text_range())?;
+        }
+    }
+    Ok(places)
 }
 
 // Replaces each identifier of a text, with the edits in an order without a pattern.
@@ -38,20 +51,16 @@ fn replace_shuffled(
     digest: &mut Digest,
 ) -> Result<(), AllocError> {
     let read = Root::parse(alloc, text)?;
-    let mut places = Vec::new(alloc);
-    for node in read.syntax().descendants() {
-        if node.kind() == SyntaxKind::NODE_IDENT {
-            places.push(node.text_range())?;
-        }
-    }
+    add_parse(&read, digest);
+    let mut places = identifiers(alloc, &read.syntax())?;
     let mut numbers = Numbers::new(seed);
     let mut edits = Edits::new(alloc, text);
     for _turn in 0..places.len() {
         let at = numbers.below(places.len());
         if at < places.len() {
             let place = places.swap_remove(at);
-            let added = edits.replace(place.start()..place.end(), "other");
-            digest.add_number(usize::from(added.is_ok()));
+            add_range(place, digest);
+            add_edit(edits.replace(place.start()..place.end(), "other"), digest);
         }
     }
     digest.add_text(edits.apply(alloc)?.as_str());
@@ -96,8 +105,10 @@ fn edited_at(
     text: &str,
     number: usize,
     way: usize,
+    digest: &mut Digest,
 ) -> Result<Option<Edited>, AllocError> {
     let read = Root::parse(alloc, text)?;
+    add_parse(&read, digest);
     let root = read.syntax();
     let Some(entry) = entry_at(&root, number) else {
         return Ok(None);
@@ -106,6 +117,8 @@ fn edited_at(
         return Ok(None);
     };
     let (own, value) = (entry.syntax(), value.syntax());
+    add_node(own, digest);
+    add_node(value, digest);
     let kind = SyntaxKind::NODE_ATTRPATH_VALUE;
     let edited = match way {
         0 => insert_after(alloc, text, &root, own, kind, "added = [ 1 2 ];")?,
@@ -125,7 +138,7 @@ fn edited_at(
     Ok(Some(edited))
 }
 
-// Edits a text several times, each time the text that the last edit made.
+// Edits a text several times, each time the text that the last edit made, until an edit is refused.
 fn edit_again(
     alloc: Global,
     text: String,
@@ -136,24 +149,34 @@ fn edit_again(
     let mut text = text;
     for _turn in 0..8 {
         let (number, way) = (numbers.below(400), numbers.below(6));
-        if let Some(edited) = edited_at(alloc, text.as_str(), number, way)? {
-            if let Some(made) = add_edited(edited, digest) {
-                text = made;
-            }
-        }
+        let Some(edited) = edited_at(alloc, text.as_str(), number, way, digest)? else {
+            return Ok(());
+        };
+        let Some(made) = add_edited(edited, digest) else {
+            return Ok(());
+        };
+        text = made;
     }
     Ok(())
 }
 
 /// Edits so many texts in each way.
-pub fn edit(alloc: Global, seed: u64, size: usize, digest: &mut Digest) -> io::Result<()> {
+pub fn edit(
+    alloc: Global,
+    words: &Words,
+    seed: u64,
+    size: usize,
+    digest: &mut Digest,
+) -> io::Result<()> {
     let seed = mixed(seed);
     for number in 0..size {
         let own = mixed(seed.wrapping_add(number as u64));
         let many = 100 + (number % 5) * 300;
-        rename(alloc, uses(alloc, own, many)?.as_str(), 0, digest)?;
-        replace_shuffled(alloc, uses(alloc, mixed(own), many)?.as_str(), own, digest)?;
-        edit_again(alloc, pins(alloc, own, many)?, own, digest)?;
+        let named = uses(alloc, words, own, many)?;
+        rename(alloc, named.as_str(), 0, digest)?;
+        let others = uses(alloc, words, mixed(own), many)?;
+        replace_shuffled(alloc, others.as_str(), own, digest)?;
+        edit_again(alloc, pins(alloc, words, own, many)?, own, digest)?;
     }
     Ok(())
 }

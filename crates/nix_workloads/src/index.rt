@@ -3,7 +3,9 @@
 use crate::digest::Digest;
 use crate::numbers::mixed;
 use crate::packages::generated;
+use crate::results::{add_kind, add_node, add_parse, add_range};
 use crate::source::{lets, module};
+use crate::words::Words;
 use nix_cli::write_json_string;
 use nix_scopes::{Binding, Reference, resolve};
 use rnix::ast::{AstNode, AttrpathValue, InterpolPart, Select, Str};
@@ -11,65 +13,69 @@ use rnix::{Root, SyntaxNode};
 use rnix_print::run;
 use rnix_text::{ColumnUnit, LineIndex};
 use std::alloc::{AllocError, Global};
+use std::collections::HashMap;
 use std::io::{self, Write};
 
-// Writes where a node begins and ends.
-fn write_range<W: Write>(node: &SyntaxNode<'_>, out: &mut W) -> io::Result<()> {
-    let range = node.text_range();
-    let (start, end) = (range.start(), range.end());
-    write!(out, "\"start\":{start},\"end\":{end}")
+// Writes a name; where a line before has the same one, the number of that name in its place.
+fn write_name<'t, W: Write>(
+    numbers: &mut HashMap<&'t str, usize>,
+    name: &'t str,
+    out: &mut W,
+) -> io::Result<()> {
+    if let Some(number) = numbers.get(&name) {
+        return write!(out, "{{\"same\":{number}");
+    }
+    let number = numbers.len();
+    numbers.insert(name, number)?;
+    out.write_all(b"{\"name\":")?;
+    write_json_string(name, out)
 }
 
-// Writes the line of a name.
-fn write_name<W: Write>(
+// Writes where the node of a name begins, and ends the line.
+fn write_place<W: Write>(
     index: &LineIndex<'_>,
     node: &SyntaxNode<'_>,
-    name: &str,
-    other: Option<&SyntaxNode<'_>>,
     out: &mut W,
 ) -> io::Result<()> {
-    let place = index
-        .position(node.text_range().start())
-        .unwrap_or_default();
+    let start = node.text_range().start();
+    let place = index.position(start).unwrap_or_default();
     let (line, column) = (place.line, place.column);
-    out.write_all(b"{\"name\":")?;
-    write_json_string(name, out)?;
-    write!(out, ",\"line\":{line},\"column\":{column},")?;
-    write_range(node, out)?;
-    if let Some(node) = other {
-        out.write_all(b",\"other\":{")?;
-        write_range(node, out)?;
-        out.write_all(b"}")?;
-    }
-    out.write_all(b"}\n")
+    writeln!(out, ",\"line\":{line},\"column\":{column}}}")
 }
 
-// Writes the lines of the names that a text binds.
-fn write_bindings<W: Write>(
+// Writes the lines of the names that a text binds, each with its place, and adds their scopes.
+fn write_bindings<'t, W: Write>(
     index: &LineIndex<'_>,
-    bindings: &[Binding<'_>],
+    bindings: &[Binding<'t>],
+    numbers: &mut HashMap<&'t str, usize>,
     out: &mut W,
+    digest: &mut Digest,
 ) -> io::Result<()> {
     for binding in bindings {
-        let scope = Some(&binding.scope);
-        write_name(index, &binding.node, binding.text, scope, out)?;
+        write_name(numbers, binding.text, out)?;
+        write_place(index, &binding.node, out)?;
+        add_node(&binding.scope, digest);
+        digest.add_number(binding.first);
     }
     Ok(())
 }
 
-// Writes the lines of the names that a text uses.
-fn write_references<W: Write>(
+// Writes the lines of the names that a text uses: the number of its binding, or else the name, and its place. Adds how they refer to it.
+fn write_references<'t, W: Write>(
     index: &LineIndex<'_>,
-    bindings: &[Binding<'_>],
-    references: &[Reference<'_>],
+    references: &[Reference<'t>],
+    numbers: &mut HashMap<&'t str, usize>,
     out: &mut W,
+    digest: &mut Digest,
 ) -> io::Result<()> {
     for reference in references {
-        let bound = match reference.binding {
-            Some(number) => bindings.get(number).map(|binding| &binding.node),
-            None => None,
-        };
-        write_name(index, &reference.node, reference.text, bound, out)?;
+        match reference.binding {
+            Some(number) => write!(out, "{{\"binding\":{number}")?,
+            None => write_name(numbers, reference.text, out)?,
+        }
+        write_place(index, &reference.node, out)?;
+        digest.add_number(usize::from(reference.is_inherited));
+        digest.add_number(usize::from(reference.is_open));
     }
     Ok(())
 }
@@ -80,15 +86,33 @@ fn add_string(alloc: Global, string: &Str<'_>, digest: &mut Digest) -> Result<()
     for part in &parts {
         match part {
             InterpolPart::Literal(text) => digest.add_text(text.as_str()),
-            InterpolPart::Interpolation(inner) => {
-                digest.add_number(inner.syntax().text_range().start());
-            }
+            InterpolPart::Interpolation(inner) => add_node(inner.syntax(), digest),
         }
     }
     Ok(())
 }
 
-// Adds what the typed nodes of a tree say.
+// Adds the names of an attribute's path, and its value.
+fn add_entry(entry: &AttrpathValue<'_>, digest: &mut Digest) {
+    if let Some(value) = entry.value() {
+        add_node(value.syntax(), digest);
+    }
+    if let Some(path) = entry.attrpath() {
+        for name in path.attrs() {
+            add_node(name.syntax(), digest);
+        }
+    }
+}
+
+// Adds the line and the column of an offset.
+fn add_position(index: &LineIndex<'_>, offset: usize, digest: &mut Digest) {
+    let place = index.position(offset).unwrap_or_default();
+    digest.add_number(place.line);
+    digest.add_number(place.column);
+}
+
+// Adds the nodes of a tree, and what those say that have a type. No two strings begin, and no two attributes or selections end in one place, nor does a
+// name begin there.
 fn add_nodes(
     alloc: Global,
     root: &SyntaxNode<'_>,
@@ -96,17 +120,20 @@ fn add_nodes(
     digest: &mut Digest,
 ) -> Result<(), AllocError> {
     for node in root.descendants() {
-        let place = index.position(node.text_range().end()).unwrap_or_default();
-        digest.add_number(place.line);
-        digest.add_number(place.column);
+        let range = node.text_range();
+        add_kind(node.kind(), digest);
+        add_range(range, digest);
         if let Some(string) = Str::cast(node.clone()) {
+            add_position(index, range.start(), digest);
             add_string(alloc, &string, digest)?;
         } else if let Some(entry) = AttrpathValue::cast(node.clone()) {
-            let names = entry.attrpath().map_or(0, |path| path.attrs().count());
-            digest.add_number(names);
-            digest.add_number(usize::from(entry.value().is_some()));
+            add_position(index, range.end(), digest);
+            add_entry(&entry, digest);
         } else if let Some(select) = Select::cast(node) {
-            digest.add_number(usize::from(select.default_expr().is_some()));
+            add_position(index, range.end(), digest);
+            if let Some(default) = select.default_expr() {
+                add_node(default.syntax(), digest);
+            }
         }
     }
     Ok(())
@@ -115,12 +142,14 @@ fn add_nodes(
 // Indexes a text.
 fn index_text(alloc: Global, text: &str, digest: &mut Digest) -> io::Result<()> {
     let read = Root::parse(alloc, text)?;
+    add_parse(&read, digest);
     let root = read.syntax();
     let index = LineIndex::new(alloc, text, ColumnUnit::Chars)?;
     let names = resolve(alloc, &root)?;
     let mut out: Vec<u8> = Vec::new(alloc);
-    write_bindings(&index, names.bindings(), &mut out)?;
-    write_references(&index, names.bindings(), names.references(), &mut out)?;
+    let mut numbers = HashMap::new(alloc);
+    write_bindings(&index, names.bindings(), &mut numbers, &mut out, digest)?;
+    write_references(&index, names.references(), &mut numbers, &mut out, digest)?;
     digest.add_bytes(&out);
     add_nodes(alloc, &root, &index, digest)?;
     Ok(())
@@ -130,15 +159,22 @@ fn index_text(alloc: Global, text: &str, digest: &mut Digest) -> io::Result<()> 
 fn print_text(alloc: Global, text: &str, digest: &mut Digest) -> io::Result<()> {
     let mut out: Vec<u8> = Vec::new(alloc);
     let mut input = text.as_bytes();
-    if let Ok(is_good) = run(alloc, &mut input, &mut out) {
-        digest.add_number(usize::from(is_good));
+    match run(alloc, &mut input, &mut out) {
+        Ok(is_good) => digest.add_number(usize::from(is_good)),
+        Err(_) => digest.add_number(2),
     }
     digest.add_bytes(&out);
     Ok(())
 }
 
 /// Indexes sources with about so many entries together, and prints the trees of some.
-pub fn index(alloc: Global, seed: u64, size: usize, digest: &mut Digest) -> io::Result<()> {
+pub fn index(
+    alloc: Global,
+    words: &Words,
+    seed: u64,
+    size: usize,
+    digest: &mut Digest,
+) -> io::Result<()> {
     let seed = mixed(seed);
     let mut left = size;
     for number in 0..size {
@@ -148,9 +184,12 @@ pub fn index(alloc: Global, seed: u64, size: usize, digest: &mut Digest) -> io::
         let options = (20 + (number % 7) * 25).min(left);
         left = left.saturating_sub(options);
         let own = mixed(seed.wrapping_add(number as u64));
-        index_text(alloc, module(alloc, own, options)?.as_str(), digest)?;
-        index_text(alloc, lets(alloc, own, options / 10)?.as_str(), digest)?;
-        print_text(alloc, generated(alloc, own, options)?.as_str(), digest)?;
+        let options_text = module(alloc, words, own, options)?;
+        index_text(alloc, options_text.as_str(), digest)?;
+        let nested = lets(alloc, words, own, options / 10)?;
+        index_text(alloc, nested.as_str(), digest)?;
+        let made = generated(alloc, words, own, options)?;
+        print_text(alloc, made.as_str(), digest)?;
     }
     Ok(())
 }

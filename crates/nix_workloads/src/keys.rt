@@ -4,8 +4,10 @@ use crate::check::{add_mistakes, add_names};
 use crate::digest::Digest;
 use crate::numbers::{Numbers, mixed};
 use crate::packages::{generated, listing};
+use crate::results::{add_element, add_kind, add_parse, add_range};
 use crate::source::{lets, module};
-use rnix::{Root, SyntaxNode, TextRange};
+use crate::words::Words;
+use rnix::{Root, SyntaxNode, SyntaxToken, TextRange, TokenAtOffset};
 use rnix_text::{ColumnUnit, LineIndex};
 use std::alloc::{AllocError, Global};
 use std::io;
@@ -24,21 +26,42 @@ fn key(number: usize) -> &'static str {
     }
 }
 
-// How many places a text is asked about after each key press.
-const PLACES: u64 = 40;
+// How many places a text is asked about after each key press: one in each part of it, so that none is asked about twice.
+const PLACES: usize = 40;
 
-// Adds what stands at an offset: its tokens, the nodes around them, and what covers a few bytes behind it.
+// Adds the kinds of the nodes around a token.
+fn add_ancestors(token: &SyntaxToken<'_>, digest: &mut Digest) {
+    if let Some(parent) = token.parent() {
+        for node in parent.ancestors() {
+            add_kind(node.kind(), digest);
+        }
+    }
+}
+
+// Adds a token.
+fn add_token(token: &SyntaxToken<'_>, digest: &mut Digest) {
+    add_kind(token.kind(), digest);
+    add_range(token.text_range(), digest);
+    digest.add_text(token.text());
+}
+
+// Adds what stands at an offset: its tokens, the nodes around the last of them, and what covers a few bytes behind it.
 fn add_place(root: &SyntaxNode<'_>, offset: usize, len: usize, digest: &mut Digest) {
-    if let Some(token) = root.token_at_offset(offset).right_biased() {
-        digest.add_text(token.text());
-        if let Some(parent) = token.parent() {
-            digest.add_number(parent.ancestors().count());
+    match root.token_at_offset(offset) {
+        TokenAtOffset::None => digest.add_number(0),
+        TokenAtOffset::Single(token) => {
+            add_token(&token, digest);
+            add_ancestors(&token, digest);
+        }
+        TokenAtOffset::Between(left, right) => {
+            add_token(&left, digest);
+            add_token(&right, digest);
+            add_ancestors(&right, digest);
         }
     }
     let range = TextRange::new(offset, offset.saturating_add(len));
     if let Some(element) = root.covering_element(range) {
-        digest.add_number(element.text_range().start());
-        digest.add_number(element.text_range().end());
+        add_element(&element, digest);
     }
 }
 
@@ -50,19 +73,26 @@ fn read_again(
     digest: &mut Digest,
 ) -> Result<(), AllocError> {
     let read = Root::parse(alloc, text)?;
+    add_parse(&read, digest);
     add_mistakes(alloc, &read, digest)?;
     add_names(alloc, &read, digest)?;
     let index = LineIndex::new(alloc, text, ColumnUnit::Utf16)?;
     let root = read.syntax();
-    for _place in 0..PLACES {
-        let offset = numbers.below(text.len());
+    let part = text.len() / PLACES;
+    for place in 0..PLACES {
+        let offset = part
+            .saturating_mul(place)
+            .saturating_add(numbers.below(part));
         add_place(&root, offset, numbers.below(30), digest);
-        let place = index.position(offset).unwrap_or_default();
-        digest.add_number(place.line);
-        digest.add_number(place.column);
+        let position = index.position(offset).unwrap_or_default();
+        digest.add_number(position.line);
+        digest.add_number(position.column);
     }
     Ok(())
 }
+
+// How many keys are pressed in a text, each in the text as it was made.
+const KEYS: usize = 2;
 
 // Presses a key somewhere in a text.
 fn press_once(
@@ -78,19 +108,34 @@ fn press_once(
     read_again(alloc, made.as_str(), numbers, digest)
 }
 
-/// Presses so many keys, in texts of 20 to 300 KB.
-pub fn press(alloc: Global, seed: u64, size: usize, digest: &mut Digest) -> io::Result<()> {
+// Presses keys somewhere in a text.
+fn press_keys(alloc: Global, text: &str, seed: u64, digest: &mut Digest) -> Result<(), AllocError> {
+    let mut numbers = Numbers::new(seed);
+    for _key in 0..KEYS {
+        press_once(alloc, text, &mut numbers, digest)?;
+    }
+    Ok(())
+}
+
+/// Presses keys in so many texts of 5 to 150 KB.
+pub fn press(
+    alloc: Global,
+    words: &Words,
+    seed: u64,
+    size: usize,
+    digest: &mut Digest,
+) -> io::Result<()> {
     let seed = mixed(seed);
     for number in 0..size {
         let own = mixed(seed.wrapping_add(number as u64));
         let many = 40 + (number % 4) * 100;
         let text = match number % 5 {
-            0 => module(alloc, own, many)?,
-            1 => lets(alloc, own, many / 10)?,
-            2 => generated(alloc, own, many)?,
-            _ => listing(alloc, own, many.saturating_mul(5))?,
+            0 => module(alloc, words, own, many)?,
+            1 => lets(alloc, words, own, many / 10)?,
+            2 => generated(alloc, words, own, many)?,
+            _ => listing(alloc, words, own, many.saturating_mul(5))?,
         };
-        press_once(alloc, text.as_str(), &mut Numbers::new(own), digest)?;
+        press_keys(alloc, text.as_str(), own, digest)?;
     }
     Ok(())
 }

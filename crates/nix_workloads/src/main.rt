@@ -1,5 +1,6 @@
 //! Does jobs that users of the library wait for, on texts that it makes itself: `nix_workloads JOB SEED SIZE` prints how many results the job had, and a
-//! digest of them all. `all` does each job. It calls the public functions of the libraries alone, and no function twice on one text.
+//! digest of them all. `all` does each job. It calls the public functions of the libraries alone, and none that takes work twice on one text, or on one
+//! name or place of it.
 #![tactic(auto)]
 
 mod awkward;
@@ -13,32 +14,43 @@ mod keys;
 mod numbers;
 mod packages;
 mod pins;
+mod results;
 mod source;
+mod template;
+mod words;
 
 use digest::Digest;
 use std::alloc::Global;
 use std::{env, io};
+use words::Words;
 
 // The jobs, in the order in which `all` does them.
 const JOBS: [&str; 6] = ["check", "index", "edit", "convert", "keys", "awkward"];
 
 // Does a job on texts of a seed, and adds its results to the digest. An unknown job has no results.
-fn work(alloc: Global, job: &str, seed: u64, size: usize, digest: &mut Digest) -> io::Result<()> {
+fn work(
+    alloc: Global,
+    words: &Words,
+    job: &str,
+    seed: u64,
+    size: usize,
+    digest: &mut Digest,
+) -> io::Result<()> {
     match job {
-        "check" => check::check(alloc, seed, size, digest),
-        "index" => index::index(alloc, seed, size, digest),
-        "edit" => edit::edit(alloc, seed, size, digest),
-        "convert" => convert::convert(alloc, seed, size, digest),
-        "keys" => keys::press(alloc, seed, size, digest),
-        "awkward" => awkward::awkward(alloc, seed, size, digest),
+        "check" => check::check(alloc, words, seed, size, digest),
+        "index" => index::index(alloc, words, seed, size, digest),
+        "edit" => edit::edit(alloc, words, seed, size, digest),
+        "convert" => convert::convert(alloc, words, seed, size, digest),
+        "keys" => keys::press(alloc, words, seed, size, digest),
+        "awkward" => awkward::awkward(alloc, words, seed, size, digest),
         _ => Ok(()),
     }
 }
 
 // Does a job, and prints a line about its results.
-fn report(rt: &HostRuntime, job: &str, seed: u64, size: usize) -> io::Result<()> {
+fn report(rt: &HostRuntime, words: &Words, job: &str, seed: u64, size: usize) -> io::Result<()> {
     let mut digest = Digest::new();
-    work(rt.alloc(), job, seed, size, &mut digest)?;
+    work(rt.alloc(), words, job, seed, size, &mut digest)?;
     println!(rt;
         "{job}: {} results, digest {:016x}",
         digest.count(),
@@ -53,11 +65,12 @@ fn main(rt: HostRuntime) -> io::Result<()> {
         (Some(job), Some(seed), Some(size)) => {
             let seed = seed.as_str().parse().unwrap_or(0);
             let size = size.as_str().parse().unwrap_or(0);
+            let words = Words::new(rt.alloc())?;
             if job.as_str() != "all" {
-                return report(&rt, job.as_str(), seed, size);
+                return report(&rt, &words, job.as_str(), seed, size);
             }
             for job in JOBS {
-                report(&rt, job, seed, size)?;
+                report(&rt, &words, job, seed, size)?;
             }
             Ok(())
         }

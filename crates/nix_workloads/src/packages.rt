@@ -1,6 +1,9 @@
 //! Files of a collection of packages.
 
 use crate::draft::Draft;
+use crate::numbers::Numbers;
+use crate::template::Template;
+use crate::words::Words;
 use std::alloc::{AllocError, Global};
 
 // A package, in the style that the formatter writes.
@@ -130,23 +133,56 @@ const ENTRIES: [&str; 4] = [
     "  # %a is %b\n  %a = self.%c.override { stdenv = %d; };\n",
 ];
 
-/// A file of a collection: a package or a module, one in eight of them such as the formatter would change.
-pub fn file(alloc: Global, seed: u64) -> Result<String, AllocError> {
-    let mut draft = Draft::new(alloc, seed);
-    if draft.numbers().below(8) == 0 {
-        draft.fill(alloc, LOOSE)?;
-    } else {
-        draft.fill_one(alloc, &[PACKAGE, PACKAGE, MODULE])?;
+/// The templates of files of a collection.
+#[derive(Drop)]
+pub struct Files {
+    package: Template,
+    module: Template,
+    loose: Template,
+}
+
+impl Files {
+    /// Reads the templates.
+    pub fn new(alloc: Global) -> Result<Files, AllocError> {
+        Ok(Files {
+            package: Template::new(alloc, PACKAGE)?,
+            module: Template::new(alloc, MODULE)?,
+            loose: Template::new(alloc, LOOSE)?,
+        })
     }
-    Ok(draft.into_text())
+
+    // One of the templates: of eight, one is such as the formatter would change; of the others, one of three is a module.
+    fn template(&self, numbers: &mut Numbers) -> &Template {
+        if numbers.below(8) == 0 {
+            &self.loose
+        } else if numbers.below(3) == 0 {
+            &self.module
+        } else {
+            &self.package
+        }
+    }
+
+    /// A file of a collection: a package or a module, one in eight of them such as the formatter would change.
+    pub fn file(&self, alloc: Global, words: &Words, seed: u64) -> Result<String, AllocError> {
+        let mut draft = Draft::new(alloc, words, seed);
+        let template = self.template(draft.numbers());
+        draft.fill(template)?;
+        Ok(draft.into_text())
+    }
 }
 
 /// A list of all packages, with so many entries.
-pub fn listing(alloc: Global, seed: u64, entries: usize) -> Result<String, AllocError> {
-    let mut draft = Draft::new(alloc, seed);
+pub fn listing(
+    alloc: Global,
+    words: &Words,
+    seed: u64,
+    entries: usize,
+) -> Result<String, AllocError> {
+    let mut draft = Draft::new(alloc, words, seed);
+    let templates = Template::all(alloc, &ENTRIES)?;
     draft.push("{\n  lib,\n  callPackage,\n  self,\n}:\n\n{\n")?;
     for _entry in 0..entries {
-        draft.fill_one(alloc, &ENTRIES)?;
+        draft.fill_one(&templates)?;
     }
     draft.push("}\n")?;
     Ok(draft.into_text())
@@ -166,10 +202,15 @@ const GENERATED: &str =
 "#;
 
 /// A generated set with so many entries, which the formatter would change.
-pub fn generated(alloc: Global, seed: u64, entries: usize) -> Result<String, AllocError> {
-    let mut draft = Draft::new(alloc, seed);
+pub fn generated(
+    alloc: Global,
+    words: &Words,
+    seed: u64,
+    entries: usize,
+) -> Result<String, AllocError> {
+    let mut draft = Draft::new(alloc, words, seed);
     draft.push("{ pkgs, lib, callPackage }:\n\nself: {\n\n")?;
-    draft.repeat(alloc, GENERATED, entries)?;
+    draft.repeat(&Template::new(alloc, GENERATED)?, entries)?;
     draft.push("}\n")?;
     Ok(draft.into_text())
 }

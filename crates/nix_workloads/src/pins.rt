@@ -1,6 +1,8 @@
 //! Pins and other data, as Nix and as JSON.
 
 use crate::draft::Draft;
+use crate::template::Template;
+use crate::words::Words;
 use std::alloc::{AllocError, Global};
 
 // A pin in JSON.
@@ -16,36 +18,44 @@ const LOCKED: &str = r#"    "%a-%%": {
 "#;
 
 /// A lock file in JSON, with so many pins.
-pub fn lock(alloc: Global, seed: u64, pins: usize) -> Result<String, AllocError> {
-    let mut draft = Draft::new(alloc, seed);
+pub fn lock(alloc: Global, words: &Words, seed: u64, pins: usize) -> Result<String, AllocError> {
+    let mut draft = Draft::new(alloc, words, seed);
     draft.push("{\n  \"nodes\": {\n")?;
-    draft.repeat(alloc, LOCKED, pins)?;
+    draft.repeat(&Template::new(alloc, LOCKED)?, pins)?;
     draft.push(
         "    \"root\": { \"inputs\": {} }\n  },\n  \"root\": \"root\",\n  \"version\": 7\n}\n",
     )?;
     Ok(draft.into_text())
 }
 
+// Attributes of a JSON object: strings with escapes, and lists.
+const STRING: &str = "  \"%a%%\": \"%b\\n\\t\\\"%c\\\" ${%d} \\u00e9\\\\\",\n";
+
+const LIST: &str = "  \"%a%%\": [ %0, -%1, %2.5, true, null ],\n";
+
 /// A JSON object with so many names, strings with escapes and numbers.
-pub fn flat(alloc: Global, seed: u64, names: usize) -> Result<String, AllocError> {
-    let mut draft = Draft::new(alloc, seed);
+pub fn flat(alloc: Global, words: &Words, seed: u64, names: usize) -> Result<String, AllocError> {
+    let mut draft = Draft::new(alloc, words, seed);
+    let (string, list) = (Template::new(alloc, STRING)?, Template::new(alloc, LIST)?);
     draft.push("{\n")?;
     for _turn in 0..names / 2 {
-        draft.fill(
-            alloc,
-            "  \"%a%%\": \"%b\\n\\t\\\"%c\\\" ${%d} \\u00e9\\\\\",\n",
-        )?;
-        draft.fill(alloc, "  \"%a%%\": [ %0, -%1, %2.5, true, null ],\n")?;
+        draft.fill(&string)?;
+        draft.fill(&list)?;
     }
     draft.push("  \"last\": 0\n}\n")?;
     Ok(draft.into_text())
 }
 
 /// A list of numbers in JSON.
-pub fn numbers(alloc: Global, seed: u64, count: usize) -> Result<String, AllocError> {
-    let mut draft = Draft::new(alloc, seed);
+pub fn numbers(
+    alloc: Global,
+    words: &Words,
+    seed: u64,
+    count: usize,
+) -> Result<String, AllocError> {
+    let mut draft = Draft::new(alloc, words, seed);
     draft.push("[\n")?;
-    draft.repeat(alloc, "  1%0%1%2,\n  %3,\n", count / 2)?;
+    draft.repeat(&Template::new(alloc, "  1%0%1%2,\n  %3,\n")?, count / 2)?;
     draft.push("  0\n]\n")?;
     Ok(draft.into_text())
 }
@@ -60,10 +70,10 @@ const PIN: &str = r#"  # %a of %b
 "#;
 
 /// A set of pins in Nix.
-pub fn pins(alloc: Global, seed: u64, count: usize) -> Result<String, AllocError> {
-    let mut draft = Draft::new(alloc, seed);
+pub fn pins(alloc: Global, words: &Words, seed: u64, count: usize) -> Result<String, AllocError> {
+    let mut draft = Draft::new(alloc, words, seed);
     draft.push("{\n")?;
-    draft.repeat(alloc, PIN, count)?;
+    draft.repeat(&Template::new(alloc, PIN)?, count)?;
     draft.push("}\n")?;
     Ok(draft.into_text())
 }
@@ -72,13 +82,17 @@ pub fn pins(alloc: Global, seed: u64, count: usize) -> Result<String, AllocError
 const PATHS: &str =
     "  services.%a%%.enable = true;\n  services.%a%%.port = %0;\n  services.%a%%.users.%b.name = \"%c \\\"%d\\\"\";\n";
 
+// An attribute whose value is a list.
+const HOSTS: &str = "  hosts.%a%% = [ %0 \"%b\" ./%c/%d.nix ];\n";
+
 /// A set in Nix whose attributes have nested paths.
-pub fn paths(alloc: Global, seed: u64, count: usize) -> Result<String, AllocError> {
-    let mut draft = Draft::new(alloc, seed);
+pub fn paths(alloc: Global, words: &Words, seed: u64, count: usize) -> Result<String, AllocError> {
+    let mut draft = Draft::new(alloc, words, seed);
+    let (paths, hosts) = (Template::new(alloc, PATHS)?, Template::new(alloc, HOSTS)?);
     draft.push("{\n")?;
     for _entry in 0..count / 10 {
-        draft.repeat(alloc, PATHS, 10)?;
-        draft.fill(alloc, "  hosts.%a%% = [ %0 \"%b\" ./%c/%d.nix ];\n")?;
+        draft.repeat(&paths, 10)?;
+        draft.fill(&hosts)?;
     }
     draft.push("}\n")?;
     Ok(draft.into_text())
