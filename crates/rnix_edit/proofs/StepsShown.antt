@@ -3,7 +3,7 @@ use Rattle.std.proofs.Common.{◌≡◌, ◌≤◌, ℕ, List, [], ◌∷◌, �
 use Rattle.std.proofs.lemmas.{List.append_cancel_left, Grind.flat_map-append}
 use Rattle.std.specs.Prelude.{if◌then◌else◌}
 use Rattle.rnix_green.specs.{Tree.{item_of, text_at}, Walk.{Event, from_leaving}}
-use Rattle.rnix_tree.specs.WalksAlike.{Shown, shown, shown_of, PassAlike}
+use Rattle.rnix_tree.specs.WalksAlike.{Shown, shown_event, shown_of, PassAlike}
 use Rattle.rnix_edit.specs.Steps.{Step, node_step, token_steps, step_at, steps_of, GoOnAlike}
 
 -- the step of an event that shows this
@@ -14,7 +14,8 @@ steps_shown s = if s.is_node then node_step s.enters s.kind ∷ [] else (if s.en
 step_shown : (event : Event) → step_at event ≡ steps_shown (shown_of event)
 step_shown event =
     elim event.1.0 as (λ b. (if b then node_step event.0 (item_of event.1.1).kind ∷ []
-    else (if event.0 then token_steps (item_of event.1.1).kind (text_at event.1.1) else [])) ≡ steps_shown (shown event.0 b (item_of event.1.1).kind (text_at event.1.1))) [
+    else (if event.0 then token_steps (item_of event.1.1).kind (text_at event.1.1) else []))
+    ≡ steps_shown (shown_event event.0 b (item_of event.1.1).kind (text_at event.1.1))) [
       | true ↦ refl
       | false ↦ refl
     ]

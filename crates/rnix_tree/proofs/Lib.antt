@@ -23,3 +23,4 @@ pub mod CountsInside
 pub mod ChainsFall
 pub mod DigitLemmas
 pub mod WalksAlikeLemmas
+pub mod NextAlikeLemmas

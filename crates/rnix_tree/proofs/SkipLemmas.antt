@@ -195,7 +195,7 @@ to_parent t root m there inside low =
     }
 
 -- at the end, where the walk has only begun
-around_root : (root m : ℕ) (p : Option ℕ) → m ≡ root → around root m p ≡ Done
+pub around_root : (root m : ℕ) (p : Option ℕ) → m ≡ root → around root m p ≡ Done
 around_root root m None e = refl
 around_root root m (Some p) e = ap (λ b. if b then Done else Leave p) (is_same m root e)
 

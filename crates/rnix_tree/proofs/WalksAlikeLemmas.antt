@@ -1,11 +1,12 @@
--- Two walks over rows that are alike pass the same.
+-- Two walks over siblings that are alike pass the same.
 use Rattle.std.proofs.Common.{◌≡◌, ℕ, zero, suc, ◌+◌, ◌-◌, ◌≤◌, ◌<◌, nat_le, ◌==◌, List, [], ◌∷◌, ◌++◌, length, map, Bool, true, false, Option, Some, None, refl, ap, sym, ◌∙◌, subst, arith, ◌⊎◌, inl, inr}
 use Rattle.std.proofs.lemmas.{Bool.{false≢true, cases_lt, and_parts, or_cases}, Bool.Decides.nat_tests, Slice.Eq.bytes_eq-Decides}
 use Rattle.std.specs.{Prelude.{◌||◌, if◌then◌else◌}, Cmp.booleans_Decides, Str.bytes_eq}
 use Rattle.rnix_kinds.specs.declared.kinds.SyntaxKind.{SyntaxKind}
 use Rattle.rnix_green.specs.{Equality.{same_kind, same_kind-decides}, Tree.{Tree, items_of, item, text_at}, Walk.{Step, event_at, from_leaving}}
-use Rattle.rnix_green.proofs.{NumberTests.{is_below, is_not_below, is_above}, SiblingLemmas.next_inside, ParentLemmas.{parent_is_node, parent_is_before}}
-use Rattle.rnix_tree.specs.{WalksAlike.{Shown, shown, shown_of, PassAlike}, AlikeRows.{same_item, same_parent, alike_at, AreAlike, AreRestsAlike}}
+use Rattle.rnix_green.proofs.{NumberTests.{is_below, is_not_below, is_above}, SiblingLemmas.next_inside, ParentLemmas.{parent_is_node, parent_is_before}, InsideLemmas.below_parent}
+use Rattle.rnix_tree.specs.WalksAlike.{Shown, shown_event, shown_of, PassAlike}
+use Rattle.rnix_tree.specs.AlikeRows.{same_item, alike_parents, alike_at, AreAlike, AreSiblingsAlike}
 use Rattle.rnix_tree.specs.Cursor.{steps_left, events_left, IsInside, IsNextWithin, after_enter, after_leave, behind, around, after_skip}
 use Rattle.rnix_tree.specs.declared.walk.Next.{Next, TheVariants.{Enter, Leave, Done}}
 use Rattle.rnix_tree.proofs.{ListLemmas.cons_same, PreorderLemmas.{Goes, enters, leaves, behind_inner}, SkipLemmas.skips}
@@ -26,11 +27,11 @@ at_most a b h = grind (arith, nat_tests)
 one_number : (a b : ℕ) → (a == b) ≡ true → a ≡ b
 one_number a b h = grind (arith, nat_tests)
 
--- two parents are the nodes around rows, or as far behind their first elements
+-- two parents are those of two rows of siblings, or as far behind the first siblings
 abbrev ParentsAlike : ℕ → ℕ → ℕ → ℕ → Option ℕ → Option ℕ → Type 0
 ParentsAlike x p y q a b = ((a ≡ Some p) × (b ≡ Some q)) ⊎ ((j : ℕ) × (a ≡ Some (x + j)) × (b ≡ Some (y + j)))
 
-parents_alike : (x p y q : ℕ) (a b : Option ℕ) → same_parent x p y q a b ≡ true → ParentsAlike x p y q a b
+parents_alike : (x p y q : ℕ) (a b : Option ℕ) → alike_parents x p y q a b ≡ true → ParentsAlike x p y q a b
 parents_alike x p y q None b e = absurd (false≢true e)
 parents_alike x p y q (Some a) None e = absurd (false≢true e)
 parents_alike x p y q (Some a) (Some b) e =
@@ -48,11 +49,13 @@ parents_alike x p y q (Some a) (Some b) e =
     ]
 
 -- what two elements show, nodes or tokens of the same text
-same_shown : (enters : Bool) (a b : Bool) (k l : SyntaxKind) (v w : List ℕ) → a ≡ b → k ≡ l → (a || bytes_eq v w) ≡ true → shown enters a k v ≡ shown enters b l w
-same_shown enters true b k l v w e f g = subst (λ z. shown enters true k v ≡ shown enters z l w) e (ap (λ z. shown enters true z []) f)
+same_shown : (enters : Bool) (a b : Bool) (k l : SyntaxKind) (v w : List ℕ) → a ≡ b → k ≡ l → (a || bytes_eq v w) ≡ true
+    → shown_event enters a k v ≡ shown_event enters b l w
+same_shown enters true b k l v w e f g =
+    subst (λ z. shown_event enters true k v ≡ shown_event enters z l w) e (ap (λ z. shown_event enters true z []) f)
 same_shown enters false b k l v w e f g =
-    subst (λ z. shown enters false k v ≡ shown enters z l w) e
-    (ap (λ z. shown enters false z v) f ∙ ap (λ z. shown enters false l z) ((bytes_eq-Decides v w).0 g))
+    subst (λ z. shown_event enters false k v ≡ shown_event enters z l w) e
+    (ap (λ z. shown_event enters false z v) f ∙ ap (λ z. shown_event enters false l z) ((bytes_eq-Decides v w).0 g))
 
 -- what two elements have in common that are alike
 record Common (t u : Tree) (x p y q i : ℕ) : Type 0 where
@@ -67,7 +70,7 @@ common t u x p y q i e =
     let parts = and_parts (same_item a b) _ e in
     let items = and_parts (same_kind a.kind b.kind) _ parts.0 in
     let sizes = and_parts _ (a.below == b.below) items.1 in
-    let rest = and_parts (same_parent x p y q a.parent b.parent) _ parts.1 in
+    let rest = and_parts (alike_parents x p y q a.parent b.parent) _ parts.1 in
     record {
       below = one_number a.below b.below sizes.1;
       shows = λ enters.
@@ -101,8 +104,10 @@ abbrev place : Bool → ℕ → Next
 place true m = Enter m
 place false m = Leave m
 
-module _ (t u : Tree) (r s x y p q n : ℕ) (there : r < length (items_of t)) (other_there : s < length (items_of u)) (low : r < x) (other_low : s < y) (around_there : p < length (items_of t)) (around_low : p < x) (ends : p + 1 + (item t p).below ≡ x + n) (other_ends : q + 1 + (item u q).below ≡ y + n) (alike : AreAlike t u x p y q n) where
-  -- both walks pass the same up to where they leave the nodes around the rows
+module _ (t u : Tree) (r s x y p q n : ℕ) (there : r < length (items_of t)) (other_there : s < length (items_of u)) (low : r < x) (other_low : s < y)
+    (parent_there : p < length (items_of t)) (parent_low : p < x) (ends : p + 1 + (item t p).below ≡ x + n)
+    (other_ends : q + 1 + (item u q).below ≡ y + n) (alike : AreAlike t u x p y q n) where
+  -- both walks pass the same up to where they leave the parents
   record Passes (here twin : Next) : Type 0 where
     pub passed : List Shown
     pub first : map shown_of (events_left t r here) ≡ passed ++ map shown_of (events_left t r (Leave p))
@@ -119,12 +124,12 @@ module _ (t u : Tree) (r s x y p q n : ℕ) (there : r < length (items_of t)) (o
         second = ap (λ steps. map shown_of (map (event_at u) steps)) h.step_is ∙ cons_same (sym same) rest.second;
       }
 
-  -- an element of the row is inside the node around it
+  -- an element of the row is inside the parent of the siblings
   in_row : (i : ℕ) → i < n → IsInside t p (x + i)
   in_row i l = record {
-    low = omega (arith, around_low);
+    low = omega (arith, parent_low);
     high = omega (arith, ends, l);
-    there = omega (arith, ends, l, next_inside t p around_there);
+    there = omega (arith, ends, l, next_inside t p parent_there);
   }
 
   -- fewer steps are left
@@ -149,7 +154,7 @@ module _ (t u : Tree) (r s x y p q n : ℕ) (there : r < length (items_of t)) (o
         | inl some ↦
             let next : after_enter t (x + i) ≡ Enter (x + (i + 1)) = goes_inside t (x + i) some ∙ ap Enter (omega arith) in
             let next' : after_enter u (y + i) ≡ Enter (y + (i + 1)) = goes_inside u (y + i) (omega (arith, some, a.below)) ∙ ap Enter (omega arith) in
-            let row : IsInside t p (x + (i + 1)) = subst (IsNextWithin t p) next (enters t p (x + i) around_there (in_row i l)).within in
+            let row : IsInside t p (x + (i + 1)) = subst (IsNextWithin t p) next (enters t p (x + i) parent_there (in_row i l)).within in
             rw (next, next') (passes k true (i + 1) (omega (arith, row.high, ends)) (subst (IsNextWithin t r) next g.within)
             (subst (IsNextWithin u s) next' g'.within) (subst (λ z. length (steps_left t r z) ≤ k) next fit))
         | inr none ↦
@@ -168,7 +173,7 @@ module _ (t u : Tree) (r s x y p q n : ℕ) (there : r < length (items_of t)) (o
       let end' : y + i + 1 + (item u (y + i)).below ≡ y + (i + 1 + b) = omega (arith, a.below) in
       let l1 : r < x + i = omega (arith, low) in
       let l2 : s < y + i = omega (arith, other_low) in
-      let l3 : p < x + i = omega (arith, around_low) in
+      let l3 : p < x + i = omega (arith, parent_low) in
       passes_more _ _ _ _ false i g g' (a.shows false)
       (elim a.parents [
         | inl both ↦
@@ -194,7 +199,7 @@ module _ (t u : Tree) (r s x y p q n : ℕ) (there : r < length (items_of t)) (o
                   let next = goes_behind t r (x + i) _ (x + j) _ l1 one end outer (omega (arith, more)) in
                   let next' = goes_behind u s (y + i) _ (y + j) _ l2 two end' outer' (omega (arith, more)) in
                   let inner = goes_behind t p (x + i) _ (x + j) _ l3 one end outer (omega (arith, more)) in
-                  let row : IsInside t p (x + (i + 1 + b)) = subst (IsNextWithin t p) inner (leaves t p (x + i) around_there (in_row i l)).within in
+                  let row : IsInside t p (x + (i + 1 + b)) = subst (IsNextWithin t p) inner (leaves t p (x + i) parent_there (in_row i l)).within in
                   rw (next, next') (passes k true (i + 1 + b) (omega (arith, row.high, ends)) (subst (IsNextWithin t r) next g.within)
                   (subst (IsNextWithin u s) next' g'.within) (subst (λ z. length (steps_left t r z) ≤ k) next fit))
               | inr done ↦
@@ -205,21 +210,23 @@ module _ (t u : Tree) (r s x y p q n : ℕ) (there : r < length (items_of t)) (o
             ]
       ])
 
--- where elements are alike up to the ends of the nodes around them, both walks pass the same
-pub rests_pass : (t u : Tree) (r s x y : ℕ) → r < length (items_of t) → s < length (items_of u) → IsInside t r x → IsInside u s y → r < x → s < y
-    → AreRestsAlike t x u y → PassAlike (events_left t r (Enter x)) (events_left u s (Enter y))
-rests_pass t u r s x y there other_there inside twin low other_low h =
-    let around_there = (parent_is_node t x h.p inside.there h.first).is_there in
-    let around_low : h.p < x = parent_is_before t x h.p inside.there h.first in
+-- where siblings are alike up to the ends of their parents, both walks pass the same
+pub siblings_pass : (t u : Tree) (r s x y : ℕ) → r < length (items_of t) → s < length (items_of u) → IsInside t r x → IsInside u s y → r < x → s < y
+    → AreSiblingsAlike t x u y → PassAlike (events_left t r (Enter x)) (events_left u s (Enter y))
+siblings_pass t u r s x y there other_there inside twin low other_low h =
+    let parent_there = (parent_is_node t x h.p inside.there h.parent).is_there in
+    let below = below_parent t x h.p inside.there h.parent in
+    let some : 0 < h.n = omega (arith, below.high, h.ends) in
     let zero_t : x + 0 ≡ x = omega arith in
     let zero_u : y + 0 ≡ y = omega arith in
-    let all : Passes t u r s x y h.p h.q h.n there other_there low other_low around_there around_low h.first_ends h.second_ends h.alike (Enter (x + 0)) (Enter (y + 0)) =
-    passes t u r s x y h.p h.q h.n there other_there low other_low around_there around_low h.first_ends h.second_ends h.alike
-    (length (steps_left t r (Enter (x + 0)))) true 0 h.some (subst (IsInside t r) (sym zero_t) inside) (subst (IsInside u s) (sym zero_u) twin) (omega arith) in
+    let all : Passes t u r s x y h.p h.q h.n there other_there low other_low parent_there below.low h.ends h.other_ends h.alike
+    (Enter (x + 0)) (Enter (y + 0)) =
+    passes t u r s x y h.p h.q h.n there other_there low other_low parent_there below.low h.ends h.other_ends h.alike
+    (length (steps_left t r (Enter (x + 0)))) true 0 some (subst (IsInside t r) (sym zero_t) inside) (subst (IsInside u s) (sym zero_u) twin) (omega arith) in
     let skip : from_leaving 0 (events_left t r (Enter x)) ≡ events_left t r (Leave h.p) =
-    (skips t r (Enter x) there inside).events ∙ ap (events_left t r) (to_parent t r x h.p low h.first) in
+    (skips t r (Enter x) there inside).events ∙ ap (events_left t r) (to_parent t r x h.p low h.parent) in
     let skip' : from_leaving 0 (events_left u s (Enter y)) ≡ events_left u s (Leave h.q) =
-    (skips u s (Enter y) other_there twin).events ∙ ap (events_left u s) (to_parent u s y h.q other_low h.second) in
+    (skips u s (Enter y) other_there twin).events ∙ ap (events_left u s) (to_parent u s y h.q other_low h.other_parent) in
     record {
       passed = all.passed;
       first =

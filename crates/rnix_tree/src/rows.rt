@@ -1,18 +1,18 @@
-//! Comparing what is left of the children of two nodes.
+//! Comparing siblings of two trees.
 
-ghost use Rattle.std.specs.Prelude.{◌≡◌, ◌≤◌, ◌<◌, ◌+◌, ◌^◌, IsTrue, length};
+ghost use Rattle.std.specs.Prelude.{◌≡◌, ◌≤◌, ◌<◌, ◌+◌, ◌^◌, Some, length};
 ghost use Rattle.std.specs.Bool.{Decides};
 ghost use Rattle.rnix_green.specs.Kept.{item_from};
-ghost use Rattle.rnix_green.specs.Tree.{items_of};
-ghost use Rattle.rnix_tree.specs.AlikeRows.{same_item, same_parent, alike_at, AreAlike, AreRestsAlike};
+ghost use Rattle.rnix_green.specs.Tree.{item, items_of};
+ghost use Rattle.rnix_tree.specs.AlikeRows.{same_item, alike_parents, alike_at, AreAlike, AreSiblingsAlike};
 
 use rnix_green::{Element, GreenNode};
 
-// The elements from one on up to the end of the node around it.
+// Siblings from one on, with all that is inside them, and their parent.
 #[derive(Clone, Copy)]
 struct Row {
     first: usize,
-    around: usize,
+    parent: usize,
 }
 
 // Returns whether two elements have the same kind and as many elements inside.
@@ -22,14 +22,14 @@ fn is_same_item(a: &Element, b: &Element) -> bool
     a.kind == b.kind && a.is_node == b.is_node && a.below == b.below
 }
 
-// Returns whether two parents are the nodes around the rows, or as far behind the first elements of the rows.
-fn is_same_parent(a: Option<usize>, row: Row, b: Option<usize>, other: Row) -> bool
-    ensures { result ≡ same_parent row.first row.around other.first other.around a b }
+// Returns whether the parents of two elements are the parents of the rows, or as far behind the first elements of the rows.
+fn are_parents_alike(a: Option<usize>, row: Row, b: Option<usize>, other: Row) -> bool
+    ensures { result ≡ alike_parents row.first row.parent other.first other.parent a b }
 {
     match (a, b) {
         (Some(a), Some(b)) => {
             (row.first <= a && other.first <= b && a - row.first == b - other.first)
-                || (a == row.around && b == other.around)
+                || (a == row.parent && b == other.parent)
         }
         _ => false,
     }
@@ -47,12 +47,12 @@ fn is_alike_at(
     requires there { row.first + place < length (items_of green.now) }
     requires other_fits { other.first + place < 2 ^ 63 }
     requires other_there { other.first + place < length (items_of other_green.now) }
-    ensures { result ≡ alike_at green.now other_green.now row.first row.around other.first other.around place }
+    ensures { result ≡ alike_at green.now other_green.now row.first row.parent other.first other.parent place }
 {
     let (number, other_number) = (row.first + place, other.first + place);
     let (element, twin) = (green.element(number), other_green.element(other_number));
     is_same_item(&element, &twin)
-        && is_same_parent(element.parent, row, twin.parent, other)
+        && are_parents_alike(element.parent, row, twin.parent, other)
         && (element.is_node || green.text_at(number) == other_green.text_at(other_number))
 }
 
@@ -62,7 +62,7 @@ fn are_alike(green: &GreenNode, row: Row, other_green: &GreenNode, other: Row, c
     requires there { row.first + count ≤ length (items_of green.now) }
     requires other_fits { other.first + count < 2 ^ 63 }
     requires other_there { other.first + count ≤ length (items_of other_green.now) }
-    ensures { Decides result (AreAlike green.now other_green.now row.first row.around other.first other.around count) }
+    ensures { Decides result (AreAlike green.now other_green.now row.first row.parent other.first other.parent count) }
 {
     for place in 0..count {
         if !is_alike_at(green, row, other_green, other, place) {
@@ -72,9 +72,20 @@ fn are_alike(green: &GreenNode, row: Row, other_green: &GreenNode, other: Row, c
     true
 }
 
-/// Returns whether the elements from two numbers on are alike, up to the ends of the nodes around them: they have the same kinds, as many elements
-/// inside, parents in the same places, and tokens the same texts. Linear in their number.
-pub(crate) fn are_rests_alike(
+// Returns the number of elements from one on up to the end of its parent.
+fn count_from(green: &GreenNode, number: usize, parent: usize) -> usize
+    requires there { number < length (items_of green.now) }
+    requires parent { (item green.now number).parent ≡ Some parent }
+    ensures count { parent + 1 + (item green.now parent).below ≡ number + result }
+    ensures there { number + result ≤ length (items_of green.now) }
+    ensures fits { number + result < 2 ^ 63 }
+{
+    parent + 1 + green.element(parent).below - number
+}
+
+/// Returns whether the siblings from two elements on are alike, with all that is inside them: as many elements, of the same kinds, with parents in the
+/// same places, and tokens of the same texts. Linear in the number of elements and the bytes of the texts that are compared.
+pub(crate) fn are_siblings_alike(
     green: &GreenNode,
     number: usize,
     other_green: &GreenNode,
@@ -82,26 +93,25 @@ pub(crate) fn are_rests_alike(
 ) -> bool
     requires there { number < length (items_of green.now) }
     requires other_there { other_number < length (items_of other_green.now) }
-    ensures { IsTrue result → AreRestsAlike green.now number other_green.now other_number }
+    ensures { Decides result (AreSiblingsAlike green.now number other_green.now other_number) }
 {
-    let (Some(around), Some(other_around)) = (
+    let (Some(parent), Some(other_parent)) = (
         green.element(number).parent,
         other_green.element(other_number).parent,
     ) else {
         return false;
     };
-    let end = around + 1 + green.element(around).below;
-    let other_end = other_around + 1 + other_green.element(other_around).below;
-    if end <= number || other_end < other_number || end - number != other_end - other_number {
+    let count = count_from(green, number, parent);
+    if count != count_from(other_green, other_number, other_parent) {
         return false;
     }
     let row = Row {
         first: number,
-        around,
+        parent,
     };
     let other = Row {
         first: other_number,
-        around: other_around,
+        parent: other_parent,
     };
-    are_alike(green, row, other_green, other, end - number)
+    are_alike(green, row, other_green, other, count)
 }

@@ -1,13 +1,14 @@
 //! Walks over a tree, without allocation or recursion.
 
 ghost use Rattle.std.specs.Prelude.{◌≡◌, ◌<◌, ◌≤◌, length, IsTrue, IsFalse};
+ghost use Rattle.std.specs.Bool.{Decides};
 ghost use Rattle.rnix_green.specs.Tree.{items_of};
 ghost use Rattle.rnix_green.specs.Walk.{preorder_of, from_leaving};
-ghost use Rattle.rnix_tree.specs.WalksAlike.{PassAlike};
+ghost use Rattle.rnix_tree.specs.WalksAlike.{PassAlike, AreNextAlike};
 ghost use Rattle.rnix_tree.specs.Cursor.{after_enter, after_leave, after_skip, IsNextWithin};
 
 use crate::element::{SyntaxElement, WalkEvent, element_at};
-use crate::rows::are_rests_alike;
+use crate::rows::are_siblings_alike;
 use rnix_green::GreenNode;
 use std::marker::Model;
 
@@ -108,26 +109,29 @@ impl<'t> PreorderWithTokens<'t> {
         self.next = after_skip(self.green, self.root, self.next);
     }
 
-    // Returns whether both walks are found to pass the same, up to where each leaves the innermost element that was entered.
+    // Returns whether both walks have the rest of the innermost element that was entered alike.
     fn passes_alike(&self, other: &PreorderWithTokens<'_>) -> bool
-        ensures { IsTrue result → PassAlike self.now other.now }
+        ensures exact { Decides result (AreNextAlike self.now other.now) }
+        ensures alike { IsTrue result → PassAlike self.now other.now }
     {
         match (self.next, other.next) {
             (Next::Enter(number), Next::Enter(other_number)) => {
                 if number == self.root || other_number == other.root {
                     return false;
                 }
-                are_rests_alike(self.green, number, other.green, other_number)
+                are_siblings_alike(self.green, number, other.green, other_number)
             }
             (Next::Leave(_), Next::Leave(_)) => true,
             _ => false,
         }
     }
 
-    /// Skips the rest of the innermost element that was entered in both walks, as `skip_subtree` does, if both are found to pass the same there:
-    /// nodes and tokens of the same kinds, and tokens of the same texts. Otherwise both stay where they are. Linear in the number of elements compared,
-    /// up to the first two that differ.
+    /// Skips the rest of the innermost element that was entered in both walks, as `skip_subtree` does, if that is alike, and returns whether it is: both
+    /// walks enter siblings there next, and these and the siblings after them are alike, with all that is inside them: as many nodes and tokens, of the
+    /// same kinds, with parents in the same places, and tokens of the same texts; or both leave an element next. Otherwise both walks stay where they
+    /// are. Linear in the number of elements that are compared, up to the first two that differ, and in the bytes of the texts that are compared.
     pub fn skip_alike(&mut self, other: &mut PreorderWithTokens<'_>) -> bool
+        ensures exact { Decides result (AreNextAlike self.old other.old) }
         ensures skipped { IsTrue result → (self.new ≡ from_leaving 0 self.old) × (other.new ≡ from_leaving 0 other.old) }
         ensures alike { IsTrue result → PassAlike self.old other.old }
         ensures stays { IsFalse result → (self.new ≡ self.old) × (other.new ≡ other.old) }
