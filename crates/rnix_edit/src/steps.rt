@@ -177,6 +177,7 @@ fn are_done(mut events: PreorderWithTokens<'_>) -> bool
 fn skip_alike<'t>(a: &mut PreorderWithTokens<'t>, b: &mut PreorderWithTokens<'t>, misses: u8) -> u8
     ensures alike { GoOnAlike (steps_of a.old) (steps_of b.old) (steps_of a.new) (steps_of b.new) }
     ensures skipped { misses < MOST_MISSES → result ≡ misses → a.new ≡ from_leaving 0 a.old }
+    ensures kept { misses ≤ result }
     ensures counted { result ≤ misses + 1 }
 {
     if misses >= MOST_MISSES {
