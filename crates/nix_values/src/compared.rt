@@ -1,29 +1,17 @@
-//! JSON of data, compared with the JSON that is kept if the data that are read from it are the same.
+//! Data written as JSON, compared with what the model writes and reads again.
 
 use crate::data::{Data, Item, Value};
-use crate::json_reader::data_of_json;
-use crate::json_writer::{json_of, written};
-use crate::notation::{Notation, kept};
+use crate::json_writer::json_of;
+use crate::model::json_writer;
 use std::alloc::{AllocError, Global};
 use std::test::Fail;
 
-// JSON, of which the data that were read are compared.
-struct Json;
-
-impl Notation for Json {
-    ghost reads = { λ text entries. Unit {0} };
-
-    fn read(&self, alloc: Global, text: &str) -> Result<Option<Data>, AllocError> {
-        Ok(data_of_json(alloc, text)?.ok())
-    }
-}
-
-// Whether the JSON of some data is the one that reading them from it gives.
+// Whether data have the JSON that their model has.
 fn is_alike(alloc: Global, items: Vec<Item>) -> Result<bool, AllocError> {
     let data = Data { items };
-    let read = kept(alloc, &Json, written(alloc, &data)?, &data)?;
-    let compared = json_of(alloc, &data)?;
-    Ok(match (&read, &compared) {
+    let written = json_of(alloc, &data)?;
+    let expected = json_writer::json_of(alloc, &data)?;
+    Ok(match (&written, &expected) {
         (Some(one), Some(other)) => one.as_str() == other.as_str(),
         (None, None) => true,
         _ => false,

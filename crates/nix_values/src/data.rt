@@ -50,7 +50,7 @@ impl Value {
     }
 
     // Whether two values are the same, without the values inside them.
-    pub(crate) fn is_same(&self, other: &Value) -> bool
+    fn is_same(&self, other: &Value) -> bool
         ensures { IsTrue result → plain_of self.now ≡ plain_of other.now }
     {
         match (self, other) {

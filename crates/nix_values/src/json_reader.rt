@@ -3,7 +3,6 @@
 use crate::builder::Builder;
 use crate::data::{Data, Value};
 use crate::json_error::{JsonError, JsonReason, JsonStop, refused};
-use crate::json_text::{JsonText, JsonValue};
 use crate::json_tokens::{Token, after_space, json_token};
 use std::alloc::{AllocError, Global};
 
@@ -29,52 +28,20 @@ struct Frame {
     is_set: bool,
 }
 
-/// What takes the values that are read.
-pub trait Taker {
-    /// Returns the attribute of a set that has a name, if a second one is refused.
-    fn attribute_of(&self, set: usize, name: &str) -> Option<usize>;
-
-    /// Takes a value of a list or a set, or the whole, and returns its number.
-    fn take(
-        &mut self,
-        alloc: Global,
-        parent: Option<usize>,
-        name: JsonText<'_>,
-        value: JsonValue<'_>,
-    ) -> Result<usize, AllocError>;
-}
-
-impl Taker for Builder {
-    fn attribute_of(&self, set: usize, name: &str) -> Option<usize> {
-        self.attribute(set, name)
-    }
-
-    fn take(
-        &mut self,
-        alloc: Global,
-        parent: Option<usize>,
-        name: JsonText<'_>,
-        value: JsonValue<'_>,
-    ) -> Result<usize, AllocError> {
-        let (name, value) = (name.into_string(alloc)?, value.into_value(alloc)?);
-        Ok(self.add(alloc, parent, name, value)?)
-    }
-}
-
 // What is read so far.
 #[derive(Drop)]
-struct Reading<'t, T> {
+struct Reading {
     alloc: Global,
-    taker: T,
+    builder: Builder,
     // Where the name of each value stands, or the value where it has no name.
     places: Vec<usize>,
     frames: Vec<Frame>,
     // The name whose value comes next, and where it stands.
-    name: Option<(JsonText<'t>, usize)>,
+    name: Option<(String, usize)>,
     state: State,
 }
 
-impl<'t, T: Taker> Reading<'t, T> {
+impl Reading {
     // What comes behind a value.
     fn after_value(&self) -> State {
         if self.frames.is_empty() {
@@ -99,14 +66,14 @@ impl<'t, T: Taker> Reading<'t, T> {
     }
 
     // Adds a value to the innermost list or set.
-    fn add(&mut self, value: JsonValue<'t>, at: usize) -> Result<usize, JsonStop> {
+    fn add(&mut self, value: Value, at: usize) -> Result<usize, JsonStop> {
         let parent = self.frames.last().map(|frame| frame.node);
         let (name, place) = match self.name.take() {
             Some(named) => named,
-            None => (JsonText::Plain(""), at),
+            None => (String::new(self.alloc), at),
         };
         self.places.push(place)?;
-        Ok(self.taker.take(self.alloc, parent, name, value)?)
+        Ok(self.builder.add(self.alloc, parent, name, value)?)
     }
 
     // Whether a value may come next.
@@ -115,7 +82,7 @@ impl<'t, T: Taker> Reading<'t, T> {
     }
 
     // Takes a value that holds no values.
-    fn take_scalar(&mut self, value: JsonValue<'t>, at: usize) -> Result<(), JsonStop> {
+    fn take_scalar(&mut self, value: Value, at: usize) -> Result<(), JsonStop> {
         if !self.is_value_next() {
             return Err(self.unexpected(at));
         }
@@ -133,7 +100,7 @@ impl<'t, T: Taker> Reading<'t, T> {
             return Err(refused(JsonReason::TooDeep, at));
         }
         let is_set = matches!(&value, Value::Set);
-        let node = self.add(JsonValue::Other(value), at)?;
+        let node = self.add(value, at)?;
         self.frames.push(Frame { node, is_set })?;
         self.state = if is_set {
             State::NameOrClose
@@ -144,12 +111,12 @@ impl<'t, T: Taker> Reading<'t, T> {
     }
 
     // Takes a string: a name or a value.
-    fn take_text(&mut self, text: JsonText<'t>, at: usize) -> Result<(), JsonStop> {
+    fn take_text(&mut self, text: String, at: usize) -> Result<(), JsonStop> {
         if !matches!(self.state, State::Name | State::NameOrClose) {
-            return self.take_scalar(JsonValue::Text(text), at);
+            return self.take_scalar(Value::Text(text), at);
         }
         let set = self.frames.last().map_or(0, |frame| frame.node);
-        if let Some(found) = self.taker.attribute_of(set, text.as_str()) {
+        if let Some(found) = self.builder.attribute(set, text.as_str()) {
             return Err(JsonStop::Refused(JsonError {
                 reason: JsonReason::Repeated,
                 offset: at,
@@ -200,9 +167,9 @@ impl<'t, T: Taker> Reading<'t, T> {
     }
 
     // Takes a token.
-    fn take(&mut self, token: Token<'t>, at: usize) -> Result<(), JsonStop> {
+    fn take(&mut self, token: Token, at: usize) -> Result<(), JsonStop> {
         match token {
-            Token::Scalar(value) => self.take_scalar(JsonValue::Other(value), at),
+            Token::Scalar(value) => self.take_scalar(value, at),
             Token::Text(text) => self.take_text(text, at),
             Token::Open(value) => self.take_open(value, at),
             Token::Close(is_set) => self.take_close(is_set, at),
@@ -213,11 +180,11 @@ impl<'t, T: Taker> Reading<'t, T> {
     }
 }
 
-/// Reads a JSON text.
-pub fn read<T: Taker + Drop>(alloc: Global, text: &str, taker: T) -> Result<T, JsonStop> {
+// The data of a JSON text.
+fn read(alloc: Global, text: &str) -> Result<Data, JsonStop> {
     let mut reading = Reading {
         alloc,
-        taker,
+        builder: Builder::new(alloc),
         places: Vec::new(alloc),
         frames: Vec::new(alloc),
         name: None,
@@ -236,18 +203,12 @@ pub fn read<T: Taker + Drop>(alloc: Global, text: &str, taker: T) -> Result<T, J
     if reading.state != State::End {
         return Err(reading.unexpected(at));
     }
-    Ok(reading.taker)
-}
-
-// The data of a JSON text.
-fn data_in(alloc: Global, text: &str) -> Result<Data, JsonStop> {
-    let builder = read(alloc, text, Builder::new(alloc))?;
-    Ok(builder.finish(alloc)?)
+    Ok(reading.builder.finish(alloc)?)
 }
 
 /// Returns the data of a JSON text, or why the text is refused.
 pub fn data_of_json(alloc: Global, text: &str) -> Result<Result<Data, JsonError>, AllocError> {
-    match data_in(alloc, text) {
+    match read(alloc, text) {
         Ok(found) => Ok(Ok(found)),
         Err(JsonStop::Refused(error)) => Ok(Err(error)),
         Err(JsonStop::Memory) => Err(AllocError),

@@ -1,7 +1,11 @@
 //! Strings of JSON.
 
+ghost use Rattle.std.specs.Prelude.{◌≡◌, ◌++◌, ◌≤◌, ◌<◌, false, length, OnOk, IfOk, string_bytes};
+ghost use Rattle.std.specs.Char.{digit_char};
+ghost use Rattle.std.specs.List.{flat_map, prefix_len};
+ghost use Rattle.nix_values.specs.JsonString.{is_plain, numbered, escape, json_string};
+
 use crate::json_error::{JsonReason, JsonStop, refused};
-use crate::json_text::JsonText;
 use std::alloc::{AllocError, Global};
 
 // The digits of an escape by number.
@@ -12,16 +16,19 @@ const ESCAPE: usize = 6;
 
 /// A string that was read, and where it ends.
 #[derive(Drop)]
-pub struct Read<'t> {
+pub struct Read {
     /// What it stands for.
-    pub value: JsonText<'t>,
+    pub value: String,
     /// The offset behind its closing quote.
     pub end: usize,
 }
 
-// Whether a byte ends a part of a string that stands for itself.
-fn is_special(byte: u8) -> bool {
-    byte == b'"' || byte == b'\\' || byte < b' '
+// Whether a byte stands for itself.
+#[inline(always)]
+fn is_plain(byte: u8) -> bool
+    ensures { result ≡ is_plain byte }
+{
+    byte >= b' ' && byte != b'"' && byte != b'\\'
 }
 
 // The number that four digits at an offset are.
@@ -89,42 +96,67 @@ fn escaped(text: &str, at: usize) -> Result<(char, usize), JsonStop> {
 }
 
 /// Reads the string whose opening quote ends at an offset.
-pub fn json_string<'t>(alloc: Global, text: &'t str, start: usize) -> Result<Read<'t>, JsonStop> {
+pub fn json_string(alloc: Global, text: &str, start: usize) -> Result<Read, JsonStop> {
     let mut value = String::new(alloc);
     let mut at = start;
     for _part in start..=text.len() {
         let rest = text.get(at..).unwrap_or("");
-        let Some(len) = rest.bytes().position(is_special) else {
+        let Some(len) = rest.bytes().position(|byte| !is_plain(byte)) else {
             break;
         };
-        let part = rest.get(..len).unwrap_or("");
-        let special = at.saturating_add(len);
-        let end = special.saturating_add(1);
-        match text.as_bytes().get(special) {
-            Some(b'"') if at == start => {
-                let value = JsonText::Plain(part);
-                return Ok(Read { value, end });
-            }
+        value.push_str(rest.get(..len).unwrap_or(""))?;
+        at = at.saturating_add(len);
+        match text.as_bytes().get(at) {
             Some(b'"') => {
-                value.push_str(part)?;
-                let value = JsonText::Made(value);
-                return Ok(Read { value, end });
+                return Ok(Read {
+                    value,
+                    end: at.saturating_add(1),
+                });
             }
             Some(b'\\') => {
-                value.push_str(part)?;
-                let (letter, len) = escaped(text, special)?;
+                let (letter, len) = escaped(text, at)?;
                 value.push(letter)?;
-                at = special.saturating_add(len);
+                at = at.saturating_add(len);
             }
-            Some(0) => return Err(refused(JsonReason::HasNul, special)),
-            _ => return Err(refused(JsonReason::ControlCharacter, special)),
+            Some(0) => return Err(refused(JsonReason::HasNul, at)),
+            _ => return Err(refused(JsonReason::ControlCharacter, at)),
         }
     }
     Err(refused(JsonReason::OpenString, start.saturating_sub(1)))
 }
 
-// Writes a byte that does not stand for itself.
-fn push_escape(byte: u8, text: &mut String) -> Result<(), AllocError> {
+// The number of bytes that come first and stand for themselves.
+fn plain_len(bytes: &[u8]) -> usize
+    ensures { result ≡ prefix_len is_plain bytes.now }
+{
+    bytes.iter().take_while(|byte| is_plain(**byte)).count()
+}
+
+// A digit of a hexadecimal number.
+fn digit(number: u8) -> char
+    ensures { number < 16 → result ≡ digit_char number }
+{
+    char::from(if number < 10 {
+        b'0' | number
+    } else {
+        b'W'.wrapping_add(number)
+    })
+}
+
+// Writes the number of a control character.
+fn push_number(byte: u8, text: &mut String) -> Result<(), AllocError>
+    ensures { OnOk result (string_bytes text.new ≡ string_bytes text.old ++ numbered byte) }
+{
+    text.push_str("\\u00")?;
+    text.push(digit(byte / 16))?;
+    text.push(digit(byte % 16))
+}
+
+// Writes what stands for a byte that does not stand for itself.
+#[tactic(auto, unfolding(crate::specs::JsonString::escape))]
+fn push_escape(byte: u8, text: &mut String) -> Result<(), AllocError>
+    ensures { is_plain byte ≡ false → OnOk result (string_bytes text.new ≡ string_bytes text.old ++ escape byte) }
+{
     match byte {
         b'"' => text.push_str("\\\""),
         b'\\' => text.push_str("\\\\"),
@@ -133,22 +165,45 @@ fn push_escape(byte: u8, text: &mut String) -> Result<(), AllocError> {
         b'\t' => text.push_str("\\t"),
         b'\x08' => text.push_str("\\b"),
         b'\x0c' => text.push_str("\\f"),
-        _ => write!(text, "\\u{:04x}", byte),
+        _ => push_number(byte, text),
+    }
+}
+
+// Writes a text, if there is any.
+fn push_some(part: &str, text: &mut String) -> Result<(), AllocError>
+    ensures { OnOk result (string_bytes text.new ≡ string_bytes text.old ++ part.now) }
+{
+    if part.is_empty() {
+        return Ok(());
+    }
+    text.push_str(part)
+}
+
+// Writes the bytes that come first and stand for themselves and what stands for the byte behind them, and returns the rest.
+fn push_run<'t>(value: &'t str, text: &mut String) -> Result<&'t str, AllocError>
+    ensures written { IfOk result (λ rest. string_bytes text.new ++ flat_map escape rest.now ≡ string_bytes text.old ++ flat_map escape value.now) }
+    ensures fewer { IfOk result (λ rest. 0 < length value.now → length rest.now < length value.now) }
+{
+    let (run, rest) = value.split_at(plain_len(value.as_bytes()));
+    push_some(run, text)?;
+    match rest.as_bytes().first() {
+        None => Ok(rest),
+        Some(byte) => {
+            push_escape(*byte, text)?;
+            Ok(rest.split_at(1).1)
+        }
     }
 }
 
 /// Writes a string.
-pub fn push_json_string(value: &str, text: &mut String) -> Result<(), AllocError> {
+pub fn push_json_string(value: &str, text: &mut String) -> Result<(), AllocError>
+    ensures { OnOk result (string_bytes text.new ≡ string_bytes text.old ++ json_string value.now) }
+{
     text.push('"')?;
-    let mut start = 0;
-    for (at, byte) in value.bytes().enumerate() {
-        if is_special(byte) {
-            text.push_str(value.get(start..at).unwrap_or(""))?;
-            push_escape(byte, text)?;
-            start = at.saturating_add(1);
-        }
+    let mut rest = value;
+    while !rest.is_empty() {
+        rest = push_run(rest, text)?;
     }
-    text.push_str(value.get(start..).unwrap_or(""))?;
     text.push('"')
 }
 

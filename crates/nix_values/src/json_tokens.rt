@@ -4,12 +4,11 @@ use crate::data::Value;
 use crate::json_error::{JsonReason, JsonStop, refused};
 use crate::json_numbers::json_number;
 use crate::json_strings::json_string;
-use crate::json_text::JsonText;
 use std::alloc::Global;
 
 /// A token.
 #[derive(Drop)]
-pub enum Token<'t> {
+pub enum Token {
     /// `[` or `{`: a list or a set begins.
     Open(Value),
     /// `]`, or `}` of a set.
@@ -19,7 +18,7 @@ pub enum Token<'t> {
     /// `:`.
     Colon,
     /// A string.
-    Text(JsonText<'t>),
+    Text(String),
     /// Another value that holds no values.
     Scalar(Value),
     /// What begins no token.
@@ -28,15 +27,15 @@ pub enum Token<'t> {
 
 /// A token with the offset behind it.
 #[derive(Drop)]
-pub struct Cut<'t> {
+pub struct Cut {
     /// The token.
-    pub token: Token<'t>,
+    pub token: Token,
     /// The offset behind it.
     pub end: usize,
 }
 
 // A token of some bytes.
-fn token_of(token: Token<'_>, start: usize, len: usize) -> Cut<'_> {
+fn token_of(token: Token, start: usize, len: usize) -> Cut {
     Cut {
         token,
         end: start.saturating_add(len),
@@ -56,7 +55,7 @@ pub fn after_space(text: &str, at: usize) -> usize {
 }
 
 // One of the three words at an offset.
-fn word(text: &str, at: usize) -> Cut<'_> {
+fn word(text: &str, at: usize) -> Cut {
     let rest = text.get(at..).unwrap_or("");
     if rest.starts_with("null") {
         token_of(Token::Scalar(Value::Null), at, "null".len())
@@ -70,7 +69,7 @@ fn word(text: &str, at: usize) -> Cut<'_> {
 }
 
 /// Reads the token at an offset.
-pub fn json_token<'t>(alloc: Global, text: &'t str, at: usize) -> Result<Cut<'t>, JsonStop> {
+pub fn json_token(alloc: Global, text: &str, at: usize) -> Result<Cut, JsonStop> {
     match text.as_bytes().get(at) {
         Some(b'[') => Ok(token_of(Token::Open(Value::List), at, 1)),
         Some(b'{') => Ok(token_of(Token::Open(Value::Set), at, 1)),

@@ -1,9 +1,10 @@
 //! Data as JSON.
 
 use crate::data::{Data, Item, Value};
-use crate::json_comparing::is_read_as;
+use crate::json_reader::data_of_json;
 use crate::json_strings::push_json_string;
 use crate::layout::push_indentation;
+use crate::notation::{Notation, kept};
 use std::alloc::{AllocError, Global};
 
 // A text that is being written, with the lists and sets that are open, the innermost last: whether each is a set.
@@ -70,7 +71,7 @@ impl Writing {
 }
 
 // Data as JSON.
-pub(crate) fn written(alloc: Global, data: &Data) -> Result<String, AllocError> {
+fn written(alloc: Global, data: &Data) -> Result<String, AllocError> {
     let mut writing = Writing {
         text: String::new(alloc),
         open: Vec::new(alloc),
@@ -87,12 +88,19 @@ pub(crate) fn written(alloc: Global, data: &Data) -> Result<String, AllocError> 
     Ok(writing.text)
 }
 
+// JSON.
+struct Json;
+
+impl Notation for Json {
+    ghost reads = { λ text entries. Unit {0} };
+
+    fn read(&self, alloc: Global, text: &str) -> Result<Option<Data>, AllocError> {
+        Ok(data_of_json(alloc, text)?.ok())
+    }
+}
+
 /// Returns data as JSON, or nothing if the JSON does not read as the same data.
 pub fn json_of(alloc: Global, data: &Data) -> Result<Option<String>, AllocError> {
     let text = written(alloc, data)?;
-    if is_read_as(alloc, text.as_str(), data)? {
-        Ok(Some(text))
-    } else {
-        Ok(None)
-    }
+    kept(alloc, &Json, text, data)
 }

@@ -8,6 +8,6 @@ mod json_numbers;
 mod json_reader;
 mod json_strings;
 mod json_tokens;
-mod json_writer;
+pub mod json_writer;
 mod reads_alike;
 mod reads_sets_alike;
