@@ -24,9 +24,8 @@ enum Place {
 #[derive(Drop)]
 pub struct Attributes {
     slots: Slots,
-    // Those that found all their slots taken.
+    // Those whose slots were all taken, or whose hash another one had.
     crowded: OrderedAttributes,
-    count: usize,
 }
 
 impl Attributes {
@@ -35,29 +34,21 @@ impl Attributes {
         Attributes {
             slots: Slots::new(alloc),
             crowded: OrderedAttributes::new(alloc),
-            count: 0,
         }
     }
 
-    // Returns no attributes, with slots for a count of them.
-    fn with_room(alloc: Global, count: usize) -> Result<Attributes, AllocError> {
-        Ok(Attributes {
-            slots: Slots::with_room(alloc, count)?,
-            crowded: OrderedAttributes::new(alloc),
-            count: 0,
-        })
-    }
-
-    // Where the attribute of a set is that has a name with this hash.
+    // Where the attribute of a set is that has a name with this hash. At most one name is compared.
     fn place<V: Values>(&self, values: &V, hash: u64, set: usize, name: &str) -> Place {
         for (step, slot) in self.slots.window(hash).iter().enumerate() {
             if slot.is_free() {
                 return Place::Free(step);
             }
             if let Some(number) = slot.number_of(hash) {
-                if values.attribute(number) == Some((set, name)) {
-                    return Place::Taken(step, number);
-                }
+                return if values.attribute(number) == Some((set, name)) {
+                    Place::Taken(step, number)
+                } else {
+                    Place::Crowded
+                };
             }
         }
         Place::Crowded
@@ -72,85 +63,56 @@ impl Attributes {
         }
     }
 
-    // Makes a value the attribute of a set that has a name with this hash, and returns the one that was it before. There is room for it.
-    fn put<V: Values>(
+    // Puts those of other slots into the slots of a larger table, and what finds none there among the crowded.
+    fn move_slots<V: Values>(
         &mut self,
         alloc: Global,
         values: &V,
-        hash: u64,
-        (set, name): (usize, &str),
-        number: usize,
-    ) -> Result<Option<usize>, AllocError> {
-        let before = match self.place(values, hash, set, name) {
-            Place::Taken(step, before) => {
-                self.slots.put(step, hash, number);
-                Some(before)
-            }
-            Place::Free(step) => {
-                self.slots.put(step, hash, number);
-                None
-            }
-            Place::Crowded => self.crowded.insert(alloc, set, name, number)?,
-        };
-        self.count = self.count.saturating_add(1);
-        Ok(before)
-    }
-
-    // Adds the attributes of another that found slots there.
-    fn add_slots<V: Values>(
-        &mut self,
-        alloc: Global,
-        values: &V,
-        slots: &Slots,
+        grown: &mut Slots,
     ) -> Result<(), AllocError> {
-        for slot in slots.slots() {
-            if let Some((hash, number)) = slot.entry() {
-                if let Some(attribute) = values.attribute(number) {
-                    let _before = self.put(alloc, values, hash, attribute, number)?;
+        for slot in self.slots.slots() {
+            let Some((hash, number)) = slot.entry() else {
+                continue;
+            };
+            if !grown.add(hash, number) {
+                if let Some((set, name)) = values.attribute(number) {
+                    self.crowded.insert(alloc, set, name, number)?;
                 }
             }
         }
         Ok(())
     }
 
-    // Adds the attributes of another that found none.
-    fn add_crowded<V: Values>(
-        &mut self,
-        alloc: Global,
-        values: &V,
-        crowded: &OrderedAttributes,
-    ) -> Result<(), AllocError> {
-        for number in crowded.attributes.values() {
-            if let Some((set, name)) = values.attribute(*number) {
-                let hash = hash_of(set, name);
-                let _before = self.put(alloc, values, hash, (set, name), *number)?;
-            }
-        }
+    // Makes room for twice as many slots that are taken. What fails leaves the attributes as they are.
+    fn grow<V: Values>(&mut self, alloc: Global, values: &V) -> Result<(), AllocError> {
+        let mut grown = Slots::with_room(alloc, self.slots.count().saturating_mul(2))?;
+        self.move_slots(alloc, values, &mut grown)?;
+        self.crowded.attributes.retain(|_, number| {
+            !values
+                .attribute(*number)
+                .is_some_and(|(set, name)| grown.add(hash_of(set, name), *number))
+        });
+        self.slots = grown;
         Ok(())
     }
 
-    // Returns the same attributes with room for twice as many.
-    fn grown<V: Values>(&self, alloc: Global, values: &V) -> Result<Attributes, AllocError> {
-        let mut grown = Attributes::with_room(alloc, self.count.saturating_mul(2))?;
-        grown.add_slots(alloc, values, &self.slots)?;
-        grown.add_crowded(alloc, values, &self.crowded)?;
-        Ok(grown)
-    }
-
-    /// Makes a value the attribute of a set that has a name, and returns the one that was it before. The values hold all attributes so far, and need not
-    /// hold this one.
+    /// Makes a value the attribute of a set that has a name. The values hold all attributes so far, and need not hold this one.
     pub fn insert<V: Values>(
         &mut self,
         alloc: Global,
         values: &V,
-        attribute: (usize, &str),
+        (set, name): (usize, &str),
         number: usize,
-    ) -> Result<Option<usize>, AllocError> {
-        if !self.slots.has_room(self.count.saturating_add(1)) {
-            *self = self.grown(alloc, values)?;
+    ) -> Result<(), AllocError> {
+        if !self.slots.has_room() {
+            self.grow(alloc, values)?;
         }
-        let hash = hash_of(attribute.0, attribute.1);
-        self.put(alloc, values, hash, attribute, number)
+        let hash = hash_of(set, name);
+        match self.place(values, hash, set, name) {
+            Place::Taken(step, _) | Place::Free(step) => self.slots.put(step, hash, number),
+            Place::Crowded => self.crowded.insert(alloc, set, name, number)?,
+        }
+        Ok(())
     }
 }
 
@@ -190,8 +152,9 @@ mod tests {
         let mut alike = true;
         for number in 0..made.names.len() {
             if let Some((set, name)) = made.attribute(number) {
-                let before = hashed.insert(alloc, &made, (set, name), number)?;
-                alike = alike && before == ordered.insert(alloc, set, name, number)?;
+                alike = alike && hashed.get(&made, set, name) == ordered.get(set, name);
+                hashed.insert(alloc, &made, (set, name), number)?;
+                ordered.insert(alloc, set, name, number)?;
             }
             if number < 80 || number % 512 == 0 {
                 alike = alike && are_found(&made, &hashed, &ordered);

@@ -51,12 +51,11 @@ impl Builder {
             Some(around) => around.depth.saturating_add(1),
             None => 0,
         };
-        self.values.nodes.reserve(1)?;
         if let Some(set) = parent {
             if self.is_set(set) {
+                self.values.nodes.reserve(1)?;
                 let attribute = (set, name.as_str());
-                let _before = self
-                    .attributes
+                self.attributes
                     .insert(alloc, &self.values, attribute, node)?;
             }
         }

@@ -127,7 +127,8 @@ pub fn json_string(alloc: Global, text: &str, start: usize) -> Result<Read, Json
 
 // The number of bytes that come first and stand for themselves.
 fn plain_len(bytes: &[u8]) -> usize
-    ensures { result ≡ prefix_len is_plain bytes.now }
+    ensures len { result ≡ prefix_len is_plain bytes.now }
+    ensures within { result ≤ length bytes.now }
 {
     bytes.iter().take_while(|byte| is_plain(**byte)).count()
 }
@@ -155,7 +156,7 @@ fn push_number(byte: u8, text: &mut String) -> Result<(), AllocError>
 // Writes what stands for a byte that does not stand for itself.
 #[tactic(auto, unfolding(crate::specs::JsonString::escape))]
 fn push_escape(byte: u8, text: &mut String) -> Result<(), AllocError>
-    ensures { is_plain byte ≡ false → OnOk result (string_bytes text.new ≡ string_bytes text.old ++ escape byte) }
+    ensures { OnOk result (is_plain byte ≡ false → string_bytes text.new ≡ string_bytes text.old ++ escape byte) }
 {
     match byte {
         b'"' => text.push_str("\\\""),
@@ -184,15 +185,15 @@ fn push_run<'t>(value: &'t str, text: &mut String) -> Result<&'t str, AllocError
     ensures written { IfOk result (λ rest. string_bytes text.new ++ flat_map escape rest.now ≡ string_bytes text.old ++ flat_map escape value.now) }
     ensures fewer { IfOk result (λ rest. 0 < length value.now → length rest.now < length value.now) }
 {
-    let (run, rest) = value.split_at(plain_len(value.as_bytes()));
+    let bytes = value.as_bytes();
+    let plain = plain_len(bytes);
+    let (run, behind) = value.split_at(plain);
     push_some(run, text)?;
-    match rest.as_bytes().first() {
-        None => Ok(rest),
-        Some(byte) => {
-            push_escape(*byte, text)?;
-            Ok(rest.split_at(1).1)
-        }
+    if plain == bytes.len() {
+        return Ok(behind);
     }
+    push_escape(bytes[plain], text)?;
+    Ok(value.split_at(plain + 1).1)
 }
 
 /// Writes a string.

@@ -2,6 +2,7 @@
 
 mod builder;
 mod builds_alike;
+mod builds_chosen_alike;
 mod float;
 mod floats_alike;
 mod json_numbers;

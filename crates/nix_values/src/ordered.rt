@@ -37,15 +37,16 @@ impl OrderedAttributes {
         Ok(number)
     }
 
-    /// Makes a value the attribute of a set that has a name, and returns the one that was it before.
+    /// Makes a value the attribute of a set that has a name.
     pub fn insert(
         &mut self,
         alloc: Global,
         set: usize,
         name: &str,
         value: usize,
-    ) -> Result<Option<usize>, AllocError> {
+    ) -> Result<(), AllocError> {
         let number = self.number_of(alloc, name)?;
-        Ok(self.attributes.insert((set, number), value)?)
+        self.attributes.insert((set, number), value)?;
+        Ok(())
     }
 }

@@ -50,6 +50,8 @@ pub struct Slots {
     slots: Vec<Slot>,
     // The number of first slots, less one. It has only ones in binary.
     mask: usize,
+    // How many slots are taken.
+    count: usize,
 }
 
 /// The hash of an attribute.
@@ -66,6 +68,7 @@ impl Slots {
         Slots {
             slots: Vec::new(alloc),
             mask: 0,
+            count: 0,
         }
     }
 
@@ -80,12 +83,18 @@ impl Slots {
         Ok(Slots {
             slots: Vec::from_elem(alloc, free, firsts.saturating_add(WINDOW))?,
             mask: firsts.saturating_sub(1),
+            count: 0,
         })
     }
 
-    /// Whether there is room for a count of numbers.
-    pub fn has_room(&self, count: usize) -> bool {
-        count <= self.mask / 2
+    /// How many slots are taken.
+    pub fn count(&self) -> usize {
+        self.count
+    }
+
+    /// Whether one more may be taken: at most half as many are as there are first slots.
+    pub fn has_room(&self) -> bool {
+        self.count < self.mask / 2
     }
 
     /// All slots.
@@ -110,7 +119,29 @@ impl Slots {
     pub fn put(&mut self, step: usize, hash: u64, number: usize) {
         let place = self.first(hash).saturating_add(step);
         if let Some(slot) = self.slots.get_mut(place) {
+            if slot.is_free() {
+                self.count = self.count.saturating_add(1);
+            }
             *slot = Slot { hash, number };
         }
+    }
+
+    /// Puts a number into the first free slot of its hash, if there is one and no number has this hash. Returns whether it did.
+    pub fn add(&mut self, hash: u64, number: usize) -> bool {
+        let mut free = None;
+        for (step, slot) in self.window(hash).iter().enumerate() {
+            if slot.is_free() {
+                free = Some(step);
+                break;
+            }
+            if slot.number_of(hash).is_some() {
+                return false;
+            }
+        }
+        let Some(step) = free else {
+            return false;
+        };
+        self.put(step, hash, number);
+        true
     }
 }

@@ -7,9 +7,9 @@ use crate::data::Value;
 use std::alloc::{AllocError, Global};
 use std::test::Fail;
 
-// A builder and its model.
+/// A builder and its model.
 #[derive(Drop)]
-struct Both {
+pub struct Both {
     one: Builder,
     other: builder::Builder,
 }
@@ -25,16 +25,16 @@ fn value(alloc: Global, kind: usize) -> Result<Value, AllocError> {
 }
 
 impl Both {
-    // Both of no data.
-    fn new(alloc: Global) -> Both {
+    /// Both of no data.
+    pub fn new(alloc: Global) -> Both {
         Both {
             one: Builder::new(alloc),
             other: builder::Builder::new(alloc),
         }
     }
 
-    // Adds a value to both. Returns whether both number it alike.
-    fn add(
+    /// Adds a value to both: null, a list, a text or a set. Returns whether both number it alike.
+    pub fn add(
         &mut self,
         alloc: Global,
         parent: Option<usize>,
@@ -48,8 +48,8 @@ impl Both {
         Ok(one == other)
     }
 
-    // Whether a value has the same attributes of some names in both.
-    fn is_alike_at(&self, node: usize, names: &[String]) -> bool {
+    /// Whether a value has the same attributes of some names in both.
+    pub fn is_alike_at(&self, node: usize, names: &[String]) -> bool {
         for name in names {
             let name = name.as_str();
             if self.one.attribute(node, name) != self.other.attribute(node, name) {
@@ -69,8 +69,8 @@ impl Both {
         self.one.len() == self.other.len()
     }
 
-    // Whether both give the same data.
-    fn finish(self, alloc: Global) -> Result<bool, AllocError> {
+    /// Whether both give the same data.
+    pub fn finish(self, alloc: Global) -> Result<bool, AllocError> {
         let Both { one, other } = self;
         let (one, other) = (one.finish(alloc)?, other.finish(alloc)?);
         are_alike(alloc, &one, &other)
