@@ -1,46 +1,33 @@
-//! Texts of data, compared with those that are kept if the data that are read from them are the same.
+//! Data as Nix texts, compared with texts that are written letter by letter and kept if the data that are read from them are the same.
 
-ghost use Rattle.nix_data.specs.Written.{IsWritten};
-
+use crate::letter_writer::written;
 use crate::nix_reader::data_in;
-use crate::nix_writer::{is_meant, nix_of, written};
-use nix_values::{Data, Item, Notation, Value, kept};
+use crate::nix_writer::nix_of;
+use nix_values::{Data, Item, Value};
 use rnix::Root;
 use rnix::ast::AstNode;
 use std::alloc::{AllocError, Global};
 use std::test::Fail;
 
-// Nix, of which the data that were read are compared.
-struct Nix;
-
-impl Notation for Nix {
-    ghost use Rattle.nix_data.specs.Written.{IsWritten};
-
-    ghost reads = { IsWritten };
-
-    #[tactic(auto, using(crate::proofs::WrittenLemmas::written))]
-    fn read(&self, alloc: Global, text: &str) -> Result<Option<Data>, AllocError> {
-        let parse = Root::parse(alloc, text)?;
-        let Ok(root) = parse.ok() else {
-            return Ok(None);
-        };
-        let Ok(data) = data_in(alloc, root.syntax(), false)? else {
-            return Ok(None);
-        };
-        if is_meant(alloc, &root, &data)? {
-            Ok(Some(data))
-        } else {
-            Ok(None)
-        }
+// Data as a Nix text, if it is read as the same data.
+fn expected(alloc: Global, data: &Data) -> Result<Option<String>, AllocError> {
+    let text = written(alloc, data)?;
+    let parse = Root::parse(alloc, text.as_str())?;
+    let Ok(root) = parse.ok() else {
+        return Ok(None);
+    };
+    match data_in(alloc, root.syntax(), false)? {
+        Ok(found) if found.is_same(data) => Ok(Some(text)),
+        _ => Ok(None),
     }
 }
 
-// Whether the text of some data is the one that reading them from it gives.
+// Whether the text of some data is the one that is expected.
 fn is_alike(alloc: Global, items: Vec<Item>) -> Result<bool, AllocError> {
     let data = Data { items };
-    let read = kept(alloc, &Nix, written(alloc, &data)?, &data)?;
-    let meant = nix_of(alloc, &data)?;
-    Ok(match (&read, &meant) {
+    let written = nix_of(alloc, &data)?;
+    let expected = expected(alloc, &data)?;
+    Ok(match (&written, &expected) {
         (Some(one), Some(other)) => one.as_str() == other.as_str(),
         (None, None) => true,
         _ => false,

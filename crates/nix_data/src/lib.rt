@@ -4,6 +4,8 @@
 #[cfg(test)]
 mod compared;
 mod laws;
+#[cfg(test)]
+mod letter_writer;
 mod meaning;
 mod names;
 mod nix_reader;
@@ -12,7 +14,6 @@ mod no_data;
 mod quoted;
 #[cfg(test)]
 mod quoted_letters;
-mod readable;
 mod scalars;
 
 pub use laws::one_meaning;

@@ -6,9 +6,9 @@ ghost use Rattle.nix_data.specs.Written.{IsMeant, IsWritten};
 
 use crate::meaning::items_after;
 use crate::names::push_name;
+use crate::nix_reader::data_in;
 use crate::quoted::push_quoted;
-use crate::readable::is_readable;
-use nix_values::{Data, Item, Value, push_indentation};
+use nix_values::{Data, Item, Notation, Value, kept, push_indentation};
 use rnix::Root;
 use rnix::ast::AstNode;
 use std::alloc::{AllocError, Global};
@@ -105,7 +105,7 @@ impl Writing {
 }
 
 // Writes data as a Nix text.
-pub(crate) fn written(alloc: Global, data: &Data) -> Result<String, AllocError> {
+fn written(alloc: Global, data: &Data) -> Result<String, AllocError> {
     let mut writing = Writing {
         alloc,
         text: String::new(alloc),
@@ -122,7 +122,7 @@ pub(crate) fn written(alloc: Global, data: &Data) -> Result<String, AllocError> 
 
 // Whether the expression of a tree means some data.
 #[tactic(auto, using(crate::proofs::WrittenLemmas::meant))]
-pub(crate) fn is_meant(alloc: Global, root: &Root<'_>, whole: &Data) -> Result<bool, AllocError>
+fn is_meant(alloc: Global, root: &Root<'_>, whole: &Data) -> Result<bool, AllocError>
     ensures { IfOk result (λ is_meant. IsTrue is_meant → IsMeant root.now (contents whole.now)) }
 {
     let Some(expr) = root.expr() else {
@@ -134,29 +134,34 @@ pub(crate) fn is_meant(alloc: Global, root: &Root<'_>, whole: &Data) -> Result<b
     }
 }
 
-// Whether a text is read as some data.
-#[tactic(auto, using(crate::proofs::WrittenLemmas::written))]
-fn is_read_as(alloc: Global, text: &str, whole: &Data) -> Result<bool, AllocError>
-    ensures { IfOk result (λ is_read. IsTrue is_read → IsWritten text.now (contents whole.now)) }
-{
-    let parse = Root::parse(alloc, text)?;
-    let Ok(root) = parse.ok() else {
-        return Ok(false);
-    };
-    if !is_readable(alloc, whole)? {
-        return Ok(false);
+// Nix.
+struct Nix;
+
+impl Notation for Nix {
+    ghost use Rattle.nix_data.specs.Written.{IsWritten};
+
+    ghost reads = { IsWritten };
+
+    #[tactic(auto, using(crate::proofs::WrittenLemmas::written))]
+    fn read(&self, alloc: Global, text: &str) -> Result<Option<Data>, AllocError> {
+        let parse = Root::parse(alloc, text)?;
+        let Ok(root) = parse.ok() else {
+            return Ok(None);
+        };
+        let Ok(data) = data_in(alloc, root.syntax(), false)? else {
+            return Ok(None);
+        };
+        if is_meant(alloc, &root, &data)? {
+            Ok(Some(data))
+        } else {
+            Ok(None)
+        }
     }
-    Ok(is_meant(alloc, &root, whole)?)
 }
 
 /// Returns data as a Nix text, or `None` if the text would be read as other data. The text has no errors, and its expression means the data.
 pub fn nix_of(alloc: Global, whole: &Data) -> Result<Option<String>, AllocError>
     ensures { IfOk result (λ made. IfSome made (λ text. IsWritten (string_bytes text) (contents whole.now))) }
 {
-    let text = written(alloc, whole)?;
-    if is_read_as(alloc, text.as_str(), whole)? {
-        Ok(Some(text))
-    } else {
-        Ok(None)
-    }
+    kept(alloc, &Nix, written(alloc, whole)?, whole)
 }

@@ -1,33 +1,87 @@
 //! Strings of Nix.
 
+ghost use Rattle.std.specs.Prelude.{◌≡◌, ◌++◌, ◌≤◌, ◌<◌, false, length, OnOk, IfOk, string_bytes};
+ghost use Rattle.std.specs.List.{prefix_len};
+ghost use Rattle.nix_data.specs.NixString.{is_plain, begins_with_brace, escape, escaped, nix_string};
+
 use std::alloc::AllocError;
 
-// The escape for a byte of a string in `"` that this byte follows, or `None` if it needs none.
-fn escape(byte: u8, next: Option<&u8>) -> Option<&'static str> {
-    match byte {
-        b'"' => Some("\\\""),
-        b'\\' => Some("\\\\"),
-        b'\n' => Some("\\n"),
-        b'\r' => Some("\\r"),
-        b'\t' => Some("\\t"),
-        b'$' if next == Some(&b'{') => Some("\\$"),
-        _ => None,
+// Whether a byte stands for itself whatever follows.
+#[inline(always)]
+fn is_plain(byte: u8) -> bool
+    ensures { result ≡ is_plain byte }
+{
+    byte != b'\t' && byte != b'\n' && byte != b'\r' && byte != b'"' && byte != b'$' && byte != b'\\'
+}
+
+// The number of bytes that come first and stand for themselves whatever follows.
+fn plain_len(bytes: &[u8]) -> usize
+    ensures len { result ≡ prefix_len is_plain bytes.now }
+    ensures within { result ≤ length bytes.now }
+{
+    bytes.iter().take_while(|byte| is_plain(**byte)).count()
+}
+
+// Whether a text begins with a brace.
+fn begins_with_brace(text: &str) -> bool
+    ensures { result ≡ begins_with_brace text.now }
+{
+    match text.as_bytes() {
+        [first, ..] => *first == b'{',
+        [] => false,
     }
 }
 
-/// Writes a value as a Nix string in `"`.
-pub fn push_quoted(value: &str, text: &mut String) -> Result<(), AllocError> {
-    let bytes = value.as_bytes();
-    let mut start = 0;
-    text.push('"')?;
-    for (at, byte) in bytes.iter().enumerate() {
-        let behind = at.saturating_add(1);
-        if let Some(escape) = escape(*byte, bytes.get(behind)) {
-            text.push_str(value.get(start..at).unwrap_or(""))?;
-            text.push_str(escape)?;
-            start = behind;
-        }
+// Writes what stands for a byte in front of a text, if it may not stand for itself.
+#[tactic(auto, unfolding(crate::specs::NixString::escape))]
+fn push_escape(byte: u8, rest: &str, text: &mut String) -> Result<(), AllocError>
+    ensures { OnOk result (is_plain byte ≡ false → string_bytes text.new ≡ string_bytes text.old ++ escape byte rest.now) }
+{
+    match byte {
+        b'\t' => text.push_str("\\t"),
+        b'\n' => text.push_str("\\n"),
+        b'\r' => text.push_str("\\r"),
+        b'"' => text.push_str("\\\""),
+        b'\\' => text.push_str("\\\\"),
+        _ => text.push_str(if begins_with_brace(rest) { "\\$" } else { "$" }),
     }
-    text.push_str(value.get(start..).unwrap_or(""))?;
+}
+
+// Writes a text, if there is any.
+fn push_some(part: &str, text: &mut String) -> Result<(), AllocError>
+    ensures { OnOk result (string_bytes text.new ≡ string_bytes text.old ++ part.now) }
+{
+    if part.is_empty() {
+        return Ok(());
+    }
+    text.push_str(part)
+}
+
+// Writes the bytes that come first and stand for themselves and what stands for the byte behind them, and returns the rest.
+fn push_run<'t>(value: &'t str, text: &mut String) -> Result<&'t str, AllocError>
+    ensures written { IfOk result (λ rest. string_bytes text.new ++ escaped rest.now ≡ string_bytes text.old ++ escaped value.now) }
+    ensures fewer { IfOk result (λ rest. 0 < length value.now → length rest.now < length value.now) }
+{
+    let bytes = value.as_bytes();
+    let plain = plain_len(bytes);
+    let (run, behind) = value.split_at(plain);
+    push_some(run, text)?;
+    if plain == bytes.len() {
+        return Ok(behind);
+    }
+    let (_, rest) = value.split_at(plain + 1);
+    push_escape(bytes[plain], rest, text)?;
+    Ok(rest)
+}
+
+/// Writes a value as a Nix string in `"`.
+pub fn push_quoted(value: &str, text: &mut String) -> Result<(), AllocError>
+    ensures { OnOk result (string_bytes text.new ≡ string_bytes text.old ++ nix_string value.now) }
+{
+    text.push('"')?;
+    let mut rest = value;
+    while !rest.is_empty() {
+        rest = push_run(rest, text)?;
+    }
     text.push('"')
 }

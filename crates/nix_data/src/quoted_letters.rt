@@ -22,8 +22,8 @@ fn escape(letter: char, rest: &str) -> Option<&'static str> {
     }
 }
 
-// Returns a value as a Nix string in `"`.
-fn quoted(alloc: Global, value: &str) -> Result<String, AllocError> {
+/// Returns a value as a Nix string in `"`.
+pub fn quoted(alloc: Global, value: &str) -> Result<String, AllocError> {
     let mut text = String::new(alloc);
     text.push('"')?;
     let mut letters = value.chars();
