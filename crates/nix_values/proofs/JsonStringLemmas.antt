@@ -4,7 +4,7 @@ use Rattle.std.proofs.Common.{append_assoc, take-append-drop}
 use Rattle.std.proofs.lemmas.{Grind.flat_map-append, Bool.cases_lt, Bool.Decides.nat_tests, List.drop_more, Str.{IsCharBoundary-end, IsCharBoundary-before_ascii, IsCharBoundary-after_ascii}}
 use Rattle.std.proofs.lemmas.List.Sums.{prefix_len-le-length, prefix_len_stops}
 use Rattle.std.specs.{Str.{IsCharBoundary, IsUtf8}, List.{flat_map, prefix_len}}
-use Rattle.nix_values.specs.JsonString.{is_plain, escape}
+use Rattle.nix_values.specs.JsonEscapes.{is_plain, escape}
 
 -- a byte that does not stand for itself is below 128
 low : (b : ℕ) → is_plain b ≡ false → b < 128

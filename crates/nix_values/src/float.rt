@@ -4,8 +4,13 @@ use std::alloc::{AllocError, Global};
 
 /// Returns how many digits a text begins with.
 pub fn digits(text: &str) -> usize {
-    let others = text.bytes().position(|byte| !byte.is_ascii_digit());
-    others.unwrap_or(text.len())
+    let bytes = text.as_bytes();
+    for count in 0..bytes.len() {
+        if !bytes[count].is_ascii_digit() {
+            return count;
+        }
+    }
+    bytes.len()
 }
 
 // Whether a digit other than 0 stands before the exponent of a number.

@@ -1,9 +1,9 @@
 //! Strings of JSON.
 
-ghost use Rattle.std.specs.Prelude.{◌≡◌, ◌++◌, ◌≤◌, ◌<◌, false, length, OnOk, IfOk, string_bytes};
+ghost use Rattle.std.specs.Prelude.{◌≡◌, ◌++◌, ◌∷◌, [], ◌≤◌, ◌<◌, false, length, OnOk, IfOk, string_bytes};
 ghost use Rattle.std.specs.Char.{digit_char};
 ghost use Rattle.std.specs.List.{flat_map, prefix_len};
-ghost use Rattle.nix_values.specs.JsonString.{is_plain, numbered, escape, json_string};
+ghost use Rattle.nix_values.specs.JsonEscapes.{is_plain, numbered, escape, json_string};
 
 use crate::json_error::{JsonReason, JsonStop, refused};
 use std::alloc::{AllocError, Global};
@@ -101,10 +101,11 @@ pub fn json_string(alloc: Global, text: &str, start: usize) -> Result<Read, Json
     let mut at = start;
     for _part in start..=text.len() {
         let rest = text.get(at..).unwrap_or("");
-        let Some(len) = rest.bytes().position(|byte| !is_plain(byte)) else {
+        let len = plain_len(rest.as_bytes());
+        if len == rest.len() {
             break;
-        };
-        value.push_str(rest.get(..len).unwrap_or(""))?;
+        }
+        push_some(rest.get(..len).unwrap_or(""), &mut value)?;
         at = at.saturating_add(len);
         match text.as_bytes().get(at) {
             Some(b'"') => {
@@ -133,7 +134,7 @@ fn plain_len(bytes: &[u8]) -> usize
     bytes.iter().take_while(|byte| is_plain(**byte)).count()
 }
 
-// A digit of a hexadecimal number.
+// The digit of a number below 16 in hexadecimal.
 fn digit(number: u8) -> char
     ensures { number < 16 → result ≡ digit_char number }
 {
@@ -153,19 +154,27 @@ fn push_number(byte: u8, text: &mut String) -> Result<(), AllocError>
     text.push(digit(byte % 16))
 }
 
+// Writes a letter after a backslash.
+fn push_letter(letter: char, text: &mut String) -> Result<(), AllocError>
+    ensures { OnOk result (letter < 128 → string_bytes text.new ≡ string_bytes text.old ++ 92 ∷ letter ∷ []) }
+{
+    text.push('\\')?;
+    text.push(letter)
+}
+
 // Writes what stands for a byte that does not stand for itself.
-#[tactic(auto, unfolding(crate::specs::JsonString::escape))]
+#[tactic(auto, unfolding(crate::specs::JsonEscapes::escape))]
 fn push_escape(byte: u8, text: &mut String) -> Result<(), AllocError>
     ensures { OnOk result (is_plain byte ≡ false → string_bytes text.new ≡ string_bytes text.old ++ escape byte) }
 {
     match byte {
-        b'"' => text.push_str("\\\""),
-        b'\\' => text.push_str("\\\\"),
-        b'\n' => text.push_str("\\n"),
-        b'\r' => text.push_str("\\r"),
-        b'\t' => text.push_str("\\t"),
-        b'\x08' => text.push_str("\\b"),
-        b'\x0c' => text.push_str("\\f"),
+        b'"' => push_letter('"', text),
+        b'\\' => push_letter('\\', text),
+        b'\n' => push_letter('n', text),
+        b'\r' => push_letter('r', text),
+        b'\t' => push_letter('t', text),
+        b'\x08' => push_letter('b', text),
+        b'\x0c' => push_letter('f', text),
         _ => push_number(byte, text),
     }
 }
@@ -174,10 +183,11 @@ fn push_escape(byte: u8, text: &mut String) -> Result<(), AllocError>
 fn push_some(part: &str, text: &mut String) -> Result<(), AllocError>
     ensures { OnOk result (string_bytes text.new ≡ string_bytes text.old ++ part.now) }
 {
-    if part.is_empty() {
-        return Ok(());
+    match part.as_bytes() {
+        [] => Ok(()),
+        [byte] if *byte < 128 => text.push(char::from(*byte)),
+        _ => text.push_str(part),
     }
-    text.push_str(part)
 }
 
 // Writes the bytes that come first and stand for themselves and what stands for the byte behind them, and returns the rest.

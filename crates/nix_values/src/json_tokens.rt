@@ -44,14 +44,13 @@ fn token_of(token: Token, start: usize, len: usize) -> Cut {
 
 /// Returns the offset of the next token.
 pub fn after_space(text: &str, at: usize) -> usize {
-    let rest = text.as_bytes().get(at..).unwrap_or(&[]);
-    let spaces = rest
-        .iter()
-        .position(|byte| !matches!(*byte, b' ' | b'\t' | b'\n' | b'\r'));
-    match spaces {
-        Some(len) => at.saturating_add(len),
-        None => text.len(),
+    let bytes = text.as_bytes();
+    for next in at..bytes.len() {
+        if !matches!(bytes[next], b' ' | b'\t' | b'\n' | b'\r') {
+            return next;
+        }
     }
+    bytes.len()
 }
 
 // One of the three words at an offset.

@@ -2,7 +2,7 @@ use Rattle.std.proofs.Common.{◌≡◌, ◌++◌, codes, length, string_bytes}
 use denote.Text.{Utf8}
 use denote.Shadow.{shadow}
 use Rattle.std.specs.List.{flat_map}
-use Rattle.nix_values.specs.JsonString.{escape}
+use Rattle.nix_values.specs.JsonEscapes.{escape}
 use Rattle.nix_values.proofs.json_strings.push_json_string.Given as goal
 
 -- what is written and what still comes

@@ -1,6 +1,6 @@
 use Rattle.std.proofs.Common.{◌≡◌, ◌∙◌, ◌+◌, ◌<◌, ◌++◌, ap, sym, subst, take, drop, length, string_bytes, arith}
 use Rattle.std.specs.{Str.IsCharBoundary, List.{prefix_len, flat_map}}
-use Rattle.nix_values.specs.JsonString.{is_plain, escape}
+use Rattle.nix_values.specs.JsonEscapes.{is_plain, escape}
 use Rattle.nix_values.proofs.JsonStringLemmas.{plain_boundary, behind_boundary, run_written, byte_written}
 use Rattle.nix_values.proofs.json_strings.push_run.Goals as goal
 
