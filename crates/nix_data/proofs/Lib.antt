@@ -1,4 +1,5 @@
 pub mod MeaningLemmas
 pub mod WrittenLemmas
+pub mod NixStringLemmas
 pub mod UniqueLemmas
 pub mod MeaningExamples

@@ -2,8 +2,8 @@
 use Rattle.std.specs.Prelude.{ℕ, ◌==◌, Bool, false, not, ◌&&◌, ◌||◌, List, [], ◌∷◌, ◌++◌, codes, if◌then◌else◌}
 
 -- whether a byte stands for itself whatever follows: it is no quote, no backslash, no end of a line, no tabulator and no dollar sign
-abbrev pub is_plain : ℕ → Bool
-is_plain b = not (b == 9) && (not (b == 10) && (not (b == 13) && (not (b == 34) && (not (b == 36) && not (b == 92)))))
+abbrev pub is_ordinary : ℕ → Bool
+is_ordinary b = not (b == 9) && (not (b == 10) && (not (b == 13) && (not (b == 34) && (not (b == 36) && not (b == 92)))))
 
 -- whether a text begins with a brace
 abbrev pub begins_with_brace : List ℕ → Bool

@@ -105,18 +105,29 @@ const NAMES: [&str; 13] = [
     "", "a", "b", "or", "rec", "__curPos", "a.b", "${x}", "\0", "a\r", "\u{e9}", "null", "1",
 ];
 
+// Whether two words in a list, as floats or texts, have the text that is expected.
+fn are_words_alike(
+    alloc: Global,
+    one: &str,
+    other: &str,
+    is_float: bool,
+) -> Result<bool, AllocError> {
+    let mut is_same = true;
+    for depths in [(0, 1), (1, 1), (1, 0), (1, 2), (2, 1)] {
+        let values = (words(alloc, is_float, one)?, words(alloc, is_float, other)?);
+        let items = pair(alloc, Value::List, ("", ""), values, depths)?;
+        is_same = is_same && is_alike(alloc, items)?;
+    }
+    Ok(is_same)
+}
+
 #[test]
 fn writes_words(rt: HostRuntime) -> Result<(), Fail> {
-    for word in WORDS {
-        for is_float in [false, true] {
-            for (depth, other) in [(0, 1), (1, 1), (1, 0), (1, 2), (2, 1)] {
-                let alloc = rt.alloc();
-                let values = (
-                    words(alloc, is_float, word)?,
-                    words(alloc, is_float, "2.5")?,
-                );
-                let items = pair(alloc, Value::List, ("", ""), values, (depth, other))?;
-                assert!(rt; is_alike(alloc, items)?, "{word} at {depth}");
+    for one in WORDS {
+        for other in ["2.5", ""] {
+            for is_float in [false, true] {
+                let is_alike = are_words_alike(rt.alloc(), one, other, is_float)?;
+                assert!(rt; is_alike, "{one} and {other}");
             }
         }
     }

@@ -1,25 +1,25 @@
 //! Strings of Nix.
 
-ghost use Rattle.std.specs.Prelude.{◌≡◌, ◌++◌, ◌≤◌, ◌<◌, false, length, OnOk, IfOk, string_bytes};
+ghost use Rattle.std.specs.Prelude.{◌≡◌, ◌++◌, ◌∷◌, [], ◌≤◌, ◌<◌, false, length, OnOk, IfOk, string_bytes};
 ghost use Rattle.std.specs.List.{prefix_len};
-ghost use Rattle.nix_data.specs.NixString.{is_plain, begins_with_brace, escape, escaped, nix_string};
+ghost use Rattle.nix_data.specs.NixString.{is_ordinary, begins_with_brace, escape, escaped, nix_string};
 
 use std::alloc::AllocError;
 
 // Whether a byte stands for itself whatever follows.
 #[inline(always)]
-fn is_plain(byte: u8) -> bool
-    ensures { result ≡ is_plain byte }
+fn is_ordinary(byte: u8) -> bool
+    ensures { result ≡ is_ordinary byte }
 {
     byte != b'\t' && byte != b'\n' && byte != b'\r' && byte != b'"' && byte != b'$' && byte != b'\\'
 }
 
 // The number of bytes that come first and stand for themselves whatever follows.
 fn plain_len(bytes: &[u8]) -> usize
-    ensures len { result ≡ prefix_len is_plain bytes.now }
+    ensures len { result ≡ prefix_len is_ordinary bytes.now }
     ensures within { result ≤ length bytes.now }
 {
-    bytes.iter().take_while(|byte| is_plain(**byte)).count()
+    bytes.iter().take_while(|byte| is_ordinary(**byte)).count()
 }
 
 // Whether a text begins with a brace.
@@ -32,18 +32,27 @@ fn begins_with_brace(text: &str) -> bool
     }
 }
 
+// Writes a letter after a backslash.
+fn push_letter(letter: char, text: &mut String) -> Result<(), AllocError>
+    ensures { OnOk result (letter < 128 → string_bytes text.new ≡ string_bytes text.old ++ 92 ∷ letter ∷ []) }
+{
+    text.push('\\')?;
+    text.push(letter)
+}
+
 // Writes what stands for a byte in front of a text, if it may not stand for itself.
 #[tactic(auto, unfolding(crate::specs::NixString::escape))]
 fn push_escape(byte: u8, rest: &str, text: &mut String) -> Result<(), AllocError>
-    ensures { OnOk result (is_plain byte ≡ false → string_bytes text.new ≡ string_bytes text.old ++ escape byte rest.now) }
+    ensures { OnOk result (is_ordinary byte ≡ false → string_bytes text.new ≡ string_bytes text.old ++ escape byte rest.now) }
 {
     match byte {
-        b'\t' => text.push_str("\\t"),
-        b'\n' => text.push_str("\\n"),
-        b'\r' => text.push_str("\\r"),
-        b'"' => text.push_str("\\\""),
-        b'\\' => text.push_str("\\\\"),
-        _ => text.push_str(if begins_with_brace(rest) { "\\$" } else { "$" }),
+        b'\t' => push_letter('t', text),
+        b'\n' => push_letter('n', text),
+        b'\r' => push_letter('r', text),
+        b'"' => push_letter('"', text),
+        b'\\' => push_letter('\\', text),
+        _ if begins_with_brace(rest) => push_letter('$', text),
+        _ => text.push('$'),
     }
 }
 
@@ -51,10 +60,11 @@ fn push_escape(byte: u8, rest: &str, text: &mut String) -> Result<(), AllocError
 fn push_some(part: &str, text: &mut String) -> Result<(), AllocError>
     ensures { OnOk result (string_bytes text.new ≡ string_bytes text.old ++ part.now) }
 {
-    if part.is_empty() {
-        return Ok(());
+    match part.as_bytes() {
+        [] => Ok(()),
+        [byte] if *byte < 128 => text.push(char::from(*byte)),
+        _ => text.push_str(part),
     }
-    text.push_str(part)
 }
 
 // Writes the bytes that come first and stand for themselves and what stands for the byte behind them, and returns the rest.
@@ -75,6 +85,7 @@ fn push_run<'t>(value: &'t str, text: &mut String) -> Result<&'t str, AllocError
 }
 
 /// Writes a value as a Nix string in `"`.
+#[tactic(auto, unfolding(crate::specs::NixString::escaped))]
 pub fn push_quoted(value: &str, text: &mut String) -> Result<(), AllocError>
     ensures { OnOk result (string_bytes text.new ≡ string_bytes text.old ++ nix_string value.now) }
 {
