@@ -3,11 +3,11 @@ use Rattle.std.specs.Prelude.{ℕ, ◌==◌, nat_lt, ◌/◌, ◌%◌, Bool, not
 use Rattle.std.specs.Char.{digit_char}
 use Rattle.std.specs.List.{flat_map}
 
--- whether a byte stands for itself: it is no control character, no quote and no backslash
+-- whether a byte stands for itself: it is no control character below 32, no quote and no backslash
 abbrev pub is_plain : ℕ → Bool
 is_plain b = not (nat_lt b 32) && (not (b == 34) && not (b == 92))
 
--- what stands for a byte: itself, a control character's number in four digits, a quote or a backslash after a backslash
+-- what stands for a byte: itself, the number of a control character below 32 in four digits, a quote or a backslash after a backslash
 unfoldable pub escape : ℕ → List ℕ
 escape b =
     if is_plain b then b ∷ []

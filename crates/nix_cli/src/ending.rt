@@ -1,7 +1,9 @@
 //! Exit statuses and refusals.
 
+ghost use Rattle.std.specs.Io.KnownBytes.{Keeps};
+
 use crate::arguments::Program;
-use std::io;
+use std::io::{self, Write};
 use std::process::ExitCode;
 
 /// The exit status if something was found.
@@ -12,6 +14,24 @@ pub const FAILED: u8 = 2;
 /// Reports on standard error why something is refused.
 pub fn refuse(rt: &HostRuntime, program: &Program, reason: &str) -> io::Result<()> {
     eprintln!(rt; "{}: {reason}", program.name)
+}
+
+/// Reports on standard error what is wrong at the line and column of a file, after the output that is gathered in `out`: it is flushed
+/// first. The message is also written if that fails.
+pub fn refuse_after_output<W: Write>(
+    rt: &HostRuntime,
+    program: &Program,
+    file: &str,
+    place: (usize, usize),
+    reason: &str,
+    out: &mut W,
+) -> io::Result<()>
+    ensures { Keeps (W.contents out.old) (W.contents out.new) }
+{
+    let flushed = out.flush();
+    let (line, column) = place;
+    eprintln!(rt; "{}: {file}:{line}:{column}: {reason}", program.name)?;
+    flushed
 }
 
 /// Returns the exit code of a program: its status, or [`FAILED`] after an error, which is reported on standard error.

@@ -1,9 +1,11 @@
 //! Finding and reading files.
 
+ghost use Rattle.std.specs.Io.KnownBytes.{Keeps};
+
 use crate::arguments::Program;
 use crate::file_replacement::replace_text;
 use std::io::{Read, Write};
-use std::{fs, io};
+use std::{fmt, fs, io};
 
 /// The files that the arguments name.
 #[derive(Drop)]
@@ -14,72 +16,113 @@ pub struct Files {
     pub failed: usize,
 }
 
-// Whether a name is that of a folder. False if that cannot be found out: reading it then fails.
-fn is_folder(rt: &HostRuntime, name: &str) -> bool {
+/// The files that the arguments name, for a program that gathers its output.
+#[derive(Drop)]
+pub struct Inputs {
+    /// The files.
+    pub files: Files,
+    // Whether all of them were regular files when they were found.
+    are_regular: bool,
+}
+
+// What a name stands for.
+#[derive(Clone, Copy, PartialEq, Eq)]
+enum Kind {
+    Folder,
+    Regular,
+    // Anything else, also if it cannot be found out: reading it then fails.
+    Other,
+}
+
+// What a name on the command line stands for.
+fn kind_of(rt: &HostRuntime, name: &str) -> Kind {
     match fs::metadata(rt, name) {
-        Ok(data) => data.is_dir(),
-        Err(_) => false,
+        Ok(data) if data.is_dir() => Kind::Folder,
+        Ok(data) if data.is_file() => Kind::Regular,
+        Ok(_) | Err(_) => Kind::Other,
     }
 }
 
-// Adds the files of a folder whose names end with `.nix`, and the folders in it. Links to folders are not followed.
-fn list(
-    rt: &HostRuntime,
-    folder: &str,
-    found: &mut Vec<String>,
-    folders: &mut Vec<String>,
-) -> io::Result<()> {
+// What is found in a folder and below.
+#[derive(Drop)]
+struct Found {
+    // The files whose names end with `.nix`.
+    names: Vec<String>,
+    // The folders that are still to be read.
+    folders: Vec<String>,
+    // Whether all of the files are regular.
+    are_regular: bool,
+}
+
+// Adds what is in a folder. Links to folders are not followed.
+fn list(rt: &HostRuntime, folder: &str, found: &mut Found) -> io::Result<()> {
     for entry in fs::read_dir(rt, folder)? {
         let entry = entry?;
         let name = String::from_str(rt.alloc(), entry.path().as_str())?;
-        if entry.file_type()?.is_dir() {
-            folders.push(name)?;
+        let kind = entry.file_type()?;
+        if kind.is_dir() {
+            found.folders.push(name)?;
         } else if name.ends_with(".nix") {
-            found.push(name)?;
+            found.names.push(name)?;
+            found.are_regular = found.are_regular && kind.is_file();
         }
     }
     Ok(())
 }
 
-// The names of all files in a folder and below that end with `.nix`, sorted.
-fn files_below(rt: &HostRuntime, folder: &str) -> io::Result<Vec<String>> {
-    let mut found = Vec::new(rt.alloc());
-    let mut folders = Vec::new(rt.alloc());
-    folders.push(String::from_str(rt.alloc(), folder)?)?;
+// What is found in a folder and below, the names of the files sorted.
+fn files_below(rt: &HostRuntime, folder: &str) -> io::Result<Found> {
+    let mut found = Found {
+        names: Vec::new(rt.alloc()),
+        folders: Vec::new(rt.alloc()),
+        are_regular: true,
+    };
+    found.folders.push(String::from_str(rt.alloc(), folder)?)?;
     for _folder in 0..u64::MAX {
-        let Some(next) = folders.pop() else {
+        let Some(next) = found.folders.pop() else {
             break;
         };
-        list(rt, next.as_str(), &mut found, &mut folders)?;
+        list(rt, next.as_str(), &mut found)?;
     }
-    found.sort()?;
+    found.names.sort()?;
     Ok(found)
 }
 
 /// Returns the files that the arguments name: `-` is standard input, a folder means all files in it and below that end with `.nix`, and
 /// any other name is a file. No names mean standard input. A folder that cannot be read is reported and counted.
 pub fn find_files(rt: &HostRuntime, program: &Program, names: &[String]) -> io::Result<Files> {
-    let mut found = Files {
+    Ok(find_inputs(rt, program, names)?.files)
+}
+
+/// Finds files as [`find_files`] does, for [`Inputs::read_text`].
+pub fn find_inputs(rt: &HostRuntime, program: &Program, names: &[String]) -> io::Result<Inputs> {
+    let mut files = Files {
         names: Vec::new(rt.alloc()),
         failed: 0,
     };
     if names.is_empty() {
-        found.names.push(String::from_str(rt.alloc(), "-")?)?;
+        files.names.push(String::from_str(rt.alloc(), "-")?)?;
     }
+    let mut are_regular = true;
     for name in names {
-        if !is_folder(rt, name.as_str()) {
-            found.names.push(name.clone()?)?;
+        let kind = kind_of(rt, name.as_str());
+        if kind != Kind::Folder {
+            files.names.push(name.clone()?)?;
+            are_regular = are_regular && kind == Kind::Regular;
             continue;
         }
         match files_below(rt, name.as_str()) {
-            Ok(below) => found.names.extend(below)?,
+            Ok(below) => {
+                files.names.extend(below.names)?;
+                are_regular = are_regular && below.are_regular;
+            }
             Err(error) => {
-                found.failed = found.failed.saturating_add(1);
+                files.failed = files.failed.saturating_add(1);
                 eprintln!(rt; "{}: {name}: {error}", program.name)?;
             }
         }
     }
-    Ok(found)
+    Ok(Inputs { files, are_regular })
 }
 
 /// The name of a file in messages.
@@ -105,21 +148,37 @@ pub fn place_of(text: &str, offset: usize) -> (usize, usize) {
     end_place(text.get(..offset).unwrap_or(text))
 }
 
-/// Reads the text of a file, or of standard input for `-`. Returns None if it cannot be read or is not UTF-8, which is reported.
-pub fn read_text(rt: &HostRuntime, program: &Program, name: &str) -> io::Result<Option<String>> {
+// Why a text could not be read, as it stands in a message behind the name of the file.
+#[derive(Drop)]
+enum Unread {
+    // The file or standard input could not be read.
+    Failed(io::Error),
+    // The bytes at this line and column are not UTF-8.
+    NotUtf8(usize, usize),
+}
+
+impl fmt::Display for Unread {
+    fn fmt<W: fmt::Write>(&self, f: &mut fmt::Formatter<W>) -> fmt::Result {
+        match self {
+            Unread::Failed(error) => write!(f, ": {error}"),
+            Unread::NotUtf8(line, column) => write!(f, ":{line}:{column}: not UTF-8"),
+        }
+    }
+}
+
+// Reads the text of a file, or of standard input for `-`.
+fn text_of(rt: &HostRuntime, name: &str) -> Result<String, Unread> {
     let mut bytes = Vec::new(rt.alloc());
     let outcome = if name == "-" {
         rt.stdin().read_to_end(&mut bytes).map(|_count| ())
     } else {
         fs::read(rt, name).map(|read| bytes = read)
     };
-    let shown = shown_name(name);
     if let Err(error) = outcome {
-        eprintln!(rt; "{}: {shown}: {error}", program.name)?;
-        return Ok(None);
+        return Err(Unread::Failed(error));
     }
     match String::from_utf8(bytes) {
-        Ok(text) => Ok(Some(text)),
+        Ok(text) => Ok(text),
         Err(error) => {
             let valid = error.utf8_error().valid_up_to();
             let (line, column) = match std::str::from_utf8(
@@ -128,8 +187,57 @@ pub fn read_text(rt: &HostRuntime, program: &Program, name: &str) -> io::Result<
                 Ok(text) => end_place(text),
                 Err(_) => (1, 1),
             };
-            eprintln!(rt; "{}: {shown}:{line}:{column}: not UTF-8", program.name)?;
+            Err(Unread::NotUtf8(line, column))
+        }
+    }
+}
+
+/// Reads the text of a file, or of standard input for `-`. Returns None if it cannot be read or is not UTF-8, which is reported.
+pub fn read_text(rt: &HostRuntime, program: &Program, name: &str) -> io::Result<Option<String>> {
+    match text_of(rt, name) {
+        Ok(text) => Ok(Some(text)),
+        Err(unread) => {
+            eprintln!(rt; "{}: {}{unread}", program.name, shown_name(name))?;
             Ok(None)
+        }
+    }
+}
+
+impl Inputs {
+    // Whether reading one of the files may wait: it is standard input, or no regular file. False if that cannot be found out: reading it
+    // then fails.
+    fn may_wait(&self, rt: &HostRuntime, name: &str) -> bool {
+        if name == "-" || self.are_regular {
+            return name == "-";
+        }
+        match fs::metadata(rt, name) {
+            Ok(data) => !data.is_file(),
+            Err(_) => false,
+        }
+    }
+
+    /// Reads the text of one of the files as [`read_text`] does, after output that is gathered in `out`: it is flushed before standard input
+    /// or anything but a regular file is read, and before a message, which is also written if that fails.
+    pub fn read_text<W: Write>(
+        &self,
+        rt: &HostRuntime,
+        program: &Program,
+        name: &str,
+        out: &mut W,
+    ) -> io::Result<Option<String>>
+        ensures { Keeps (W.contents out.old) (W.contents out.new) }
+    {
+        if self.may_wait(rt, name) {
+            out.flush()?;
+        }
+        match text_of(rt, name) {
+            Ok(text) => Ok(Some(text)),
+            Err(unread) => {
+                let flushed = out.flush();
+                eprintln!(rt; "{}: {}{unread}", program.name, shown_name(name))?;
+                flushed?;
+                Ok(None)
+            }
         }
     }
 }

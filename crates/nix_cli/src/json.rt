@@ -1,6 +1,6 @@
 //! JSON output.
 
-ghost use Rattle.std.specs.Prelude.{◌≡◌, ◌≤◌, ◌<◌, length, take, OnOk, IfOk};
+ghost use Rattle.std.specs.Prelude.{◌≡◌, ◌≤◌, ◌<◌, false, length, take, OnOk, IfOk};
 ghost use Rattle.std.specs.Char.{digit_char};
 ghost use Rattle.std.specs.List.{flat_map, prefix_len};
 ghost use Rattle.std.specs.Io.KnownBytes.{Appends};
@@ -24,7 +24,7 @@ fn plain_len(bytes: &[u8]) -> usize
     bytes.iter().take_while(|byte| is_plain(**byte)).count()
 }
 
-// A digit of a hexadecimal number.
+// The hexadecimal digit of a number below 16.
 fn digit(number: u8) -> u8
     ensures { number < 16 → result ≡ digit_char number }
 {
@@ -35,20 +35,18 @@ fn digit(number: u8) -> u8
     }
 }
 
-// The bytes that stand for a byte in a JSON string, and their number.
+// Writes what stands for a byte that is not plain.
+#[inline(always)]
 #[tactic(auto, unfolding(crate::specs::JsonString::escape))]
-fn escape_of(byte: u8) -> ([u8; 6], usize)
-    ensures value { take result.1 result.0 ≡ escape byte }
-    ensures within { result.1 ≤ 6 }
+fn write_escape<W: Write>(byte: u8, out: &mut W) -> io::Result<()>
+    requires { is_plain byte ≡ false }
+    ensures { OnOk result (Appends (W.contents out.old) (W.contents out.new) (escape byte)) }
 {
-    if is_plain(byte) {
-        return ([byte, 0, 0, 0, 0, 0], 1);
+    if byte >= b' ' {
+        return out.write_all(&[b'\\', byte]);
     }
-    if byte < b' ' {
-        let digits = [digit(byte / 16), digit(byte % 16)];
-        return ([b'\\', b'u', b'0', b'0', digits[0], digits[1]], 6);
-    }
-    ([b'\\', byte, 0, 0, 0, 0], 2)
+    let digits = [digit(byte / 16), digit(byte % 16)];
+    out.write_all(&[b'\\', b'u', b'0', b'0', digits[0], digits[1]])
 }
 
 // Writes bytes, if there are any.
@@ -72,8 +70,7 @@ fn write_run<W: Write>(bytes: &[u8], out: &mut W) -> io::Result<usize>
     if plain == bytes.len() {
         return Ok(plain);
     }
-    let (escape, len) = escape_of(bytes[plain]);
-    out.write_all(&escape[..len])?;
+    write_escape(bytes[plain], out)?;
     Ok(plain + 1)
 }
 

@@ -12,9 +12,11 @@ mod progress;
 
 pub use arguments::{Arguments, Program, Start, VERSION, parse_arguments, read_arguments};
 pub use colors::is_colored;
-pub use ending::{FAILED, FOUND, end, refuse};
+pub use ending::{FAILED, FOUND, end, refuse, refuse_after_output};
 pub use excerpt::write_excerpt;
 pub use file_replacement::replace_text;
-pub use files::{Files, find_files, place_of, read_text, shown_name, write_text};
+pub use files::{
+    Files, Inputs, find_files, find_inputs, place_of, read_text, shown_name, write_text,
+};
 pub use json::write_json_string;
 pub use progress::Progress;
