@@ -7,8 +7,8 @@ mod sarif;
 
 use check::{Format, Style, check_text};
 use nix_cli::{
-    Arguments, FAILED, FOUND, Program, Progress, Start, end, find_files, is_colored,
-    read_arguments, read_text, refuse, shown_name,
+    Arguments, FAILED, FOUND, Inputs, Program, Progress, Start, end, find_inputs, is_colored,
+    read_arguments, refuse, shown_name,
 };
 use sarif::{write_head, write_tail};
 use std::io;
@@ -53,12 +53,13 @@ struct Tally {
 // Checks a file, and counts its errors, or the file if it cannot be read.
 fn check_file<W: Write>(
     rt: &HostRuntime,
+    inputs: &Inputs,
     name: &str,
     style: Style,
     tally: &mut Tally,
     out: &mut W,
 ) -> io::Result<()> {
-    match read_text(rt, &PROGRAM, name)? {
+    match inputs.read_text(rt, &PROGRAM, name, out)? {
         Some(text) => {
             let (shown, earlier) = (shown_name(name), tally.errors);
             let found = check_text(rt.alloc(), shown, text.as_str(), style, earlier, out)?;
@@ -72,20 +73,19 @@ fn check_file<W: Write>(
 // Checks the files in order.
 fn check_files<W: Write>(
     rt: &HostRuntime,
-    names: &[String],
+    inputs: &Inputs,
     style: Style,
     out: &mut W,
 ) -> io::Result<Tally> {
-    let files = find_files(rt, &PROGRAM, names)?;
-    let progress = Progress::of(rt, files.names.len());
+    let progress = Progress::of(rt, inputs.files.names.len());
     let mut tally = Tally {
         errors: 0,
-        unread: files.failed,
+        unread: inputs.files.failed,
     };
-    for (number, name) in files.names.iter().enumerate() {
+    for (number, name) in inputs.files.names.iter().enumerate() {
         progress.show(rt, number)?;
         let before = tally.errors;
-        check_file(rt, name.as_str(), style, &mut tally, out)?;
+        check_file(rt, inputs, name.as_str(), style, &mut tally, out)?;
         if tally.errors != before {
             progress.clear(rt)?;
             out.flush()?;
@@ -128,10 +128,12 @@ fn check_all(rt: &HostRuntime, arguments: &Arguments, format: Format) -> io::Res
         is_colored: is_colored(rt, arguments),
     };
     let mut out = BufWriter::new(rt.alloc(), rt.stdout())?;
+    // Folders are read, and those that cannot be are reported, before anything is written.
+    let inputs = find_inputs(rt, &PROGRAM, &arguments.words)?;
     if format == Format::Sarif {
         write_head(PROGRAM.name, &mut out)?;
     }
-    let tally = check_files(rt, &arguments.words, style, &mut out)?;
+    let tally = check_files(rt, &inputs, style, &mut out)?;
     match format {
         Format::Text => write_count(tally, &mut out)?,
         Format::Json => {}

@@ -5,8 +5,8 @@ mod dead;
 
 use dead::{Name, dead_names};
 use nix_cli::{
-    Arguments, FAILED, FOUND, Program, Start, end, find_files, place_of, read_arguments, read_text,
-    shown_name, write_json_string,
+    Arguments, FAILED, FOUND, Program, Start, end, find_inputs, place_of, read_arguments,
+    refuse_after_output, shown_name, write_json_string,
 };
 use rnix::{Parse, Root};
 use rnix_text::{ColumnUnit, LineIndex};
@@ -63,10 +63,16 @@ fn write_names<W: Write>(
 }
 
 // Reports the first syntax error of a text.
-fn refuse_text(rt: &HostRuntime, file: &str, text: &str, read: &Parse) -> io::Result<()> {
+fn refuse_text<W: Write>(
+    rt: &HostRuntime,
+    file: &str,
+    text: &str,
+    read: &Parse,
+    out: &mut W,
+) -> io::Result<()> {
     let range = read.errors().first().and_then(|error| error.range());
-    let (line, column) = place_of(text, range.map_or(text.len(), |range| range.start()));
-    eprintln!(rt; "nix-dead: {file}:{line}:{column}: this is not Nix")
+    let place = place_of(text, range.map_or(text.len(), |range| range.start()));
+    refuse_after_output(rt, &PROGRAM, file, place, "this is not Nix", out)
 }
 
 // Writes the unused names of a text, and returns the exit status. A text with syntax errors is refused.
@@ -79,7 +85,7 @@ fn report<W: Write>(
 ) -> io::Result<u8> {
     let read = Root::parse(rt.alloc(), text)?;
     if !read.errors().is_empty() {
-        refuse_text(rt, file, text, &read)?;
+        refuse_text(rt, file, text, &read, out)?;
         return Ok(FAILED);
     }
     let names = dead_names(rt.alloc(), &read.syntax())?;
@@ -94,10 +100,10 @@ fn report<W: Write>(
 // Writes the unused names of the files that the command line names, and returns the highest exit status.
 fn report_files(rt: &HostRuntime, arguments: &Arguments) -> io::Result<u8> {
     let mut out = BufWriter::new(rt.alloc(), rt.stdout())?;
-    let files = find_files(rt, &PROGRAM, &arguments.words)?;
-    let mut status = if files.failed == 0 { 0 } else { FAILED };
-    for file in &files.names {
-        let own = match read_text(rt, &PROGRAM, file.as_str())? {
+    let inputs = find_inputs(rt, &PROGRAM, &arguments.words)?;
+    let mut status = if inputs.files.failed == 0 { 0 } else { FAILED };
+    for file in &inputs.files.names {
+        let own = match inputs.read_text(rt, &PROGRAM, file.as_str(), &mut out)? {
             Some(text) => {
                 let (name, is_json) = (shown_name(file.as_str()), arguments.has("--json"));
                 report(rt, name, text.as_str(), is_json, &mut out)?

@@ -5,8 +5,8 @@ mod lines;
 
 use lines::write_names;
 use nix_cli::{
-    Arguments, FAILED, Program, Start, end, find_files, place_of, read_arguments, read_text,
-    shown_name,
+    Arguments, FAILED, Program, Start, end, find_inputs, place_of, read_arguments,
+    refuse_after_output, shown_name,
 };
 use nix_scopes::resolve;
 use rnix::{Parse, Root};
@@ -34,10 +34,16 @@ Ends with 0, or with 2 if a file has a syntax error, or something could not be r
 };
 
 // Reports the first syntax error of a text.
-fn refuse_text(rt: &HostRuntime, file: &str, text: &str, read: &Parse) -> io::Result<()> {
+fn refuse_text<W: Write>(
+    rt: &HostRuntime,
+    file: &str,
+    text: &str,
+    read: &Parse,
+    out: &mut W,
+) -> io::Result<()> {
     let range = read.errors().first().and_then(|error| error.range());
-    let (line, column) = place_of(text, range.map_or(text.len(), |range| range.start()));
-    eprintln!(rt; "{}: {file}:{line}:{column}: syntax error", PROGRAM.name)
+    let place = place_of(text, range.map_or(text.len(), |range| range.start()));
+    refuse_after_output(rt, &PROGRAM, file, place, "syntax error", out)
 }
 
 // Writes the names of a text, and returns the exit status. A text with syntax errors is refused.
@@ -50,7 +56,7 @@ fn report<W: Write>(
 ) -> io::Result<u8> {
     let read = Root::parse(rt.alloc(), text)?;
     if !read.errors().is_empty() {
-        refuse_text(rt, file, text, &read)?;
+        refuse_text(rt, file, text, &read, out)?;
         return Ok(FAILED);
     }
     let names = resolve(rt.alloc(), &read.syntax())?;
@@ -62,11 +68,11 @@ fn report<W: Write>(
 // Writes the names of the files that the command line names, and returns the highest exit status.
 fn report_files(rt: &HostRuntime, arguments: &Arguments) -> io::Result<u8> {
     let mut out = BufWriter::new(rt.alloc(), rt.stdout())?;
-    let files = find_files(rt, &PROGRAM, &arguments.words)?;
+    let inputs = find_inputs(rt, &PROGRAM, &arguments.words)?;
     let is_json = arguments.has("--json");
-    let mut status = if files.failed == 0 { 0 } else { FAILED };
-    for file in &files.names {
-        let own = match read_text(rt, &PROGRAM, file.as_str())? {
+    let mut status = if inputs.files.failed == 0 { 0 } else { FAILED };
+    for file in &inputs.files.names {
+        let own = match inputs.read_text(rt, &PROGRAM, file.as_str(), &mut out)? {
             Some(text) => report(
                 rt,
                 shown_name(file.as_str()),

@@ -5,8 +5,7 @@ mod json;
 
 use json::write_json;
 use nix_cli::{
-    Arguments, FAILED, FOUND, Program, Start, end, find_files, read_arguments, read_text,
-    shown_name,
+    Arguments, FAILED, FOUND, Inputs, Program, Start, end, find_inputs, read_arguments, shown_name,
 };
 use rnix_print::{RunError, run, status};
 use std::alloc::Global;
@@ -46,12 +45,13 @@ fn print_text<W: Write>(alloc: Global, text: &str, out: &mut W) -> io::Result<u8
 // Prints one of some files, and returns the status.
 fn print_file<W: Write>(
     rt: &HostRuntime,
+    inputs: &Inputs,
     name: &str,
     is_json: bool,
     heading: Option<&str>,
     out: &mut W,
 ) -> io::Result<u8> {
-    let Some(text) = read_text(rt, &PROGRAM, name)? else {
+    let Some(text) = inputs.read_text(rt, &PROGRAM, name, out)? else {
         return Ok(FAILED);
     };
     if is_json {
@@ -66,7 +66,8 @@ fn print_file<W: Write>(
 
 // Prints the files that the command line names, and returns the worst status of all.
 fn print_files(rt: &HostRuntime, arguments: &Arguments) -> io::Result<u8> {
-    let files = find_files(rt, &PROGRAM, &arguments.words)?;
+    let inputs = find_inputs(rt, &PROGRAM, &arguments.words)?;
+    let files = &inputs.files;
     let (is_json, is_alone) = (arguments.has("--json"), files.names.len() == 1);
     let mut out = BufWriter::new(rt.alloc(), rt.stdout())?;
     let mut worst = if files.failed == 0 { 0 } else { FAILED };
@@ -76,7 +77,7 @@ fn print_files(rt: &HostRuntime, arguments: &Arguments) -> io::Result<u8> {
             (false, 0) => Some(""),
             (false, _) => Some("\n"),
         };
-        let own = print_file(rt, name.as_str(), is_json, heading, &mut out)?;
+        let own = print_file(rt, &inputs, name.as_str(), is_json, heading, &mut out)?;
         worst = worst.max(own);
     }
     out.flush()?;
