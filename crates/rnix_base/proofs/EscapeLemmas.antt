@@ -45,7 +45,7 @@ character_of c (first ∷ more) e = record {
 pub is_character : (c : ℕ) (bytes : List ℕ) → bytes ≡ encode_utf8 c → IsCharacter bytes
 is_character c bytes e = character_of c bytes (sym e)
 
-unescaped-nil : (m : Bool) → unescaped m [] ≡ []
+pub unescaped-nil : (m : Bool) → unescaped m [] ≡ []
 unfolding values
 unescaped-nil m = refl
 
@@ -92,29 +92,32 @@ unescaped_plain m [] text h = refl
 unescaped_plain m (b ∷ bytes) text h = unescaped_step m b (bytes ++ text) _ (plain_piece m b (bytes ++ text) (h 0 (omega arith)))
     ∙ ap (λ t. b ∷ t) (unescaped_plain m bytes text (λ k i. h (suc k) (omega arith)))
 
--- a text begins with its run of plain bytes
-pub plain_begins : (m : Bool) (text value rest : List ℕ) → 0 < prefix_len (is_plain m) text → value ≡ take (prefix_len (is_plain m) text) text
-    → rest ≡ drop (prefix_len (is_plain m) text) text → Begins m text value rest
-plain_begins m text value rest some e f =
+-- a byte that means itself and the plain bytes behind it
+pub run_begins : (m : Bool) (b : ℕ) (text value rest : List ℕ) → first_piece m (b ∷ text) ≡ itself (b ∷ text)
+    → value ≡ b ∷ take (prefix_len (is_plain m) text) text → rest ≡ drop (prefix_len (is_plain m) text) text → Begins m (b ∷ text) value rest
+run_begins m b text value rest free e f =
     let n = prefix_len (is_plain m) text in
     let most = prefix_len-le-length (is_plain m) text in
     let plain : (k : ℕ) → k < length (take n text) → is_plain m (get_or (take n text) k 0) ≡ true =
     λ k l. let low : k < n = omega (arith, l, length-take-le n text most) in
     ap (is_plain m) (get_or-take n text k 0 low) ∙ prefix_len_passes (is_plain m) text k 0 low in
+    let run : unescaped m text ≡ take n text ++ unescaped m (drop n text) =
+    ap (unescaped m) (sym (take-append-drop n text)) ∙ unescaped_plain m (take n text) (drop n text) plain in
     record {
-      split = rw (e, f) (ap (unescaped m) (sym (take-append-drop n text)) ∙ unescaped_plain m (take n text) (drop n text) plain);
-      shorter = omega (arith, ap length f, length-drop n text, most, some);
+      split = rw (e, f) (unescaped_step m b text _ free ∙ ap (λ t. b ∷ t) run);
+      shorter = omega (arith, ap length f, length-drop n text);
     }
 
 -- such a run ends before a byte below 128, or with the text
-pub plain_boundary : (m : Bool) (text : List ℕ) → IsCharBoundary text (prefix_len (is_plain m) text)
-plain_boundary m text =
+pub run_boundary : (m : Bool) (b : ℕ) (text : List ℕ) → IsCharBoundary (b ∷ text) (suc (prefix_len (is_plain m) text))
+run_boundary m b text =
     let n = prefix_len (is_plain m) text in
     elim (cases_lt n (length text)) [
-      | inl within ↦ IsCharBoundary-before_ascii text n within (low m (get_or text n 0) (prefix_len_stops (is_plain m) text 0 within))
+      | inl within ↦ IsCharBoundary-before_ascii (b ∷ text) (suc n) (omega (arith, within))
+          (low m (get_or text n 0) (prefix_len_stops (is_plain m) text 0 within))
       | inr all ↦
-          let same : length text ≡ n = omega (arith, prefix_len-le-length (is_plain m) text) in
-          subst (IsCharBoundary text) same (IsCharBoundary-end text)
+          let same : length (b ∷ text) ≡ suc n = omega (arith, prefix_len-le-length (is_plain m) text) in
+          subst (IsCharBoundary (b ∷ text)) same (IsCharBoundary-end (b ∷ text))
     ]
   where
     low : (m : Bool) (b : ℕ) → is_plain m b ≡ false → b < 128

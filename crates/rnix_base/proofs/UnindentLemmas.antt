@@ -1,4 +1,4 @@
--- What the lines of a text do not lose, character by character.
+-- What the lines of a text do not lose: byte by byte, then a line at once.
 use Rattle.std.proofs.Common.{◌≡◌, ◌+◌, ◌-◌, ◌<◌, ◌≤◌, ◌++◌, ◌∙◌, ℕ, zero, suc, true, false, ◌==◌, List, [], ◌∷◌, Some, refl, sym, ap, inl, inr, length}
 use Rattle.std.proofs.{Common.{get_or, take, drop, arith, length-drop, length-take-le, take-append-drop}, Math.Seq.take-suc, lemmas.Bool.{cases_lt, Decides.nat_tests}}
 use Rattle.std.proofs.lemmas.List.{append-nil, append_assoc, nil_from_length, drop_more, get_or-take, get_or-drop}

@@ -38,7 +38,7 @@ indented_piece text =
     else (if begins (codes "''") text then None
     else itself text)))
 
--- a byte that means itself wherever it stands in such a text
+-- a byte that means itself if a piece begins with it
 abbrev pub is_plain : Bool → ℕ → Bool
 is_plain multiline b = if multiline then not (b == 39) else (not (b == 34) && not (b == 92))
 

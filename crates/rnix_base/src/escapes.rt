@@ -2,7 +2,7 @@
 
 ghost use Rattle.std.specs.Prelude.{◌≡◌, [], IfOk, MatchOption, string_bytes, true, false};
 ghost use Rattle.std.specs.List.{prefix_len};
-ghost use Rattle.rnix_base.specs.Escapes.{unescaped, Begins, Escapes, IsFirstChar, is_plain};
+ghost use Rattle.rnix_base.specs.Escapes.{unescaped, first_piece, itself, is_plain, Begins, Escapes, IsFirstChar};
 
 use std::alloc::{AllocError, Global};
 
@@ -29,39 +29,7 @@ fn escape(text: &str) -> Option<(&str, &str)>
     Some((value, rest))
 }
 
-// Returns the value of the first piece of a string in `"`, and the rest; `None` if no piece fits.
-fn quoted_piece(text: &str) -> Option<(&str, &str)>
-    ensures { MatchOption result (unescaped false text.now ≡ []) (λ p. Begins false text.now p.0.now p.1.now) }
-{
-    if text.starts_with("\"") {
-        return None;
-    }
-    match text.strip_prefix("\\") {
-        Some(rest) => escape(rest),
-        None => first_char(text),
-    }
-}
-
-// Returns the value of the first piece of a string in `''`, and the rest; `None` if no piece fits.
-fn indented_piece(text: &str) -> Option<(&str, &str)>
-    ensures { MatchOption result (unescaped true text.now ≡ []) (λ p. Begins true text.now p.0.now p.1.now) }
-{
-    if let Some(rest) = text.strip_prefix("'''") {
-        return Some(("''", rest));
-    }
-    if let Some(rest) = text.strip_prefix("''$") {
-        return Some(("$", rest));
-    }
-    if let Some(rest) = text.strip_prefix("''\\") {
-        return escape(rest);
-    }
-    if text.starts_with("''") {
-        return None;
-    }
-    first_char(text)
-}
-
-// Returns whether the byte means itself wherever it stands.
+// Returns whether the byte means itself if a piece begins with it.
 fn is_plain(byte: u8, multiline: bool) -> bool
     ensures { result ≡ is_plain multiline byte }
 {
@@ -82,14 +50,52 @@ fn plain_len(bytes: &[u8], multiline: bool) -> usize
         .count()
 }
 
-// Returns the value of the first piece, or of a run of plain bytes, and the rest; `None` if no piece fits.
+// Returns a first byte that means itself and the plain bytes after it, and the rest; `None` if the text is empty.
+fn plain_run(text: &str, multiline: bool) -> Option<(&str, &str)>
+    requires { first_piece multiline text.now ≡ itself text.now }
+    ensures { MatchOption result (unescaped multiline text.now ≡ []) (λ p. Begins multiline text.now p.0.now p.1.now) }
+{
+    let (_, more) = text.as_bytes().split_first()?;
+    let len = plain_len(more, multiline);
+    Some(text.split_at(1 + len))
+}
+
+// Returns the value of an escape of a string in `"`, or else of the bytes up to the next one, and the rest; `None` if no piece fits.
+fn quoted_piece(text: &str) -> Option<(&str, &str)>
+    ensures { MatchOption result (unescaped false text.now ≡ []) (λ p. Begins false text.now p.0.now p.1.now) }
+{
+    if let Some(rest) = text.strip_prefix("\\") {
+        return escape(rest);
+    }
+    if text.starts_with("\"") {
+        return None;
+    }
+    plain_run(text, false)
+}
+
+// Returns the value of an escape of a string in `''`, or else of the bytes up to the next `'`, and the rest; `None` if no piece fits.
+fn indented_piece(text: &str) -> Option<(&str, &str)>
+    ensures { MatchOption result (unescaped true text.now ≡ []) (λ p. Begins true text.now p.0.now p.1.now) }
+{
+    if let Some(rest) = text.strip_prefix("'''") {
+        return Some(("''", rest));
+    }
+    if let Some(rest) = text.strip_prefix("''$") {
+        return Some(("$", rest));
+    }
+    if let Some(rest) = text.strip_prefix("''\\") {
+        return escape(rest);
+    }
+    if text.starts_with("''") {
+        return None;
+    }
+    plain_run(text, true)
+}
+
+// Returns the value of an escape, or else of a run of plain bytes, and the rest; `None` if no piece fits.
 fn first_piece(text: &str, multiline: bool) -> Option<(&str, &str)>
     ensures { MatchOption result (unescaped multiline text.now ≡ []) (λ p. Begins multiline text.now p.0.now p.1.now) }
 {
-    let plain = plain_len(text.as_bytes(), multiline);
-    if plain > 0 {
-        return Some(text.split_at(plain));
-    }
     if multiline {
         indented_piece(text)
     } else {

@@ -1,4 +1,4 @@
-use Rattle.{std.proofs.Common.{true, codes}, rnix_base.proofs.EscapeLemmas.{strip_gives, primes_begin, dollar_begins, escape_begins, char_begins, primes_end}}
+use Rattle.{std.proofs.Common.{true, codes}, rnix_base.proofs.EscapeLemmas.{strip_gives, primes_begin, dollar_begins, escape_begins, primes_end}}
 use Rattle.rnix_base.proofs.EscapeLemmas.{primes_free}
 use Rattle.rnix_base.proofs.escapes.indented_piece.Goals as goal
 
@@ -17,8 +17,6 @@ pub returns-then-starts_with : goal.returns-then-starts_with
 returns-then-starts_with c = primes_end c.args.text.now c.in_default.ensures.cases c.in_default-strip_prefix.ensures.cases
     c.in_default-strip_prefix-2.ensures.cases c.if-starts_with.ensures.cases
 
-pub returns : goal.returns
-returns c =
-    let free = primes_free c.args.text.now c.in_default.ensures.cases c.in_default-strip_prefix.ensures.cases c.in_default-strip_prefix-2.ensures.cases
-    c.if-starts_with.ensures.cases in
-    char_begins true c.args.text.now c.first_char.result free c.first_char.ensures
+pub plain_run-requires : goal.plain_run-requires
+plain_run-requires c = primes_free c.args.text.now c.in_default.ensures.cases c.in_default-strip_prefix.ensures.cases
+    c.in_default-strip_prefix-2.ensures.cases c.if-starts_with.ensures.cases

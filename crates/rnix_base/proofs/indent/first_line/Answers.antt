@@ -1,4 +1,4 @@
-use Rattle.std.proofs.Common.{◌≡◌, ◌+◌, ◌∙◌, ap, sym, subst, take, drop, arith}
+use Rattle.std.proofs.Common.{◌∙◌, ap, subst}
 use Rattle.{std.specs.{Prelude.min, List.prefix_len, Str.IsUtf8}, rnix_base.{specs.{Normal.spaces, Indent.is_inside_line}, proofs.UnindentLemmas.{behind_spaces, behind_feed, fed_line, last_line, no_line}}}
 use Rattle.rnix_base.proofs.indent.first_line.Goals as goal
 
