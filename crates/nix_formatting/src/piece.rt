@@ -83,35 +83,6 @@ pub fn line_feeds_in(text: &str) -> usize {
     text.bytes().filter(|byte| *byte == b'\n').count()
 }
 
-// The first line of a text.
-#[derive(Clone, Copy)]
-struct FirstLine {
-    // Its end, in bytes.
-    end: usize,
-    // The number of its characters.
-    width: usize,
-}
-
-// Whether a byte begins a character.
-fn begins_char(byte: u8) -> bool {
-    byte < 0x80 || byte >= 0xc0
-}
-
-// The first line of a text, without its line feed.
-fn first_line(text: &str) -> FirstLine {
-    let mut line = FirstLine { end: 0, width: 0 };
-    for byte in text.as_bytes() {
-        if *byte == b'\n' {
-            return line;
-        }
-        line.end = line.end.saturating_add(1);
-        if begins_char(*byte) {
-            line.width = line.width.saturating_add(1);
-        }
-    }
-    line
-}
-
 impl Piece {
     /// A part of the old text whose characters are all of ASCII and no line feeds, with no gap yet: a name, or a token of a text without errors that is
     /// no white space, no comment and no part of a string.
@@ -131,16 +102,18 @@ impl Piece {
 
     /// A piece of the old text, with no gap yet.
     pub fn new(start: usize, text: &str) -> Piece {
-        let first = first_line(text);
-        let last_width = if first.end == text.len() {
-            None
-        } else {
-            text.rsplit_once('\n').map(|(_, last)| last.chars().count())
+        let word = Piece::of_word(start, start.saturating_add(text.len()));
+        let Some((first, _)) = text.split_once('\n') else {
+            return Piece {
+                width: text.chars().count(),
+                ..word
+            };
         };
+        let last_width = text.rsplit_once('\n').map(|(_, last)| last.chars().count());
         Piece {
-            width: first.width,
+            width: first.chars().count(),
             last_width,
-            ..Piece::of_word(start, start.saturating_add(text.len()))
+            ..word
         }
     }
 }
