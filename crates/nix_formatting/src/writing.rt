@@ -41,9 +41,6 @@ struct Writer<'a> {
     layout: &'a Layout,
     measures: Measures,
     made: String,
-    // The part of the old text that follows what is made, but is not copied yet.
-    start: usize,
-    end: usize,
     // The current column, and the indentation of the current line.
     column: usize,
     indent: usize,
@@ -78,17 +75,8 @@ impl<'a> Writer<'a> {
         self.opened.get(number).copied().unwrap_or(UNKNOWN)
     }
 
-    // Copies what is not copied yet.
-    fn flush(&mut self) -> Result<(), AllocError> {
-        self.made
-            .push_str(self.text.get(self.start..self.end).unwrap_or(""))?;
-        self.start = self.end;
-        Ok(())
-    }
-
     // Ends the line, and begins the next one.
     fn end_line(&mut self, gap: Gap) -> Result<(), AllocError> {
-        self.flush()?;
         self.made.push('\n')?;
         if gap.has_empty_line {
             self.made.push('\n')?;
@@ -100,28 +88,15 @@ impl<'a> Writer<'a> {
         Ok(())
     }
 
-    // Writes a space before the part of the old text that begins at an offset. A space that is there already is copied with that part.
-    fn write_blank(&mut self, next: usize) -> Result<(), AllocError> {
-        self.column = self.column.saturating_add(1);
-        let end = self.end;
-        if end.saturating_add(1) == next && self.text.as_bytes().get(end) == Some(&b' ') {
-            self.end = next;
-            return Ok(());
-        }
-        self.flush()?;
-        self.made.push(' ')?;
-        Ok(())
-    }
-
     // Writes the gap before a piece.
-    fn write_gap(&mut self, piece: &Piece) -> Result<(), AllocError> {
-        let gap = piece.gap;
+    fn write_gap(&mut self, gap: Gap) -> Result<(), AllocError> {
         let is_broken = self.group_at(gap.group).mode == Mode::Broken;
         if gap.is_hard || (gap.can_break && is_broken) {
             return self.end_line(gap);
         }
         if gap.blanks > 0 {
-            return self.write_blank(piece.start);
+            self.made.push(' ')?;
+            self.column = self.column.saturating_add(1);
         }
         Ok(())
     }
@@ -200,19 +175,14 @@ impl<'a> Writer<'a> {
         Ok(())
     }
 
-    // Copies the old text from an offset up to another one, at once with the part that ends where it begins.
+    // Copies the old text from an offset up to another one.
     fn copy(&mut self, start: usize, end: usize) -> Result<(), AllocError> {
-        if start != self.end {
-            self.flush()?;
-            self.start = start;
-        }
-        self.end = end;
+        self.made.push_str(self.text.get(start..end).unwrap_or(""))?;
         Ok(())
     }
 
     // Writes spaces.
     fn write_blanks(&mut self, count: usize) -> Result<(), AllocError> {
-        self.flush()?;
         for _ in 0..count {
             self.made.push(' ')?;
         }
@@ -255,12 +225,11 @@ impl<'a> Writer<'a> {
     fn write(mut self) -> Result<String, AllocError> {
         for (number, piece) in self.layout.pieces.iter().enumerate() {
             if number > 0 {
-                self.write_gap(piece)?;
+                self.write_gap(piece.gap)?;
             }
             self.open_groups(number)?;
             self.write_piece(piece)?;
         }
-        self.flush()?;
         if !self.layout.pieces.is_empty() {
             self.made.push('\n')?;
         }
@@ -275,14 +244,9 @@ pub fn written(alloc: Global, text: &str, layout: &Layout) -> Result<String, All
         layout,
         measures: Measures::of(alloc, layout)?,
         made: String::new(alloc),
-        start: 0,
-        end: 0,
         column: 0,
         indent: 0,
         opened: Vec::new(alloc),
     };
     writer.write()
 }
-
-#[cfg(test)]
-pub mod tests;

@@ -7,7 +7,6 @@ use crate::measuring::tests::check_measures;
 use crate::model;
 use crate::piece::Piece;
 use crate::spacing::Child;
-use crate::writing::tests::check_written;
 use crate::writing::written;
 use rnix::{NodeOrToken, Root, SyntaxElement, SyntaxKind, SyntaxNode, SyntaxToken, WalkEvent};
 use std::alloc::{AllocError, Global};
@@ -278,8 +277,7 @@ fn check(rt: &(impl Abort + AllocGlobal), text: &str) -> Result<(), AllocError> 
             "{text}"
         );
     }
-    check_measures(rt, &new)?;
-    check_written(rt, text, &new)
+    check_measures(rt, &new)
 }
 
 mod edges;
