@@ -126,10 +126,10 @@ impl<'t> PreorderWithTokens<'t> {
         }
     }
 
-    /// Skips the rest of the innermost element that was entered in both walks, as `skip_subtree` does, if that is alike, and returns whether it is: both
-    /// walks enter siblings there next, and these and the siblings after them are alike, with all that is inside them: as many nodes and tokens, of the
-    /// same kinds, with parents in the same places, and tokens of the same texts; or both leave an element next. Otherwise both walks stay where they
-    /// are. Linear in the number of elements that are compared, up to the first two that differ, and in the bytes of the texts that are compared.
+    /// Skips the rest of the innermost element that was entered in both walks, as `skip_subtree` does, if that is alike, and returns whether it is. It is
+    /// alike if both walks enter siblings there next, and from these on both have as many nodes and tokens, of the same kinds, with parents in the same
+    /// places, and tokens of the same texts. It is alike too if both leave an element next. Otherwise both walks stay where they are. Linear in the
+    /// number of elements that are compared, up to the first two that differ, and in the bytes of the texts that are compared.
     pub fn skip_alike(&mut self, other: &mut PreorderWithTokens<'_>) -> bool
         ensures exact { Decides result (AreNextAlike self.old other.old) }
         ensures skipped { IsTrue result → (self.new ≡ from_leaving 0 self.old) × (other.new ≡ from_leaving 0 other.old) }
