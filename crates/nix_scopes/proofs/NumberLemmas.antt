@@ -3,8 +3,10 @@ use Rattle.std.proofs.Common.{◌≡◌, ℕ, zero, suc, ◌+◌, ◌<◌, List,
 use Rattle.std.proofs.{Common.{arith, ◌==◌}, lemmas.{List.Elements.{All-head, All-tail}, Bool.{cond-true, cond-false, and_left, false≢true, Decides.nat_tests}}}
 use Rattle.std.proofs.lemmas.{Option.none-some, Slice.Eq.bytes_eq-Decides}
 use Rattle.std.specs.{Prelude.{cond, ◌&&◌, ◌⊎◌, if◌then◌else◌, slice_get, is_some, IsSome}, List.{All, position_from}, Option.{option_or, unwrap_or}}
-use Rattle.{std.specs.Str.bytes_eq, rnix_green.specs.Tree.Located}
-use Rattle.{rnix_green.proofs.NumberTests.{is_same, is_above}, nix_scopes.specs.Scopes.{Bound, binds, number_in}}
+use Rattle.std.{proofs.{Common.Bor, Math.Bool.and-false, lemmas.Map.Text.is_eq-slice_cmp}, specs.{Str.bytes_eq, Ordering.{is_eq, nat_cmp, ordering_then}}}
+use Rattle.std.specs.{Cmp.{tied_then, unsigned_tied}, Cmp.Lexicographic.slice_cmp, declared.cmp.Ordering.Ordering}
+use Rattle.{rnix_green.{specs.Tree.Located, proofs.NumberTests.{is_same, is_above}}, nix_scopes.specs.Scopes.{Bound, binds, number_in}}
+use Rattle.nix_scopes.specs.Resolving.{Key, compare_key, mark_of}
 
 -- nothing behind a number
 pub or_none : (o : Option ℕ) → option_or o None ≡ o
@@ -20,6 +22,32 @@ given_once false number old new is = is
 pub given_twice : (b : Bool) (first second old new once : Option ℕ) → new ≡ cond b second once → once ≡ cond b first old → new ≡ (if b then second else old)
 given_twice true first second old new once is was = is
 given_twice false first second old new once is was = is ∙ was
+
+-- keys are the same where their names are
+same_key : (a b : List ℕ) (r : ℕ × ℕ) → is_eq (compare_key a (mark_of b, record { ref_ptr = r; now = b })) ≡ bytes_eq a b
+same_key a b r =
+    sym (tied_then (nat_cmp (mark_of a) (mark_of b)) (slice_cmp nat_cmp a b))
+    ∙ ap (λ e. is_eq (nat_cmp (mark_of a) (mark_of b)) && e) (is_eq-slice_cmp a b) ∙ chosen (bytes_eq a b) refl
+  where
+    chosen : (e : Bool) → bytes_eq a b ≡ e → (is_eq (nat_cmp (mark_of a) (mark_of b)) && e) ≡ e
+    chosen false is = and-false (is_eq (nat_cmp (mark_of a) (mark_of b)))
+    chosen true is =
+        let marks : mark_of a ≡ mark_of b = ap mark_of ((bytes_eq-Decides a b).0 is) in
+        ap (λ e. e && true) (unsigned_tied (mark_of a) (mark_of b) ∙ is_same (mark_of a) (mark_of b) marks)
+
+-- how two keys are ordered
+abbrev compare_keys : Key → Key → Ordering
+compare_keys a b = ordering_then (nat_cmp a.0 b.0) (slice_cmp nat_cmp a.1.now b.1.now)
+
+-- one name gets another number, or loses its own
+pub key_updated : (key : Key) (text : Bor (List ℕ)) (number : Option ℕ) (old new : Key → Option ℕ) → key ≡ (mark_of text.now, text) →
+    ((query : Key) → new query ≡ cond (is_eq (compare_keys key query)) number (old query)) → (other : List ℕ) →
+    new (mark_of other, record { ref_ptr = text.ref_ptr; now = other })
+    ≡ cond (bytes_eq text.now other) number (old (mark_of other, record { ref_ptr = text.ref_ptr; now = other }))
+key_updated key text number old new is updates other =
+    let query : Key = (mark_of other, record { ref_ptr = text.ref_ptr; now = other }) in
+    updates query ∙ ap (λ (k : Key). cond (is_eq (compare_keys k query)) number (old query)) is
+    ∙ ap (λ e. cond e number (old query)) (same_key text.now other text.ref_ptr)
 
 -- the first place in one list and then in another
 position-append : {X : Type 0} (p : X → Bool) (i j : ℕ) (xs ys : List X) → j ≡ i + length xs →

@@ -19,7 +19,7 @@ mapped_more g f xs i x old bs more l at is added =
     ∙ ap (λ y. map f (map g (take i xs)) ++ f (g y) ∷ []) (sym at)))
 
 -- a scope binds one name more
-pub names_more : {S : Type 0} (outer : List ℕ → Option ℕ) (bindings more : List Binding) (old new : Numbers S) (hidden shown : List (Option ℕ))
+pub names_more : (outer : List ℕ → Option ℕ) (bindings more : List Binding) (old new : Numbers) (hidden shown : List (Option ℕ))
     (first number own : ℕ) (was hid : Option ℕ) (scope : Located) (b : Bound) → b.scope.number ≡ scope.number →
     map bound_of more ≡ map bound_of bindings ++ b ∷ [] → number ≡ length bindings → was ≡ number_by old b.text →
     own ≡ own_of (number_by old b.text) first number →

@@ -83,7 +83,7 @@ all_kept bindings more hidden shown n owns (scope ∷ outer) below all longer h 
     )
 
 -- a scope has bound nothing yet
-pub binding_begun : {S : Type 0} (outer : List ℕ → Option ℕ) (bindings : List Bound) (numbers : Numbers S) (hidden : List (Option ℕ)) (scope : Located) →
+pub binding_begun : (outer : List ℕ → Option ℕ) (bindings : List Bound) (numbers : Numbers) (hidden : List (Option ℕ)) (scope : Located) →
     All (λ (b : Bound). b.scope.number < scope.number) bindings → ((text : List ℕ) → number_by numbers text ≡ outer text) →
     ((text : List ℕ) (n : ℕ) → outer text ≡ Some n → n < length bindings) → length hidden ≡ length bindings →
     IsBinding outer bindings numbers hidden (length bindings) scope
@@ -99,7 +99,7 @@ binding_begun outer bindings numbers hidden scope all seen before count = record
   };
 }
 
-module _ {S : Type 0} (outer : List ℕ → Option ℕ) (bindings : List Bound) (old new : Numbers S) (hidden : List (Option ℕ)) (first : ℕ) (scope : Located)
+module _ (outer : List ℕ → Option ℕ) (bindings : List Bound) (old new : Numbers) (hidden : List (Option ℕ)) (first : ℕ) (scope : Located)
     (b : Bound) (same : b.scope.number ≡ scope.number) (h : IsBinding outer bindings old hidden first scope) where
   -- what a name is found to be as it is bound: its number in the scope, and its number outside
   record Given (o : Option ℕ) : Type 0 where
@@ -202,12 +202,12 @@ module _ {S : Type 0} (outer : List ℕ → Option ℕ) (bindings : List Bound) 
           ∙ h.is_open.hides n x low was.0 was.1
 
 -- what is shown of more bindings is shown of fewer
-pub shown_fewer : {S : Type 0} (outer : List ℕ → Option ℕ) (bindings : List Bound) (first end number : ℕ) (old new : Numbers S) (text : List ℕ) →
+pub shown_fewer : (outer : List ℕ → Option ℕ) (bindings : List Bound) (first end number : ℕ) (old new : Numbers) (text : List ℕ) →
     end ≤ number → IsShownAgain outer bindings first number old new text → IsShownAgain outer bindings first end old new text
 shown_fewer outer bindings first end number old new text less (inl shown) = inl shown
 shown_fewer outer bindings first end number old new text less (inr kept) = inr (kept.0, λ n b low high at. kept.1 n b low (omega (arith, high, less)) at)
 
-module _ {S : Type 0} (outer : List ℕ → Option ℕ) (bindings : List Bound) (old now new : Numbers S) (hidden : List (Option ℕ)) (own : Scope) (number : ℕ)
+module _ (outer : List ℕ → Option ℕ) (bindings : List Bound) (old now new : Numbers) (hidden : List (Option ℕ)) (own : Scope) (number : ℕ)
     (so_far : (text : List ℕ) → IsShownAgain outer bindings own.first number old now text) where
   -- a number that is no binding's shows nothing
   shown_none : slice_get bindings number ≡ None → (text : List ℕ) → number_by new text ≡ number_by now text →

@@ -1,11 +1,15 @@
 -- What is kept while a text is resolved: the numbers of the names in sight, and what the open scopes hide.
 use Rattle.std.specs.Prelude.{◌≡◌, ℕ, ◌+◌, ◌<◌, ◌≤◌, ◌==◌, ◌⊎◌, nat_le, nat_lt, Bool, false, not, List, [], ◌∷◌, ◌++◌, map, length, get_or, slice_get}
-use Rattle.std.specs.Prelude.{Option, Some, None, IsSome, option_map, ◌-◌, if◌then◌else◌}
+use Rattle.std.specs.Prelude.{Option, Some, None, IsSome, option_map, ◌-◌, ◌/◌, if◌then◌else◌}
 use Rattle.std.specs.List.{All}
 use Rattle.std.specs.Option.{option_or}
 use Rattle.std.specs.Str.{bytes_eq}
 use Rattle.std.specs.Borrow.{Bor}
-use Rattle.std.specs.HashMap.{HashMap, get_by}
+use Rattle.std.specs.Int.{w64, from_be_bytes}
+use Rattle.std.specs.BTreeMap.{BTreeMap, get_by}
+use Rattle.std.specs.Ordering.{nat_cmp, ordering_then}
+use Rattle.std.specs.declared.cmp.Ordering.{Ordering}
+use Rattle.std.specs.Cmp.Lexicographic.{slice_cmp}
 use Rattle.rnix_green.specs.Tree.{Located, item_of}
 use Rattle.rnix_green.specs.Relatives.{parent_of}
 use Rattle.rnix_tree.specs.InsideCounts.{inside_count}
@@ -20,13 +24,29 @@ use Rattle.nix_scopes.specs.Binders.{is_scope}
 use Rattle.nix_scopes.specs.Scopes.{Bound, Resolved, resolved, number_in, innermost}
 use Rattle.nix_scopes.specs.Bound.{bound_of, AreFirst}
 
+-- the number that some bytes of a name make
+abbrev pub mark_of : List ℕ → ℕ
+mark_of text =
+    let end : ℕ = length text in
+    from_be_bytes w64
+    (get_or text (end - 1) 0 ∷ get_or text (end - 2) 0 ∷ get_or text (end - 3) 0 ∷ get_or text (end - 4) 0 ∷ get_or text (end / 2) 0
+    ∷ get_or text (end / 4) 0 ∷ get_or text 0 0 ∷ get_or text 1 0 ∷ [])
+
+-- a name behind its number
+abbrev pub Key : Type 0
+Key = ℕ × Bor (List ℕ)
+
+-- how a name stands to a key
+abbrev pub compare_key : List ℕ → Key → Ordering
+compare_key text key = ordering_then (nat_cmp (mark_of text) key.0) (slice_cmp nat_cmp text key.1.now)
+
 -- numbers of names
-abbrev pub Numbers : Type 0 → Type 0
-Numbers S = HashMap (Bor (List ℕ)) ℕ S
+abbrev pub Numbers : Type 0
+Numbers = BTreeMap Key ℕ
 
 -- the number of a name
-abbrev pub number_by : {S : Type 0} → Numbers S → List ℕ → Option ℕ
-number_by numbers text = get_by (λ key. bytes_eq text key.now) numbers
+abbrev pub number_by : Numbers → List ℕ → Option ℕ
+number_by numbers text = get_by (compare_key text) numbers
 
 -- the number that the name of a binding has outside of its scope
 abbrev pub hidden_by : List (Option ℕ) → ℕ → Option ℕ
@@ -56,14 +76,14 @@ pub record IsOpen (outer : List ℕ → Option ℕ) (bindings : List Bound) (hid
   pub hides : (number : ℕ) → (b : Bound) → first ≤ number → number < end → slice_get bindings number ≡ Some b → hidden_by hidden number ≡ outer b.text
 
 -- a scope binds its names: those that it has bound are in sight, and behind them the names outside of it
-pub record IsBinding {S : Type 0} (outer : List ℕ → Option ℕ) (bindings : List Bound) (numbers : Numbers S) (hidden : List (Option ℕ)) (first : ℕ)
+pub record IsBinding (outer : List ℕ → Option ℕ) (bindings : List Bound) (numbers : Numbers) (hidden : List (Option ℕ)) (first : ℕ)
     (scope : Located) : Type 0 where
   pub in_sight : (text : List ℕ) → number_by numbers text ≡ option_or (number_in bindings text scope) (outer text)
   pub count : length hidden ≡ length bindings
   pub is_open : IsOpen outer bindings hidden first (length bindings) scope
 
 -- the names of a scope are in sight, and hide their numbers outside of it
-pub record IsHidden {S : Type 0} (outer : List ℕ → Option ℕ) (bindings : List Bound) (numbers : Numbers S) (hidden : List (Option ℕ)) (own : Scope)
+pub record IsHidden (outer : List ℕ → Option ℕ) (bindings : List Bound) (numbers : Numbers) (hidden : List (Option ℕ)) (own : Scope)
     : Type 0 where
   pub hides : (number : ℕ) → (b : Bound) → own.first ≤ number → number < own.end → slice_get bindings number ≡ Some b →
       hidden_by hidden number ≡ outer b.text
@@ -71,7 +91,7 @@ pub record IsHidden {S : Type 0} (outer : List ℕ → Option ℕ) (bindings : L
       IsSome (number_by numbers b.text)
 
 -- a name has its number outside of a scope again, or no binding from the first to the end, exclusive, hides it, and it keeps its number
-abbrev pub IsShownAgain : {S : Type 0} → (List ℕ → Option ℕ) → List Bound → ℕ → ℕ → Numbers S → Numbers S → List ℕ → Type 0
+abbrev pub IsShownAgain : (List ℕ → Option ℕ) → List Bound → ℕ → ℕ → Numbers → Numbers → List ℕ → Type 0
 IsShownAgain outer bindings first end old new text =
     (number_by new text ≡ outer text)
     ⊎ ((number_by new text ≡ number_by old text)

@@ -1,20 +1,23 @@
 //! The names in sight at the current node of a walk.
 
-ghost use Rattle.std.specs.Prelude.{◌≡◌, ℕ, ◌<◌, ◌≤◌, ◌+◌, ◌++◌, [], ◌∷◌, List, Option, Some, None, length, map, slice_get};
+ghost use Rattle.std.specs.Prelude.{◌≡◌, ℕ, ◌<◌, ◌≤◌, ◌+◌, ◌++◌, [], ◌∷◌, List, Option, Some, None, length, map, get_or, slice_get};
 ghost use Rattle.std.specs.Prelude.{IsSome, IfOk, OnOk, if◌then◌else◌};
 ghost use Rattle.std.specs.Str.{bytes_eq};
 ghost use Rattle.rnix_green.specs.Tree.{Located};
 ghost use Rattle.nix_scopes.specs.Binders.{named, names_bound};
 ghost use Rattle.nix_scopes.specs.Scopes.{Bound, bound_in};
 ghost use Rattle.nix_scopes.specs.Bound.{bound_of, AreFirst};
-ghost use Rattle.nix_scopes.specs.Resolving.{number_by, hidden_by, outside_of, own_of, outer_number};
+ghost use Rattle.nix_scopes.specs.Resolving.{number_by, hidden_by, outside_of, own_of, outer_number, mark_of};
 ghost use Rattle.nix_scopes.specs.Resolving.{IsBinding, IsLonger, IsHidden, IsShownAgain, IsSeen};
 
 use crate::names::{Name, names_bound};
 use crate::resolution::Binding;
 use rnix::SyntaxNode;
 use std::alloc::{AllocError, Global};
-use std::collections::HashMap;
+use std::collections::BTreeMap;
+
+// A name behind the number that some of its bytes make: most names are told apart by these numbers alone.
+type Key<'t> = (u64, &'t str);
 
 /// The bindings of a scope, by their numbers: from the first to the end, exclusive.
 #[derive(Clone, Copy)]
@@ -27,11 +30,46 @@ pub struct Scope {
 #[derive(Drop)]
 pub struct Sight<'t> {
     /// Of each name in sight, the number of its innermost binding.
-    pub numbers: HashMap<&'t str, usize>,
+    pub numbers: BTreeMap<Key<'t>, usize>,
     /// Of each binding, the number that its name has outside of its scope.
     pub hidden: Vec<Option<usize>>,
     /// The scopes around the place, the innermost last.
     pub scopes: Vec<Scope>,
+}
+
+// The byte at a place, or 0 behind the end.
+fn byte_at(bytes: &[u8], place: usize) -> u8
+    ensures { result ≡ get_or bytes.now place 0 }
+{
+    match bytes.get(place) {
+        Some(byte) => *byte,
+        None => 0,
+    }
+}
+
+// The number that some bytes of a name make: the last four, those of the middle, and the first two.
+fn mark_of(text: &str) -> u64
+    ensures { result ≡ mark_of text.now }
+{
+    let bytes = text.as_bytes();
+    let end = bytes.len();
+    u64::from_be_bytes([
+        byte_at(bytes, end.saturating_sub(1)),
+        byte_at(bytes, end.saturating_sub(2)),
+        byte_at(bytes, end.saturating_sub(3)),
+        byte_at(bytes, end.saturating_sub(4)),
+        byte_at(bytes, end / 2),
+        byte_at(bytes, end / 4),
+        byte_at(bytes, 0),
+        byte_at(bytes, 1),
+    ])
+}
+
+// The key of a name.
+fn key_of(text: &str) -> Key<'_>
+    ensures { result ≡ (mark_of text.now, text.entry) }
+{
+    (mark_of(text), text)
 }
 
 // The number that the name of a binding has outside of its scope.
@@ -56,7 +94,7 @@ fn outside(number: Option<usize>, first: usize, hidden: &[Option<usize>]) -> Opt
 
 // Gives a name a number, or the one that it has in its scope, whose numbers begin with `first`. Returns it with the one that it had before.
 fn give_number<'t>(
-    numbers: &mut HashMap<&'t str, usize>,
+    numbers: &mut BTreeMap<Key<'t>, usize>,
     text: &'t str,
     first: usize,
     number: usize,
@@ -66,10 +104,11 @@ fn give_number<'t>(
     ensures own { IfOk result (λ own. own.0 ≡ own_of (number_by numbers.old text.now) first number) }
     ensures old { IfOk result (λ own. own.1 ≡ number_by numbers.old text.now) }
 {
-    let old = numbers.insert(text, number)?;
+    let key = key_of(text);
+    let old = numbers.insert(key, number)?;
     match old {
         Some(own) if own >= first => {
-            numbers.insert(text, own)?;
+            numbers.insert(key, own)?;
             Ok((own, old))
         }
         _ => Ok((number, old)),
@@ -82,7 +121,7 @@ fn bind<'t>(
     scope: &SyntaxNode<'t>,
     first: usize,
     bindings: &mut Vec<Binding<'t>>,
-    numbers: &mut HashMap<&'t str, usize>,
+    numbers: &mut BTreeMap<Key<'t>, usize>,
     hidden: &mut Vec<Option<usize>>,
 ) -> Result<(), AllocError>
     ensures bindings { OnOk result (map bound_of bindings.new.items ≡ map bound_of bindings.old.items ++ bound_in scope.now (named name.now) ∷ []) }
@@ -111,7 +150,7 @@ fn bind_names<'t>(
     alloc: Global,
     scope: &SyntaxNode<'t>,
     bindings: &mut Vec<Binding<'t>>,
-    numbers: &mut HashMap<&'t str, usize>,
+    numbers: &mut BTreeMap<Key<'t>, usize>,
     hidden: &mut Vec<Option<usize>>,
 ) -> Result<(), AllocError>
     ensures bindings { OnOk result (map bound_of bindings.new.items ≡ map bound_of bindings.old.items
@@ -132,18 +171,19 @@ fn bind_names<'t>(
 }
 
 // Shows a name that a scope hid, or takes it out of sight where the scope hid none.
-fn show<'t>(numbers: &mut HashMap<&'t str, usize>, text: &'t str, hidden: Option<usize>)
+fn show<'t>(numbers: &mut BTreeMap<Key<'t>, usize>, text: &'t str, hidden: Option<usize>)
     ensures { (IsSome hidden → IsSome (number_by numbers.old text.now)) → (other : List ℕ) →
         number_by numbers.new other ≡ (if bytes_eq text.now other then hidden else number_by numbers.old other) }
 {
+    let key = key_of(text);
     match hidden {
         Some(number) => {
-            if let Some(shown) = numbers.get_mut(&text) {
+            if let Some(shown) = numbers.get_mut(&key) {
                 *shown = number;
             }
         }
         None => {
-            let _shown = numbers.remove(&text);
+            let _shown = numbers.remove(&key);
         }
     }
 }
@@ -153,7 +193,7 @@ fn show_binding<'t>(
     number: usize,
     bindings: &[Binding<'t>],
     hidden: &[Option<usize>],
-    numbers: &mut HashMap<&'t str, usize>,
+    numbers: &mut BTreeMap<Key<'t>, usize>,
 )
     ensures shown { (b : Bound) → slice_get (map bound_of bindings.now) number ≡ Some b →
         (IsSome (hidden_by hidden.now number) → IsSome (number_by numbers.old b.text)) → (text : List ℕ) →
@@ -170,7 +210,7 @@ fn show_hidden<'t>(
     scope: Scope,
     bindings: &[Binding<'t>],
     hidden: &[Option<usize>],
-    numbers: &mut HashMap<&'t str, usize>,
+    numbers: &mut BTreeMap<Key<'t>, usize>,
 )
     ensures { (outer : List ℕ → Option ℕ) → IsHidden outer (map bound_of bindings.now) numbers.old hidden.now scope → (text : List ℕ) →
         IsShownAgain outer (map bound_of bindings.now) scope.first scope.end numbers.old numbers.new text }
@@ -188,7 +228,7 @@ impl<'t> Sight<'t> {
         ensures scopes { result.scopes.items ≡ [] }
     {
         Sight {
-            numbers: HashMap::new(alloc),
+            numbers: BTreeMap::new(alloc),
             hidden: Vec::new(alloc),
             scopes: Vec::new(alloc),
         }
@@ -227,7 +267,7 @@ impl<'t> Sight<'t> {
     pub fn number(&self, text: &'t str) -> Option<usize>
         ensures { result ≡ number_by self.now.numbers text.now }
     {
-        self.numbers.get(&text).copied()
+        self.numbers.get(&key_of(text)).copied()
     }
 
     /// The number of the innermost binding of a name outside of the innermost scope.

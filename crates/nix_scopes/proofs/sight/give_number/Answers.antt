@@ -1,16 +1,18 @@
-use Rattle.std.proofs.Common.{ℕ, List, Bor}
-use Rattle.{std.specs.Str.bytes_eq, nix_scopes.proofs.NumberLemmas.{given_once, given_twice}}
+use Rattle.{std.specs.Str.bytes_eq, nix_scopes.proofs.NumberLemmas.{given_once, given_twice, key_updated}}
 use Rattle.nix_scopes.proofs.sight.give_number.Goals as goal
 
 pub returns-in_ok-insert-in-Some-clause-numbers : goal.returns-in_ok-insert-in-Some-clause-numbers
 returns-in_ok-insert-in-Some-clause-numbers c = λ other.
-    let key : Bor (List ℕ) = record { ref_ptr = c.args.text.ref_ptr; now = other } in
-    given_twice (bytes_eq c.args.text.now other) _ _ _ _ _ (c.in_ok-insert-in-Some.ensures.updates.0 key) (c.in_ok-old.ensures.updates.0 key)
+    given_twice (bytes_eq c.args.text.now other) _ _ _ _ _
+    (key_updated c.key_of-key.result c.args.text _ _ _ c.key_of-key.ensures c.in_ok-insert-in-Some.ensures.updates.0 other)
+    (key_updated c.key_of-key.result c.args.text _ _ _ c.key_of-key.ensures c.in_ok-old.ensures.updates.0 other)
 
 pub returns-in_default-clause-numbers : goal.returns-in_default-clause-numbers
 returns-in_default-clause-numbers c = λ other.
-    given_once (bytes_eq c.args.text.now other) _ _ _ (c.in_ok-old.ensures.updates.0 record { ref_ptr = c.args.text.ref_ptr; now = other })
+    given_once (bytes_eq c.args.text.now other) _ _ _
+    (key_updated c.key_of-key.result c.args.text _ _ _ c.key_of-key.ensures c.in_ok-old.ensures.updates.0 other)
 
 pub returns-in_default-2-clause-numbers : goal.returns-in_default-2-clause-numbers
 returns-in_default-2-clause-numbers c = λ other.
-    given_once (bytes_eq c.args.text.now other) _ _ _ (c.in_ok-old.ensures.updates.0 record { ref_ptr = c.args.text.ref_ptr; now = other })
+    given_once (bytes_eq c.args.text.now other) _ _ _
+    (key_updated c.key_of-key.result c.args.text _ _ _ c.key_of-key.ensures c.in_ok-old.ensures.updates.0 other)
