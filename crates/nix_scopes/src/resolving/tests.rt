@@ -1,5 +1,10 @@
-//! What a text's names refer to is what a walk finds that enters and leaves each node.
+//! What a text's names refer to is what a walk finds that enters and leaves each node, and what maps find, one for each scope.
 
+mod maps;
+mod texts;
+
+use self::maps::resolve_by_maps;
+use self::texts::made_text;
 use super::{add_references, resolve};
 use crate::environment::Environment;
 use crate::places::is_with_body;
@@ -80,12 +85,16 @@ fn are_same_references(references: &[Reference<'_>], others: &[Reference<'_>]) -
     references.len() == others.len()
 }
 
-// How many bindings and references are found inside a node, if the other walk finds the same.
+fn is_same_resolution(found: &Resolution<'_>, other: &Resolution<'_>) -> bool {
+    are_same_bindings(&found.bindings, &other.bindings)
+        && are_same_references(&found.references, &other.references)
+}
+
+// How many bindings and references are found inside a node, if the other walk and the maps find the same.
 fn found_alike(alloc: Global, root: &SyntaxNode<'_>) -> Result<Option<(usize, usize)>, AllocError> {
     let found = resolve(alloc, root)?;
-    let other = resolve_by_events(alloc, root)?;
-    let is_alike = are_same_bindings(&found.bindings, &other.bindings)
-        && are_same_references(&found.references, &other.references);
+    let is_alike = is_same_resolution(&found, &resolve_by_events(alloc, root)?)
+        && is_same_resolution(&found, &resolve_by_maps(alloc, root)?);
     Ok(is_alike.then_some((found.bindings.len(), found.references.len())))
 }
 
@@ -145,6 +154,22 @@ fn bindings_and_references_are_counted(rt: HostRuntime) -> Result<(), Fail> {
         let read = Root::parse(rt.alloc(), text)?;
         let found = found_alike(rt.alloc(), &read.syntax())?;
         assert!(rt; found == Some(wanted), "in {text}");
+    }
+    Ok(())
+}
+
+// How many texts are made with each count of names.
+const MADE_TEXTS: u64 = 30;
+
+#[test]
+fn maps_of_each_scope_find_the_same(rt: HostRuntime) -> Result<(), Fail> {
+    for seed in 0..MADE_TEXTS {
+        for names in [2, 5, 16] {
+            let text = made_text(rt.alloc(), seed, names)?;
+            let read = Root::parse(rt.alloc(), &text)?;
+            let found = found_alike(rt.alloc(), &read.syntax())?;
+            assert!(rt; found.is_some(), "in {text}");
+        }
     }
     Ok(())
 }

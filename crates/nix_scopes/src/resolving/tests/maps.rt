@@ -1,0 +1,190 @@
+//! What names refer to, found with a map for each scope, which is looked up from the innermost on.
+
+use crate::names::{Name, attr_text, names_bound};
+use crate::places::{is_expression, is_with_body};
+use crate::resolution::{Binding, Reference, Resolution};
+use crate::scopes::is_scope;
+use rnix::ast::{AstNode, Inherit};
+use rnix::{SyntaxNode, WalkEvent};
+use std::alloc::{AllocError, Global};
+use std::collections::HashMap;
+
+// What is around a place: of each scope, the innermost last, the numbers of its bindings by their names; and the bodies of `with`.
+#[derive(Drop)]
+struct Environment<'t> {
+    scopes: Vec<HashMap<&'t str, usize>>,
+    with_bodies: Vec<SyntaxNode<'t>>,
+}
+
+// The number of a name: the one that it has, or else this one, which it then has.
+fn number_or<'t>(
+    numbers: &mut HashMap<&'t str, usize>,
+    text: &'t str,
+    number: usize,
+) -> Result<usize, AllocError> {
+    if let Some(first) = numbers.get(&text) {
+        return Ok(*first);
+    }
+    numbers.insert(text, number)?;
+    Ok(number)
+}
+
+// Binds a name in a scope that has bound these.
+fn bind<'t>(
+    name: &Name<'t>,
+    scope: &SyntaxNode<'t>,
+    bindings: &mut Vec<Binding<'t>>,
+    numbers: &mut HashMap<&'t str, usize>,
+) -> Result<(), AllocError> {
+    let first = number_or(numbers, name.text, bindings.len())?;
+    bindings.push(Binding {
+        text: name.text,
+        node: name.node.clone(),
+        scope: scope.clone(),
+        first,
+    })?;
+    Ok(())
+}
+
+// Binds the names of a scope, and returns their numbers.
+fn bind_names<'t>(
+    alloc: Global,
+    scope: &SyntaxNode<'t>,
+    bindings: &mut Vec<Binding<'t>>,
+) -> Result<HashMap<&'t str, usize>, AllocError> {
+    let mut numbers = HashMap::new(alloc);
+    for name in &names_bound(alloc, scope)? {
+        bind(name, scope, bindings, &mut numbers)?;
+    }
+    Ok(numbers)
+}
+
+// The number of a name in the innermost of these scopes that binds it.
+fn innermost<'t>(scopes: &[HashMap<&'t str, usize>], text: &'t str) -> Option<usize> {
+    for numbers in scopes.iter().rev() {
+        if let Some(number) = numbers.get(&text) {
+            return Some(*number);
+        }
+    }
+    None
+}
+
+impl<'t> Environment<'t> {
+    // Enters a node, whose names are bound, if it is a scope.
+    fn enter(
+        &mut self,
+        alloc: Global,
+        node: &SyntaxNode<'t>,
+        bindings: &mut Vec<Binding<'t>>,
+    ) -> Result<(), AllocError> {
+        if is_scope(node) {
+            let numbers = bind_names(alloc, node, bindings)?;
+            self.scopes.push(numbers)?;
+        }
+        if is_with_body(node) {
+            self.with_bodies.push(node.clone())?;
+        }
+        Ok(())
+    }
+
+    // Leaves a node.
+    fn leave(&mut self, node: &SyntaxNode<'_>) {
+        if is_scope(node) {
+            let _innermost = self.scopes.pop();
+        }
+        if is_with_body(node) {
+            let _innermost = self.with_bodies.pop();
+        }
+    }
+}
+
+// Adds a name with the binding that it has in the outermost `depth` scopes.
+fn add_reference<'t>(
+    around: &Environment<'t>,
+    depth: usize,
+    is_inherited: bool,
+    name: Name<'t>,
+    references: &mut Vec<Reference<'t>>,
+) -> Result<(), AllocError> {
+    let scopes = around.scopes.get(..depth).unwrap_or(&[]);
+    let binding = innermost(scopes, name.text);
+    references.push(Reference {
+        text: name.text,
+        node: name.node,
+        is_inherited,
+        binding,
+        is_open: binding.is_none() && !around.with_bodies.is_empty(),
+    })?;
+    Ok(())
+}
+
+// Returns how many of the scopes around an `inherit` are around its `let` or set.
+fn outer_depth(around: &Environment<'_>, inherit: &SyntaxNode<'_>) -> usize {
+    let depth = around.scopes.len();
+    match inherit.parent() {
+        Some(parent) if is_scope(&parent) => depth.saturating_sub(1),
+        _ => depth,
+    }
+}
+
+// Adds the names that are inherited from around the `let` or the set.
+fn add_all_inherited<'t>(
+    around: &Environment<'t>,
+    inherit: &Inherit<'t>,
+    references: &mut Vec<Reference<'t>>,
+) -> Result<(), AllocError> {
+    if inherit.from().is_some() {
+        return Ok(());
+    }
+    let depth = outer_depth(around, inherit.syntax());
+    for attr in inherit.attrs() {
+        let node = attr.syntax().clone();
+        if let Some(text) = attr_text(&node) {
+            add_reference(around, depth, true, Name { text, node }, references)?;
+        }
+    }
+    Ok(())
+}
+
+// Adds the references that a node is or has.
+fn add_references<'t>(
+    around: &Environment<'t>,
+    node: SyntaxNode<'t>,
+    references: &mut Vec<Reference<'t>>,
+) -> Result<(), AllocError> {
+    if is_expression(&node) {
+        let text = node.text();
+        let depth = around.scopes.len();
+        return add_reference(around, depth, false, Name { text, node }, references);
+    }
+    match Inherit::cast(node) {
+        Some(inherit) => add_all_inherited(around, &inherit, references),
+        None => Ok(()),
+    }
+}
+
+/// Resolves the names inside a node with a map for each scope.
+pub fn resolve_by_maps<'t>(
+    alloc: Global,
+    root: &SyntaxNode<'t>,
+) -> Result<Resolution<'t>, AllocError> {
+    let mut bindings = Vec::new(alloc);
+    let mut references = Vec::new(alloc);
+    let mut around = Environment {
+        scopes: Vec::new(alloc),
+        with_bodies: Vec::new(alloc),
+    };
+    for event in root.preorder() {
+        match event {
+            WalkEvent::Enter(node) => {
+                around.enter(alloc, &node, &mut bindings)?;
+                add_references(&around, node, &mut references)?;
+            }
+            WalkEvent::Leave(node) => around.leave(&node),
+        }
+    }
+    Ok(Resolution {
+        bindings,
+        references,
+    })
+}
