@@ -1,16 +1,20 @@
 //! Floats as both Nix and JSON write them.
 
+ghost use Rattle.std.specs.Prelude.{◌≡◌};
+ghost use Rattle.std.specs.Char.{is_ascii_digit};
+ghost use Rattle.std.specs.List.{prefix_len};
+
 use std::alloc::{AllocError, Global};
 
 /// Returns how many digits a text begins with.
-pub fn digits(text: &str) -> usize {
+pub fn digits(text: &str) -> usize
+    ensures { result ≡ prefix_len is_ascii_digit text.now }
+{
     let bytes = text.as_bytes();
-    for count in 0..bytes.len() {
-        if !bytes[count].is_ascii_digit() {
-            return count;
-        }
-    }
-    bytes.len()
+    bytes
+        .iter()
+        .take_while(|byte| byte.is_ascii_digit())
+        .count()
 }
 
 // Whether a digit other than 0 stands before the exponent of a number.

@@ -42,8 +42,9 @@ fn token_of(token: Token, start: usize, len: usize) -> Cut {
     }
 }
 
-/// Returns the offset of the next token.
-pub fn after_space(text: &str, at: usize) -> usize {
+// Returns the offset of the next token behind white space.
+#[inline(never)]
+fn after_more_space(text: &str, at: usize) -> usize {
     let bytes = text.as_bytes();
     for next in at..bytes.len() {
         if !matches!(bytes[next], b' ' | b'\t' | b'\n' | b'\r') {
@@ -51,6 +52,15 @@ pub fn after_space(text: &str, at: usize) -> usize {
         }
     }
     bytes.len()
+}
+
+/// Returns the offset of the next token.
+pub fn after_space(text: &str, at: usize) -> usize {
+    match text.as_bytes().get(at) {
+        Some(b' ' | b'\t' | b'\n' | b'\r') => after_more_space(text, at),
+        Some(_) => at,
+        None => text.len(),
+    }
 }
 
 // One of the three words at an offset.
