@@ -33,14 +33,17 @@ plain_run p f keeps (b ∷ bs) = plain_front p f keeps b bs (p b) refl (plain_ru
 pub run_written : (p : ℕ → Bool) (f : ℕ → List ℕ) → KeepsPlain p f → (bs : List ℕ) (n : ℕ) → n ≡ prefix_len p bs → take n bs ≡ flat_map f (take n bs)
 run_written p f keeps bs n h = rw h (sym (plain_run p f keeps bs))
 
--- what is written for them and the byte behind them
-pub byte_written : (p : ℕ → Bool) (f : ℕ → List ℕ) → KeepsPlain p f → (bs : List ℕ) (n d : ℕ) → n ≡ prefix_len p bs → n < length bs
-    → take n bs ++ f (get_or bs n d) ≡ flat_map f (take (n + 1) bs)
-byte_written p f keeps bs n d h within =
-    ap (λ l. l ++ f (get_or bs n d)) (run_written p f keeps bs n h)
-    ∙ ap (λ l. flat_map f (take n bs) ++ l) (sym (append-nil (f (get_or bs n d))))
-    ∙ sym (flat_map-append f (take n bs) (get_or bs n d ∷ []))
-    ∙ ap (flat_map f) (sym (take_more bs n d within))
+-- what stands for one more byte follows what is written
+pub byte_more : (f : ℕ → List ℕ) (old mid new : Option (List ℕ)) (front bs : List ℕ) (i d : ℕ) → i < length bs
+    → Appends old mid (front ++ flat_map f (take i bs)) → Appends mid new (f (get_or bs i d)) → Appends old new (front ++ flat_map f (take (i + 1) bs))
+byte_more f old mid new front bs i d within first second =
+    let byte = get_or bs i d in
+    let all : (front ++ flat_map f (take i bs)) ++ f byte ≡ front ++ flat_map f (take (i + 1) bs) =
+    append_assoc front (flat_map f (take i bs)) (f byte)
+    ∙ ap (λ l. front ++ (flat_map f (take i bs) ++ l)) (sym (append-nil (f byte)))
+    ∙ ap (λ l. front ++ l) (sym (flat_map-append f (take i bs) (byte ∷ [])))
+    ∙ ap (λ l. front ++ flat_map f l) (sym (take_more bs i d within)) in
+    subst (λ (l : List ℕ). Appends old new l) all (Appends-trans old mid new _ _ first second)
 
 -- some bytes of the rest follow those that are written
 pub written_more : (f : ℕ → List ℕ) (old mid new : Option (List ℕ)) (front bs rest : List ℕ) (i n : ℕ) → rest ≡ drop i bs

@@ -35,43 +35,13 @@ fn digit(number: u8) -> u8
     }
 }
 
-// Writes what stands for a byte that is not plain.
-#[inline(always)]
+// What stands for a control character below 32.
 #[tactic(auto, unfolding(crate::specs::JsonString::escape))]
-fn write_escape<W: Write>(byte: u8, out: &mut W) -> io::Result<()>
-    requires { is_plain byte ≡ false }
-    ensures { OnOk result (Appends (W.contents out.old) (W.contents out.new) (escape byte)) }
+fn control_escape(byte: u8) -> [u8; 6]
+    ensures { byte < 32 → result ≡ escape byte }
 {
-    if byte >= b' ' {
-        return out.write_all(&[b'\\', byte]);
-    }
     let digits = [digit(byte / 16), digit(byte % 16)];
-    out.write_all(&[b'\\', b'u', b'0', b'0', digits[0], digits[1]])
-}
-
-// Writes bytes, if there are any.
-fn write_some<W: Write>(bytes: &[u8], out: &mut W) -> io::Result<()>
-    ensures { OnOk result (Appends (W.contents out.old) (W.contents out.new) bytes.now) }
-{
-    if bytes.is_empty() {
-        return Ok(());
-    }
-    out.write_all(bytes)
-}
-
-// Writes the plain bytes that come first and what stands for the byte behind them, and returns how many bytes those are.
-fn write_run<W: Write>(bytes: &[u8], out: &mut W) -> io::Result<usize>
-    ensures run { IfOk result (λ n. Appends (W.contents out.old) (W.contents out.new) (flat_map escape (take n bytes.now))) }
-    ensures within { IfOk result (λ n. n ≤ length bytes.now) }
-    ensures some { IfOk result (λ n. 0 < length bytes.now → 0 < n) }
-{
-    let plain = plain_len(bytes);
-    write_some(&bytes[..plain], out)?;
-    if plain == bytes.len() {
-        return Ok(plain);
-    }
-    write_escape(bytes[plain], out)?;
-    Ok(plain + 1)
+    [b'\\', b'u', b'0', b'0', digits[0], digits[1]]
 }
 
 /// Writes a text as a JSON string.
@@ -82,7 +52,26 @@ pub fn write_json_string<W: Write>(text: &str, out: &mut W) -> io::Result<()>
     let bytes = text.as_bytes();
     let mut written = 0;
     while written < bytes.len() {
-        written += write_run(&bytes[written..], out)?;
+        match bytes[written] {
+            b'"' => {
+                out.write_all(b"\\\"")?;
+                written += 1;
+            }
+            b'\\' => {
+                out.write_all(b"\\\\")?;
+                written += 1;
+            }
+            byte if byte < b' ' => {
+                out.write_all(&control_escape(byte))?;
+                written += 1;
+            }
+            _ => {
+                let rest = &bytes[written..];
+                let plain = plain_len(rest);
+                out.write_all(&rest[..plain])?;
+                written += plain;
+            }
+        }
     }
     out.write_all(b"\"")
 }
