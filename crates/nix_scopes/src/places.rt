@@ -33,13 +33,10 @@ fn is_value_below(parent: SyntaxKind, node: &SyntaxNode<'_>) -> bool
 pub fn is_expression(node: &SyntaxNode<'_>) -> bool
     ensures { result ≡ is_expression node.now }
 {
-    if node.kind() != SyntaxKind::NODE_IDENT {
+    let Some(parent) = node.parent() else {
         return false;
-    }
-    match node.parent() {
-        Some(parent) => is_value_below(parent.kind(), node),
-        None => false,
-    }
+    };
+    node.kind() == SyntaxKind::NODE_IDENT && is_value_below(parent.kind(), node)
 }
 
 /// Whether a node is the body of a `with`.
