@@ -370,14 +370,15 @@ int64_t rnix_kind_of_name(const uint8_t *name, size_t len);
 
 /*
  * Writes the parts of all strings of a text, in preorder of the strings, and their joined text in UTF-8, and its length to *buffer_len (not
- * NULL). The text of a part has its escapes replaced and, in a '' string, the indentation removed. A string without text has no parts.
+ * NULL). The text of a part has its escapes replaced and, in a '' string, the indentation removed, as in rnix: Nix may make another value of a
+ * string that has an escaped line feed or a carriage return. A string without text has no parts.
  * Returns the number of parts. Refusals: RNIX_NOT_UTF8, RNIX_TOO_LONG, RNIX_NO_MEMORY.
  */
 int64_t rnix_strings(const uint8_t *text, size_t len, struct rnix_string_part *parts, size_t room, uint8_t *buffer, size_t buffer_room,
                      uint64_t *buffer_len);
 
 /*
- * Writes the text of one string without its interpolations, in UTF-8, without a terminating zero. The string is given by its number among the
+ * Writes the text of one string without its interpolations, as in rnix_strings, in UTF-8, without a terminating zero. The string is given by its number among the
  * elements; its kind is RNIX_NODE_STRING. This parses the text again: for many strings, use rnix_strings. Returns the number of bytes.
  * Refusals: RNIX_NOT_UTF8, RNIX_TOO_LONG, RNIX_NO_MEMORY; RNIX_NONE_SUCH if the number is not that of a string.
  */

@@ -11,6 +11,7 @@ _INTERPOL = Group(Interpol)
 def parts(string: Str) -> list[str | Interpol]:
     """Returns the parts of a string: texts, with escapes replaced and the indentation removed, and interpolations.
 
+    They are as in rnix: where a string has an escaped line feed or a carriage return, Nix may make another value of it.
     The first call for a tree reads the parts of all its strings.
     """
     interpolations = iter(string._children(_INTERPOL))
@@ -19,7 +20,10 @@ def parts(string: Str) -> list[str | Interpol]:
 
 
 def value(string: Str) -> str | None:
-    """Returns the value of a string, or None if it has interpolations."""
+    """Returns the text of a string's parts, or None if it has interpolations.
+
+    This is its value, except for some strings that have an escaped line feed or a carriage return, which Nix reads in another way than rnix.
+    """
     found = string.tree._string_parts().get(string._number, ())
     return None if None in found else "".join(part for part in found if part is not None)
 

@@ -7,3 +7,4 @@ pub mod Sums
 pub mod Whole
 pub mod WholeTree
 pub mod Chains
+pub mod AttrName

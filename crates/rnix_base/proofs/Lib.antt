@@ -11,3 +11,7 @@ pub mod SymbolLineLemmas
 pub mod LeastLemmas
 pub mod StringPartLemmas
 pub mod NextPartLemmas
+pub mod ValueRows
+pub mod LetterLemmas
+pub mod ValuePartLemmas
+pub mod FedLemmas

@@ -53,7 +53,7 @@ unfolding part_text
 part_text-other m k [] h = refl
 part_text-other m k (b ∷ text) h = ap (λ e. (if e then b ∷ [] else []) ++ part_text k (text_row m text)) (other_part m k h) ∙ part_text-other m k text h
 
-part_text-none : (k : ℕ) → part_text k [] ≡ []
+pub part_text-none : (k : ℕ) → part_text k [] ≡ []
 unfolding part_text
 part_text-none k = refl
 
@@ -83,7 +83,7 @@ part_text-later n k (Interpolation i ∷ parts) left m h =
     ∙ part_text-later n k parts 0 (suc m) (omega arith)
 
 -- a row that goes on behind what earlier parts left of it
-with_texts-behind : {I : Type 0} (n : ℕ) (parts : Parts I) (before : List Symbol) (left m : ℕ) → ((k : ℕ) → m ≤ k → part_text k before ≡ [])
+pub with_texts-behind : {I : Type 0} (n : ℕ) (parts : Parts I) (before : List Symbol) (left m : ℕ) → ((k : ℕ) → m ≤ k → part_text k before ≡ [])
     → with_texts (before ++ row_kept n left (symbols m parts)) m parts ≡ unindented_parts n left parts
 unfolding with_texts unindented_parts symbols
 with_texts-behind n [] before left m none = refl

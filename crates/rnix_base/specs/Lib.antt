@@ -9,3 +9,4 @@ pub mod TokenOperators
 pub mod Parts
 pub mod TypedPointer
 pub mod Select
+pub mod Value

@@ -21,8 +21,25 @@ pub(crate) struct Indent {
 }
 
 impl Indent {
+    // Returns the state before the first symbol.
+    pub(crate) fn before() -> Indent
+        ensures { result ≡ no_indent }
+    {
+        Indent {
+            least: LIMIT,
+            spaces: Some(0),
+        }
+    }
+
+    // Returns the smallest indentation.
+    pub(crate) fn least(self) -> usize
+        ensures { result ≡ self.least }
+    {
+        self.least
+    }
+
     // Returns the state after one more symbol: a byte, or an interpolation.
-    fn after(self, symbol: Option<u8>) -> Indent
+    pub(crate) fn after(self, symbol: Option<u8>) -> Indent
         ensures { result ≡ indent_after self symbol }
     {
         match (symbol, self.spaces) {
@@ -70,17 +87,14 @@ fn line_len(bytes: &[u8]) -> usize
 pub(crate) fn least_indentation<I>(parts: &[InterpolPart<&str, I>]) -> usize
     ensures { result ≡ (indent_of no_indent (borrowed parts.now)).least }
 {
-    let mut indent = Indent {
-        least: LIMIT,
-        spaces: Some(0),
-    };
+    let mut indent = Indent::before();
     for part in parts {
         indent = match part {
             InterpolPart::Literal(text) => indent.behind(text.as_bytes()),
             InterpolPart::Interpolation(_) => indent.after(None),
         };
     }
-    indent.least
+    indent.least()
 }
 
 // Returns the number of spaces that the bytes begin with.
@@ -152,8 +166,8 @@ pub(crate) fn behind_blank(text: &str) -> Option<&str>
     }
 }
 
-// Returns the length of the bytes without the spaces at their end.
-fn trimmed_len(bytes: &[u8]) -> usize
+/// Returns the length of the bytes without the spaces at their end.
+pub(crate) fn trimmed_len(bytes: &[u8]) -> usize
     ensures value { result + suffix_len is_space bytes.now ≡ length bytes.now }
     ensures within { result ≤ length bytes.now }
 {

@@ -8,8 +8,10 @@ use crate::indent::{behind_blank, least_indentation, unindented, without_last_sp
 use crate::parts::InterpolPart;
 use std::alloc::{AllocError, Global};
 
-// Returns the parts without the spaces and the line feed at the start of the first.
-fn opened<'t, I: Drop>(parts: Vec<InterpolPart<&'t str, I>>) -> Vec<InterpolPart<&'t str, I>>
+/// Returns the parts without the spaces and the line feed at the start of the first.
+pub(crate) fn opened<'t, I: Drop>(
+    parts: Vec<InterpolPart<&'t str, I>>,
+) -> Vec<InterpolPart<&'t str, I>>
     ensures { borrowed result.items ≡ opened (borrowed parts.entry.items) }
 {
     let mut parts = parts;

@@ -1,6 +1,7 @@
-//! What the texts of strings stand for.
+//! What the texts of strings stand for, and what attributes are called.
 
-use rnix::ast::unescape;
+use rnix::Root;
+use rnix::ast::{Expr, HasEntry, unescape};
 use std::test::Fail;
 
 #[test]
@@ -13,6 +14,81 @@ fn texts_stand_for_others(rt: HostRuntime) -> Result<(), Fail> {
     ];
     for (text, multiline, wanted) in rows {
         assert_eq!(rt; unescape(rt.alloc(), text, multiline)?.as_str(), wanted);
+    }
+    Ok(())
+}
+
+// Whether the value of the string that a text is, is the wanted one.
+fn has_value(rt: &HostRuntime, text: &str, wanted: &str) -> Result<bool, Fail> {
+    let read = Root::parse(rt.alloc(), text)?;
+    let Some(Expr::Str(string)) = read.tree().expr() else {
+        return Ok(false);
+    };
+    match string.plain_value(rt.alloc())? {
+        Some(value) => Ok(value.as_str() == wanted),
+        None => Ok(false),
+    }
+}
+
+// The wanted values are those that Nix 2.8 prints.
+#[test]
+fn values_of_strings_are_those_of_nix(rt: HostRuntime) -> Result<(), Fail> {
+    let rows = [
+        ("''\n  a''\\n   b\n''", "a\n b\n"),
+        ("''\n    a''\\n b\n    c''", "a\nb\nc"),
+        ("''\n        x''\\\n              ''", "x\n      "),
+        ("''\n  a''\\n''\\  b''\\ c''", "a\nb c"),
+        ("''\n  a'''\\\n  ''", "a''\\\n"),
+        ("''\n  a\n  ''\\ ''", "a\n "),
+        ("''\n    \n      ''", "\n"),
+        ("''\n  a''$b\n    ''${c}''", "a$b\n  ${c}"),
+        ("''    ''", ""),
+        ("''''", ""),
+        ("\"a\r\nb\rc\\\r\nd\\r\"", "a\nb\nc\r\nd\r"),
+        ("\"\"", ""),
+    ];
+    for (text, wanted) in rows {
+        assert!(rt; has_value(&rt, text, wanted)?, "{text}");
+    }
+    Ok(())
+}
+
+// Returns what the first attribute of the set that a text is, is called.
+fn first_name(rt: &HostRuntime, text: &str) -> Result<Option<String>, Fail> {
+    let read = Root::parse(rt.alloc(), text)?;
+    let Some(Expr::AttrSet(set)) = read.tree().expr() else {
+        return Ok(None);
+    };
+    let Some(entry) = set.attrpath_values().next() else {
+        return Ok(None);
+    };
+    let Some(path) = entry.attrpath() else {
+        return Ok(None);
+    };
+    match path.attrs().next() {
+        Some(attr) => Ok(attr.static_name(rt.alloc())?),
+        None => Ok(None),
+    }
+}
+
+#[test]
+fn attributes_are_called_what_nix_calls_them(rt: HostRuntime) -> Result<(), Fail> {
+    let rows = [
+        ("{ a = 1; }", Some("a")),
+        ("{ \"a\" = 1; }", Some("a")),
+        ("{ \"\\a\" = 1; }", Some("a")),
+        ("{ ${\"a\"} = 1; }", Some("a")),
+        ("{ ${''\n  a''} = 1; }", Some("a")),
+        ("{ ${x:y} = 1; }", Some("x:y")),
+        ("{ \"\" = 1; }", Some("")),
+        ("{ ${''a''\\b''} = 1; }", None),
+        ("{ \"a${\"b\"}\" = 1; }", None),
+        ("{ ${a} = 1; }", None),
+        ("{ ''a'' = 1; }", None),
+    ];
+    for (text, wanted) in rows {
+        let name = first_name(&rt, text)?;
+        assert!(rt; name.as_ref().map(|name| name.as_str()) == wanted, "{text}");
     }
     Ok(())
 }

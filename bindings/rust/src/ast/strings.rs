@@ -14,7 +14,7 @@ impl Str {
     }
 
     /// Returns the string's parts with escapes replaced and, in a `''` string, the indentation removed. The first call for a tree reads the parts
-    /// of all its strings.
+    /// of all its strings. They are as in rnix; the value that Nix makes of a string with an escaped line feed or a carriage return may differ.
     ///
     /// # Panics
     /// If memory runs out.

@@ -1,15 +1,16 @@
 //! The parts of strings.
 
-ghost use Rattle.std.specs.Prelude.{◌≡◌, ◌<◌, ◌^◌, length, map, IfOk, string_bytes};
+ghost use Rattle.std.specs.Prelude.{◌≡◌, ◌<◌, ◌^◌, length, map, option_map, IfOk, string_bytes};
 ghost use Rattle.rnix_kinds.specs.declared.kinds.SyntaxKind.TheVariants as k;
 ghost use Rattle.rnix_green.specs.Equality.{same_kind};
 ghost use Rattle.rnix_base.specs.Parts.{parts_of};
 ghost use Rattle.rnix_base.specs.Normal.{with_text};
-ghost use Rattle.rnix.specs.StringParts.{string_parts, normalized_parts};
+ghost use Rattle.rnix.specs.StringParts.{string_parts, normalized_parts, value_parts, plain_value};
 
 use crate::ast::strings::{Interpol, Str};
 use rnix_base::{
-    InterpolParts, StrContent, indented_parts, is_indented, parts_in, quoted_parts, text_parts,
+    InterpolParts, StrContent, indented_parts, indented_value, is_indented, parts_in, quoted_parts,
+    quoted_value, text_parts,
 };
 use std::alloc::{AllocError, Global};
 
@@ -40,6 +41,31 @@ impl<'t> Str<'t> {
             indented_parts(alloc, texts)
         } else {
             quoted_parts(alloc, texts)
+        }
+    }
+
+    /// Returns the parts of the string's value as Nix makes it. It differs from [`Str::normalized_parts`], which is as in rnix, where a string in `''`
+    /// has an escaped line feed, after which Nix drops indentation too, and where a string in `"` has a carriage return, which Nix reads as a line feed.
+    pub fn value_parts(&self, alloc: Global) -> Result<Vec<InterpolPart<'t, String>>, AllocError>
+        ensures { IfOk result (λ parts. map (with_text string_bytes) parts.items ≡ value_parts self.now) }
+    {
+        let texts = text_parts::<StrContent<'t>, Interpol<'t>>(alloc, &self.syntax)?;
+        if is_indented(&self.syntax) {
+            indented_value(alloc, texts)
+        } else {
+            quoted_value(alloc, texts)
+        }
+    }
+
+    /// Returns the string's value as Nix makes it, or `None` if it has an interpolation.
+    pub fn plain_value(&self, alloc: Global) -> Result<Option<String>, AllocError>
+        ensures { IfOk result (λ value. option_map string_bytes value ≡ plain_value self.now) }
+    {
+        let mut parts = self.value_parts(alloc)?.into_iter();
+        match (parts.next(), parts.next()) {
+            (None, _) => Ok(Some(String::new(alloc))),
+            (Some(InterpolPart::Literal(text)), None) => Ok(Some(text)),
+            _ => Ok(None),
         }
     }
 }

@@ -1,0 +1,109 @@
+//! What an attribute is called.
+
+ghost use Rattle.std.specs.Prelude.{◌≡◌, if◌then◌else◌, None, option_map, IfOk, string_bytes};
+ghost use Rattle.std.specs.List.{list_any};
+ghost use Rattle.rnix_green.specs.Tree.{item_of};
+ghost use Rattle.rnix_base.specs.Parts.{is_indented};
+ghost use Rattle.rnix_base.specs.Select.{child_of};
+ghost use Rattle.rnix.specs.NodeKinds.{is_expr};
+ghost use Rattle.rnix.specs.StringParts.{string_parts, plain_value};
+ghost use Rattle.rnix.specs.AttrName.{may_cut, is_one_piece, constant_string, constant_by, constant_of, static_name};
+ghost use Rattle.rnix.specs.Sums.{attr_node};
+
+use crate::ast::attributes::Attr;
+use crate::ast::names::Dynamic;
+use crate::ast::string_parts::InterpolPart;
+use crate::ast::strings::Str;
+use rnix_base::{AstNode, AstToken, first_token, is_indented};
+use rnix_kinds::SyntaxKind;
+use rnix_tree::SyntaxNode;
+use std::alloc::{AllocError, Global};
+
+// Whether Nix may cut a text in `''` at one of its bytes.
+fn may_be_cut(text: &str) -> bool
+    ensures { result ≡ list_any may_cut text.now }
+{
+    text.bytes().any(
+        |byte: u8| -> bool
+            ensures { result ≡ may_cut byte }
+        { byte == b'\'' || byte == b'$' },
+    )
+}
+
+// Whether Nix reads the content of a string in `''` as one piece.
+fn is_one_piece(string: &Str<'_>) -> bool
+    ensures { result ≡ is_one_piece (string_parts string.now) }
+{
+    let mut parts = string.parts();
+    match (parts.next(), parts.next()) {
+        (None, _) => true,
+        (Some(InterpolPart::Literal(token)), None) => !may_be_cut(token.syntax().text()),
+        _ => false,
+    }
+}
+
+// Returns the value of a string that Nix knows without evaluation.
+fn constant_string(alloc: Global, string: &Str<'_>) -> Result<Option<String>, AllocError>
+    ensures { IfOk result (λ value. option_map string_bytes value ≡ constant_string string.now) }
+{
+    if is_indented(string.syntax()) && !is_one_piece(string) {
+        return Ok(None);
+    }
+    string.plain_value(alloc)
+}
+
+// Returns the value of an expression that Nix knows without evaluation: of such a string, and of a URI.
+fn constant(alloc: Global, node: &SyntaxNode<'_>) -> Result<Option<String>, AllocError>
+    ensures { IfOk result (λ value. option_map string_bytes value ≡ constant_by (item_of node.now).kind node.now) }
+{
+    match node.kind() {
+        SyntaxKind::NODE_STRING => constant_string(alloc, &Str::new(node.clone())),
+        SyntaxKind::NODE_LITERAL => match first_token(node, SyntaxKind::TOKEN_URI) {
+            Some(token) => Ok(Some(String::from_str(alloc, token.text())?)),
+            None => Ok(None),
+        },
+        _ => Ok(None),
+    }
+}
+
+// Returns the same of the expression in `${` and `}`, if there is one.
+fn constant_of(alloc: Global, dynamic: &Dynamic<'_>) -> Result<Option<String>, AllocError>
+    ensures { IfOk result (λ value. option_map string_bytes value ≡ constant_of (child_of is_expr 0 dynamic.now)) }
+{
+    match dynamic.expr() {
+        Some(expr) => constant(alloc, expr.syntax()),
+        None => Ok(None),
+    }
+}
+
+// Returns what a string is called as an attribute: nothing in `''`, and otherwise its value.
+fn string_name(alloc: Global, string: &Str<'_>) -> Result<Option<String>, AllocError>
+    ensures { IfOk result (λ name. option_map string_bytes name ≡ (if is_indented string.now then None else plain_value string.now)) }
+{
+    if is_indented(string.syntax()) {
+        return Ok(None);
+    }
+    string.plain_value(alloc)
+}
+
+// Returns what the attribute of a node is called.
+fn name_of(alloc: Global, node: &SyntaxNode<'_>) -> Result<Option<String>, AllocError>
+    ensures { IfOk result (λ name. option_map string_bytes name ≡ static_name node.now) }
+{
+    match node.kind() {
+        SyntaxKind::NODE_IDENT => Ok(Some(String::from_str(alloc, node.text())?)),
+        SyntaxKind::NODE_STRING => string_name(alloc, &Str::new(node.clone())),
+        SyntaxKind::NODE_DYNAMIC => constant_of(alloc, &Dynamic::new(node.clone())),
+        _ => Ok(None),
+    }
+}
+
+impl<'t> Attr<'t> {
+    /// Returns what the attribute is called if the text alone says so: `a`, `"a"` and `${"a"}` are called `a`. `None` stands for a name that must be
+    /// evaluated, and for a string in `''`, which Nix refuses in this place. As in Nix 2.8.
+    pub fn static_name(&self, alloc: Global) -> Result<Option<String>, AllocError>
+        ensures { IfOk result (λ name. option_map string_bytes name ≡ static_name (attr_node self.now)) }
+    {
+        name_of(alloc, self.syntax())
+    }
+}

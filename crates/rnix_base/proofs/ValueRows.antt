@@ -1,0 +1,39 @@
+-- The values of certain strings.
+use Rattle.{std.{proofs.Common.{◌≡◌, List, [], ◌∷◌, ◌++◌, refl, codes}, specs.Prelude.ℕ}, rnix_base.specs.declared.parts.InterpolPart.TheVariants.{Literal, Interpolation}}
+use Rattle.rnix_base.specs.{Escapes.values, Normal.{symbols, lines, least_indentation, part_text, with_texts}, Value.{marked, ended, fed, indented_value, quoted_value}}
+
+-- an escaped line feed begins a line that loses blanks
+escaped_feed : indented_value {I = ℕ} (Literal (codes "\n  a''\\n   b\n") ∷ []) ≡ (Literal (codes "a\n b\n") ∷ [])
+unfolding values symbols lines least_indentation part_text with_texts marked ended
+escaped_feed = refl
+
+-- but does not count for the indentation
+not_counted : indented_value {I = ℕ} (Literal (codes "\n    a''\\n b\n    c") ∷ []) ≡ (Literal (codes "a\nb\nc") ∷ [])
+unfolding values symbols lines least_indentation part_text with_texts marked ended
+not_counted = refl
+
+-- the blanks behind an escaped line feed belong to the value
+blanks_stay : indented_value {I = ℕ} (Literal (codes "\n        x''\\\n              ") ∷ []) ≡ (Literal (codes "x\n      ") ∷ [])
+unfolding values symbols lines least_indentation part_text with_texts marked ended
+blanks_stay = refl
+
+-- an escaped blank is lost as a blank
+escaped_blank : indented_value {I = ℕ} (Literal (codes "\n  a''\\n''\\  b''\\ c") ∷ []) ≡ (Literal (codes "a\nb c") ∷ [])
+unfolding values symbols lines least_indentation part_text with_texts marked ended
+escaped_blank = refl
+
+-- quotes behind quotes are an escape, and the backslash and the line feed behind them are none
+three_quotes : indented_value {I = ℕ} (Literal (codes "\n  a'''\\\n  ") ∷ []) ≡ (Literal (codes "a''\\\n") ∷ [])
+unfolding values symbols lines least_indentation part_text with_texts marked ended
+three_quotes = refl
+
+-- without escapes the value is that of the lines
+plain_lines : indented_value {I = ℕ} (Literal (codes "\n  hello\n    ") ∷ Interpolation 0 ∷ Literal (codes "\n\n   y\n ") ∷ []) ≡ (Literal (codes "hello\n  ")
+    ∷ Interpolation 0 ∷ Literal (codes "\n\n y\n") ∷ [])
+unfolding values symbols lines least_indentation part_text with_texts marked ended
+plain_lines = refl
+
+-- carriage returns between `"` are line feeds
+returns_fed : quoted_value {I = ℕ} (Literal (codes "a\r\nb\rc\\\r\nd\\r") ∷ []) ≡ (Literal (codes "a\nb\nc\r\nd\r") ∷ [])
+unfolding values fed
+returns_fed = refl

@@ -1,0 +1,11 @@
+use Rattle.{std.{proofs.Common.{◌≡◌, ◌++◌, length}, specs.Vec.Iter.{into_iter_items, into_iter_len}}, rnix_base.specs.{Normal.{borrowed, owned}, Value.quoted_value}}
+use Rattle.rnix_base.proofs.value.quoted_value.Given as goal
+
+abbrev pub invariant-loop-part : goal.invariant-loop-part
+invariant-loop-part g l = record {
+  length : into_iter_len l.rest ≡ length (into_iter_items l.rest);
+  so_far : quoted_value (borrowed (into_iter_items l.initial.rest)) ≡ owned l.value.items ++ quoted_value (borrowed (into_iter_items l.rest));
+}
+
+abbrev pub decreases-loop-part : goal.decreases-loop-part
+decreases-loop-part g l = into_iter_len l.rest
