@@ -1,7 +1,7 @@
 //! Formatting of one file.
 
 use crate::unified::unified_diff;
-use nix_cli::{Program, place_of, read_text, replace_text, shown_name};
+use nix_cli::{Program, place_of, read_text, replace_text, replaceable, shown_name};
 use nix_diagnostics::diagnostics;
 use nix_formatting::{Formatting, formatted};
 use rnix::Root;
@@ -63,14 +63,17 @@ fn write_errors(rt: &HostRuntime, program: &Program, name: &str, text: &str) -> 
     Ok(())
 }
 
+// Reports an error of a file.
+fn fail(rt: &HostRuntime, program: &Program, name: &str, error: io::Error) -> io::Result<Outcome> {
+    eprintln!(rt; "{}: {name}: {error}", program.name)?;
+    Ok(Outcome::Failed)
+}
+
 // Replaces a file. Reports what fails.
 fn replace(rt: &HostRuntime, program: &Program, change: Change<'_>) -> io::Result<Outcome> {
     match replace_text(rt, change.name, change.new) {
         Ok(()) => Ok(Outcome::Changed),
-        Err(error) => {
-            eprintln!(rt; "{}: {}: {error}", program.name, change.name)?;
-            Ok(Outcome::Failed)
-        }
+        Err(error) => fail(rt, program, change.name, error),
     }
 }
 
@@ -141,13 +144,18 @@ fn format_text(
     }
 }
 
-/// Formats a file, or standard input for `-`. Reports what fails.
+/// Formats a file, or standard input for `-`. Reports what fails. A file that is to be written but cannot be replaced is not read.
 pub fn format_file(
     rt: &HostRuntime,
     program: &Program,
     name: &str,
     task: Task,
 ) -> io::Result<Outcome> {
+    if task == Task::Write && name != "-" {
+        if let Err(error) = replaceable(rt, name) {
+            return fail(rt, program, name, error);
+        }
+    }
     match read_text(rt, program, name)? {
         Some(text) => format_text(rt, program, name, text.as_str(), task),
         None => Ok(Outcome::Failed),

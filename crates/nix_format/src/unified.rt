@@ -91,10 +91,22 @@ fn quoted_name(alloc: Global, name: &str) -> Result<String, AllocError> {
     Ok(quoted)
 }
 
+// Adds the parts of a path to a text, each after a `/`. Empty parts and `.` are left out: `git apply` refuses them.
+fn push_path(path: &str, text: &mut String) -> Result<(), AllocError> {
+    for part in path.split('/') {
+        if !part.is_empty() && part != "." {
+            text.push('/')?;
+            text.push_str(part)?;
+        }
+    }
+    Ok(())
+}
+
 // Returns the name of one of the texts. As `git` does it, a name with unusual characters is quoted, and a tab follows one with spaces.
 fn name_of(alloc: Global, side: char, name: &str) -> Result<String, AllocError> {
     let end = if name.contains(' ') { "\t" } else { "" };
-    let whole = format!(in alloc; "{side}/{}", name.trim_start_matches('/'))?;
+    let mut whole = format!(in alloc; "{side}")?;
+    push_path(name, &mut whole)?;
     if name.chars().any(is_escaped) {
         quoted_name(alloc, whole.as_str())
     } else {

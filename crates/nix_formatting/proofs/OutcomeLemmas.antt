@@ -5,7 +5,7 @@ use Rattle.rnix_green.specs.Tree.{Tree}
 use Rattle.rnix_grammar.specs.{Fault.Fault, Reading.IsReading, Parsed.IsParsed}
 use Rattle.rnix_parser.proofs.OneReading.{one_reading}
 use Rattle.nix_formatting.specs.{Relayout.IsRelayout, WalkSteps.steps_in, Reindented.IsReformatted}
-use Rattle.nix_formatting.proofs.OutlineLemmas.{outlines_same, values_same}
+use Rattle.nix_formatting.proofs.OutlineLemmas.{outlines_same, values_same, nix_values_same}
 use Rattle.nix_formatting.specs.declared.formatting.Formatting.{Formatting}
 use Rattle.nix_formatting.specs.declared.formatting.Formatting.TheVariants as formatting
 use Rattle.nix_formatting.specs.Formatted.{IsFaultless, IsFaulty, IsOutcome}
@@ -40,6 +40,7 @@ reindented old new before after ds es old_parsed old_none new_parsed new_none st
   new_read = subst (IsReading (tokens_of new) after) new_none new_parsed.reading;
   trees = outlines_same before after steps;
   values = values_same before after steps;
+  nix_values = nix_values_same before after steps;
 }
 
 -- a list of no elements

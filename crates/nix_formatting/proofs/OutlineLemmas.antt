@@ -10,13 +10,13 @@ use Rattle.rnix_green.specs.Tree.{Tree, Item, Located, items_from, items_of, ite
 use Rattle.rnix_green.specs.Walk.{Event, steps_from, event_at, preorder_of}
 use Rattle.{rnix_green.proofs.PieceLemmas.length-items_from, rnix_tree.proofs.ItemsAt.{HasItemsAt, first_item, front_items, back_items}}
 use Rattle.rnix_parser.specs.Significant.{leaf_unless}
-use Rattle.nix_formatting.specs.{Outline.{text_unless, outline}, WalkSteps.{Step, shown_node, shown_token, step_if, steps_of, steps_in}}
-use Rattle.nix_formatting.specs.Values.{value_of, value_if, values_in, string_values}
+use Rattle.nix_formatting.specs.{Outline.{text_unless, outline}, WalkSteps.{Step, Shown, shown_node, shown_token, step_if, steps_of, steps_in}}
+use Rattle.nix_formatting.specs.Values.{both_values, value_if, values_in, string_values, nix_string_values}
 
 -- a step in front of rows of trees: those of the open nodes, innermost first, each from the walk's place to the row's end
-abbrev built : Bool → Bool → SyntaxKind → List ℕ → List Forest → List Forest
+abbrev built : Bool → Bool → SyntaxKind → Shown → List Forest → List Forest
 built false enters k t [] = []
-built false enters k t (f ∷ fs) = leaf k t f ∷ fs
+built false enters k t (f ∷ fs) = leaf k t.0 f ∷ fs
 built true false k t fs = empty ∷ fs
 built true true k t [] = []
 built true true k t (c ∷ []) = []
@@ -30,15 +30,15 @@ rebuilt (s ∷ ss) = built s.is_node s.enters s.kind s.shown (rebuilt ss)
 abbrev located : Tree → ℕ → Located
 located t n = record { tree = t; number = n }
 
-abbrev step_with : Bool → Bool → SyntaxKind → List ℕ → Step
+abbrev step_with : Bool → Bool → SyntaxKind → Shown → Step
 step_with enters is_node kind shown = record { enters = enters; is_node = is_node; kind = kind; shown = shown }
 
 -- the steps of an event in front of others, by the event's element
-abbrev before : Bool → (Item → List ℕ) → Item → List Step → List Step
+abbrev before : Bool → (Item → Shown) → Item → List Step → List Step
 before enters shown i steps =
     step_if (i.is_node || (enters && not (same_kind i.kind TOKEN_WHITESPACE))) (step_with enters i.is_node i.kind (shown i)) steps
 
-abbrev shown_in : Tree → ℕ → Bool → Item → List ℕ
+abbrev shown_in : Tree → ℕ → Bool → Item → Shown
 shown_in t n enters i = if i.is_node then shown_node enters (located t n) else shown_token (located t n)
 
 abbrev item_with : Bool → SyntaxKind → ℕ → ℕ → Option ℕ → ℕ → Item
@@ -61,11 +61,12 @@ module _ (t : Tree) (n : ℕ) (k : SyntaxKind) (s m : ℕ) (p : Option ℕ) (b :
 
   -- what a token shows, by its text
   token_shows : (u whole : List ℕ) → whole ≡ text_of (forest_of t) → item t n ≡ item_with false k s m p b → take (m - s) (drop s whole) ≡ u
-      → shown_token (located t n) ≡ text_unless (same_kind k TOKEN_STRING_CONTENT) u
+      → shown_token (located t n) ≡ (text_unless (same_kind k TOKEN_STRING_CONTENT) u, [])
   token_shows u whole is e h =
-      ap (λ (i : Item). text_unless (same_kind i.kind TOKEN_STRING_CONTENT) (take (i.end - i.start) (drop i.start (text_of (forest_of t))))) e
+      ap (λ x. (x, []))
+      (ap (λ (i : Item). text_unless (same_kind i.kind TOKEN_STRING_CONTENT) (take (i.end - i.start) (drop i.start (text_of (forest_of t))))) e
       ∙ ap (λ w. text_unless (same_kind k TOKEN_STRING_CONTENT) (take (m - s) (drop s w))) (sym is)
-      ∙ ap (text_unless (same_kind k TOKEN_STRING_CONTENT)) h
+      ∙ ap (text_unless (same_kind k TOKEN_STRING_CONTENT)) h)
 
 join_empty : (f : Forest) → join f empty ≡ f
 join_empty empty = refl
@@ -74,9 +75,9 @@ join_empty (node k c f) = ap (node k c) (join_empty f)
 
 -- a token in front of a row
 token_row : (is_space : Bool) (k : SyntaxKind) (u : List ℕ) (ss : List Step) (f g : Forest) (fs : List Forest) → rebuilt ss ≡ join f g ∷ fs
-    → rebuilt (step_if (not is_space) (step_with true false k u) ss) ≡ join (leaf_unless is_space k u f) g ∷ fs
+    → rebuilt (step_if (not is_space) (step_with true false k (u, [])) ss) ≡ join (leaf_unless is_space k u f) g ∷ fs
 token_row true k u ss f g fs h = h
-token_row false k u ss f g fs h = ap (built false true k u) h
+token_row false k u ss f g fs h = ap (built false true k (u, [])) h
 
 -- the text of a leaf, and what follows it
 module _ (whole u behind : List ℕ) (s : ℕ) (at : drop s whole ≡ u ++ behind) where
@@ -99,7 +100,7 @@ rebuilds t n s p (leaf k u f) more rest g fs here text h =
     let left : List Event = map (event_at t) (steps_from (n + 1) f) ++ more in
     let is : item t n ≡ item_with false k s (s + length u) p 0 = first_item t n (item_with false k s (s + length u) p 0) items here in
     let at : drop s whole ≡ u ++ (text_of f ++ rest) = text ∙ append_assoc u (text_of f) rest in
-    let shows : shown_token (located t n) ≡ text_unless (same_kind k TOKEN_STRING_CONTENT) u =
+    let shows : shown_token (located t n) ≡ (text_unless (same_kind k TOKEN_STRING_CONTENT) u, []) =
     token_shows t n k s (s + length u) p 0 left u whole refl is (leaf_text whole u (text_of f ++ rest) s at) in
     ap rebuilt (token_passed t n k s (s + length u) p 0 left is
     ∙ ap (λ x. step_if (not (same_kind k TOKEN_WHITESPACE)) (step_with true false k x) (steps_of left)) shows)
@@ -150,34 +151,45 @@ first_same e = cc
 pub outlines_same : (old new : Tree) → steps_in new ≡ steps_in old → outline (forest_of new) ≡ outline (forest_of old)
 outlines_same old new same = first_same (sym (rebuilt_tree new) ∙ ap rebuilt same ∙ rebuilt_tree old)
 
--- the values of the strings that steps enter
-abbrev values_shown : List Step → List (List ℕ)
-values_shown [] = []
-values_shown (s ∷ ss) = value_if (s.enters && (s.is_node && same_kind NODE_STRING s.kind)) s.shown (values_shown ss)
+-- the values of the strings that steps enter, where this is the value among what is shown
+abbrev values_shown : (Shown → List ℕ) → List Step → List (List ℕ)
+values_shown value [] = []
+values_shown value (s ∷ ss) = value_if (s.enters && (s.is_node && same_kind NODE_STRING s.kind)) (value s.shown) (values_shown value ss)
 
--- a string shows its value
-string_shows : (is_string : Bool) (value : List ℕ) (values : List (List ℕ))
-    → value_if is_string (if is_string then value else []) values ≡ value_if is_string value values
-string_shows true value values = refl
-string_shows false value values = refl
+-- a string shows its values
+string_shows : (is_string : Bool) (value : Shown → List ℕ) (shown : Shown) (values : List (List ℕ))
+    → value_if is_string (value (if is_string then shown else ([], []))) values ≡ value_if is_string (value shown) values
+string_shows true value shown values = refl
+string_shows false value shown values = refl
 
-token_no_value : (is_space : Bool) (k : SyntaxKind) (u : List ℕ) (ss : List Step)
-    → values_shown (step_if (not is_space) (step_with true false k u) ss) ≡ values_shown ss
-token_no_value true k u ss = refl
-token_no_value false k u ss = refl
+token_no_value : (value : Shown → List ℕ) (is_space : Bool) (k : SyntaxKind) (u : Shown) (ss : List Step)
+    → values_shown value (step_if (not is_space) (step_with true false k u) ss) ≡ values_shown value ss
+token_no_value value true k u ss = refl
+token_no_value value false k u ss = refl
 
 -- the steps of events show the values of their strings
-values_are : (events : List Event) → values_shown (steps_of events) ≡ values_in events
-values_are [] = refl
-values_are ((true, (true, e)) ∷ events) =
-    ap (value_if (same_kind NODE_STRING (item_of e).kind) (shown_node true e)) (values_are events)
-    ∙ string_shows (same_kind NODE_STRING (item_of e).kind) (value_of e) (values_in events)
-values_are ((false, (true, e)) ∷ events) = values_are events
-values_are ((true, (false, e)) ∷ events) =
-    token_no_value (same_kind (item_of e).kind TOKEN_WHITESPACE) (item_of e).kind (shown_token e) (steps_of events) ∙ values_are events
-values_are ((false, (false, e)) ∷ events) = values_are events
+values_are : (value : Shown → List ℕ) (events : List Event)
+    → values_shown value (steps_of events) ≡ values_in (λ e. value (both_values e)) events
+values_are value [] = refl
+values_are value ((true, (true, e)) ∷ events) =
+    ap (value_if (same_kind NODE_STRING (item_of e).kind) (value (shown_node true e))) (values_are value events)
+    ∙ string_shows (same_kind NODE_STRING (item_of e).kind) value (both_values e)
+    (values_in (λ s. value (both_values s)) events)
+values_are value ((false, (true, e)) ∷ events) = values_are value events
+values_are value ((true, (false, e)) ∷ events) =
+    token_no_value value (same_kind (item_of e).kind TOKEN_WHITESPACE) (item_of e).kind (shown_token e) (steps_of events) ∙ values_are value events
+values_are value ((false, (false, e)) ∷ events) = values_are value events
 
 -- walks with the same steps are over trees whose strings have the same values
+shown_same : (value : Shown → List ℕ) (old new : Tree) → steps_in new ≡ steps_in old
+    → values_in (λ e. value (both_values e)) (preorder_of (located new 0))
+    ≡ values_in (λ e. value (both_values e)) (preorder_of (located old 0))
+shown_same value old new same =
+    sym (values_are value (preorder_of (located new 0))) ∙ ap (values_shown value) same ∙ values_are value (preorder_of (located old 0))
+
 pub values_same : (old new : Tree) → steps_in new ≡ steps_in old → string_values new ≡ string_values old
-values_same old new same =
-    sym (values_are (preorder_of (located new 0))) ∙ ap values_shown same ∙ values_are (preorder_of (located old 0))
+values_same old new same = shown_same (λ s. s.0) old new same
+
+-- and the same values as Nix makes them
+pub nix_values_same : (old new : Tree) → steps_in new ≡ steps_in old → nix_string_values new ≡ nix_string_values old
+nix_values_same old new same = shown_same (λ s. s.1) old new same

@@ -1,6 +1,8 @@
 -- The value of a string depends on the texts of its parts, and not on what its interpolations are.
 use Rattle.std.proofs.Common.{◌≡◌, ℕ, suc, Bool, true, false, List, [], ◌∷◌, ◌++◌, map, fold, Some, None, if◌then◌else◌, refl, ap, sym, ◌∙◌}
 use Rattle.std.proofs.lemmas.{Bool.false≢true, Slice.Eq.bytes_eq-Decides}
+use Rattle.std.specs.Prelude.{◌&&◌}
+use Rattle.std.specs.List.{flat_map}
 use Rattle.std.specs.Str.{bytes_eq}
 use Rattle.rnix_green.specs.Tree.{Located, text_at}
 use Rattle.rnix_green.specs.Walk.{Spot}
@@ -8,11 +10,13 @@ use Rattle.rnix_base.specs.declared.parts.InterpolPart.{InterpolPart}
 use Rattle.rnix_base.specs.declared.parts.InterpolPart.TheVariants.{Literal, Interpolation}
 use Rattle.rnix_base.specs.Escapes.{unescaped}
 use Rattle.rnix_base.specs.Parts.{part_of, is_indented}
-use Rattle.rnix_base.specs.Normal.{Parts, with_text, Symbol, symbols, opens_blank, behind_blank, literal_if_some, opened, with_texts, unindented, part_text, closed, indented_parts, quoted_parts}
+use Rattle.rnix_base.specs.Normal.{Parts, with_text, Symbol, symbols, lines, least_indentation, shortened, opens_blank, behind_blank, literal_if_some, opened, with_texts, unindented, part_text, closed, indented_parts, quoted_parts}
+use Rattle.rnix_base.specs.Value.{without_escapes, ended, value_indentation, dedented, indented_value, quoted_text, quoted_value}
 use Rattle.rnix.specs.StringParts.{normalized_parts}
 use Rattle.nix_formatting.specs.Bare.{bare, bare_parts, parts_among, bare_among}
+use Rattle.nix_formatting.specs.Pairs.{same_shown}
 use Rattle.nix_formatting.specs.Solids.{same_flag}
-use Rattle.nix_formatting.specs.Values.{interpolation_symbol, with_symbols, symbols_of, written_parts, value_of}
+use Rattle.nix_formatting.specs.Values.{interpolation_symbol, with_symbols, symbols_of, written_parts, value_of, nix_value_of, both_values}
 
 -- bare parts have the same bytes and interpolations
 symbols_bare : {I : Type 0} (row : List ℕ) (parts : Parts I) → fold with_symbols row (bare_parts parts) ≡ fold with_symbols row parts
@@ -71,6 +75,35 @@ indented_bare parts =
     ∙ ap (λ row. with_texts (unindented row) 0 (opened (bare_parts parts)))
     (sym (row_bare 0 (opened parts)) ∙ ap (symbols 0) (opened_bare parts))))
 
+-- the last line is left out alike
+ended_bare : {I : Type 0} (parts : Parts I) → bare_parts (ended parts) ≡ ended (bare_parts parts)
+unfolding ended
+ended_bare [] = refl
+ended_bare (Literal text ∷ []) = refl
+ended_bare (Literal text ∷ (part ∷ parts)) = ap (λ ps. Literal text ∷ ps) (ended_bare (part ∷ parts))
+ended_bare (Interpolation i ∷ parts) = ap (λ ps. Interpolation 0 ∷ ps) (ended_bare parts)
+
+-- lines lose their spaces alike
+dedented_bare : {I : Type 0} (n : ℕ) (parts : Parts I) → bare_parts (dedented n parts) ≡ dedented n (bare_parts parts)
+dedented_bare n parts =
+    texts_bare (flat_map (shortened n) (lines (symbols 0 parts))) 0 parts
+    ∙ ap (λ row. with_texts (flat_map (shortened n) (lines row)) 0 (bare_parts parts)) (sym (row_bare 0 parts))
+
+indentation_bare : {I : Type 0} (parts : Parts I) → value_indentation (bare_parts parts) ≡ value_indentation parts
+indentation_bare parts =
+    ap (λ row. least_indentation (lines row))
+    (ap (symbols 0) (sym (mapped_bare without_escapes parts)) ∙ row_bare 0 (map (with_text without_escapes) parts))
+
+-- the value as Nix makes it is alike
+value_bare : {I : Type 0} (parts : Parts I) → bare_parts (indented_value parts) ≡ indented_value (bare_parts parts)
+value_bare parts =
+    dedented_bare (value_indentation (opened parts)) (map (with_text (unescaped true)) (ended (opened parts)))
+    ∙ ap (dedented (value_indentation (opened parts)))
+    (mapped_bare (unescaped true) (ended (opened parts))
+    ∙ ap (map (with_text (unescaped true))) (ended_bare (opened parts) ∙ ap ended (opened_bare parts)))
+    ∙ ap (λ n. dedented n (map (with_text (unescaped true)) (ended (opened (bare_parts parts)))))
+    (sym (indentation_bare (opened parts)) ∙ ap value_indentation (opened_bare parts))
+
 -- parts that are alike have the same bytes and interpolations
 pub symbols_same : {I J : Type 0} (xs : Parts I) (ys : Parts J) → bare_parts xs ≡ bare_parts ys → symbols_of xs ≡ symbols_of ys
 symbols_same xs ys same = sym (symbols_bare [] xs) ∙ ap (fold with_symbols []) same ∙ symbols_bare [] ys
@@ -97,13 +130,49 @@ pub written_same : (old new : Located) → same_flag (is_indented old) (is_inden
     → bare_parts (written_parts new) ≡ bare_parts (written_parts old) → value_of old ≡ value_of new
 written_same old new flags same = values_alike (is_indented old) (is_indented new) (written_parts old) (written_parts new) flags same
 
+-- the value of parts as Nix makes it
+abbrev nix_value_with : Bool → Parts Located → List ℕ
+nix_value_with is_indented parts = symbols_of (if is_indented then indented_value parts else quoted_value parts)
+
+nix_values_alike : (a b : Bool) (xs ys : Parts Located) → same_flag a b ≡ true → bare_parts ys ≡ bare_parts xs
+    → nix_value_with a xs ≡ nix_value_with b ys
+nix_values_alike true true xs ys flags same =
+    symbols_same (indented_value xs) (indented_value ys) (value_bare xs ∙ ap indented_value (sym same) ∙ sym (value_bare ys))
+nix_values_alike false false xs ys flags same =
+    symbols_same (quoted_value xs) (quoted_value ys) (mapped_bare quoted_text xs ∙ ap quoted_value (sym same) ∙ sym (mapped_bare quoted_text ys))
+nix_values_alike true false xs ys flags same = absurd (false≢true flags)
+nix_values_alike false true xs ys flags same = absurd (false≢true flags)
+
+-- and the same value as Nix makes it
+pub nix_written_same : (old new : Located) → same_flag (is_indented old) (is_indented new) ≡ true
+    → bare_parts (written_parts new) ≡ bare_parts (written_parts old) → nix_value_of old ≡ nix_value_of new
+nix_written_same old new flags same = nix_values_alike (is_indented old) (is_indented new) (written_parts old) (written_parts new) flags same
+
+-- both values are the same
+pub both_same : (old new : Located) → value_of old ≡ value_of new → nix_value_of old ≡ nix_value_of new
+    → true ≡ same_shown (both_values old) (both_values new)
+both_same old new same made =
+    sym (ap (λ b. b && bytes_eq (nix_value_of old) (nix_value_of new)) ((bytes_eq-Decides (value_of old) (value_of new)).1 same)
+    ∙ (bytes_eq-Decides (nix_value_of old) (nix_value_of new)).1 made)
+
+-- the first values are the same, so the second ones decide
+pub second_decides : (old new : Located) (first same : Bool) → first ≡ bytes_eq (value_of old) (value_of new) → first ≡ true
+    → same ≡ bytes_eq (nix_value_of old) (nix_value_of new) → same ≡ same_shown (both_values old) (both_values new)
+second_decides old new first same is holds made =
+    made ∙ sym (ap (λ b. b && bytes_eq (nix_value_of old) (nix_value_of new)) (sym is ∙ holds))
+
+-- the first values differ
+pub first_differs : (old new : Located) (first : Bool) → first ≡ bytes_eq (value_of old) (value_of new) → first ≡ false
+    → false ≡ same_shown (both_values old) (both_values new)
+first_differs old new first is fails = sym (ap (λ b. b && bytes_eq (nix_value_of old) (nix_value_of new)) (sym is ∙ fails))
+
 -- normalized parts that are alike have the same bytes and interpolations
 pub normalized_same : {I J : Type 0} (olds : Parts I) (news : Parts J) → bare_parts news ≡ bare_parts olds → symbols_of olds ≡ symbols_of news
 normalized_same olds news same = symbols_same olds news (sym same)
 
 -- the value of a string in `''`
-pub indented_value : (string : Located) → is_indented string ≡ true → value_of string ≡ symbols_of (normalized_parts string)
-indented_value string is = ap (λ b. if b then symbols_of (normalized_parts string) else symbols_of (written_parts string)) is
+pub value_of_indented : (string : Located) → is_indented string ≡ true → value_of string ≡ symbols_of (normalized_parts string)
+value_of_indented string is = ap (λ b. if b then symbols_of (normalized_parts string) else symbols_of (written_parts string)) is
 
 -- equal bytes pass the test
 pub equal_pass : (xs ys : List ℕ) → xs ≡ ys → true ≡ bytes_eq xs ys

@@ -2,7 +2,7 @@
 use Rattle.std.proofs.Common.{◌≡◌, List, [], ◌∷◌, ℕ, map, refl, codes}
 use Rattle.rnix_kinds.specs.declared.kinds.SyntaxKind.TheVariants as k
 use Rattle.rnix_green.specs.{Forest.{Forest, empty, leaf, node}, Tree.Tree}
-use Rattle.rnix_base.specs.{Escapes.values, Normal.{symbols, lines, least_indentation, part_text, with_texts, closed}}
+use Rattle.rnix_base.specs.{Escapes.values, Normal.{symbols, lines, least_indentation, part_text, with_texts, closed}, Value.{marked, ended, fed}}
 use Rattle.nix_formatting.specs.WalkSteps.{steps_in}
 
 -- the tree of a string with these quotes and contents, and white space before it
@@ -13,18 +13,30 @@ string_tree space quotes contents = record {
       (node k.NODE_STRING (leaf k.TOKEN_STRING_START quotes (leaf k.TOKEN_STRING_CONTENT contents (leaf k.TOKEN_STRING_END quotes empty))) empty);
 }
 
--- what is shown, one step after another: the root, the string with its value, its tokens, and both nodes again when they are left
+-- what is shown, one step after another: the root, the string with its values, its tokens, and both nodes again when they are left
 indented : map (λ s. s.shown) (steps_in (string_tree (codes " ") (codes "''") (codes "\n  a\n   b\n")))
-    ≡ [] ∷ codes "a\n b\n" ∷ codes "''" ∷ [] ∷ codes "''" ∷ [] ∷ [] ∷ []
-unfolding values symbols lines least_indentation part_text with_texts closed
+    ≡ ([], []) ∷ (codes "a\n b\n", codes "a\n b\n") ∷ (codes "''", []) ∷ ([], []) ∷ (codes "''", []) ∷ ([], []) ∷ ([], []) ∷ []
+unfolding values symbols lines least_indentation part_text with_texts closed marked ended
 indented = refl
 
 -- lines that move together, and other white space, change no step
 moved : steps_in (string_tree (codes "\n") (codes "''") (codes "\n a\n  b\n  ")) ≡ steps_in (string_tree (codes " ") (codes "''") (codes "\n  a\n   b\n"))
-unfolding values symbols lines least_indentation part_text with_texts closed
+unfolding values symbols lines least_indentation part_text with_texts closed marked ended
 moved = refl
 
 -- a string in `"` shows its contents as they are written
 quoted : map (λ s. s.shown) (steps_in (string_tree [] (codes "\"") (codes "\n  a")))
-    ≡ [] ∷ codes "\n  a" ∷ codes "\"" ∷ [] ∷ codes "\"" ∷ [] ∷ [] ∷ []
+    ≡ ([], []) ∷ (codes "\n  a", codes "\n  a") ∷ (codes "\"", []) ∷ ([], []) ∷ (codes "\"", []) ∷ ([], []) ∷ ([], []) ∷ []
+unfolding values fed
 quoted = refl
+
+-- where spaces follow an escaped line feed, Nix makes another value of a string that moves, although it has the same normalized parts
+escaped : map (λ s. s.shown) (steps_in (string_tree [] (codes "''") (codes "\n   a''\\n  b\n")))
+    ≡ ([], []) ∷ (codes "a\n  b\n", codes "a\nb\n") ∷ (codes "''", []) ∷ ([], []) ∷ (codes "''", []) ∷ ([], []) ∷ ([], []) ∷ []
+unfolding values symbols lines least_indentation part_text with_texts closed marked ended
+escaped = refl
+
+escaped_moved : map (λ s. s.shown) (steps_in (string_tree [] (codes "''") (codes "\n a''\\n  b\n")))
+    ≡ ([], []) ∷ (codes "a\n  b\n", codes "a\n b\n") ∷ (codes "''", []) ∷ ([], []) ∷ (codes "''", []) ∷ ([], []) ∷ ([], []) ∷ []
+unfolding values symbols lines least_indentation part_text with_texts closed marked ended
+escaped_moved = refl

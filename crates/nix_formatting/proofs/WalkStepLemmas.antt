@@ -9,64 +9,77 @@ use Rattle.rnix_green.specs.Tree.{Located, item_of, text_at}
 use Rattle.rnix_green.specs.Walk.{Event}
 use Rattle.rnix_tree.specs.Spots.{event_of}
 use Rattle.nix_formatting.specs.Outline.{text_unless}
-use Rattle.nix_formatting.specs.Values.{value_of}
-use Rattle.nix_formatting.specs.WalkSteps.{Step, shown_node, shown_token, step_of, is_step, step_if, steps_of}
-use Rattle.nix_formatting.specs.Pairs.{Met, IsNextStep, AreSame, same_nodes, same_tokens, AreCompared, IsPassed}
+use Rattle.nix_formatting.specs.Values.{both_values}
+use Rattle.nix_formatting.specs.WalkSteps.{Step, Shown, shown_node, shown_token, step_of, is_step, step_if, steps_of}
+use Rattle.nix_formatting.specs.Pairs.{Met, IsNextStep, AreSame, same_shown, same_nodes, same_tokens, AreCompared, IsPassed}
 use Rattle.nix_formatting.specs.declared.walks.Pair.{Pair}
 use Rattle.nix_formatting.specs.declared.walks.Pair.TheVariants as pair
 
-abbrev step_with : Bool → Bool → SyntaxKind → List ℕ → Step
+abbrev step_with : Bool → Bool → SyntaxKind → Shown → Step
 step_with enters is_node kind shown = record { enters = enters; is_node = is_node; kind = kind; shown = shown }
 
 -- steps of one kind that show the same are the same
-steps_same : (enters is_node : Bool) (k l : SyntaxKind) (xs ys : List ℕ) → same_kind k l ≡ true → xs ≡ ys
+steps_same : (enters is_node : Bool) (k l : SyntaxKind) (xs ys : Shown) → same_kind k l ≡ true → xs ≡ ys
     → step_with enters is_node l ys ≡ step_with enters is_node k xs
 steps_same enters is_node k l xs ys kinds shown =
     sym (ap (λ j. step_with enters is_node j xs) ((same_kind-decides k l).0 kinds) ∙ ap (step_with enters is_node l) shown)
 
 -- nodes of different kinds have different steps
 pub kinds_differ : (old new : Located) → same_kind (item_of old).kind (item_of new).kind ≡ false → false ≡ same_nodes old new
-kinds_differ old new differ = sym (ap (λ b. b && bytes_eq (shown_node true old) (shown_node true new)) differ)
+kinds_differ old new differ = sym (ap (λ b. b && same_shown (shown_node true old) (shown_node true new)) differ)
 
 -- nodes of one kind have the same step if they show the same
 pub kinds_same : (old new : Located) (same : Bool) → same_kind (item_of old).kind (item_of new).kind ≡ true
-    → same ≡ bytes_eq (shown_node true old) (shown_node true new) → same ≡ same_nodes old new
-kinds_same old new same kinds shown = shown ∙ sym (ap (λ b. b && bytes_eq (shown_node true old) (shown_node true new)) kinds)
+    → same ≡ same_shown (shown_node true old) (shown_node true new) → same ≡ same_nodes old new
+kinds_same old new same kinds shown = shown ∙ sym (ap (λ b. b && same_shown (shown_node true old) (shown_node true new)) kinds)
 
 -- whether nodes of one kind are strings
 same_strings : (k l : SyntaxKind) → same_kind k l ≡ true → same_kind NODE_STRING k ≡ same_kind NODE_STRING l
 same_strings k l kinds = ap (same_kind NODE_STRING) ((same_kind-decides k l).0 kinds)
 
 -- a node that is no string shows nothing
-shows_nothing : (e : Located) → same_kind NODE_STRING (item_of e).kind ≡ false → shown_node true e ≡ []
-shows_nothing e none = ap (λ b. if b then value_of e else []) none
+shows_nothing : (e : Located) → same_kind NODE_STRING (item_of e).kind ≡ false → shown_node true e ≡ ([], [])
+shows_nothing e none = ap (λ b. if b then both_values e else ([], [])) none
 
 -- nodes of one kind that are no strings show the same
 pub no_strings : (old new : Located) → same_kind (item_of old).kind (item_of new).kind ≡ true → same_kind NODE_STRING (item_of old).kind ≡ false
-    → true ≡ bytes_eq (shown_node true old) (shown_node true new)
+    → true ≡ same_shown (shown_node true old) (shown_node true new)
 no_strings old new kinds none =
     let no_new : same_kind NODE_STRING (item_of new).kind ≡ false = sym (same_strings (item_of old).kind (item_of new).kind kinds) ∙ none in
-    sym (ap (λ s. bytes_eq s (shown_node true new)) (shows_nothing old none) ∙ ap (bytes_eq []) (shows_nothing new no_new))
+    sym (ap (λ s. same_shown s (shown_node true new)) (shows_nothing old none) ∙ ap (same_shown ([], [])) (shows_nothing new no_new))
 
 -- of nodes of one kind, both are strings or none
 pub one_string : (old new : Located) → same_kind (item_of old).kind (item_of new).kind ≡ true → same_kind NODE_STRING (item_of old).kind ≡ true
-    → same_kind NODE_STRING (item_of new).kind ≡ false → true ≡ bytes_eq (shown_node true old) (shown_node true new)
+    → same_kind NODE_STRING (item_of new).kind ≡ false → true ≡ same_shown (shown_node true old) (shown_node true new)
 one_string old new kinds is none = absurd (false≢true (sym none ∙ sym (same_strings (item_of old).kind (item_of new).kind kinds) ∙ is))
 
--- a string shows its value
-pub string_shows : (e : Located) → same_kind NODE_STRING (item_of e).kind ≡ true → shown_node true e ≡ value_of e
-string_shows e is = ap (λ b. if b then value_of e else []) is
+-- a string shows its values
+string_shows : (e : Located) → same_kind NODE_STRING (item_of e).kind ≡ true → shown_node true e ≡ both_values e
+string_shows e is = ap (λ b. if b then both_values e else ([], [])) is
+
+-- two strings show the same if they have the same values
+pub strings_show : (old new : Located) (same : Bool) → same_kind NODE_STRING (item_of old).kind ≡ true → same_kind NODE_STRING (item_of new).kind ≡ true
+    → same ≡ same_shown (both_values old) (both_values new) → same ≡ same_shown (shown_node true old) (shown_node true new)
+strings_show old new same is_old is_new values =
+    values
+    ∙ sym (ap (λ s. same_shown s (shown_node true new)) (string_shows old is_old) ∙ ap (same_shown (both_values old)) (string_shows new is_new))
+
+-- what passes the test is the same
+shown_equal : (xs ys : Shown) → same_shown xs ys ≡ true → xs ≡ ys
+shown_equal (text, value) (other, made) h =
+    let both = and_parts (bytes_eq text other) (bytes_eq value made) h in
+    ap (λ t. (t, value)) ((bytes_eq-Decides text other).0 both.0) ∙ ap (λ v. (other, v)) ((bytes_eq-Decides value made).0 both.1)
 
 -- two nodes are entered
 pub nodes_entered : (old new : Located) → same_nodes old new ≡ true → AreSame (true, (true, old)) (true, (true, new))
 nodes_entered old new h =
-    let both = and_parts (same_kind (item_of old).kind (item_of new).kind) (bytes_eq (shown_node true old) (shown_node true new)) h in
+    let both = and_parts (same_kind (item_of old).kind (item_of new).kind) (same_shown (shown_node true old) (shown_node true new)) h in
     steps_same true true (item_of old).kind (item_of new).kind (shown_node true old) (shown_node true new) both.0
-    ((bytes_eq-Decides (shown_node true old) (shown_node true new)).0 both.1)
+    (shown_equal (shown_node true old) (shown_node true new) both.1)
 
 -- two nodes are left
 pub nodes_left : (old new : Located) → same_kind (item_of old).kind (item_of new).kind ≡ true → AreSame (false, (true, old)) (false, (true, new))
-nodes_left old new h = steps_same false true (item_of old).kind (item_of new).kind [] [] h refl
+nodes_left old new h = steps_same false true (item_of old).kind (item_of new).kind ([], []) ([], []) h refl
 
 -- what tokens of one kind show
 tokens_show : (is_old is_new : Bool) (xs ys : List ℕ) → is_old ≡ is_new → is_old || bytes_eq xs ys ≡ true
@@ -83,8 +96,8 @@ tokens_passed old new h =
     let l : SyntaxKind = (item_of new).kind in
     let both = and_parts (same_kind k l) (same_kind k TOKEN_STRING_CONTENT || bytes_eq (text_at old) (text_at new)) h in
     steps_same true false k l (shown_token old) (shown_token new) both.0
-    (tokens_show (same_kind k TOKEN_STRING_CONTENT) (same_kind l TOKEN_STRING_CONTENT) (text_at old) (text_at new)
-    (ap (λ j. same_kind j TOKEN_STRING_CONTENT) ((same_kind-decides k l).0 both.0)) both.1)
+    (ap (λ t. (t, [])) (tokens_show (same_kind k TOKEN_STRING_CONTENT) (same_kind l TOKEN_STRING_CONTENT) (text_at old) (text_at new)
+    (ap (λ j. same_kind j TOKEN_STRING_CONTENT) ((same_kind-decides k l).0 both.0)) both.1))
 
 -- both walks have the same next step, and the same steps after it
 both_pass : (olds news olds_left news_left : List Event) (old new : Event) → steps_of olds ≡ step_of old ∷ steps_of olds_left

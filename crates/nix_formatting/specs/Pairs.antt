@@ -8,7 +8,7 @@ use Rattle.rnix_green.specs.Walk.{Event}
 use Rattle.rnix_tree.specs.declared.element.NodeOrToken.{NodeOrToken}
 use Rattle.rnix_tree.specs.declared.element.WalkEvent.{WalkEvent}
 use Rattle.rnix_tree.specs.Spots.{event_of}
-use Rattle.nix_formatting.specs.WalkSteps.{shown_node, step_of, steps_of}
+use Rattle.nix_formatting.specs.WalkSteps.{Shown, shown_node, step_of, steps_of}
 use Rattle.nix_formatting.specs.declared.walks.Pair.{Pair}
 use Rattle.nix_formatting.specs.declared.walks.Pair.TheVariants as pair
 
@@ -25,14 +25,18 @@ IsNextStep before (Some met) after = steps_of before ≡ step_of (event_of met) 
 abbrev pub AreSame : Event → Event → Type 0
 AreSame old new = step_of new ≡ step_of old
 
+-- whether the same is shown
+abbrev pub same_shown : Shown → Shown → Bool
+same_shown old new = bytes_eq old.0 new.0 && bytes_eq old.1 new.1
+
 -- whether two nodes that are entered have the same step
 abbrev pub same_nodes : Located → Located → Bool
-same_nodes old new = same_kind (item_of old).kind (item_of new).kind && bytes_eq (shown_node true old) (shown_node true new)
+same_nodes old new = same_kind (item_of old).kind (item_of new).kind && same_shown (shown_node true old) (shown_node true new)
 
 -- the result of comparing what two nodes of one kind show when they are entered
 abbrev pub ShowTheSame : Located → Located → Bool → Type 0
 ShowTheSame old new same =
-    same_kind (item_of old).kind (item_of new).kind ≡ true → same ≡ bytes_eq (shown_node true old) (shown_node true new)
+    same_kind (item_of old).kind (item_of new).kind ≡ true → same ≡ same_shown (shown_node true old) (shown_node true new)
 
 -- whether two tokens have the same step
 abbrev pub same_tokens : Located → Located → Bool

@@ -5,10 +5,11 @@ use Rattle.rnix_green.specs.Tree.{Tree, forest_of}
 use Rattle.rnix_grammar.specs.Reading.{IsReading}
 use Rattle.nix_formatting.specs.Relayout.{IsRelayout}
 use Rattle.nix_formatting.specs.Outline.{outline}
-use Rattle.nix_formatting.specs.Values.{string_values}
+use Rattle.nix_formatting.specs.Values.{string_values, nix_string_values}
 
--- both texts have no errors; their trees, comments included, are the same except for white space and the contents of strings; and the contents of
--- strings in `''` have the same normalized parts, empty texts aside, and those of strings in `"` are the same
+-- both texts have no errors; their trees, comments included, are the same except for white space and the contents of strings; the contents of
+-- strings in `''` have the same normalized parts, empty texts aside, and those of strings in `"` are the same; and all strings have the same values as
+-- Nix makes them
 pub record IsReindented (old new : List ℕ) : Type 0 where
   pub before : Tree
   pub after : Tree
@@ -16,6 +17,7 @@ pub record IsReindented (old new : List ℕ) : Type 0 where
   pub new_read : IsReading (tokens_of new) after []
   pub trees : outline (forest_of after) ≡ outline (forest_of before)
   pub values : string_values after ≡ string_values before
+  pub nix_values : nix_string_values after ≡ nix_string_values before
 
 -- the new text differs from the old one only in white space, or also in the indentation of strings in `''`
 abbrev pub IsReformatted : List ℕ → List ℕ → Type 0

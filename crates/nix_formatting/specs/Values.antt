@@ -8,7 +8,7 @@ use Rattle.rnix_base.specs.declared.parts.InterpolPart.{InterpolPart}
 use Rattle.rnix_base.specs.declared.parts.InterpolPart.TheVariants.{Literal, Interpolation}
 use Rattle.rnix_base.specs.Parts.{is_indented}
 use Rattle.rnix_base.specs.Normal.{Parts, with_text}
-use Rattle.rnix.specs.StringParts.{string_parts, normalized_parts}
+use Rattle.rnix.specs.StringParts.{string_parts, normalized_parts, value_parts}
 
 -- the number that stands for an interpolation among the bytes of a string
 abbrev pub interpolation_symbol : ℕ
@@ -31,17 +31,29 @@ written_parts string = map (with_text text_at) (string_parts string)
 abbrev pub value_of : Located → List ℕ
 value_of string = if is_indented string then symbols_of (normalized_parts string) else symbols_of (written_parts string)
 
+-- the value of a string as Nix makes it: the bytes and interpolations of its parts
+abbrev pub nix_value_of : Located → List ℕ
+nix_value_of string = symbols_of (value_parts string)
+
+-- both values of a string
+abbrev pub both_values : Located → List ℕ × List ℕ
+both_values string = (value_of string, nix_value_of string)
+
 -- a value before others, or not
 abbrev pub value_if : Bool → List ℕ → List (List ℕ) → List (List ℕ)
 value_if true value values = value ∷ values
 value_if false value values = values
 
--- the values of the strings that are entered
-abbrev pub values_in : List Event → List (List ℕ)
-values_in [] = []
-values_in (event ∷ events) =
-    value_if (event.0 && (event.1.0 && same_kind NODE_STRING (item_of event.1.1).kind)) (value_of event.1.1) (values_in events)
+-- the values of the strings that are entered, where this is the value of one
+abbrev pub values_in : (Located → List ℕ) → List Event → List (List ℕ)
+values_in value [] = []
+values_in value (event ∷ events) =
+    value_if (event.0 && (event.1.0 && same_kind NODE_STRING (item_of event.1.1).kind)) (value event.1.1) (values_in value events)
 
 -- the values of all strings of a tree, in preorder
 abbrev pub string_values : Tree → List (List ℕ)
-string_values tree = values_in (preorder_of record { tree = tree; number = 0 })
+string_values tree = values_in value_of (preorder_of record { tree = tree; number = 0 })
+
+-- the values of all strings of a tree as Nix makes them, in preorder
+abbrev pub nix_string_values : Tree → List (List ℕ)
+nix_string_values tree = values_in nix_value_of (preorder_of record { tree = tree; number = 0 })

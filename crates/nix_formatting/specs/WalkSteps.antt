@@ -6,26 +6,30 @@ use Rattle.rnix_green.specs.Equality.{same_kind}
 use Rattle.rnix_green.specs.Tree.{Tree, Located, item_of, text_at}
 use Rattle.rnix_green.specs.Walk.{Event, preorder_of}
 use Rattle.nix_formatting.specs.Outline.{text_unless}
-use Rattle.nix_formatting.specs.Values.{value_of}
+use Rattle.nix_formatting.specs.Values.{both_values}
+
+-- what is shown: a text or a value, and beside it the value as Nix makes it
+abbrev pub Shown : Type 0
+Shown = List ℕ × List ℕ
 
 -- a node is entered or left, or a token is passed, and something is shown of it
 pub record Step : Type 0 where
   pub enters : Bool
   pub is_node : Bool
   pub kind : SyntaxKind
-  pub shown : List ℕ
+  pub shown : Shown
 
--- a string shows its value when it is entered; other nodes show nothing
-abbrev pub shown_node : Bool → Located → List ℕ
-shown_node true e = if same_kind NODE_STRING (item_of e).kind then value_of e else []
-shown_node false e = []
+-- a string shows both values when it is entered; other nodes show nothing
+abbrev pub shown_node : Bool → Located → Shown
+shown_node true e = if same_kind NODE_STRING (item_of e).kind then both_values e else ([], [])
+shown_node false e = ([], [])
 
 -- a token shows its text, except the contents of a string, which show nothing
-abbrev pub shown_token : Located → List ℕ
-shown_token e = text_unless (same_kind (item_of e).kind TOKEN_STRING_CONTENT) (text_at e)
+abbrev pub shown_token : Located → Shown
+shown_token e = (text_unless (same_kind (item_of e).kind TOKEN_STRING_CONTENT) (text_at e), [])
 
 -- what an element shows when it is entered or left
-abbrev pub shown_at : Event → List ℕ
+abbrev pub shown_at : Event → Shown
 shown_at event = if event.1.0 then shown_node event.0 event.1.1 else shown_token event.1.1
 
 -- the step of an event

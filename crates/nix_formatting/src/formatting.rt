@@ -7,9 +7,8 @@ ghost use Rattle.nix_formatting.specs.Relayout.{solids_of, IsRelayout};
 ghost use Rattle.nix_formatting.specs.Formatted.{IsFaultless, IsOutcome};
 
 use crate::alike::have_same_solids;
-use crate::collecting::layout_of;
 use crate::walks::have_same_steps;
-use crate::writing::written;
+use nix_layout::styled;
 use rnix::laws::{has_reading, layout, one_list};
 use rnix::{Parse, Root};
 use std::alloc::{AllocError, Global};
@@ -84,7 +83,6 @@ pub fn formatted(alloc: Global, text: &str) -> Result<Formatting, AllocError>
     if !read.errors().is_empty() {
         return Ok(Formatting::Faulty);
     }
-    let pieces = layout_of(alloc, &read.syntax())?;
-    let made = written(alloc, text, &pieces)?;
+    let made = styled(alloc, text, &read.syntax())?;
     compared(alloc, text, &read, made)
 }

@@ -3,7 +3,8 @@
 ghost use Rattle.std.specs.Prelude.{◌≡◌, true, [], ◌∷◌, ◌++◌, fold, IfOk, OnOk, string_bytes, bytes_eq};
 ghost use Rattle.rnix_base.specs.Normal.{borrowed, owned, with_text};
 ghost use Rattle.rnix.specs.StringParts.{normalized_parts};
-ghost use Rattle.nix_formatting.specs.Values.{interpolation_symbol, with_symbols, symbols_of, value_of};
+ghost use Rattle.nix_formatting.specs.Pairs.{same_shown};
+ghost use Rattle.nix_formatting.specs.Values.{interpolation_symbol, with_symbols, symbols_of, value_of, nix_value_of, both_values};
 
 use crate::alike::same_flag;
 use crate::parts::{have_same_normalized, have_same_written};
@@ -102,41 +103,73 @@ fn normalized_value(
     Ok(row)
 }
 
-// Whether the normalized parts of two strings have the same bytes and interpolations.
+// Whether some parts have the same bytes and interpolations as others.
 #[tactic(auto, using(crate::proofs::ValueLemmas::normalized_same, crate::proofs::ValueLemmas::equal_pass))]
+fn are_same_parts(
+    alloc: Global,
+    olds: &[InterpolPart<'_, String>],
+    news: &[InterpolPart<'_, String>],
+) -> Result<bool, AllocError>
+    ensures { IfOk result (λ same. same ≡ bytes_eq (symbols_of (owned olds.now)) (symbols_of (owned news.now))) }
+{
+    if have_same_normalized(olds, news) {
+        return Ok(true);
+    }
+    let old_row = normalized_value(alloc, olds)?;
+    let new_row = normalized_value(alloc, news)?;
+    Ok(old_row.as_slice() == new_row.as_slice())
+}
+
+// Whether the normalized parts of two strings have the same bytes and interpolations.
 fn are_same_normalized<'t>(alloc: Global, old: &Str<'t>, new: &Str<'t>) -> Result<bool, AllocError>
     ensures { IfOk result (λ same. same ≡ bytes_eq (symbols_of (normalized_parts old.now)) (symbols_of (normalized_parts new.now))) }
 {
     let olds = old.normalized_parts(alloc)?;
     let news = new.normalized_parts(alloc)?;
-    if have_same_normalized(&olds, &news) {
-        return Ok(true);
-    }
-    let old_row = normalized_value(alloc, &olds)?;
-    let new_row = normalized_value(alloc, &news)?;
-    Ok(old_row.as_slice() == new_row.as_slice())
+    are_same_parts(alloc, &olds, &news)
+}
+
+// Whether two strings have the same value as Nix makes it.
+fn are_made_alike<'t>(alloc: Global, old: &Str<'t>, new: &Str<'t>) -> Result<bool, AllocError>
+    ensures { IfOk result (λ same. same ≡ bytes_eq (nix_value_of old.now) (nix_value_of new.now)) }
+{
+    let olds = old.value_parts(alloc)?;
+    let news = new.value_parts(alloc)?;
+    are_same_parts(alloc, &olds, &news)
 }
 
 // Whether two strings have the same parts as they are written, and quotes of the same kind.
-#[tactic(auto, using(crate::proofs::ValueLemmas::written_same))]
+#[tactic(auto, using(crate::proofs::ValueLemmas::written_same, crate::proofs::ValueLemmas::nix_written_same))]
 fn are_written_alike<'t>(old: &Str<'t>, new: &Str<'t>) -> bool
-    ensures { result ≡ true → value_of old.now ≡ value_of new.now }
+    ensures value { result ≡ true → value_of old.now ≡ value_of new.now }
+    ensures nix_value { result ≡ true → nix_value_of old.now ≡ nix_value_of new.now }
 {
     same_flag(is_indented(old.syntax()), is_indented(new.syntax())) && have_same_written(old, new)
 }
 
-/// Whether two strings have the same value. Strings that are written alike are not normalized.
-#[tactic(auto, using(crate::proofs::ValueLemmas::indented_value, crate::proofs::ValueLemmas::equal_pass))]
-pub fn are_same_values<'t>(alloc: Global, old: &Str<'t>, new: &Str<'t>) -> Result<bool, AllocError>
+// Whether two strings have the same value.
+#[tactic(auto, using(crate::proofs::ValueLemmas::value_of_indented))]
+fn have_same_value<'t>(alloc: Global, old: &Str<'t>, new: &Str<'t>) -> Result<bool, AllocError>
     ensures { IfOk result (λ same. same ≡ bytes_eq (value_of old.now) (value_of new.now)) }
 {
-    if are_written_alike(old, new) {
-        return Ok(true);
-    }
     if is_indented(old.syntax()) && is_indented(new.syntax()) {
         return are_same_normalized(alloc, old, new);
     }
     let old_value = value_of(alloc, old)?;
     let new_value = value_of(alloc, new)?;
     Ok(old_value.as_slice() == new_value.as_slice())
+}
+
+/// Whether two strings have the same value, also as Nix makes it. Strings that are written alike are not evaluated.
+#[tactic(auto, using(crate::proofs::ValueLemmas::both_same, crate::proofs::ValueLemmas::second_decides, crate::proofs::ValueLemmas::first_differs))]
+pub fn are_same_values<'t>(alloc: Global, old: &Str<'t>, new: &Str<'t>) -> Result<bool, AllocError>
+    ensures { IfOk result (λ same. same ≡ same_shown (both_values old.now) (both_values new.now)) }
+{
+    if are_written_alike(old, new) {
+        return Ok(true);
+    }
+    if have_same_value(alloc, old, new)? {
+        return are_made_alike(alloc, old, new);
+    }
+    Ok(false)
 }

@@ -39,8 +39,8 @@ fn next_step<'t>(walk: &mut PreorderWithTokens<'t>) -> Option<WalkEvent<SyntaxEl
     None
 }
 
-// Whether two nodes of the same kind that are entered show the same: the same value, if they are strings.
-#[tactic(auto, using(crate::proofs::WalkStepLemmas::no_strings, crate::proofs::WalkStepLemmas::one_string, crate::proofs::WalkStepLemmas::string_shows))]
+// Whether two nodes of the same kind that are entered show the same: the same values, if they are strings.
+#[tactic(auto, using(crate::proofs::WalkStepLemmas::no_strings, crate::proofs::WalkStepLemmas::one_string, crate::proofs::WalkStepLemmas::strings_show))]
 fn show_the_same<'t>(
     alloc: Global,
     old: &SyntaxNode<'t>,
@@ -57,7 +57,7 @@ fn show_the_same<'t>(
     are_same_values(alloc, &old_string, &new_string)
 }
 
-// Whether two nodes that are entered have the same kind, and the same value if they are strings.
+// Whether two nodes that are entered have the same kind, and the same values if they are strings.
 #[tactic(auto, using(crate::proofs::WalkStepLemmas::kinds_differ, crate::proofs::WalkStepLemmas::kinds_same))]
 fn are_same_nodes<'t>(
     alloc: Global,

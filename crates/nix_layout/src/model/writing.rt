@@ -1,7 +1,8 @@
 //! Writes pieces and the gaps between them: each group on one line if it fits.
 
 use crate::layout::{Group, Layout, STEP};
-use crate::measuring::{Measures, Room};
+use crate::line_ends::line_end_of;
+use crate::model::measuring::{Measures, Room};
 use crate::piece::{Gap, Level, Moves, Piece};
 use std::alloc::{AllocError, Global};
 
@@ -41,6 +42,9 @@ struct Writer<'a> {
     layout: &'a Layout,
     measures: Measures,
     made: String,
+    // What ends lines, and whether the last piece is a comment with `#`, which has its own carriage return.
+    line_end: &'static str,
+    follows_comment: bool,
     // The current column, and the indentation of the current line.
     column: usize,
     indent: usize,
@@ -75,11 +79,21 @@ impl<'a> Writer<'a> {
         self.opened.get(number).copied().unwrap_or(UNKNOWN)
     }
 
+    // Ends the line after the last piece.
+    fn push_line_end(&mut self) -> Result<(), AllocError> {
+        let end = if self.follows_comment {
+            "\n"
+        } else {
+            self.line_end
+        };
+        self.made.push_str(end)
+    }
+
     // Ends the line, and begins the next one.
     fn end_line(&mut self, gap: Gap) -> Result<(), AllocError> {
-        self.made.push('\n')?;
+        self.push_line_end()?;
         if gap.has_empty_line {
-            self.made.push('\n')?;
+            self.made.push_str(self.line_end)?;
         }
         let indent = indent_of(self.group_at(gap.group), gap.level);
         self.made.push_str(BLANKS.get(..indent).unwrap_or(BLANKS))?;
@@ -157,15 +171,14 @@ impl<'a> Writer<'a> {
 
     // Begins the groups whose first piece this is.
     fn open_groups(&mut self, piece: usize) -> Result<(), AllocError> {
-        let groups = &self.layout.groups;
-        for number in self.opened.len()..groups.len() {
-            let Some(group) = groups.get(number) else {
+        for number in self.opened.len()..self.layout.groups.len() {
+            let Some(group) = self.layout.groups.get(number).copied() else {
                 break;
             };
             if group.first > piece {
                 break;
             }
-            let mode = self.mode_of(number, group);
+            let mode = self.mode_of(number, &group);
             self.opened.push(Opened {
                 mode,
                 indent: self.indent,
@@ -218,6 +231,7 @@ impl<'a> Writer<'a> {
             None => self.copy(piece.start, piece.end)?,
         }
         self.column = self.column_after(piece);
+        self.follows_comment = piece.ends_line;
         Ok(())
     }
 
@@ -231,7 +245,7 @@ impl<'a> Writer<'a> {
             self.write_piece(piece)?;
         }
         if !self.layout.pieces.is_empty() {
-            self.made.push('\n')?;
+            self.push_line_end()?;
         }
         Ok(self.made)
     }
@@ -244,6 +258,8 @@ pub fn written(alloc: Global, text: &str, layout: &Layout) -> Result<String, All
         layout,
         measures: Measures::of(alloc, layout)?,
         made: String::new(alloc),
+        line_end: line_end_of(text, &layout.pieces),
+        follows_comment: false,
         column: 0,
         indent: 0,
         opened: Vec::new(alloc),

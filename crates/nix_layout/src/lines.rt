@@ -47,14 +47,41 @@ impl Line {
     }
 }
 
+// A string that can be moved, as all strings around it can.
+#[derive(Clone, Copy)]
+struct Movable {
+    // The smallest indentation of its lines.
+    least: usize,
+    // Whether its lines are moved. Otherwise only its empty lines lose their spaces.
+    is_moved: bool,
+}
+
 // A walk over a string and what is inside it.
 #[derive(Drop)]
 struct LineWalk {
     lines: Vec<Line>,
-    // For each string around the current place, the smallest indentation of its lines, if they are moved.
-    strings: Vec<Option<usize>>,
+    // Each string around the current place, if it can be moved.
+    strings: Vec<Option<Movable>>,
     // The current line, while it has nothing but spaces.
     current: Option<Line>,
+}
+
+// What is around the outermost string.
+const AROUND: Movable = Movable {
+    least: 0,
+    is_moved: true,
+};
+
+// A string inside another one, with the smallest indentation of its lines if it can be moved alone. Whether it can be moved is the same after another
+// move, so the same empty lines have no spaces then.
+fn inside(outer: Option<Movable>, least: Option<usize>) -> Option<Movable> {
+    match (outer, least) {
+        (Some(outer), Some(least)) => Some(Movable {
+            least,
+            is_moved: outer.is_moved && outer.least <= least,
+        }),
+        _ => None,
+    }
 }
 
 // The line that begins at an offset.
@@ -67,18 +94,25 @@ fn line_at(start: usize) -> Line {
 }
 
 impl LineWalk {
-    // The smallest indentation of the lines of the innermost string, if they are moved.
-    fn innermost(&self) -> Option<usize> {
+    // The innermost string, if it can be moved.
+    fn innermost(&self) -> Option<Movable> {
         match self.strings.last() {
-            Some(least) => *least,
+            Some(string) => *string,
             None => None,
         }
     }
 
-    // Adds the current line, if it has nothing but spaces so far.
+    // Whether lines are moved here.
+    fn is_moved(&self) -> bool {
+        self.innermost().is_some_and(|string| string.is_moved)
+    }
+
+    // Adds the current line, if it has nothing but spaces so far, and other ones are written there.
     fn end_blanks(&mut self, role: Role) -> Result<(), AllocError> {
         if let Some(line) = self.current {
-            self.lines.push(Line { role, ..line })?;
+            if role == Role::Empty || self.is_moved() {
+                self.lines.push(Line { role, ..line })?;
+            }
         }
         self.current = None;
         Ok(())
@@ -134,12 +168,12 @@ impl LineWalk {
 
     // Passes a token. Lines move only if they begin in a string that is moved.
     fn pass_token(&mut self, token: &SyntaxToken<'_>) -> Result<(), AllocError> {
-        let Some(least) = self.innermost() else {
+        let Some(string) = self.innermost() else {
             return Ok(());
         };
         match token.kind() {
-            SyntaxKind::TOKEN_STRING_CONTENT => self.add_content(token, least),
-            SyntaxKind::TOKEN_WHITESPACE => self.add_white_space(token),
+            SyntaxKind::TOKEN_STRING_CONTENT => self.add_content(token, string.least),
+            SyntaxKind::TOKEN_WHITESPACE if string.is_moved => self.add_white_space(token),
             SyntaxKind::TOKEN_STRING_END if self.strings.len() == 1 => {
                 self.end_blanks(Role::Closing)
             }
@@ -152,14 +186,10 @@ impl LineWalk {
         self.end_blanks(Role::Text)?;
         if node.kind() == SyntaxKind::NODE_STRING {
             let outer = match self.strings.last() {
-                Some(least) => *least,
-                None => Some(0),
+                Some(string) => *string,
+                None => Some(AROUND),
             };
-            let least = match (outer, indentation_of(node)) {
-                (Some(outer), Some(least)) if outer <= least => Some(least),
-                _ => None,
-            };
-            self.strings.push(least)?;
+            self.strings.push(inside(outer, indentation_of(node)))?;
         }
         Ok(())
     }

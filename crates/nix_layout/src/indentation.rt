@@ -1,5 +1,6 @@
 //! The indentation of strings in `''`.
 
+use crate::line_feed_escapes::has_spaces_after_escape;
 use rnix::{NodeOrToken, SyntaxKind, SyntaxNode};
 use rnix_base::is_indented;
 
@@ -15,7 +16,8 @@ struct Scan {
     blanks: Option<usize>,
     // Whether a line feed was seen.
     is_broken: bool,
-    // Whether the string can be moved: nothing but spaces is on the line of the opening quotes, and no line begins with a tab or a carriage return.
+    // Whether the string can be moved: nothing but spaces is on the line of the opening quotes, no line begins with a tab or a carriage return, and
+    // none that begins at an escaped line feed has spaces there.
     can_move: bool,
 }
 
@@ -49,9 +51,12 @@ impl Scan {
         }
     }
 
-    // The state after the bytes of a text.
-    fn with_bytes(self, text: &str) -> Scan {
-        let mut scan = self;
+    // The state after a text.
+    fn with_content(self, text: &str) -> Scan {
+        let mut scan = Scan {
+            can_move: self.can_move && !has_spaces_after_escape(text),
+            ..self
+        };
         for byte in text.bytes() {
             scan = scan.with_byte(byte);
         }
@@ -60,7 +65,8 @@ impl Scan {
 }
 
 /// Returns the smallest indentation of a string's lines, if the string can be moved: it is in `''`, has several lines, has nothing but spaces on the
-/// line of the opening quotes, and no line begins with a tab or a carriage return. It is `LIMIT` if it would be larger, or if no line has text.
+/// line of the opening quotes, no line begins with a tab or a carriage return, and none that begins at an escaped line feed has spaces there. It is
+/// `LIMIT` if it would be larger, or if no line has text.
 pub fn indentation_of(string: &SyntaxNode<'_>) -> Option<usize> {
     if !is_indented(string) {
         return None;
@@ -75,7 +81,7 @@ pub fn indentation_of(string: &SyntaxNode<'_>) -> Option<usize> {
         scan = match element {
             NodeOrToken::Node(_) => scan.with_text(false),
             NodeOrToken::Token(token) if token.kind() == SyntaxKind::TOKEN_STRING_CONTENT => {
-                scan.with_bytes(token.text())
+                scan.with_content(token.text())
             }
             NodeOrToken::Token(_) => scan,
         };

@@ -1,0 +1,22 @@
+//! The layout of Nix texts in the style of Nixpkgs: pieces, with white space between them, in groups that are on one line if they fit.
+#![tactic(auto)]
+
+mod absorbing;
+mod collecting;
+mod comments;
+mod frame;
+mod grouping;
+mod indentation;
+mod layout;
+mod line_ends;
+mod line_feed_escapes;
+mod lines;
+mod measuring;
+#[cfg(test)]
+mod model;
+mod piece;
+mod restyling;
+mod spacing;
+mod writing;
+
+pub use restyling::styled;

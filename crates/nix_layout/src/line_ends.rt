@@ -1,0 +1,71 @@
+//! The line ends that are written between tokens.
+
+use crate::piece::Piece;
+
+// The line ends that a text may have.
+const FEED: &str = "\n";
+
+const RETURN_AND_FEED: &str = "\r\n";
+
+// A search for the first line end of a text.
+#[derive(Clone, Copy)]
+struct Search<'a> {
+    text: &'a str,
+    // Where the white space begins in which the next line end may be, and whether it follows a comment with `#`.
+    start: usize,
+    follows_comment: bool,
+    // The first line end after a comment with `#`.
+    comment_end: Option<&'static str>,
+}
+
+impl<'a> Search<'a> {
+    // The first line end in the white space before an offset.
+    fn end_before(self, end: usize) -> Option<&'static str> {
+        let feed = self.text.get(self.start..end)?.find('\n')?;
+        let before = self.text.get(..self.start.saturating_add(feed))?;
+        Some(if before.ends_with('\r') {
+            RETURN_AND_FEED
+        } else {
+            FEED
+        })
+    }
+
+    // The state after a piece, before which there is no line end or one after a comment.
+    fn after(self, piece: &Piece, found: Option<&'static str>) -> Search<'a> {
+        Search {
+            start: piece.end,
+            follows_comment: piece.ends_line,
+            comment_end: self.comment_end.or(found),
+            ..self
+        }
+    }
+
+    // The line end to be written, for the last one of the text.
+    fn finish(self, last: Option<&'static str>) -> &'static str {
+        let found = if self.follows_comment {
+            self.comment_end.or(last)
+        } else {
+            last.or(self.comment_end)
+        };
+        found.unwrap_or(FEED)
+    }
+}
+
+/// Returns the first line end of a text that is between tokens and does not end a comment with `#`, whose carriage return belongs to the comment. If
+/// there is none, it is the first one after such a comment, and otherwise a line feed.
+pub fn line_end_of(text: &str, pieces: &[Piece]) -> &'static str {
+    let mut search = Search {
+        text,
+        start: 0,
+        follows_comment: false,
+        comment_end: None,
+    };
+    for piece in pieces {
+        let found = search.end_before(piece.start);
+        match found {
+            Some(end) if !search.follows_comment => return end,
+            _ => search = search.after(piece, found),
+        }
+    }
+    search.finish(search.end_before(text.len()))
+}

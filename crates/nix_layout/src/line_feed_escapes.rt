@@ -1,0 +1,78 @@
+//! Escaped line feeds in strings in `''`.
+//!
+//! At an escaped line feed Nix begins a line, which loses spaces as the others do, although its own spaces do not count for the smallest indentation.
+//! So such a line would keep other spaces if the string were moved.
+
+// The part of an escape that was read last.
+#[derive(Clone, Copy, PartialEq, Eq)]
+enum Place {
+    // None: the place is before or after an escape.
+    Outside,
+    // After `'`.
+    Quote,
+    // After `''`.
+    Quotes,
+    // After `''\`.
+    Backslash,
+}
+
+// What is known of a text so far.
+#[derive(Clone, Copy)]
+struct Scan {
+    place: Place,
+    // Whether the last character was the escape of a line feed.
+    follows_feed: bool,
+    // Whether a line that begins at an escaped line feed begins with a space, or may do so.
+    has_spaces: bool,
+}
+
+impl Scan {
+    // The state after a character, or its escape.
+    fn after(self, is_feed: bool, has_spaces: bool) -> Scan {
+        Scan {
+            place: Place::Outside,
+            follows_feed: is_feed,
+            has_spaces: self.has_spaces || has_spaces,
+        }
+    }
+
+    // The state in an escape, or what may be one.
+    fn at(self, place: Place) -> Scan {
+        Scan { place, ..self }
+    }
+
+    // The state after the byte that follows `''\`. The line after a line feed that is written as such is moved with the others.
+    fn with_escaped(self, byte: u8) -> Scan {
+        match byte {
+            b'n' => self.after(true, false),
+            b'\n' => self.after(true, true),
+            b' ' => self.after(false, self.follows_feed),
+            _ => self.after(false, false),
+        }
+    }
+
+    // The state after a byte.
+    fn with_byte(self, byte: u8) -> Scan {
+        match (self.place, byte) {
+            (Place::Outside, b'\'') => self.at(Place::Quote),
+            (Place::Quote, b'\'') => self.at(Place::Quotes),
+            (Place::Quotes, b'\\') => self.at(Place::Backslash),
+            (Place::Backslash, _) => self.with_escaped(byte),
+            (Place::Outside, b' ') => self.after(false, self.follows_feed),
+            _ => self.after(false, false),
+        }
+    }
+}
+
+/// Whether a text in `''` has a line that begins at an escaped line feed, and begins with a space or is written as a line of its own.
+pub fn has_spaces_after_escape(text: &str) -> bool {
+    let mut scan = Scan {
+        place: Place::Outside,
+        follows_feed: false,
+        has_spaces: false,
+    };
+    for byte in text.bytes() {
+        scan = scan.with_byte(byte);
+    }
+    scan.has_spaces
+}
