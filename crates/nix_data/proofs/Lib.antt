@@ -3,3 +3,4 @@ pub mod WrittenLemmas
 pub mod NixStringLemmas
 pub mod UniqueLemmas
 pub mod MeaningExamples
+pub mod MisreadExamples

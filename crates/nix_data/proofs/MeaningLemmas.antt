@@ -12,79 +12,13 @@ use Rattle.rnix_base.specs.declared.parts.InterpolPart.{InterpolPart}
 use Rattle.rnix_base.specs.declared.parts.InterpolPart.TheVariants.{Literal, Interpolation}
 use Rattle.rnix_base.specs.Normal.{Parts, with_text}
 use Rattle.nix_values.specs.Contents.{Plain, has_parts, Entry}
-use Rattle.nix_data.specs.Meaning.{joined, name_of_kind, unwrapped, parts_of, IsPart, MeansPart, Means, InOrder, IsHead, MeansFirst}
-
--- a text before two others
-before_both : (text more : List ℕ) (rest : Option (List ℕ)) →
-    option_map (λ r. text ++ r) (option_map (λ r. more ++ r) rest) ≡ option_map (λ r. (text ++ more) ++ r) rest
-before_both text more None = refl
-before_both text more (Some r) = ap Some (sym (append_assoc text more r))
-
--- an empty text before another
-before_none : (rest : Option (List ℕ)) → option_map (λ r. [] ++ r) rest ≡ rest
-before_none None = refl
-before_none (Some r) = refl
-
--- a literal comes first
-joined_literal : {I : Type 0} (text : List ℕ) (parts : Parts I) → joined (Literal text ∷ parts) ≡ option_map (λ r. text ++ r) (joined parts)
-unfolding joined
-joined_literal text parts = refl
-
--- parts that begin with an interpolation have no text
-joined_interpolation : {I : Type 0} (i : I) (parts : Parts I) → joined (Interpolation i ∷ parts) ≡ None
-unfolding joined
-joined_interpolation i parts = refl
-
--- no parts have an empty text
-joined_none : (I : Type 0) → joined {I = I} [] ≡ Some []
-unfolding joined
-joined_none I = refl
+use Rattle.nix_data.specs.Meaning.{name_of_kind, unwrapped, parts_of, IsPart, MeansPart, Means, InOrder, IsHead, MeansFirst}
 
 -- a node that is neither an identifier nor a string is no name
 pub name_of_other : (kind : SyntaxKind) (e : Located) → (kind ≡ k.NODE_IDENT → ⊥) → (kind ≡ k.NODE_STRING → ⊥) → name_of_kind kind e ≡ None
 name_of_other k.NODE_IDENT e no_ident no_string = absurd (no_ident refl)
 name_of_other k.NODE_STRING e no_ident no_string = absurd (no_string refl)
 name_of_other _ e no_ident no_string = refl
-
--- all parts are the first few, with this text, and the others
-abbrev pub IsJoined : {I Z : Type 0} → List (InterpolPart (String Z) I) → ℕ → List ℕ → Type 0
-IsJoined parts n text = joined (map (with_text string_bytes) parts) ≡ option_map (λ r. text ++ r) (joined (map (with_text string_bytes) (drop n parts)))
-
--- before the first part, the text is empty
-pub joined_begun : {I Z : Type 0} (parts : List (InterpolPart (String Z) I)) (text : List ℕ) → text ≡ [] → IsJoined parts 0 text
-joined_begun parts text none =
-    subst (λ t. IsJoined parts 0 t) (sym none) (sym (before_none (joined (map (with_text string_bytes) parts))))
-
--- one literal more
-pub joined_more : {I Z : Type 0} (parts : List (InterpolPart (String Z) I)) (n : ℕ) (part : InterpolPart (String Z) I) (text more new : List ℕ) →
-    n < length parts → part ≡ get_or parts n part → with_text string_bytes part ≡ Literal more → new ≡ text ++ more →
-    IsJoined parts n text → IsJoined parts (n + 1) new
-joined_more parts n part text more new there at is_literal added so_far =
-    so_far ∙ ap (λ ps. option_map (λ r. text ++ r) (joined (map (with_text string_bytes) ps))) (drop-cons parts n part there)
-    ∙ ap (λ p. option_map (λ r. text ++ r) (joined (p ∷ map (with_text string_bytes) (drop (suc n) parts)))) (ap (with_text string_bytes) (sym at) ∙ is_literal)
-    ∙ ap (option_map (λ r. text ++ r)) (joined_literal more (map (with_text string_bytes) (drop (suc n) parts)))
-    ∙ before_both text more (joined (map (with_text string_bytes) (drop (suc n) parts)))
-    ∙ ap (λ t. option_map (λ r. t ++ r) (joined (map (with_text string_bytes) (drop (suc n) parts)))) (sym added)
-    ∙ ap (λ m. option_map (λ r. new ++ r) (joined (map (with_text string_bytes) (drop m parts)))) (sym (add-one n))
-
--- an interpolation comes next, so all parts have no text
-pub joined_stopped : {I Z : Type 0} (parts : List (InterpolPart (String Z) I)) (n : ℕ) (part : InterpolPart (String Z) I) (i : I) (text : List ℕ) →
-    n < length parts → part ≡ get_or parts n part → with_text string_bytes part ≡ Interpolation i → IsJoined parts n text →
-    None ≡ joined (map (with_text string_bytes) parts)
-joined_stopped parts n part i text there at is_interpolation so_far =
-    let next : with_text string_bytes (get_or parts n part) ≡ Interpolation i = ap (with_text string_bytes) (sym at) ∙ is_interpolation in
-    let none : joined (map (with_text string_bytes) (drop n parts)) ≡ None =
-    ap (λ ps. joined (map (with_text string_bytes) ps)) (drop-cons parts n part there)
-    ∙ ap (λ p. joined (p ∷ map (with_text string_bytes) (drop (suc n) parts))) next
-    ∙ joined_interpolation i (map (with_text string_bytes) (drop (suc n) parts)) in
-    sym (so_far ∙ ap (option_map (λ r. text ++ r)) none)
-
--- after the last part, the text is that of all
-pub joined_all : {I Z : Type 0} (parts : List (InterpolPart (String Z) I)) (n : ℕ) (text : List ℕ) → length parts ≤ n → IsJoined parts n text →
-    joined (map (with_text string_bytes) parts) ≡ Some text
-joined_all {I} parts n text past so_far =
-    so_far ∙ ap (λ ps. option_map (λ r. text ++ r) (joined (map (with_text string_bytes) ps))) (drop_all n parts past)
-    ∙ ap (option_map (λ r. text ++ r)) (joined_none I) ∙ ap Some (append-nil text)
 
 -- the first of some nodes mean the first of some values after a head: with the values of the nodes that are left, they are the values of all
 abbrev pub Used : (Located → List Entry → Type 0) → List Located → List Located → Entry → List Entry → List Entry → Type 0

@@ -17,7 +17,8 @@ use Rattle.rnix_grammar.specs.Reading.{IsReading}
 use Rattle.rnix.specs.NodeKinds.{is_expr}
 use Rattle.nix_values.specs.Contents.{Plain, null, boolean, integer, float, text, list, set, Entry}
 use Rattle.nix_data.specs.declared.nix_writer.TheConstants.{LEVELS}
-use Rattle.nix_data.specs.Meaning.{plain_text, expression_text, unsigned, is_integer, is_float, word_of, HasValue, unwrapped, parts_of, IsPart, InOrder, MeansPart, Means}
+use Rattle.rnix.specs.StringParts.{plain_value}
+use Rattle.nix_data.specs.Meaning.{expression_text, unsigned, is_integer, is_float, word_of, HasValue, unwrapped, parts_of, IsPart, InOrder, MeansPart, Means}
 use Rattle.nix_data.specs.Written.{IsWritten}
 
 -- the sorts of expressions that have values
@@ -68,7 +69,7 @@ number_sort e false is h =
 string_sort : (e : Located) (t : List ℕ) (b : Bool) → same_kind k.NODE_STRING (item_of e).kind ≡ b → expression_text e ≡ Some t → string ≡ sort_at e
 string_sort e t true is h = has_sort k.NODE_STRING e is
 string_sort e t false is h =
-    let none : None ≡ Some t = sym (cond-false (same_kind k.NODE_STRING (item_of e).kind) (plain_text e) None is) ∙ h in
+    let none : None ≡ Some t = sym (cond-false (same_kind k.NODE_STRING (item_of e).kind) (plain_value e) None is) ∙ h in
     absurd (cc)
 
 -- a value is of the sort of its expression

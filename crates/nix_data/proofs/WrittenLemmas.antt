@@ -9,6 +9,7 @@ use Rattle.rnix.specs.ParseResult.{Reading, root_of}
 use Rattle.nix_values.specs.Contents.{Entry}
 use Rattle.nix_data.specs.Meaning.{Means, MeansFirst}
 use Rattle.nix_data.specs.Written.{IsMeant, IsWritten}
+use Rattle.nix_data.specs.Misread.{IsReadAlike, IsData}
 
 -- what has no elements has none that are mapped
 mapped_none : {X Y : Type 0} (f : X → Y) (xs : List X) → length xs ≡ 0 → map f xs ≡ []
@@ -23,8 +24,19 @@ meant levels found e node entries f rest is same none means =
     subst (λ o. IsSomeAnd o (λ e. Means levels 0 [] e entries)) is
     (subst (λ n. Means levels 0 [] n entries) same (subst (Means levels 0 [] node) (sym all) means.1))
 
--- a text that is parsed without errors, as a tree whose expression means some values
+-- a text that is parsed without errors, as a tree that Nix reads alike and whose expression means some values
 pub written : (text : List ℕ) (read : Reading) (root : Located) (entries : List Entry) → IsParsed (tokens_of text) read.tree read.faults →
-    (read.faults ≡ []) × (root ≡ root_of read) → IsMeant root entries → IsWritten text entries
-written text read root entries parsed fine means =
-    record { read = read; is_read = parsed; no_errors = fine.0; is_meant = subst (λ r. IsMeant r entries) fine.1 means }
+    (read.faults ≡ []) × (root ≡ root_of read) → IsReadAlike root → IsMeant root entries → IsWritten text entries
+written text read root entries parsed fine alike means = record {
+  read = read;
+  is_read = parsed;
+  no_errors = fine.0;
+  is_alike = subst IsReadAlike fine.1 alike;
+  is_meant = subst (λ r. IsMeant r entries) fine.1 means;
+}
+
+-- a text that is parsed without errors, as a tree that Nix reads alike
+pub alike : (text : List ℕ) (read : Reading) (root : Located) → IsParsed (tokens_of text) read.tree read.faults →
+    (read.faults ≡ []) × (root ≡ root_of read) → IsReadAlike root → IsData text
+alike text read root parsed fine is =
+    record { read = read; is_read = parsed; no_errors = fine.0; is_alike = subst IsReadAlike fine.1 is }

@@ -1,3 +1,4 @@
 pub mod Meaning
+pub mod Misread
 pub mod NixString
 pub mod Written

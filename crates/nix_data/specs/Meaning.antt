@@ -9,28 +9,16 @@ use Rattle.rnix_green.specs.Tree.{Located, item_of, text_at}
 use Rattle.rnix_green.specs.Walk.{nodes_in, children_of}
 use Rattle.rnix_base.specs.declared.literal.LiteralKind.{LiteralKind}
 use Rattle.rnix_base.specs.declared.literal.LiteralKind.TheVariants as literal
-use Rattle.rnix_base.specs.declared.parts.InterpolPart.TheVariants.{Literal, Interpolation}
 use Rattle.rnix_base.specs.Literal.{first_literal}
 use Rattle.rnix_base.specs.Select.{HasKind, nodes_of, child_of, token_of}
-use Rattle.rnix_base.specs.Normal.{Parts}
 use Rattle.rnix.specs.NodeKinds.{is_expr, is_attr}
-use Rattle.rnix.specs.StringParts.{normalized_parts}
+use Rattle.rnix.specs.StringParts.{plain_value}
 use Rattle.nix_values.specs.declared.data.Item.{Item}
 use Rattle.nix_values.specs.Contents.{Plain, null, boolean, integer, float, text, list, set, has_parts, Entry, entry_of}
 
--- the texts of some parts, concatenated, if none of them is an interpolation
-unfoldable pub joined : {I : Type 0} → Parts I → Option (List ℕ)
-joined [] = Some []
-joined (Literal t ∷ parts) = option_map (λ rest. t ++ rest) (joined parts)
-joined (Interpolation i ∷ parts) = None
-
--- the value of a string without interpolations: escapes are replaced, and in `''` the indentation is dropped
-abbrev pub plain_text : Located → Option (List ℕ)
-plain_text e = joined (normalized_parts e)
-
--- the value of an expression that is a string without interpolations
+-- the value, as Nix makes it, of an expression that is a string without interpolations
 abbrev pub expression_text : Located → Option (List ℕ)
-expression_text e = if same_kind k.NODE_STRING (item_of e).kind then plain_text e else None
+expression_text e = if same_kind k.NODE_STRING (item_of e).kind then plain_value e else None
 
 -- the operand of an operation in front of it, as `1` of `-1`; any other expression is its own
 abbrev pub unsigned : Located → Located
@@ -67,7 +55,7 @@ HasValue e set = HasKind k.NODE_ATTR_SET e × (token_of (same_kind k.TOKEN_REC) 
 -- the name that a node of a kind is
 abbrev pub name_of_kind : SyntaxKind → Located → Option (List ℕ)
 name_of_kind k.NODE_IDENT e = Some (text_at e)
-name_of_kind k.NODE_STRING e = plain_text e
+name_of_kind k.NODE_STRING e = plain_value e
 name_of_kind _ e = None
 
 -- the name that an attribute is: an identifier, or a string without interpolations

@@ -9,14 +9,16 @@ use Rattle.rnix.specs.ParseResult.{Reading, root_of}
 use Rattle.nix_values.specs.Contents.{Entry}
 use Rattle.nix_data.specs.declared.nix_writer.TheConstants.{LEVELS}
 use Rattle.nix_data.specs.Meaning.{Means}
+use Rattle.nix_data.specs.Misread.{IsReadAlike}
 
 -- the expression of a tree means these values, which nest less than `LEVELS` deep
 abbrev pub IsMeant : Located → List Entry → Type 0
 IsMeant root entries = IsSomeAnd (child_of is_expr 0 root) (λ e. Means LEVELS 0 [] e entries)
 
--- a text is parsed without errors, and its expression means these values
+-- a text is parsed without errors, Nix reads none of its tokens otherwise, and its expression means these values
 pub record IsWritten (text : List ℕ) (entries : List Entry) : Type 0 where
   pub read : Reading
   pub is_read : IsParsed (tokens_of text) read.tree read.faults
   pub no_errors : read.faults ≡ []
+  pub is_alike : IsReadAlike (root_of read)
   pub is_meant : IsMeant (root_of read) entries

@@ -1,19 +1,14 @@
 //! The data of a Nix text, and data as a Nix text.
 #![tactic(auto)]
 
-#[cfg(test)]
-mod compared;
 mod laws;
-#[cfg(test)]
-mod letter_writer;
 mod meaning;
+mod misread;
 mod names;
 mod nix_reader;
 mod nix_writer;
 mod no_data;
 mod quoted;
-#[cfg(test)]
-mod quoted_letters;
 mod scalars;
 
 pub use laws::one_meaning;

@@ -9,7 +9,6 @@ ghost use Rattle.rnix_base.specs.Select.{HasKind, token_of};
 ghost use Rattle.nix_values.specs.Contents.{set, plain_of, entry_of};
 ghost use Rattle.nix_data.specs.Meaning.{expression_text, unsigned, is_integer, is_float, IsNumber, word_of, HasValue, name_of, path_name, IsPart, unwrapped, IsHead, MeansItems};
 
-use crate::scalars::plain_text;
 use nix_values::{Item, Value};
 use rnix::ast::{
     AstNode, AttrSet, Attrpath, AttrpathValue, Ident, List, Literal, LiteralKind, Paren, Str,
@@ -23,7 +22,7 @@ fn expression_text(alloc: Global, node: &SyntaxNode<'_>) -> Result<Option<String
     ensures { IfOk result (λ found. option_map string_bytes found ≡ expression_text node.now) }
 {
     match Str::cast(node.clone()) {
-        Some(string) => plain_text(alloc, &string),
+        Some(string) => string.plain_value(alloc),
         None => Ok(None),
     }
 }

@@ -1,10 +1,15 @@
 //! The data of a Nix text.
 
+ghost use Rattle.std.specs.Prelude.{◌≡◌, false, IfOk, OnOk};
+ghost use Rattle.rnix_green.specs.Tree.{item_of, text_at};
+ghost use Rattle.nix_data.specs.Misread.{is_misread, IsData, IsReadAlike};
+
+use crate::misread::misread;
 use crate::no_data::{NoData, Reason};
 use crate::scalars::{Stop, no_data, scalar, string_value};
 use nix_values::{Builder, Data, Value};
 use rnix::ast::{AstNode, Attr, AttrSet, AttrpathValue, Dynamic, Expr, Inherit};
-use rnix::{Root, SyntaxKind, SyntaxNode, TextRange};
+use rnix::{NodeOrToken, Root, SyntaxKind, SyntaxNode, SyntaxToken, TextRange};
 use std::alloc::{AllocError, Global};
 
 // A list or a set whose values are being read.
@@ -67,10 +72,12 @@ impl Reading {
         }
     }
 
-    // The text of a computed name, if it is a string.
+    // The text of a computed name, if it is a string and nothing else.
     fn dynamic(&self, name: &Dynamic<'_>) -> Result<String, Stop> {
         match name.expr() {
-            Some(Expr::Str(string)) => string_value(self.alloc, &string),
+            Some(Expr::Str(string)) if name.syntax().children().count() == 1 => {
+                string_value(self.alloc, &string)
+            }
             _ => Err(no_data(
                 Reason::Evaluated(name.syntax().kind()),
                 name.syntax().text_range(),
@@ -206,7 +213,28 @@ impl Reading {
         Ok(())
     }
 
-    // Reads an `inherit`. With `--lossy`, its source is the value of each of its names.
+    // The value of a name of an `inherit`: for the first one its source, for any other an `inherit` of that name, with `..` in place of what it
+    // inherits from.
+    fn inherited(
+        &self,
+        inherit: &Inherit<'_>,
+        attr: &Attr<'_>,
+        is_first: bool,
+    ) -> Result<Value, Stop> {
+        if is_first {
+            let source = inherit.syntax().text();
+            return Ok(Value::Text(String::from_str(self.alloc, source)?));
+        }
+        let from = if inherit.from().is_some() {
+            "(..) "
+        } else {
+            ""
+        };
+        let name = attr.syntax().text();
+        Ok(Value::Text(format!(in self.alloc; "inherit {from}{name};")?))
+    }
+
+    // Reads an `inherit`. With `--lossy`, each of its names has a value.
     fn enter_inherit(&mut self, inherit: &Inherit<'_>) -> Result<(), Stop> {
         let range = inherit.syntax().text_range();
         self.skipped_to = range.end();
@@ -216,13 +244,13 @@ impl Reading {
         if !self.is_lossy {
             return Err(no_data(Reason::Evaluated(inherit.syntax().kind()), range));
         }
-        for attr in inherit.attrs() {
+        for (number, attr) in inherit.attrs().enumerate() {
             let name = self.name(&attr)?;
             if let Some(found) = self.builder.attribute(frame.node, name.text.as_str()) {
                 return Err(self.repeated(name.place, found));
             }
-            let source = Value::Text(String::from_str(self.alloc, inherit.syntax().text())?);
-            let _number = self.push(Some(frame.node), name.text, source, name.place)?;
+            let value = self.inherited(inherit, &attr, number == 0)?;
+            let _number = self.push(Some(frame.node), name.text, value, name.place)?;
         }
         Ok(())
     }
@@ -285,8 +313,20 @@ impl Reading {
     }
 }
 
+// Refuses a token that Nix reads otherwise.
+fn check(token: &SyntaxToken<'_>) -> Result<(), Stop>
+    ensures { OnOk result (is_misread (item_of token.now).kind (text_at token.now) ≡ false) }
+{
+    match misread(token) {
+        None => Ok(()),
+        Some(reason) => Err(Stop::NoData(reason)),
+    }
+}
+
 // Reads the data of a tree without errors.
-fn read(alloc: Global, root: &SyntaxNode<'_>, is_lossy: bool) -> Result<Data, Stop> {
+fn read(alloc: Global, root: &SyntaxNode<'_>, is_lossy: bool) -> Result<Data, Stop>
+    ensures { OnOk result (IsReadAlike root.now) }
+{
     let mut reading = Reading {
         alloc,
         is_lossy,
@@ -296,18 +336,24 @@ fn read(alloc: Global, root: &SyntaxNode<'_>, is_lossy: bool) -> Result<Data, St
         entry: None,
         skipped_to: 0,
     };
-    for node in root.descendants() {
-        reading.enter(&node)?;
+    for element in root.descendants_with_tokens() {
+        match element {
+            NodeOrToken::Node(node) => reading.enter(&node)?,
+            NodeOrToken::Token(token) => check(&token)?,
+        }
     }
     Ok(reading.builder.finish(alloc)?)
 }
 
-/// Returns the data of a tree without errors, or the first part that is not data. If `is_lossy`, such a part becomes a string with its source.
+/// Returns the data of a tree without errors, or the first part that is not data. If `is_lossy`, such a part becomes a string with its source, but
+/// a token that Nix reads otherwise is refused.
 pub fn data_in(
     alloc: Global,
     root: &SyntaxNode<'_>,
     is_lossy: bool,
-) -> Result<Result<Data, NoData>, AllocError> {
+) -> Result<Result<Data, NoData>, AllocError>
+    ensures { IfOk result (λ outcome. OnOk outcome (IsReadAlike root.now)) }
+{
     match read(alloc, root, is_lossy) {
         Ok(found) => Ok(Ok(found)),
         Err(Stop::NoData(reason)) => Ok(Err(reason)),
@@ -316,14 +362,17 @@ pub fn data_in(
 }
 
 /// Returns the data of a Nix text, or the first part that is not data.
-pub fn data_of(alloc: Global, text: &str) -> Result<Result<Data, NoData>, AllocError> {
+#[tactic(auto, using(crate::proofs::WrittenLemmas::alike))]
+pub fn data_of(alloc: Global, text: &str) -> Result<Result<Data, NoData>, AllocError>
+    ensures { IfOk result (λ outcome. OnOk outcome (IsData text.now)) }
+{
     let parse = Root::parse(alloc, text)?;
-    if let Some(error) = parse.errors().first() {
-        return Ok(Err(NoData {
+    match parse.ok() {
+        Ok(root) => data_in(alloc, root.syntax(), false),
+        Err(error) => Ok(Err(NoData {
             reason: Reason::Errors,
             range: error.range().unwrap_or(TextRange::empty(text.len())),
             first: None,
-        }));
+        })),
     }
-    data_in(alloc, &parse.syntax(), false)
 }

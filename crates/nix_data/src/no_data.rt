@@ -23,6 +23,12 @@ pub enum Reason {
     IndentedName,
     /// An attribute that is already defined.
     Repeated,
+    /// White space that is none for Nix.
+    ForeignSpace,
+    /// A carriage return in a `#` comment that goes on after it: for Nix, the comment ends there.
+    EarlyEnd,
+    /// A float that begins with `0.` and has no digit there.
+    LacksDigit,
 }
 
 /// A part of a text that is not data.
@@ -72,6 +78,9 @@ impl Reason {
             Reason::HasReturn => "Nix reads this carriage return as a line feed: write \\r or \\n",
             Reason::IndentedName => "a name cannot be a string in ''",
             Reason::Repeated => "the attribute is already defined",
+            Reason::ForeignSpace => "Nix does not read this character as white space",
+            Reason::EarlyEnd => "for Nix, the comment ends at this carriage return",
+            Reason::LacksDigit => "Nix reads no float here: a digit must follow `0.`",
         }
     }
 }

@@ -1,9 +1,5 @@
 //! Values other than lists and sets.
 
-ghost use Rattle.std.specs.Prelude.{◌≡◌, map, option_map, string_bytes, IfOk};
-ghost use Rattle.rnix_base.specs.Normal.{with_text};
-ghost use Rattle.nix_data.specs.Meaning.{joined, plain_text};
-
 use crate::no_data::{NoData, Reason};
 use nix_values::{Value, float_of};
 use rnix::ast::{
@@ -53,33 +49,10 @@ fn interpolation(string: &Str<'_>) -> TextRange {
     string.syntax().text_range()
 }
 
-// The texts of some parts, concatenated, if none of them is an interpolation.
-#[tactic(auto, using(crate::proofs::MeaningLemmas::joined_begun))]
-fn joined(alloc: Global, parts: &[InterpolPart<'_, String>]) -> Result<Option<String>, AllocError>
-    ensures { IfOk result (λ found. option_map string_bytes found ≡ joined (map (with_text string_bytes) parts.now)) }
-{
-    let mut text = String::new(alloc);
-    for part in parts {
-        match part {
-            InterpolPart::Literal(literal) => text.push_str(literal.as_str())?,
-            InterpolPart::Interpolation(_) => return Ok(None),
-        }
-    }
-    Ok(Some(text))
-}
-
-/// Returns the value of a string, if it has no interpolation.
-pub fn plain_text(alloc: Global, string: &Str<'_>) -> Result<Option<String>, AllocError>
-    ensures { IfOk result (λ found. option_map string_bytes found ≡ plain_text string.now) }
-{
-    let parts = string.normalized_parts(alloc)?;
-    joined(alloc, parts.as_slice())
-}
-
 /// Returns the value of a string.
 pub fn string_value(alloc: Global, string: &Str<'_>) -> Result<String, Stop> {
     let (source, range) = (string.syntax().text(), string.syntax().text_range());
-    let Some(text) = plain_text(alloc, string)? else {
+    let Some(text) = string.plain_value(alloc)? else {
         return Err(no_data(
             Reason::Evaluated(SyntaxKind::NODE_INTERPOL),
             interpolation(string),

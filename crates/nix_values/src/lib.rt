@@ -3,8 +3,6 @@
 
 mod attributes;
 mod builder;
-#[cfg(test)]
-mod compared;
 mod data;
 mod float;
 mod json_error;
@@ -14,12 +12,11 @@ mod json_strings;
 mod json_tokens;
 mod json_writer;
 mod layout;
-#[cfg(test)]
-mod model;
 mod nodes;
 mod notation;
 mod ordered;
 mod path;
+mod path_names;
 mod slots;
 
 pub use builder::Builder;

@@ -1,32 +1,14 @@
 //! A part of data by its path.
 
 use crate::data::{Data, Item, Value};
+use crate::path_names::{PathName, names_of};
 use std::alloc::{AllocError, Global};
 
-// The names of a dotted path. A name in quotes may have dots.
-fn names_of(alloc: Global, path: &str) -> Result<Vec<String>, AllocError> {
-    let mut names = Vec::new(alloc);
-    let mut name = String::new(alloc);
-    let mut is_quoted = false;
-    for letter in path.chars() {
-        match letter {
-            '"' => is_quoted = !is_quoted,
-            '.' if !is_quoted => {
-                names.push(name)?;
-                name = String::new(alloc);
-            }
-            _ => name.push(letter)?,
-        }
-    }
-    names.push(name)?;
-    Ok(names)
-}
-
 // The number of the attribute of a name, or of the item of a number, in the value of a number.
-fn inside(items: &[Item], number: usize, name: &str) -> Option<usize> {
+fn inside(items: &[Item], number: usize, name: &PathName) -> Option<usize> {
     let around = items.get(number)?;
     let is_set = matches!(&around.value, Value::Set);
-    let mut place = name.parse::<usize>().ok();
+    let mut place = name.place();
     let start = number.saturating_add(1);
     for (item, found) in items.get(start..)?.iter().enumerate() {
         if found.depth <= around.depth {
@@ -35,7 +17,7 @@ fn inside(items: &[Item], number: usize, name: &str) -> Option<usize> {
         if found.depth > around.depth.saturating_add(1) {
             continue;
         }
-        if is_set && found.name.as_str() == name || !is_set && place == Some(0) {
+        if is_set && found.name.as_str() == name.text.as_str() || !is_set && place == Some(0) {
             return Some(start.saturating_add(item));
         }
         place = place.map(|left| left.saturating_sub(1));
@@ -45,9 +27,12 @@ fn inside(items: &[Item], number: usize, name: &str) -> Option<usize> {
 
 // The number of the part that a dotted path leads to.
 fn number_at(alloc: Global, items: &[Item], path: &str) -> Result<Option<usize>, AllocError> {
+    let Some(names) = names_of(alloc, path)? else {
+        return Ok(None);
+    };
     let mut number = 0;
-    for name in &names_of(alloc, path)? {
-        match inside(items, number, name.as_str()) {
+    for name in &names {
+        match inside(items, number, name) {
             Some(found) => number = found,
             None => return Ok(None),
         }
@@ -81,7 +66,8 @@ fn part_at(alloc: Global, items: Vec<Item>, start: usize) -> Result<Vec<Item>, A
 }
 
 impl Data {
-    /// Returns the part that a dotted path of names leads to. In a list, the items are named by their numbers from 0.
+    /// Returns the part that a dotted path of names leads to. In a list, the items are named by their numbers from 0. A name in quotes is that of an
+    /// attribute, and its escapes are those of a string of Nix.
     pub fn part(self, alloc: Global, path: &str) -> Result<Option<Data>, AllocError> {
         let Data { items } = self;
         match number_at(alloc, items.as_slice(), path)? {

@@ -2,8 +2,8 @@
 
 use super::builder::Builder;
 use super::json_tokens::{Token, after_space, json_token};
-use crate::data::{Data, Value};
-use crate::json_error::{JsonError, JsonReason, JsonStop, refused};
+use super::stop::{JsonStop, refused};
+use nix_values::{Data, JsonError, JsonReason, Value};
 use std::alloc::{AllocError, Global};
 
 // The most lists and objects in one another.

@@ -1,13 +1,21 @@
 //! The builder holds and gives what its model does where names were chosen so that their hashes are equal or end alike.
 
-use super::builds_alike::Both;
-use super::reads_alike::is_read_alike;
-use crate::slots::hash_of;
+use crate::builds_alike::Both;
+use crate::reads_alike::is_read_alike;
 use std::alloc::{AllocError, Global};
+use std::hash::{FoldHasher, Hasher};
 use std::test::Fail;
 
 // The set whose attributes the names are: in it, those of equal hash have one.
 const SET: usize = 31;
+
+/// Returns the hash of an attribute by which `nix_values` looks it up.
+pub fn hash_of(set: usize, name: &str) -> u64 {
+    let mut hasher = FoldHasher::default();
+    hasher.write_usize(set);
+    hasher.write(name.as_bytes());
+    hasher.finish()
+}
 
 // Names that differ in their numbers. In the set they all have one hash.
 fn equal_hashes(alloc: Global, count: usize) -> Result<Vec<String>, AllocError> {

@@ -1,7 +1,7 @@
 //! Floats are held and written as their model holds and writes them.
 
-use super::float;
-use crate::float::float_of;
+use crate::model::float;
+use nix_values::float_of;
 use std::alloc::{AllocError, Global};
 use std::test::Fail;
 

@@ -2,9 +2,7 @@
 
 use super::json_reader::data_of_json;
 use super::json_strings::push_json_string;
-use crate::data::{Data, Item, Value};
-use crate::layout::push_indentation;
-use crate::notation::{Notation, kept};
+use nix_values::{Data, Item, Notation, Value, kept, push_indentation};
 use std::alloc::{AllocError, Global};
 
 // A text that is being written, with the lists and sets that are open, the innermost last: whether each is a set.

@@ -1,32 +1,15 @@
-//! Data as Nix texts, compared with texts that are written letter by letter and kept if the data that are read from them are the same.
+//! Data written as JSON, compared with what the model writes and reads again.
 
-use crate::letter_writer::written;
-use crate::nix_reader::data_in;
-use crate::nix_writer::nix_of;
-use nix_values::{Data, Item, Value};
-use rnix::Root;
-use rnix::ast::AstNode;
+use crate::model::json_writer;
+use nix_values::{Data, Item, Value, json_of};
 use std::alloc::{AllocError, Global};
 use std::test::Fail;
 
-// Data as a Nix text, if it is read as the same data.
-fn expected(alloc: Global, data: &Data) -> Result<Option<String>, AllocError> {
-    let text = written(alloc, data)?;
-    let parse = Root::parse(alloc, text.as_str())?;
-    let Ok(root) = parse.ok() else {
-        return Ok(None);
-    };
-    match data_in(alloc, root.syntax(), false)? {
-        Ok(found) if found.is_same(data) => Ok(Some(text)),
-        _ => Ok(None),
-    }
-}
-
-// Whether the text of some data is the one that is expected.
+// Whether data have the JSON that their model has.
 fn is_alike(alloc: Global, items: Vec<Item>) -> Result<bool, AllocError> {
     let data = Data { items };
-    let written = nix_of(alloc, &data)?;
-    let expected = expected(alloc, &data)?;
+    let written = json_of(alloc, &data)?;
+    let expected = json_writer::json_of(alloc, &data)?;
     Ok(match (&written, &expected) {
         (Some(one), Some(other)) => one.as_str() == other.as_str(),
         (None, None) => true,
@@ -68,7 +51,7 @@ fn pair(
     Ok(items)
 }
 
-const WORDS: [&str; 30] = [
+const WORDS: [&str; 26] = [
     "",
     "0",
     "a",
@@ -87,25 +70,17 @@ const WORDS: [&str; 30] = [
     "1.0e-400",
     "5.0e-324",
     "01.5",
-    "NaN",
     "1.5 ",
-    "(1.5)",
-    "1.5;b=1.5",
+    "1.5,2.5",
     "\0",
     "a\0b",
-    "\r\n\t",
-    "\"\\",
-    "${x}",
-    "$${''",
+    "\r\n\t\u{8}\u{c}\u{1f}",
+    "\"\\/",
     "\u{e9}\u{20ac}",
     "null",
 ];
 
-const NAMES: [&str; 13] = [
-    "", "a", "b", "or", "rec", "__curPos", "a.b", "${x}", "\0", "a\r", "\u{e9}", "null", "1",
-];
-
-// Whether two words in a list, as floats or texts, have the text that is expected.
+// Whether two words in a list, as floats or texts, have the JSON that their model has.
 fn are_words_alike(
     alloc: Global,
     one: &str,
@@ -136,13 +111,14 @@ fn writes_words(rt: HostRuntime) -> Result<(), Fail> {
 
 #[test]
 fn writes_names(rt: HostRuntime) -> Result<(), Fail> {
-    for one in NAMES {
-        for other in ["", "a", "\0", "null"] {
+    for one in ["", "a", "b", "\0", "a\r", "\"", "\\", "\u{e9}", "1"] {
+        for other in ["", "a", "\0", "\\"] {
             for (first, depth) in [
                 (Value::Set, 1),
                 (Value::Set, 2),
                 (Value::Null, 1),
                 (Value::List, 2),
+                (Value::Bool(false), 2),
             ] {
                 let alloc = rt.alloc();
                 let values = (first, Value::Set);
@@ -180,7 +156,7 @@ fn nested(alloc: Global, levels: usize) -> Result<Vec<Item>, AllocError> {
 
 #[test]
 fn writes_nested_lists(rt: HostRuntime) -> Result<(), Fail> {
-    for levels in [0, 1, 2, 250, 511, 512, 513, 514, 1023, 1024, 1025] {
+    for levels in [0, 1, 2, 31, 32, 33, 511, 512, 513, 514] {
         let items = nested(rt.alloc(), levels)?;
         assert!(rt; is_alike(rt.alloc(), items)?, "{levels} levels");
     }

@@ -1,8 +1,8 @@
 //! Numbers of JSON, character by character.
 
 use super::float::float_of;
-use crate::data::Value;
-use crate::json_error::{JsonReason, JsonStop, refused};
+use super::stop::{JsonStop, refused};
+use nix_values::{JsonReason, Value};
 use std::alloc::Global;
 
 // A text without the digits that it begins with.

@@ -1,6 +1,7 @@
 //! Strings of Nix, compared with those that are written letter by letter.
 
-use crate::quoted::push_quoted;
+use nix_data::nix_of;
+use nix_values::{Data, Item, Value};
 use std::alloc::{AllocError, Global};
 use std::test::Fail;
 
@@ -39,9 +40,19 @@ pub fn quoted(alloc: Global, value: &str) -> Result<String, AllocError> {
 
 // Whether a value is written as letter by letter.
 fn is_alike(alloc: Global, value: &str) -> Result<bool, AllocError> {
-    let mut text = String::new(alloc);
-    push_quoted(value, &mut text)?;
-    Ok(text.as_str() == quoted(alloc, value)?.as_str())
+    let mut items = Vec::new(alloc);
+    items.push(Item {
+        depth: 0,
+        name: String::new(alloc),
+        value: Value::Text(String::from_str(alloc, value)?),
+    })?;
+    let mut expected = quoted(alloc, value)?;
+    expected.push('\n')?;
+    let written = nix_of(alloc, &Data { items })?;
+    Ok(match &written {
+        Some(text) => text.as_str() == expected.as_str(),
+        None => value.contains('\0'),
+    })
 }
 
 #[test]

@@ -1,9 +1,8 @@
 //! The builder holds and gives what its model does.
 
-use super::builder;
-use super::reads_alike::are_alike;
-use crate::builder::Builder;
-use crate::data::Value;
+use crate::model::builder;
+use crate::reads_alike::are_alike;
+use nix_values::{Builder, Value};
 use std::alloc::{AllocError, Global};
 use std::test::Fail;
 

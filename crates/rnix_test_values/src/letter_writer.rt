@@ -1,8 +1,8 @@
 //! Data as a Nix text, whose strings are written letter by letter. Tests compare with it.
 
-use crate::names::is_plain;
 use crate::quoted_letters::quoted;
 use nix_values::{Data, Item, Value, push_indentation};
+use rnix::{SyntaxKind, tokenize};
 use std::alloc::{AllocError, Global};
 
 // A text that is being written, and for each open list or set whether it is a set, innermost last.
@@ -22,9 +22,19 @@ fn is_negative(value: &Value) -> bool {
     }
 }
 
+// Whether a name needs no quotes: it is one identifier for the tokenizer.
+fn is_plain(alloc: Global, name: &str) -> Result<bool, AllocError> {
+    let mut tokens = tokenize(alloc, name);
+    let Some(token) = tokens.next_token() else {
+        return Ok(false);
+    };
+    let (kind, text) = token?;
+    Ok(kind == SyntaxKind::TOKEN_IDENT && text == name && name != "__curPos")
+}
+
 // Writes a name.
 fn push_name(alloc: Global, name: &str, text: &mut String) -> Result<(), AllocError> {
-    if is_plain(name) {
+    if is_plain(alloc, name)? {
         text.push_str(name)
     } else {
         text.push_str(quoted(alloc, name)?.as_str())

@@ -1,6 +1,6 @@
 //! Data that is being read, with its attributes in ordered maps.
 
-use crate::data::{Data, Item, Value};
+use nix_values::{Data, Item, Value};
 use std::alloc::{AllocError, Global};
 use std::collections::BTreeMap;
 

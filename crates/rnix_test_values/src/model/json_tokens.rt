@@ -2,8 +2,8 @@
 
 use super::json_numbers::json_number;
 use super::json_strings::json_string;
-use crate::data::Value;
-use crate::json_error::{JsonReason, JsonStop, refused};
+use super::stop::{JsonStop, refused};
+use nix_values::{JsonReason, Value};
 use std::alloc::Global;
 
 /// A token.

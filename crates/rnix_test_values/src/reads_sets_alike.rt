@@ -1,6 +1,6 @@
 //! Objects with few and many names are read and written as their model reads and writes them.
 
-use super::reads_alike::is_read_alike;
+use crate::reads_alike::is_read_alike;
 use std::alloc::{AllocError, Global};
 use std::test::Fail;
 

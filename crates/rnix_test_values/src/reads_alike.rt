@@ -1,9 +1,7 @@
 //! JSON is read and written as its model reads and writes it.
 
-use super::{json_reader, json_writer};
-use crate::data::Data;
-use crate::json_reader::data_of_json;
-use crate::json_writer::json_of;
+use crate::model::{json_reader, json_writer};
+use nix_values::{Data, data_of_json, json_of};
 use std::alloc::{AllocError, Global};
 use std::test::Fail;
 

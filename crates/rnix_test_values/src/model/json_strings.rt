@@ -1,6 +1,7 @@
 //! Strings of JSON, character by character.
 
-use crate::json_error::{JsonReason, JsonStop, refused};
+use super::stop::{JsonStop, refused};
+use nix_values::JsonReason;
 use std::alloc::{AllocError, Global};
 
 // The digits of an escape by number.

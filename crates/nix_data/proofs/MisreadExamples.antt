@@ -1,0 +1,40 @@
+-- Which tokens Nix reads otherwise, on worked rows.
+use Rattle.std.proofs.Common.{◌≡◌, ◌++◌, ◌∷◌, [], true, false, refl}
+use Rattle.std.specs.Prelude.{codes}
+use Rattle.rnix_kinds.specs.declared.kinds.SyntaxKind.TheVariants as k
+use Rattle.nix_data.specs.Misread.{is_misread}
+
+-- space, tab, carriage return and line feed
+blanks : is_misread k.TOKEN_WHITESPACE (32 ∷ 9 ∷ 13 ∷ 10 ∷ []) ≡ false
+blanks = refl
+
+-- a form feed, and a no-break space in UTF-8
+form_feed : is_misread k.TOKEN_WHITESPACE (32 ∷ 12 ∷ []) ≡ true
+form_feed = refl
+
+no_break_space : is_misread k.TOKEN_WHITESPACE (194 ∷ 160 ∷ []) ≡ true
+no_break_space = refl
+
+-- a line that ends with a carriage return and a line feed, which is no part of the comment
+line_end : is_misread k.TOKEN_COMMENT (codes "# a" ++ 13 ∷ 32 ∷ 13 ∷ []) ≡ false
+line_end = refl
+
+-- a carriage return inside a comment
+inside : is_misread k.TOKEN_COMMENT (codes "# a" ++ 13 ∷ codes " b = 1;") ≡ true
+inside = refl
+
+block : is_misread k.TOKEN_COMMENT (codes "/* a" ++ 13 ∷ codes " */") ≡ false
+block = refl
+
+-- floats
+no_digit : is_misread k.TOKEN_FLOAT (codes "0.") ≡ true
+no_digit = refl
+
+no_digit_before_exponent : is_misread k.TOKEN_FLOAT (codes "0.e5") ≡ true
+no_digit_before_exponent = refl
+
+digit : is_misread k.TOKEN_FLOAT (codes "0.5") ≡ false
+digit = refl
+
+one : is_misread k.TOKEN_FLOAT (codes "1.") ≡ false
+one = refl

@@ -1,0 +1,50 @@
+-- Tokens that Nix reads otherwise than the tokenizer does.
+use Rattle.std.specs.Prelude.{◌≡◌, ℕ, ◌==◌, ◌&&◌, ◌||◌, Bool, true, false, not, List, [], ◌∷◌, slice_index, if◌then◌else◌}
+use Rattle.std.specs.List.{list_any, list_all}
+use Rattle.std.specs.Char.{is_ascii_digit}
+use Rattle.rnix_kinds.specs.declared.kinds.SyntaxKind.{SyntaxKind}
+use Rattle.rnix_kinds.specs.declared.kinds.SyntaxKind.TheVariants as k
+use Rattle.rnix_kinds.specs.Lexical.Tokens.{tokens_of}
+use Rattle.rnix_green.specs.Tree.{Located, item_of, text_at}
+use Rattle.rnix_green.specs.Walk.{Spot, elements_of}
+use Rattle.rnix_grammar.specs.Parsed.{IsParsed}
+use Rattle.rnix.specs.ParseResult.{Reading, root_of}
+
+-- Nix's white space: space, line feed, tab and carriage return
+abbrev pub is_blank : ℕ → Bool
+is_blank byte = byte == 32 || (byte == 10 || (byte == 9 || byte == 13))
+
+-- after a carriage return, or after the first one in the text, there is something other than white space
+abbrev pub goes_on : Bool → List ℕ → Bool
+goes_on returned [] = false
+goes_on returned (byte ∷ bytes) = if returned && not (is_blank byte) then true else goes_on (returned || byte == 13) bytes
+
+-- a `#` comment ends at its first carriage return for Nix, which then reads more than white space
+abbrev pub ends_early : List ℕ → Bool
+ends_early text = slice_index text 0 == 35 && goes_on false text
+
+-- a float begins with `0.`, and no digit follows
+abbrev pub lacks_digit : List ℕ → Bool
+lacks_digit text = slice_index text 0 == 48 && (slice_index text 1 == 46 && not (is_ascii_digit (slice_index text 2)))
+
+-- Nix reads a token of a kind and a text otherwise
+abbrev pub is_misread : SyntaxKind → List ℕ → Bool
+is_misread k.TOKEN_WHITESPACE text = not (list_all is_blank text)
+is_misread k.TOKEN_COMMENT text = ends_early text
+is_misread k.TOKEN_FLOAT text = lacks_digit text
+is_misread kind text = false
+
+-- an element is a token that Nix reads otherwise
+abbrev pub is_misread_at : Spot → Bool
+is_misread_at spot = not spot.0 && is_misread (item_of spot.1).kind (text_at spot.1)
+
+-- Nix reads no token of an element otherwise
+abbrev pub IsReadAlike : Located → Type 0
+IsReadAlike e = list_any is_misread_at (elements_of e) ≡ false
+
+-- a text is parsed without errors, and Nix reads none of its tokens otherwise
+pub record IsData (text : List ℕ) : Type 0 where
+  pub read : Reading
+  pub is_read : IsParsed (tokens_of text) read.tree read.faults
+  pub no_errors : read.faults ≡ []
+  pub is_alike : IsReadAlike (root_of read)

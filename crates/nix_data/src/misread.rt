@@ -1,0 +1,110 @@
+//! Tokens that Nix reads otherwise.
+
+ghost use Rattle.std.specs.Prelude.{◌≡◌, not, false, is_some, slice_index};
+ghost use Rattle.std.specs.List.{list_all};
+ghost use Rattle.rnix_green.specs.Tree.{item_of, text_at};
+ghost use Rattle.nix_data.specs.Misread.{is_blank, goes_on, ends_early, lacks_digit, is_misread};
+
+use crate::no_data::{NoData, Reason};
+use rnix::{SyntaxKind, SyntaxToken, TextRange};
+
+// Whether a byte is white space for Nix.
+fn is_blank(byte: u8) -> bool
+    ensures { result ≡ is_blank byte }
+{
+    byte == b' ' || byte == b'\n' || byte == b'\t' || byte == b'\r'
+}
+
+// The number of the first byte that is not white space for Nix.
+fn foreign(text: &[u8]) -> Option<usize>
+    ensures { is_some result ≡ not (list_all is_blank text.now) }
+{
+    for index in 0..text.len() {
+        if !is_blank(text[index]) {
+            return Some(index);
+        }
+    }
+    None
+}
+
+// The number of the first carriage return, if something other than white space follows it.
+fn early_return(text: &[u8]) -> Option<usize>
+    ensures { is_some result ≡ goes_on false text.now }
+{
+    let mut found: Option<usize> = None;
+    for index in 0..text.len() {
+        let byte = text[index];
+        if found.is_some() && !is_blank(byte) {
+            return found;
+        }
+        if found.is_none() && byte == b'\r' {
+            found = Some(index);
+        }
+    }
+    None
+}
+
+// The byte with a number, 0 if there is none.
+fn byte_at(text: &[u8], index: usize) -> u8
+    ensures { result ≡ slice_index text.now index }
+{
+    match text.get(index) {
+        Some(byte) => *byte,
+        None => 0,
+    }
+}
+
+// The number of the carriage return at which a `#` comment ends for Nix, if it goes on after it.
+fn early_end(text: &[u8]) -> Option<usize>
+    ensures { is_some result ≡ ends_early text.now }
+{
+    if byte_at(text, 0) == b'#' {
+        early_return(text)
+    } else {
+        None
+    }
+}
+
+// Whether a float begins with `0.`, and no digit follows.
+fn lacks_digit(text: &[u8]) -> bool
+    ensures { result ≡ lacks_digit text.now }
+{
+    byte_at(text, 0) == b'0' && byte_at(text, 1) == b'.' && !byte_at(text, 2).is_ascii_digit()
+}
+
+// The number of the byte from which Nix reads a token otherwise, if it does.
+fn misread_from(kind: SyntaxKind, text: &[u8]) -> Option<usize>
+    ensures { is_some result ≡ is_misread kind text.now }
+{
+    match kind {
+        SyntaxKind::TOKEN_WHITESPACE => foreign(text),
+        SyntaxKind::TOKEN_COMMENT => early_end(text),
+        SyntaxKind::TOKEN_FLOAT if lacks_digit(text) => Some(0),
+        _ => None,
+    }
+}
+
+// Why Nix reads a token of a kind otherwise, and how many bytes of a text are to be shown for that.
+fn reason_for(kind: SyntaxKind, text: &str) -> (Reason, usize) {
+    let first = text.chars().next().map_or(0, |letter| letter.len_utf8());
+    match kind {
+        SyntaxKind::TOKEN_WHITESPACE => (Reason::ForeignSpace, first),
+        SyntaxKind::TOKEN_COMMENT => (Reason::EarlyEnd, first),
+        _ => (Reason::LacksDigit, text.len()),
+    }
+}
+
+/// Returns why Nix reads a token otherwise, and where, if it does.
+pub fn misread(token: &SyntaxToken<'_>) -> Option<NoData>
+    ensures { is_some result ≡ is_misread (item_of token.now).kind (text_at token.now) }
+{
+    let (kind, text) = (token.kind(), token.text());
+    let from = misread_from(kind, text.as_bytes())?;
+    let (reason, len) = reason_for(kind, text.get(from..).unwrap_or(""));
+    let start = token.text_range().start().saturating_add(from);
+    Some(NoData {
+        reason,
+        range: TextRange::new(start, start.saturating_add(len)),
+        first: None,
+    })
+}
