@@ -14,7 +14,7 @@ class Binding:
     """A name that a scope binds: a `let`, a `rec` set or a function."""
 
     name: Node
-    """The identifier or string that writes the name."""
+    """The identifier, string or `${}` that writes the name."""
     scope: Node
     """The node in which the name is visible."""
     first: int
@@ -26,7 +26,7 @@ class Reference:
     """A name that refers to a binding."""
 
     name: Node
-    """The identifier or string that writes the name."""
+    """The identifier, string or `${}` that writes the name."""
     binding: int | None
     """The index of the binding in the innermost scope that binds the name, or None if no scope does."""
     is_inherited: bool

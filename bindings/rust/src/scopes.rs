@@ -15,7 +15,7 @@ use crate::{ffi, Parse, Root, SyntaxKind, TextRange, TextSize};
 /// A name that a scope binds: a `let`, a `rec` set or a function.
 #[derive(Clone, Debug)]
 pub struct Binding {
-    /// The identifier or string that writes the name.
+    /// The identifier, string or `${}` that writes the name.
     pub name: SyntaxNode,
     /// The node in which the name is visible.
     pub scope: SyntaxNode,
@@ -26,7 +26,7 @@ pub struct Binding {
 /// A name that refers to a binding.
 #[derive(Clone, Debug)]
 pub struct Reference {
-    /// The identifier or string that writes the name.
+    /// The identifier, string or `${}` that writes the name.
     pub name: SyntaxNode,
     /// The index of the binding, in the innermost scope that binds the name, or `None` if no scope does.
     pub binding: Option<usize>,

@@ -1,10 +1,13 @@
 -- Dead bindings of a text: those that are to be reported and that no reference refers to.
-use Rattle.std.specs.Prelude.{◌≡◌, ℕ, ◌+◌, ◌<◌, ◌&&◌, Bool, true, not, nat_eq, List, [], ◌∷◌, ◌++◌, length, map, get_or, set, codes, if◌then◌else◌}
+use Rattle.std.specs.Prelude.{◌≡◌, ℕ, ◌+◌, ◌<◌, ◌==◌, ◌&&◌, ◌||◌, Bool, true, false, not, nat_eq, List, [], ◌∷◌, ◌++◌, length, map, get_or, set, codes, Option, Some, None, if◌then◌else◌}
 use Rattle.std.specs.List.{list_any, starts_with}
+use Rattle.std.specs.Ordering.{nat_cmp}
 use Rattle.std.specs.Str.{bytes_eq}
+use Rattle.std.specs.BTreeSet.{BTreeSet, contains}
 use Rattle.rnix_kinds.specs.declared.kinds.SyntaxKind.TheVariants as k
 use Rattle.rnix_green.specs.Equality.{same_kind}
 use Rattle.rnix_green.specs.Tree.{Located, item_of, extent_of}
+use Rattle.rnix_green.specs.Relatives.{parent_of}
 use Rattle.nix_scopes.specs.declared.resolution.Binding.{Binding}
 use Rattle.nix_scopes.specs.declared.resolution.Reference.{Reference}
 use Rattle.nix_scopes.specs.Bound.{bound_of, resolved_of}
@@ -36,10 +39,36 @@ Listed = List ℕ × ℕ
 abbrev pub listed : Bound → Listed
 listed bound = (bound.text, (extent_of bound.node).start)
 
--- whether the binding of a number is dead: the first of its name in its scope, to be reported, and not referred to
+-- whether a node with this parent names a whole pattern, as `args` does in `args@{ a }`
+abbrev pub names_whole : Option Located → Bool
+names_whole None = false
+names_whole (Some parent) = same_kind (item_of parent).kind k.NODE_PAT_BIND
+
+-- whether a binding is the name of a whole pattern
+abbrev pub is_whole : Bound → Bool
+is_whole bound = names_whole (parent_of bound.node)
+
+-- where the scope of a binding starts
+abbrev pub scope_start : Bound → ℕ
+scope_start bound = (extent_of bound.scope).start
+
+-- whether the binding of a number is the name of the whole pattern of the function that starts at an offset, and is referred to
+abbrev pub is_used_whole : List Resolved → ℕ → ℕ → Bound → Bool
+is_used_whole names start number bound = list_any (refers number) names && (is_whole bound && (start == scope_start bound))
+
+-- whether one of these bindings, with the numbers from this one on, is such a name: through it, each argument of the function may be used
+abbrev pub has_used_whole : List Resolved → ℕ → ℕ → List Bound → Bool
+has_used_whole names start number [] = false
+has_used_whole names start number (bound ∷ more) = is_used_whole names start number bound || has_used_whole names start (number + 1) more
+
+-- whether a binding is used: it is referred to, or it may be through the name of its whole pattern
+abbrev pub is_used : List Bound → List Resolved → ℕ → Bound → Bool
+is_used bindings names number bound = list_any (refers number) names || has_used_whole names (scope_start bound) 0 bindings
+
+-- whether the binding of a number is dead: the first of its name in its scope, to be reported, and not used
 abbrev pub is_dead : List Bound → List Resolved → ℕ → Bound → Bool
 is_dead bindings names number bound =
-    is_number number (number_in bindings bound.text bound.scope) && (is_judged bound && not (list_any (refers number) names))
+    is_number number (number_in bindings bound.text bound.scope) && (is_judged bound && not (is_used bindings names number bound))
 
 -- the dead ones among bindings with the numbers from this one on
 abbrev pub dead_from : List Bound → List Resolved → ℕ → List Bound → List Listed
@@ -64,12 +93,27 @@ pub record AreMarked (count : ℕ) (references : List Reference) (marks : List B
   pub count_is : length marks ≡ count
   pub marks_are : (number : ℕ) (d : Bool) → number < count → get_or marks number d ≡ list_any (refers number) (map resolved_of references)
 
--- the binding of a number, if it is the first of its name, to be reported, and not marked
-abbrev pub unmarked : List Bool → ℕ → Binding → List Listed
-unmarked marks number binding =
-    if nat_eq binding.first number && (is_judged (bound_of binding) && not (get_or marks number true)) then listed (bound_of binding) ∷ [] else []
+-- whether the binding of a number is marked, and the name of the whole pattern of the function that starts at an offset
+abbrev pub is_marked_whole : List Bool → ℕ → ℕ → Binding → Bool
+is_marked_whole marks start number binding = get_or marks number false && (is_whole (bound_of binding) && (start == scope_start (bound_of binding)))
+
+-- whether one of these bindings, with the numbers from this one on, is so
+abbrev pub has_marked_whole : List Bool → ℕ → ℕ → List Binding → Bool
+has_marked_whole marks start number [] = false
+has_marked_whole marks start number (binding ∷ more) = is_marked_whole marks start number binding || has_marked_whole marks start (number + 1) more
+
+-- whether an offset is in a set
+abbrev pub has_offset : BTreeSet ℕ → ℕ → Bool
+has_offset offsets start = contains nat_cmp offsets start
+
+-- the binding of a number, if it is the first of its name, to be reported, not marked, and its scope does not start at one of the offsets
+abbrev pub unmarked : List Bool → BTreeSet ℕ → ℕ → Binding → List Listed
+unmarked marks wholes number binding =
+    if nat_eq binding.first number
+    && (is_judged (bound_of binding) && not (get_or marks number true || has_offset wholes (scope_start (bound_of binding))))
+    then listed (bound_of binding) ∷ [] else []
 
 -- those among bindings with the numbers from this one on
-abbrev pub unmarked_from : List Bool → ℕ → List Binding → List Listed
-unmarked_from marks number [] = []
-unmarked_from marks number (binding ∷ more) = unmarked marks number binding ++ unmarked_from marks (number + 1) more
+abbrev pub unmarked_from : List Bool → BTreeSet ℕ → ℕ → List Binding → List Listed
+unmarked_from marks wholes number [] = []
+unmarked_from marks wholes number (binding ∷ more) = unmarked marks wholes number binding ++ unmarked_from marks wholes (number + 1) more

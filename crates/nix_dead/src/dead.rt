@@ -1,14 +1,16 @@
 //! Names that a text binds and never uses.
 
-ghost use Rattle.std.specs.Prelude.{◌≡◌, ◌++◌, map, IfOk, OnOk};
+ghost use Rattle.std.specs.Prelude.{◌≡◌, ◌++◌, ◌||◌, ℕ, map, IfOk, OnOk};
 ghost use Rattle.std.specs.List.Sorted.{IsNonDecreasingBy, IsPermutation};
 ghost use Rattle.nix_scopes.specs.Bound.{bound_of};
-ghost use Rattle.nix_dead.specs.Dead.{is_unmeant, is_judged, marked, AreMarked, listed_name, unmarked, unmarked_from, dead_in};
+ghost use Rattle.nix_dead.specs.Dead.{is_unmeant, is_judged, is_whole, marked, AreMarked, listed_name, unmarked, unmarked_from, dead_in};
+ghost use Rattle.nix_dead.specs.Dead.{has_offset, is_marked_whole, has_marked_whole, scope_start};
 ghost use Rattle.nix_dead.specs.declared.dead.Name.{Name as Dead};
 
 use nix_scopes::{Binding, Reference, resolve};
 use rnix::{SyntaxKind, SyntaxNode};
 use std::alloc::{AllocError, Global};
+use std::collections::BTreeSet;
 
 /// A name that is bound.
 #[derive(Clone, Copy)]
@@ -62,17 +64,67 @@ fn used_bindings(
     Ok(is_used)
 }
 
+// Whether a binding is the name of a whole pattern, as `args` in `args@{ a }`.
+fn is_whole(binding: &Binding<'_>) -> bool
+    ensures { result ≡ is_whole (bound_of binding.now) }
+{
+    match binding.node.parent() {
+        Some(parent) => parent.kind() == SyntaxKind::NODE_PAT_BIND,
+        None => false,
+    }
+}
+
+// Adds where a function starts, if the binding is the name of its whole pattern and is used.
+fn add_whole(
+    number: usize,
+    binding: &Binding<'_>,
+    is_used: &[bool],
+    wholes: &mut BTreeSet<usize>,
+) -> Result<(), AllocError>
+    ensures { OnOk result ((start : ℕ) →
+        has_offset wholes.new start ≡ (has_offset wholes.old start || is_marked_whole is_used.now start number binding.now)) }
+{
+    let is_used = is_used.get(number).copied().unwrap_or(false);
+    if is_used && is_whole(binding) {
+        wholes.insert(binding.scope.text_range().start())?;
+    }
+    Ok(())
+}
+
+// Returns where the functions start the name of whose whole pattern is used.
+fn used_wholes(
+    alloc: Global,
+    bindings: &[Binding<'_>],
+    is_used: &[bool],
+) -> Result<BTreeSet<usize>, AllocError>
+    ensures { IfOk result (λ wholes. (start : ℕ) → has_offset wholes start ≡ has_marked_whole is_used.now start 0 bindings.now) }
+{
+    let mut wholes = BTreeSet::new(alloc);
+    for number in 0..bindings.len() {
+        add_whole(number, &bindings[number], is_used, &mut wholes)?;
+    }
+    Ok(wholes)
+}
+
+// Whether a binding is in the scope of a pattern whose own name is used.
+fn is_in_whole(binding: &Binding<'_>, wholes: &BTreeSet<usize>) -> bool
+    ensures { result ≡ has_offset wholes.now (scope_start (bound_of binding.now)) }
+{
+    wholes.contains(&binding.scope.text_range().start())
+}
+
 // Adds a binding if it is the first of its name, to be reported, and unused.
 fn add_unused<'t>(
     number: usize,
     binding: &Binding<'t>,
     is_used: &[bool],
+    wholes: &BTreeSet<usize>,
     dead: &mut Vec<Name<'t>>,
 ) -> Result<(), AllocError>
-    ensures { OnOk result (map listed_name dead.new.items ≡ map listed_name dead.old.items ++ unmarked is_used.now number binding.now) }
+    ensures { OnOk result (map listed_name dead.new.items ≡ map listed_name dead.old.items ++ unmarked is_used.now wholes.now number binding.now) }
 {
     let is_used = is_used.get(number).copied().unwrap_or(true);
-    if binding.first == number && is_judged(binding) && !is_used {
+    if binding.first == number && is_judged(binding) && !is_used && !is_in_whole(binding, wholes) {
         dead.push(Name {
             text: binding.text,
             start: binding.node.text_range().start(),
@@ -86,24 +138,27 @@ fn unused<'t>(
     alloc: Global,
     bindings: &[Binding<'t>],
     is_used: &[bool],
+    wholes: &BTreeSet<usize>,
 ) -> Result<Vec<Name<'t>>, AllocError>
-    ensures { IfOk result (λ dead. map listed_name dead.items ≡ unmarked_from is_used.now 0 bindings.now) }
+    ensures { IfOk result (λ dead. map listed_name dead.items ≡ unmarked_from is_used.now wholes.now 0 bindings.now) }
 {
     let mut dead = Vec::new(alloc);
     for number in 0..bindings.len() {
-        add_unused(number, &bindings[number], is_used, &mut dead)?;
+        add_unused(number, &bindings[number], is_used, wholes, &mut dead)?;
     }
     Ok(dead)
 }
 
-/// Returns the names bound by `let` and the parameters that nothing refers to, except those that start with `_`, in the order of the text.
+/// Returns the names bound by `let` and the parameters that nothing refers to, except those that start with `_` and the arguments of a pattern
+/// whose own name is used, as in `args@{ a }: args.a`, in the order of the text.
 pub fn dead_names<'t>(alloc: Global, root: &SyntaxNode<'t>) -> Result<Vec<Name<'t>>, AllocError>
     ensures exactly { IfOk result (λ names. IsPermutation (dead_in root.now) (map listed_name names.items)) }
     ensures order { IfOk result (λ names. IsNonDecreasingBy (λ (name : Dead). name.start) names.items) }
 {
     let names = resolve(alloc, root)?;
     let is_used = used_bindings(alloc, names.bindings().len(), names.references())?;
-    let mut dead = unused(alloc, names.bindings(), &is_used)?;
+    let wholes = used_wholes(alloc, names.bindings(), &is_used)?;
+    let mut dead = unused(alloc, names.bindings(), &is_used, &wholes)?;
     dead.sort_by_key(
         |name: &Name<'_>| -> usize
             ensures { result ≡ name.now.start }

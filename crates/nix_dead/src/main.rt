@@ -19,8 +19,9 @@ const PROGRAM: Program = Program {
     help: "\
 nix-dead [OPTION..] [FILE..]
 
-Prints the names bound by let and the parameters that are never used, except those that start with _. A folder stands for all files in it
-and below that end with .nix; - and no FILE mean standard input.
+Prints the names bound by let and the parameters that are never used, except those that start with _ and the entries of a pattern
+whose own name is used, as in args@{ a }: args.a. Without an entry, callers may no longer pass the argument if the pattern has no `...`.
+A folder stands for all files in it and below that end with .nix; - and no FILE mean standard input.
 
     --json     print each name as a line of JSON
 ",

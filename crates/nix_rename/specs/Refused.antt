@@ -19,6 +19,16 @@ use Rattle.nix_rename.specs.declared.refusal.Kept.TheVariants as kept
 use Rattle.nix_rename.specs.declared.refusal.Refusal.{Refusal}
 use Rattle.nix_rename.specs.declared.refusal.Refusal.TheVariants as refusal
 
+-- the names to which a text refers without writing them: `-` calls `__sub`, `*` calls `__mul`, `/` calls `__div`, and `<`, `<=`, `>` and `>=` call
+-- `__lessThan`; a path in `<>` is what `__findFile` finds in `__nixPath`
+abbrev pub hidden_names : List (List ℕ)
+hidden_names =
+    codes "__sub" ∷ codes "__mul" ∷ codes "__div" ∷ codes "__lessThan" ∷ codes "__findFile" ∷ codes "__nixPath" ∷ []
+
+-- whether a name is one of them
+abbrev pub is_hidden_name : List ℕ → Bool
+is_hidden_name text = list_any (bytes_eq text) hidden_names
+
 -- why a binding keeps its name
 abbrev pub kept_text : Kept → List ℕ
 kept_text kept.Inherited = codes "the name is inherited: give it its own entry first"
@@ -26,14 +36,17 @@ kept_text kept.Argument = codes "callers give this argument by its name"
 kept_text kept.Attribute = codes "the name is an attribute of a set"
 kept_text kept.Quoted = codes "the name is written in quotes"
 kept_text kept.Body = codes "the old `let` needs its `body`"
+kept_text kept.Hidden = codes "operators or paths in `<>` refer to the name"
 kept_text kept.InheritedBySet = codes "a set inherits the name: give it its own entry first"
 
 -- why a name is not renamed
 abbrev pub refusal_text : Refusal → List ℕ
 refusal_text refusal.NotAName = codes "NAME is not a name"
+refusal_text refusal.HiddenName = codes "operators or paths in `<>` refer to NAME"
 refusal_text refusal.NoName = codes "there is no name here"
 refusal_text refusal.Unbound = codes "nothing in the text binds the name"
 refusal_text (refusal.Kept reason) = kept_text reason
+refusal_text refusal.Respelled = codes "an attribute writes the old or the new name with escapes or in lines"
 refusal_text refusal.OtherSpelling = codes "the name is written in another way at some place"
 refusal_text refusal.OtherMeaning = codes "with the new name, some name would refer to something else"
 
@@ -45,7 +58,8 @@ kept_in parent part =
     else (if same_kind (item_of part.scope).kind k.NODE_ATTR_SET then Some kept.Attribute
     else (if not (same_kind (item_of part.node).kind k.NODE_IDENT) then Some kept.Quoted
     else (if same_kind (item_of part.scope).kind k.NODE_LEGACY_LET && bytes_eq part.text (codes "body") then Some kept.Body
-    else None))))
+    else (if is_hidden_name part.text then Some kept.Hidden
+    else None)))))
 
 -- the same, where it has a parent
 abbrev pub kept_below : Option Located → Bound → Option Kept

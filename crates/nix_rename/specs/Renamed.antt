@@ -17,7 +17,8 @@ use Rattle.nix_rename.specs.declared.refusal.Refusal.{Refusal}
 use Rattle.nix_rename.specs.declared.refusal.Refusal.TheVariants as refusal
 use Rattle.nix_rename.specs.declared.rename.Renaming.{Renaming}
 use Rattle.nix_rename.specs.declared.rename.Renaming.TheVariants as renaming
-use Rattle.nix_rename.specs.Refused.{kept_name}
+use Rattle.nix_rename.specs.Refused.{is_hidden_name, kept_name}
+use Rattle.nix_rename.specs.Spellings.{is_respelled}
 use Rattle.nix_rename.specs.Changed.{IsChanged, IsUnchangeable}
 
 -- the reading of a text
@@ -71,8 +72,9 @@ pub record ResolvesUnlike (names : Resolution) (binding : Binding) (new text : L
   pub unlike : ¬ ((read.faults ≡ []) × AreThese names binding new others)
 
 -- the text in which a binding that may be renamed has a new name at exactly its occurrences, and which, read again, resolves as before
-pub record IsNamed (text : List ℕ) (names : Resolution) (binding : Binding) (new made : List ℕ) : Type 0 where
+pub record IsNamed (text : List ℕ) (root : Located) (names : Resolution) (binding : Binding) (new made : List ℕ) : Type 0 where
   pub free : kept_name binding.first names ≡ None
+  pub is_plain : is_respelled root binding.text.now new ≡ false
   pub changed : IsChanged text (occurrences_of binding.first names) binding.text.now new made
   pub alike : ResolvesLike names binding new made
 
@@ -83,11 +85,12 @@ pub record IsUnlike (text : List ℕ) (names : Resolution) (binding : Binding) (
   pub unlike : ResolvesUnlike names binding new made
 
 -- why a binding gets no new name
-abbrev pub IsReason : Refusal → List ℕ → Resolution → Binding → List ℕ → Type 0
-IsReason (refusal.Kept kept) text names binding new = kept_name binding.first names ≡ Some kept
-IsReason refusal.OtherSpelling text names binding new = IsUnchangeable text (occurrences_of binding.first names) binding.text.now
-IsReason refusal.OtherMeaning text names binding new = IsUnlike text names binding new
-IsReason _ text names binding new = ⊥
+abbrev pub IsReason : Refusal → List ℕ → Located → Resolution → Binding → List ℕ → Type 0
+IsReason (refusal.Kept kept) text root names binding new = kept_name binding.first names ≡ Some kept
+IsReason refusal.Respelled text root names binding new = is_respelled root binding.text.now new ≡ true
+IsReason refusal.OtherSpelling text root names binding new = IsUnchangeable text (occurrences_of binding.first names) binding.text.now
+IsReason refusal.OtherMeaning text root names binding new = IsUnlike text names binding new
+IsReason _ text root names binding new = ⊥
 
 -- what the name at an offset refers to is this binding, if there is one
 pub record IsMeant (root : Located) (offset : ℕ) (names : Resolution) (binding : Option Binding) : Type 0 where
@@ -99,24 +102,27 @@ pub record IsMeant (root : Located) (offset : ℕ) (names : Resolution) (binding
 -- the text in which the binding of the name at an offset has a new name
 pub record IsRenamed (text : List ℕ) (root : Located) (offset : ℕ) (new made : List ℕ) : Type 0 where
   pub is_name : IsName new
+  pub is_written : is_hidden_name new ≡ false
   pub names : Resolution
   pub binding : Binding
   pub meant : IsMeant root offset names (Some binding)
-  pub named : IsNamed text names binding new made
+  pub named : IsNamed text root names binding new made
 
 -- why the binding of the name at an offset gets no new name
 pub record IsHindered (refusal : Refusal) (text : List ℕ) (root : Located) (offset : ℕ) (new : List ℕ) : Type 0 where
   pub names : Resolution
   pub binding : Binding
   pub meant : IsMeant root offset names (Some binding)
-  pub reason : IsReason refusal text names binding new
+  pub reason : IsReason refusal text root names binding new
 
 -- why the name at an offset is not renamed
 abbrev pub IsCause : Refusal → List ℕ → Located → ℕ → List ℕ → Type 0
 IsCause refusal.NotAName text root offset new = IsNoName new
+IsCause refusal.HiddenName text root offset new = is_hidden_name new ≡ true
 IsCause refusal.NoName text root offset new = IsNameAt root offset None
 IsCause refusal.Unbound text root offset new = (names : Resolution) × IsMeant root offset names None
 IsCause (refusal.Kept kept) text root offset new = IsHindered (refusal.Kept kept) text root offset new
+IsCause refusal.Respelled text root offset new = IsHindered refusal.Respelled text root offset new
 IsCause refusal.OtherSpelling text root offset new = IsHindered refusal.OtherSpelling text root offset new
 IsCause refusal.OtherMeaning text root offset new = IsHindered refusal.OtherMeaning text root offset new
 

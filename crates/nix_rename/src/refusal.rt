@@ -3,7 +3,7 @@
 ghost use Rattle.std.specs.Prelude.{◌≡◌};
 ghost use Rattle.std.specs.List.{list_any};
 ghost use Rattle.nix_scopes.specs.Bound.{bound_of};
-ghost use Rattle.nix_rename.specs.Refused.{kept_text, refusal_text, kept_in, kept_part, kept_among, inherits, kept_name};
+ghost use Rattle.nix_rename.specs.Refused.{is_hidden_name, kept_text, refusal_text, kept_in, kept_part, kept_among, inherits, kept_name};
 
 use nix_scopes::{Binding, Reference, Resolution};
 use rnix::SyntaxKind;
@@ -22,6 +22,8 @@ pub enum Kept {
     Quoted,
     /// It is the `body` of an old `let`.
     Body,
+    /// Operators or paths in `<>` refer to the name.
+    Hidden,
     /// An `inherit` of a set or a `let` refers to it.
     InheritedBySet,
 }
@@ -31,16 +33,33 @@ pub enum Kept {
 pub enum Refusal {
     /// The new name is not a name.
     NotAName,
+    /// Operators or paths in `<>` refer to the new name.
+    HiddenName,
     /// There is no name at the offset.
     NoName,
     /// Nothing in the text binds the name.
     Unbound,
     /// The binding keeps its name.
     Kept(Kept),
+    /// An attribute writes the old or the new name with escapes or in lines.
+    Respelled,
     /// The text does not contain the old name at one of the places.
     OtherSpelling,
     /// With the new name, the text does not resolve as before.
     OtherMeaning,
+}
+
+/// Returns whether a text can refer to a name without writing it: operators call `__sub`, `__mul`, `__div` and `__lessThan`, and paths in
+/// `<>` use `__findFile` and `__nixPath`.
+pub fn is_hidden_name(name: &str) -> bool
+    ensures { result ≡ is_hidden_name name.now }
+{
+    name == "__sub"
+        || name == "__mul"
+        || name == "__div"
+        || name == "__lessThan"
+        || name == "__findFile"
+        || name == "__nixPath"
 }
 
 impl Kept {
@@ -54,6 +73,7 @@ impl Kept {
             Kept::Attribute => "the name is an attribute of a set",
             Kept::Quoted => "the name is written in quotes",
             Kept::Body => "the old `let` needs its `body`",
+            Kept::Hidden => "operators or paths in `<>` refer to the name",
             Kept::InheritedBySet => "a set inherits the name: give it its own entry first",
         }
     }
@@ -66,9 +86,13 @@ impl Refusal {
     {
         match self {
             Refusal::NotAName => "NAME is not a name",
+            Refusal::HiddenName => "operators or paths in `<>` refer to NAME",
             Refusal::NoName => "there is no name here",
             Refusal::Unbound => "nothing in the text binds the name",
             Refusal::Kept(kept) => kept.text(),
+            Refusal::Respelled => {
+                "an attribute writes the old or the new name with escapes or in lines"
+            }
             Refusal::OtherSpelling => "the name is written in another way at some place",
             Refusal::OtherMeaning => "with the new name, some name would refer to something else",
         }
@@ -101,6 +125,8 @@ fn kept_in(parent: SyntaxKind, part: &Binding<'_>) -> Option<Kept>
         Some(Kept::Quoted)
     } else if scope == SyntaxKind::NODE_LEGACY_LET && part.text == "body" {
         Some(Kept::Body)
+    } else if is_hidden_name(part.text) {
+        Some(Kept::Hidden)
     } else {
         None
     }

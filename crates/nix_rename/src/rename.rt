@@ -9,7 +9,8 @@ ghost use Rattle.nix_rename.specs.Changed.{IsChanged, IsUnchangeable, IsPlaceTes
 ghost use Rattle.nix_rename.specs.Renamed.{is_whole_name, is_name_whole, IsName, IsNoName, ResolvesLike, ResolvesUnlike};
 ghost use Rattle.nix_rename.specs.Renamed.{IsNamed, IsReason, IsRenamed, IsCause, IfRenamed, IfRefused};
 
-use crate::refusal::{Refusal, kept_name};
+use crate::refusal::{Refusal, is_hidden_name, kept_name};
+use crate::spellings::is_respelled;
 use nix_scopes::{Binding, Resolution, name_at, resolve};
 use rnix::ast::AstNode;
 use rnix::{Root, SyntaxKind, SyntaxNode, TextRange};
@@ -114,15 +115,19 @@ fn resolves_like(
 fn named(
     alloc: Global,
     text: &str,
+    root: &SyntaxNode<'_>,
     names: &Resolution<'_>,
     binding: &Binding<'_>,
     new: &str,
 ) -> Result<Renaming, AllocError>
-    ensures named { IfOk result (IfRenamed (IsNamed text.now names.now binding.now new.now)) }
-    ensures refused { IfOk result (IfRefused (λ refusal. IsReason refusal text.now names.now binding.now new.now)) }
+    ensures named { IfOk result (IfRenamed (IsNamed text.now root.now names.now binding.now new.now)) }
+    ensures refused { IfOk result (IfRefused (λ refusal. IsReason refusal text.now root.now names.now binding.now new.now)) }
 {
     if let Some(kept) = kept_name(names, binding.first) {
         return Ok(Renaming::Refused(Refusal::Kept(kept)));
+    }
+    if is_respelled(alloc, root, binding.text, new)? {
+        return Ok(Renaming::Refused(Refusal::Respelled));
     }
     let places = names.occurrences(alloc, binding.first)?;
     let Some(made) = changed(alloc, text, &places, binding.text, new)? else {
@@ -136,7 +141,8 @@ fn named(
 }
 
 /// Returns the text in which the binding of the name at an offset has a new name. It is refused where the text does not bind the name,
-/// where others see it (inherited names, attributes of sets, arguments by name), and where a name would then mean something else.
+/// where others see it (inherited names, attributes of sets, arguments by name), where operators use the old or the new name, and where a
+/// name would then mean something else.
 pub fn rename(
     alloc: Global,
     text: &str,
@@ -150,6 +156,9 @@ pub fn rename(
     if !is_name(alloc, new)? {
         return Ok(Renaming::Refused(Refusal::NotAName));
     }
+    if is_hidden_name(new) {
+        return Ok(Renaming::Refused(Refusal::HiddenName));
+    }
     let Some(node) = name_at(root, offset) else {
         return Ok(Renaming::Refused(Refusal::NoName));
     };
@@ -157,5 +166,5 @@ pub fn rename(
     let Some(binding) = names.binding_at(&node) else {
         return Ok(Renaming::Refused(Refusal::Unbound));
     };
-    named(alloc, text, &names, binding, new)
+    named(alloc, text, root, &names, binding, new)
 }

@@ -1,8 +1,9 @@
 -- Where the open nodes end, and those that have ended are left, the innermost first.
-use Rattle.std.proofs.Common.{◌≡◌, ℕ, ◌-◌, ◌<◌, List, [], ◌∷◌, ◌++◌, length, take, true, false, refl, ap, sym, subst, ◌∙◌, arith}
+use Rattle.std.proofs.Common.{◌≡◌, ℕ, ◌-◌, ◌<◌, List, [], ◌∷◌, ◌++◌, length, take, Bool, true, false, refl, ap, sym, subst, ◌∙◌, arith}
 use Rattle.std.{proofs.{lemmas.{List.length_push, Bool.false≢true}, Math.Seq.take-append_seam}, specs.Prelude.{nat_lt, slice_get, if◌then◌else◌}}
 use Rattle.{rnix_green.specs.Tree.Located, rnix_tree.specs.InsideCounts.inside_count}
-use Rattle.nix_scopes.{specs.Resolving.{last_in, count_behind, counts_behind, is_more, has_ended, still_open}, proofs.NumberLemmas.get_last}
+use Rattle.nix_scopes.specs.Binders.{is_scope}
+use Rattle.nix_scopes.{specs.Resolving.{last_in, count_behind, counts_behind, is_more, has_ended, still_open, which_are_scopes}, proofs.NumberLemmas.get_last}
 
 -- the end of a node that is entered is added
 pub end_added : (root : Located) (left behind : ℕ) (ends more : List ℕ) (e : Located) (es : List Located) → left ≡ last_in root - e.number →
@@ -30,10 +31,15 @@ last_ended left ends end =
     ap (λ k. is_more left (slice_get (ends ++ end ∷ []) k)) last ∙ ap (is_more left) (get_last ends end)
 
 -- all but the last
-but_last : (ends : List ℕ) (end : ℕ) → take (length (ends ++ end ∷ []) - 1) (ends ++ end ∷ []) ≡ ends
+but_last : {X : Type 0} (ends : List X) (end : X) → take (length (ends ++ end ∷ []) - 1) (ends ++ end ∷ []) ≡ ends
 but_last ends end =
     let last : length (ends ++ end ∷ []) - 1 ≡ length ends = omega (arith, length_push ends end) in
     ap (λ k. take k (ends ++ end ∷ [])) last ∙ take-append_seam ends (end ∷ [])
+
+-- of those that are left, it is told which are scopes
+pub told_left : (are_scopes fewer : List Bool) (e : Located) (es : List Located) → fewer ≡ take (length are_scopes - 1) are_scopes →
+    are_scopes ≡ which_are_scopes (e ∷ es) → fewer ≡ which_are_scopes es
+told_left are_scopes fewer e es popped are = popped ∙ ap (λ bs. take (length bs - 1) bs) are ∙ but_last (which_are_scopes es) (is_scope e)
 
 -- the innermost is left, which has ended
 pub one_left : (root : Located) (left : ℕ) (P Q : List Located → Type 0) (ends popped : List ℕ) (nodes : List Located) → has_ended left ends ≡ true →

@@ -1,11 +1,11 @@
 -- What the names refer to where a walk stands is what they refer to in the whole text.
-use Rattle.std.proofs.Common.{◌≡◌, ℕ, zero, suc, ◌+◌, ◌≤◌, ◌<◌, List, [], ◌∷◌, ◌++◌, length, drop, map, Bool, true, false, None, refl, ap, sym, ◌∙◌, subst, arith, ◌==◌}
-use Rattle.std.{proofs.lemmas.{List.{Elements.{All-append, All-map, All-tail}}, Bool.cond-false}, specs.Prelude.{cond, filter, not, ◌||◌, flat_map}}
+use Rattle.std.proofs.Common.{◌≡◌, ℕ, zero, suc, ◌+◌, ◌-◌, ◌≤◌, ◌<◌, List, [], ◌∷◌, ◌++◌, length, drop, map, get_or, Bool, true, false, None, refl, ap, sym, ◌∙◌, subst, arith, ◌==◌}
+use Rattle.std.{proofs.lemmas.{List.{length_push, Elements.{All-append, All-map, All-tail}}, Bool.cond-false}, specs.Prelude.{cond, filter, not, ◌||◌, ◌&&◌, is_some, flat_map}}
 use Rattle.{std.specs.{Prelude.if◌then◌else◌, List.{All, list_any}}, rnix_green.{proofs.NumberTests.is_above, specs.Tree.{Tree, Located, item, item_of}}}
-use Rattle.rnix_green.specs.Walk.{spot_at, counted, nodes_in}
-use Rattle.{rnix_green.specs.{Equality.same_kind, Relatives.parent_of}, nix_scopes.specs.{Names.Named, Binders.{is_scope, names_bound}, Bound.bound_of}}
+use Rattle.{rnix_green.specs.Walk.{spot_at, counted, nodes_in}, rnix_base.specs.Select.token_of}
+use Rattle.{rnix_green.specs.{Equality.same_kind, Relatives.parent_of}, nix_scopes.specs.{Names.Named, Binders.{is_scope, is_binder, names_bound}, Bound.bound_of}}
 use Rattle.nix_scopes.specs.{declared.{resolution.Binding.Binding, sight.Sight.Sight, environment.Environment.Environment}}
-use Rattle.nix_scopes.specs.Resolving.{IsSeen, Sees, number_by, is_in_scope, first_of, outer_by, number_in_sight, is_from_outside, resolve_at}
+use Rattle.nix_scopes.specs.Resolving.{IsSeen, Sees, number_by, is_in_scope, first_of, outer_by, number_in_sight, is_from_outside, resolve_at, is_set, which_are_scopes, is_scope_around}
 use Rattle.nix_scopes.specs.Scopes.{Bound, is_with_body, resolved, bound_in, bindings_at, innermost, resolved_among}
 use Rattle.nix_scopes.proofs.{OpenLemmas.{IsBelow, counts_length}, SightLemmas.innermost_kept, ScopeLemmas.outer_found}
 use Rattle.rnix_kinds.specs.declared.kinds.SyntaxKind.TheVariants as k
@@ -43,6 +43,38 @@ bound_later t n (suc count) = chosen (item t n).is_node (λ k d l. omega (arith,
         (λ k d l. omega (arith, own_scope (record { tree = t; number = n }) k d l)) later
     chosen false later = later
 
+-- the last of a list is the one that is added
+last_added : (bs : List Bool) (b d : Bool) → get_or (bs ++ b ∷ []) (length bs) d ≡ b
+last_added [] b d = refl
+last_added (x ∷ bs) b d = last_added bs b d
+
+-- whether the innermost of these attribute sets is a scope
+last_scope : (e : Located) (es : List Located) →
+    get_or (which_are_scopes (e ∷ es)) (length (which_are_scopes (e ∷ es)) - 1) false ≡ is_scope e
+last_scope e es =
+    let last : length (which_are_scopes es ++ is_scope e ∷ []) - 1 ≡ length (which_are_scopes es) =
+    omega (arith, length_push (which_are_scopes es) (is_scope e)) in
+    ap (λ k. get_or (which_are_scopes es ++ is_scope e ∷ []) k false) last ∙ last_added (which_are_scopes es) (is_scope e) false
+
+or_false : (b : Bool) → (b || false) ≡ b
+or_false true = refl
+or_false false = refl
+
+-- the sets that are open tell whether the parent is a scope
+parent_told : (are_scopes : List Bool) (parent : Located) (outer : List Located) → are_scopes ≡ which_are_scopes (filter is_set (parent ∷ outer)) →
+    is_scope_around are_scopes parent ≡ is_scope parent
+parent_told are_scopes parent outer are = ap (λ bs. is_scope_around bs parent) are ∙ chosen (is_set parent) refl
+  where
+    told : Bool → List Bool → Bool
+    told b bs = if b then get_or bs (length bs - 1) false else is_binder (item_of parent).kind
+
+    chosen : (b : Bool) → is_set parent ≡ b →
+        told b (which_are_scopes (cond b (parent ∷ filter is_set outer) (filter is_set outer))) ≡ is_scope parent
+    chosen true is = last_scope parent (filter is_set outer)
+    chosen false is =
+        sym (ap (λ b. is_binder (item_of parent).kind || (b && is_some (token_of (same_kind k.TOKEN_REC) parent))) is
+        ∙ or_false (is_binder (item_of parent).kind))
+
 module _ (bindings : List Binding) (more all : List Bound) (sight : Sight) (n : ℕ) (e : Located) (text : List ℕ)
     (is : all ≡ map bound_of bindings ++ more) (later : All (λ (b : Bound). n ≤ b.scope.number) more) where
   -- the innermost binding is that among all bindings
@@ -67,34 +99,38 @@ module _ (bindings : List Binding) (more all : List Bound) (sight : Sight) (n : 
   found_none false h = h.in_sight text
 
   -- an `inherit` looks outside of its set
-  found_inherited : (around : List Located) → IsBelow e around → IsSeen bindings sight n (filter is_scope around) →
-      number_in_sight sight (is_in_scope (parent_of e)) text ≡ innermost all text (filter is_scope (drop 1 around))
-  found_inherited [] below h = found_none (is_in_scope (parent_of e)) h
-  found_inherited (parent ∷ outer) below h =
-      ap (λ o. number_in_sight sight (is_in_scope o) text) below ∙ found_outside (is_scope parent) parent (filter is_scope outer) h
+  found_inherited : (env : Environment) (around : List Located) → IsBelow e around →
+      env.set_scopes.items ≡ which_are_scopes (filter is_set around) → IsSeen bindings sight n (filter is_scope around) →
+      number_in_sight sight (is_in_scope env (parent_of e)) text ≡ innermost all text (filter is_scope (drop 1 around))
+  found_inherited env [] below sets h = found_none (is_in_scope env (parent_of e)) h
+  found_inherited env (parent ∷ outer) below sets h =
+      ap (λ o. number_in_sight sight (is_in_scope env o) text) below
+      ∙ ap (λ b. number_in_sight sight b text) (parent_told env.set_scopes.items parent outer sets)
+      ∙ found_outside (is_scope parent) parent (filter is_scope outer) h
 
   -- so it is of each node that is a name or an `inherit`
-  found_at_node : (nodes : List Located) (b : Bool) → (b ≡ true → is_scope e ≡ false) → IsBelow e nodes →
-      IsSeen bindings sight n (filter is_scope (e ∷ nodes)) →
-      number_in_sight sight (if b then is_in_scope (parent_of e) else false) text
+  found_at_node : (env : Environment) (nodes : List Located) (b : Bool) → (b ≡ true → (is_scope e ≡ false) × (is_set e ≡ false)) →
+      IsBelow e nodes → env.set_scopes.items ≡ which_are_scopes (filter is_set (e ∷ nodes)) → IsSeen bindings sight n (filter is_scope (e ∷ nodes)) →
+      number_in_sight sight (if b then is_in_scope env (parent_of e) else false) text
       ≡ innermost all text (filter is_scope (drop (if b then 2 else 0) (e ∷ nodes)))
-  found_at_node nodes true no_scope below h =
-      found_inherited nodes below
-      (subst (IsSeen bindings sight n) (cond-false (is_scope e) (e ∷ filter is_scope nodes) (filter is_scope nodes) (no_scope refl)) h)
-  found_at_node nodes false no_scope below h = found_in_scopes (filter is_scope (e ∷ nodes)) h
+  found_at_node env nodes true none below sets h =
+      found_inherited env nodes below
+      (sets ∙ ap which_are_scopes (cond-false (is_set e) (e ∷ filter is_set nodes) (filter is_set nodes) (none refl).1))
+      (subst (IsSeen bindings sight n) (cond-false (is_scope e) (e ∷ filter is_scope nodes) (filter is_scope nodes) (none refl).0) h)
+  found_at_node env nodes false none below sets h = found_in_scopes (filter is_scope (e ∷ nodes)) h
 
 -- what a name refers to that a node is, or has as an `inherit`
 pub seen_resolved : (root : Located) (bindings : List Binding) (more all : List Bound) (around : Environment) (n : ℕ) (e : Located)
     (nodes : List Located) (name : Named) → all ≡ map bound_of bindings ++ more → All (λ (b : Bound). n ≤ b.scope.number) more →
-    (same_kind k.NODE_INHERIT (item_of e).kind ≡ true → is_scope e ≡ false) → IsBelow e nodes →
-    Sees root bindings around n (filter is_scope (e ∷ nodes)) (filter is_with_body (e ∷ nodes)) →
+    (same_kind k.NODE_INHERIT (item_of e).kind ≡ true → (is_scope e ≡ false) × (is_set e ≡ false)) → IsBelow e nodes →
+    Sees root bindings around n (filter is_scope (e ∷ nodes)) (filter is_with_body (e ∷ nodes)) (filter is_set (e ∷ nodes)) →
     resolve_at around e name ≡ resolved_among all (e ∷ nodes) e name
-seen_resolved root bindings more all around n e nodes name is later no_scope below h =
+seen_resolved root bindings more all around n e nodes name is later none below h =
     let count : length around.body_ends.items ≡ length (filter is_with_body (e ∷ nodes)) =
     ap length h.sees_bodies ∙ counts_length root (filter is_with_body (e ∷ nodes)) in
     ap (λ below_with. resolved (same_kind k.NODE_INHERIT (item_of e).kind) below_with
-    (number_in_sight around.sight (is_from_outside e) name.text) name)
+    (number_in_sight around.sight (is_from_outside around e) name.text) name)
     (ap (λ k. not (k == 0)) count ∙ any_counted is_with_body (e ∷ nodes))
     ∙ ap (λ binding. resolved (same_kind k.NODE_INHERIT (item_of e).kind) (list_any is_with_body (e ∷ nodes)) binding name)
-    (found_at_node bindings more all around.sight n e name.text is later nodes (same_kind k.NODE_INHERIT (item_of e).kind) no_scope below
-    h.sees_scopes.0)
+    (found_at_node bindings more all around.sight n e name.text is later around nodes (same_kind k.NODE_INHERIT (item_of e).kind) none below
+    h.sees_sets.0 h.sees_scopes.0)

@@ -20,7 +20,7 @@ use Rattle.nix_scopes.specs.declared.sight.Sight.{Sight}
 use Rattle.nix_scopes.specs.declared.environment.Environment.{Environment}
 use Rattle.nix_scopes.specs.declared.resolution.Binding.{Binding}
 use Rattle.nix_scopes.specs.Names.{Named}
-use Rattle.nix_scopes.specs.Binders.{is_scope}
+use Rattle.nix_scopes.specs.Binders.{is_scope, is_binder}
 use Rattle.nix_scopes.specs.Scopes.{Bound, Resolved, resolved, number_in, innermost}
 use Rattle.nix_scopes.specs.Bound.{bound_of, AreFirst}
 
@@ -145,10 +145,24 @@ still_open root left (e ∷ es) = if nat_lt left (count_behind root e) then stil
 abbrev pub SeesScopes : Located → List Binding → Sight → List ℕ → ℕ → List Located → Type 0
 SeesScopes root bindings sight ends n scopes = IsSeen bindings sight n scopes × (ends ≡ counts_behind root scopes)
 
--- what is known of what is around the place where these scopes and these bodies of `with` are open
-pub record Sees (root : Located) (bindings : List Binding) (around : Environment) (n : ℕ) (scopes bodies : List Located) : Type 0 where
+-- whether a node is an attribute set
+abbrev pub is_set : Located → Bool
+is_set e = same_kind k.NODE_ATTR_SET (item_of e).kind
+
+-- whether each of these nodes is a scope; the first of them is the last
+abbrev pub which_are_scopes : List Located → List Bool
+which_are_scopes [] = []
+which_are_scopes (e ∷ es) = which_are_scopes es ++ is_scope e ∷ []
+
+-- these are the ends of these attribute sets, and which of them are scopes
+abbrev pub SeesSets : Located → List ℕ → List Bool → List Located → Type 0
+SeesSets root ends are_scopes sets = (are_scopes ≡ which_are_scopes sets) × (ends ≡ counts_behind root sets)
+
+-- what is known of what is around the place where these scopes, these bodies of `with` and these attribute sets are open
+pub record Sees (root : Located) (bindings : List Binding) (around : Environment) (n : ℕ) (scopes bodies sets : List Located) : Type 0 where
   pub sees_scopes : SeesScopes root bindings around.sight around.scope_ends.items n scopes
   pub sees_bodies : around.body_ends.items ≡ counts_behind root bodies
+  pub sees_sets : SeesSets root around.set_ends.items around.set_scopes.items sets
 
 -- the number of the first binding of the last of these scopes
 abbrev pub first_of : List Scope → Option ℕ
@@ -163,10 +177,14 @@ outer_by (Some first) number hidden = outside_of number first hidden
 abbrev pub outer_number : Sight → List ℕ → Option ℕ
 outer_number sight text = outer_by (first_of sight.scopes.items) (number_by sight.numbers text) sight.hidden.items
 
+-- whether a node is a scope, where the last of these tells it of the innermost attribute set
+abbrev pub is_scope_around : List Bool → Located → Bool
+is_scope_around are_scopes parent = if is_set parent then get_or are_scopes (length are_scopes - 1) false else is_binder (item_of parent).kind
+
 -- whether the parent is a scope
-abbrev pub is_in_scope : Option Located → Bool
-is_in_scope None = false
-is_in_scope (Some parent) = is_scope parent
+abbrev pub is_in_scope : Environment → Option Located → Bool
+is_in_scope around None = false
+is_in_scope around (Some parent) = is_scope_around around.set_scopes.items parent
 
 -- the number of a name, outside of the innermost scope or in all scopes
 abbrev pub number_in_sight : Sight → Bool → List ℕ → Option ℕ
@@ -181,9 +199,9 @@ abbrev pub resolve_name : Environment → Bool → Bool → Named → Resolved
 resolve_name around is_outer is_inherited name = referring around (number_in_sight around.sight is_outer name.text) is_inherited name
 
 -- whether names of a node are looked for outside of the innermost scope: an `inherit` takes them from around its set or `let`
-abbrev pub is_from_outside : Located → Bool
-is_from_outside e = if same_kind k.NODE_INHERIT (item_of e).kind then is_in_scope (parent_of e) else false
+abbrev pub is_from_outside : Environment → Located → Bool
+is_from_outside around e = if same_kind k.NODE_INHERIT (item_of e).kind then is_in_scope around (parent_of e) else false
 
 -- what the names refer to that a node is, or has as an `inherit`
 abbrev pub resolve_at : Environment → Located → Named → Resolved
-resolve_at around e name = resolve_name around (is_from_outside e) (same_kind k.NODE_INHERIT (item_of e).kind) name
+resolve_at around e name = resolve_name around (is_from_outside around e) (same_kind k.NODE_INHERIT (item_of e).kind) name

@@ -5,22 +5,25 @@ ghost use Rattle.rnix_green.specs.Tree.{Located};
 ghost use Rattle.nix_scopes.specs.Binders.{is_scope};
 ghost use Rattle.nix_scopes.specs.Scopes.{is_with_body, bindings_at};
 ghost use Rattle.nix_scopes.specs.Bound.{bound_of};
-ghost use Rattle.nix_scopes.specs.Resolving.{number_by, last_in, counts_behind, has_ended, still_open, SeesScopes, Sees};
+ghost use Rattle.nix_scopes.specs.Resolving.{number_by, last_in, counts_behind, has_ended, still_open, is_set, is_scope_around, SeesScopes, SeesSets, Sees};
 
 use crate::places::is_with_body;
 use crate::resolution::Binding;
-use crate::scopes::is_scope;
+use crate::scopes::{is_binder, is_scope};
 use crate::sight::Sight;
-use rnix::SyntaxNode;
+use rnix::{SyntaxKind, SyntaxNode};
 use std::alloc::{AllocError, Global};
 
-/// What is around a place of a walk: the names in sight, and where the open scopes and bodies of `with` end, the innermost last. An end is
-/// the number of elements that the walk has after it.
+/// What is around a place of a walk: the names in sight, and where the open scopes, bodies of `with` and attribute sets end, the innermost
+/// last. An end is the number of elements that the walk has after it.
 #[derive(Drop)]
 pub struct Environment<'t> {
     pub sight: Sight<'t>,
     pub scope_ends: Vec<usize>,
     pub body_ends: Vec<usize>,
+    pub set_ends: Vec<usize>,
+    /// Of each open attribute set, whether it is a scope: whether it has `rec`.
+    pub set_scopes: Vec<bool>,
 }
 
 // Whether the last of these ends comes before an element, after which the walk has `left` more.
@@ -33,22 +36,24 @@ fn has_ended(ends: &[usize], left: usize) -> bool
     }
 }
 
-// Enters a node, after which the walk has `left` more elements: if it is a scope, its names come into sight.
+// Enters a node, after which the walk has `left` more elements: if it is a scope, which `binds` tells, its names come into sight.
 fn enter_scope<'t>(
     alloc: Global,
     node: &SyntaxNode<'t>,
+    binds: bool,
     left: usize,
     sight: &mut Sight<'t>,
     ends: &mut Vec<usize>,
     bindings: &mut Vec<Binding<'t>>,
 ) -> Result<(), AllocError>
+    requires { binds ≡ is_scope node.now }
     ensures sees { OnOk result ((root : Located) → (n : ℕ) → (scopes : List Located) → n ≤ node.now.number → left ≡ last_in root - node.now.number →
         SeesScopes root bindings.old.items sight.old ends.old.items n scopes →
         SeesScopes root bindings.new.items sight.new ends.new.items (node.now.number + 1)
         (if is_scope node.now then node.now ∷ scopes else scopes)) }
     ensures bindings { OnOk result (map bound_of bindings.new.items ≡ map bound_of bindings.old.items ++ bindings_at node.now) }
 {
-    if is_scope(node) {
+    if binds {
         sight.enter(alloc, node, bindings)?;
         ends.push(left.saturating_sub(node.inside_count()))?;
     }
@@ -63,6 +68,26 @@ fn enter_body(node: &SyntaxNode<'_>, left: usize, ends: &mut Vec<usize>) -> Resu
 {
     if is_with_body(node) {
         ends.push(left.saturating_sub(node.inside_count()))?;
+    }
+    Ok(())
+}
+
+// Enters a node, after which the walk has `left` more elements: it may be an attribute set, which is a scope if `binds` tells so.
+fn enter_set(
+    node: &SyntaxNode<'_>,
+    binds: bool,
+    left: usize,
+    ends: &mut Vec<usize>,
+    scopes: &mut Vec<bool>,
+) -> Result<(), AllocError>
+    requires { binds ≡ is_scope node.now }
+    ensures { OnOk result ((root : Located) → (sets : List Located) → left ≡ last_in root - node.now.number →
+        SeesSets root ends.old.items scopes.old.items sets →
+        SeesSets root ends.new.items scopes.new.items (if is_set node.now then node.now ∷ sets else sets)) }
+{
+    if node.kind() == SyntaxKind::NODE_ATTR_SET {
+        ends.push(left.saturating_sub(node.inside_count()))?;
+        scopes.push(binds)?;
     }
     Ok(())
 }
@@ -93,6 +118,17 @@ fn leave_bodies(left: usize, ends: &mut Vec<usize>)
     }
 }
 
+// Leaves the attribute sets that end before an element, after which the walk has `left` more.
+fn leave_sets(left: usize, ends: &mut Vec<usize>, scopes: &mut Vec<bool>)
+    ensures { (root : Located) → (sets : List Located) → SeesSets root ends.old.items scopes.old.items sets →
+        SeesSets root ends.new.items scopes.new.items (still_open root left sets) }
+{
+    while has_ended(ends, left) {
+        let _end = ends.pop();
+        let _scope = scopes.pop();
+    }
+}
+
 impl<'t> Environment<'t> {
     /// Around a root.
     pub fn new(alloc: Global) -> Self
@@ -101,11 +137,15 @@ impl<'t> Environment<'t> {
         ensures scopes { result.sight.scopes.items ≡ [] }
         ensures scope_ends { result.scope_ends.items ≡ [] }
         ensures body_ends { result.body_ends.items ≡ [] }
+        ensures set_ends { result.set_ends.items ≡ [] }
+        ensures set_scopes { result.set_scopes.items ≡ [] }
     {
         Environment {
             sight: Sight::new(alloc),
             scope_ends: Vec::new(alloc),
             body_ends: Vec::new(alloc),
+            set_ends: Vec::new(alloc),
+            set_scopes: Vec::new(alloc),
         }
     }
 
@@ -117,31 +157,45 @@ impl<'t> Environment<'t> {
         left: usize,
         bindings: &mut Vec<Binding<'t>>,
     ) -> Result<(), AllocError>
-        ensures sees { OnOk result ((root : Located) → (n : ℕ) → (scopes bodies : List Located) → n ≤ node.now.number →
-            left ≡ last_in root - node.now.number → Sees root bindings.old.items self.old n scopes bodies →
+        ensures sees { OnOk result ((root : Located) → (n : ℕ) → (scopes bodies sets : List Located) → n ≤ node.now.number →
+            left ≡ last_in root - node.now.number → Sees root bindings.old.items self.old n scopes bodies sets →
             Sees root bindings.new.items self.new (node.now.number + 1) (if is_scope node.now then node.now ∷ scopes else scopes)
-            (if is_with_body node.now then node.now ∷ bodies else bodies)) }
+            (if is_with_body node.now then node.now ∷ bodies else bodies) (if is_set node.now then node.now ∷ sets else sets)) }
         ensures bindings { OnOk result (map bound_of bindings.new.items ≡ map bound_of bindings.old.items ++ bindings_at node.now) }
     {
+        let binds = is_scope(node);
         enter_scope(
             alloc,
             node,
+            binds,
             left,
             &mut self.sight,
             &mut self.scope_ends,
             bindings,
         )?;
         enter_body(node, left, &mut self.body_ends)?;
+        enter_set(node, binds, left, &mut self.set_ends, &mut self.set_scopes)?;
         Ok(())
     }
 
-    /// Leaves the scopes and the bodies of `with` that end before an element, after which the walk has `left` more.
+    /// Leaves the scopes, the bodies of `with` and the attribute sets that end before an element, after which the walk has `left` more.
     pub fn leave_ended(&mut self, left: usize, bindings: &[Binding<'t>])
-        ensures { (root : Located) → (n : ℕ) → (scopes bodies : List Located) → Sees root bindings.now self.old n scopes bodies →
-            Sees root bindings.now self.new n (still_open root left scopes) (still_open root left bodies) }
+        ensures { (root : Located) → (n : ℕ) → (scopes bodies sets : List Located) → Sees root bindings.now self.old n scopes bodies sets →
+            Sees root bindings.now self.new n (still_open root left scopes) (still_open root left bodies) (still_open root left sets) }
     {
         leave_scopes(left, &mut self.sight, &mut self.scope_ends, bindings);
         leave_bodies(left, &mut self.body_ends);
+        leave_sets(left, &mut self.set_ends, &mut self.set_scopes);
+    }
+
+    /// Whether a node is a scope, which is the parent of the current one.
+    pub fn is_scope_around(&self, parent: &SyntaxNode<'_>) -> bool
+        ensures { result ≡ is_scope_around self.now.set_scopes.items parent.now }
+    {
+        match parent.kind() {
+            SyntaxKind::NODE_ATTR_SET => self.set_scopes.last().copied().unwrap_or(false),
+            kind => is_binder(kind),
+        }
     }
 
     /// Whether the place is in the body of a `with`.

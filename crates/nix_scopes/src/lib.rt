@@ -11,6 +11,7 @@ mod resolving;
 mod scopes;
 mod sight;
 
+pub use names::{attr_text, without_parens};
 pub use occurrences::name_at;
 pub use resolution::{Binding, Reference, Resolution};
 pub use resolving::resolve;

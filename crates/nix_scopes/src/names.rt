@@ -1,57 +1,134 @@
 //! The names that nodes bind.
 
-ghost use Rattle.std.specs.Prelude.{◌≡◌, ◌++◌, map, option_map, IfOk, OnOk};
+ghost use Rattle.std.specs.Prelude.{◌≡◌, ◌++◌, map, option_map, IfOk, OnOk, if◌then◌else◌};
 ghost use Rattle.rnix_kinds.specs.declared.kinds.SyntaxKind.TheVariants as k;
 ghost use Rattle.rnix_green.specs.Equality.{same_kind};
 ghost use Rattle.rnix_base.specs.Select.{child_of};
-ghost use Rattle.rnix.specs.NodeKinds.{is_param};
-ghost use Rattle.rnix.specs.StringParts.{string_parts};
-ghost use Rattle.nix_scopes.specs.Names.{has_escape, plain_text, attr_text, named_if};
+ghost use Rattle.rnix_green.specs.Tree.{item_of};
+ghost use Rattle.rnix.specs.NodeKinds.{is_param, is_expr};
+ghost use Rattle.nix_scopes.specs.Names.{has_escape, has_layout, string_text, value_by, inside_of, without_parens, inner_text, attr_text, named_if};
 ghost use Rattle.nix_scopes.specs.Binders.{named, ident_name, path_name, inherit_names, entry_names, entries_names};
 ghost use Rattle.nix_scopes.specs.Binders.{bind_name, pattern_names, param_names, lambda_names, names_bound};
 
 use rnix::ast::{
-    AstNode, AstToken, Attr, AttrpathValue, Ident, IdentParam, Inherit, InterpolPart, Lambda,
-    Pattern, Str,
+    AstNode, AstToken, Attr, AttrpathValue, Dynamic, Expr, Ident, IdentParam, Inherit,
+    InterpolPart, Lambda, Pattern, Str,
 };
 use rnix::{SyntaxKind, SyntaxNode};
+use rnix_base::{child_at, first_token, is_indented};
 use std::alloc::{AllocError, Global};
 
-/// A name, and the node that writes it: an identifier or a string.
+/// A name, and the node that writes it: an identifier, a string or a `${}`.
 #[derive(Drop)]
 pub struct Name<'t> {
     pub text: &'t str,
     pub node: SyntaxNode<'t>,
 }
 
-// Whether a text has a backslash.
+// Whether the value of a string in `"` may differ from its text, which has a backslash or a carriage return.
 fn has_escape(text: &str) -> bool
     ensures { result ≡ has_escape text.now }
 {
-    text.as_bytes().contains(&b'\\')
+    let bytes = text.as_bytes();
+    bytes.contains(&b'\\') || bytes.contains(&b'\r')
 }
 
-// The text of a string that is a name: without escapes and interpolations.
-fn plain_text<'t>(string: &Str<'t>) -> Option<&'t str>
-    ensures { option_map (λ text. text.now) result ≡ plain_text (string_parts string.now) }
+// Whether the value of a string in `''` may differ from its text, or be put together.
+fn has_layout(text: &str) -> bool
+    ensures { result ≡ has_layout text.now }
 {
+    let bytes = text.as_bytes();
+    bytes.contains(&b'\'')
+        || bytes.contains(&b'$')
+        || bytes.contains(&b'\n')
+        || bytes.contains(&b'\r')
+        || bytes.starts_with(b" ")
+}
+
+// Whether the value of a string may differ from the text of its only part.
+fn differs(is_indented: bool, text: &str) -> bool
+    ensures { result ≡ (if is_indented then has_layout else has_escape) text.now }
+{
+    if is_indented {
+        has_layout(text)
+    } else {
+        has_escape(text)
+    }
+}
+
+// The value of a string, if it is a part of the text as it is: the string has no escapes and no interpolations.
+fn string_text<'t>(string: &Str<'t>) -> Option<&'t str>
+    ensures { option_map (λ text. text.now) result ≡ string_text string.now }
+{
+    let is_indented = is_indented(string.syntax());
     let mut parts = string.parts();
     match (parts.next(), parts.next()) {
+        (None, None) => Some(""),
         (Some(InterpolPart::Literal(token)), None) => {
             let text = token.syntax().text();
-            if has_escape(text) { None } else { Some(text) }
+            if differs(is_indented, text) {
+                None
+            } else {
+                Some(text)
+            }
         }
         _ => None,
     }
 }
 
-/// The name that a node writes in a set, if it is written out.
+// The value of an expression, if it is a part of the text as it is: a string without escapes and interpolations, or a URI.
+fn value_text<'t>(expr: &SyntaxNode<'t>) -> Option<&'t str>
+    ensures { option_map (λ text. text.now) result ≡ value_by (item_of expr.now).kind expr.now }
+{
+    match expr.kind() {
+        SyntaxKind::NODE_STRING => string_text(&Str::cast(expr.clone())?),
+        SyntaxKind::NODE_LITERAL => Some(first_token(expr, SyntaxKind::TOKEN_URI)?.text()),
+        _ => None,
+    }
+}
+
+// The expression that is in parentheses, if a node is that.
+fn inside_of<'t>(node: &SyntaxNode<'t>) -> Option<SyntaxNode<'t>>
+    ensures { result ≡ inside_of node.now }
+{
+    if node.kind() != SyntaxKind::NODE_PAREN {
+        return None;
+    }
+    Some(child_at::<Expr<'t>>(node, 0)?.syntax().clone())
+}
+
+/// An expression without the parentheses around it.
+pub fn without_parens<'t>(expr: &SyntaxNode<'t>) -> SyntaxNode<'t>
+    ensures { result ≡ without_parens expr.now }
+{
+    let mut inner = expr.clone();
+    let mut count = expr.inside_count();
+    while count > 0 {
+        match inside_of(&inner) {
+            Some(next) => inner = next,
+            None => return inner,
+        }
+        count -= 1;
+    }
+    inner
+}
+
+// The name that an attribute writes in `${}`, if it is a part of the text as it is.
+fn dynamic_text<'t>(attr: &Dynamic<'t>) -> Option<&'t str>
+    ensures { option_map (λ text. text.now) result ≡ inner_text (child_of is_expr 0 attr.now) }
+{
+    value_text(&without_parens(attr.expr()?.syntax()))
+}
+
+/// The name that a node writes in a set, if it is a part of the text as it is: an identifier, a string without escapes and interpolations, or
+/// what is such a string or a URI in `${}`.
 pub fn attr_text<'t>(node: &SyntaxNode<'t>) -> Option<&'t str>
     ensures { option_map (λ text. text.now) result ≡ attr_text node.now }
 {
     match node.kind() {
         SyntaxKind::NODE_IDENT => Some(node.text()),
-        SyntaxKind::NODE_STRING => plain_text(&Str::cast(node.clone())?),
+        SyntaxKind::NODE_STRING => string_text(&Str::cast(node.clone())?),
+        SyntaxKind::NODE_DYNAMIC => dynamic_text(&Dynamic::cast(node.clone())?),
         _ => None,
     }
 }

@@ -11,9 +11,9 @@ use rnix::{SyntaxNode, TextRange};
 /// A name that a scope binds: a `let`, a `rec` set or a lambda.
 #[derive(Drop)]
 pub struct Binding<'t> {
-    /// The name, without quotes.
+    /// The name, without quotes and `${}`.
     pub text: &'t str,
-    /// What writes the name: an identifier or a string.
+    /// What writes the name: an identifier, a string or a `${}`.
     pub node: SyntaxNode<'t>,
     /// The node inside which the name is in sight.
     pub scope: SyntaxNode<'t>,
@@ -24,9 +24,9 @@ pub struct Binding<'t> {
 /// A name whose value is used, or that is inherited from what is around its set or `let`.
 #[derive(Drop)]
 pub struct Reference<'t> {
-    /// The name, without quotes.
+    /// The name, without quotes and `${}`.
     pub text: &'t str,
-    /// What writes the name: an identifier or a string.
+    /// What writes the name: an identifier, a string or a `${}`.
     pub node: SyntaxNode<'t>,
     /// Whether it is inherited.
     pub is_inherited: bool,

@@ -13,7 +13,6 @@ use crate::environment::Environment;
 use crate::names::{Name, attr_text};
 use crate::places::is_expression;
 use crate::resolution::{Reference, Resolution};
-use crate::scopes::is_scope;
 use crate::sight::Sight;
 use rnix::ast::{AstNode, Inherit};
 use rnix::{NodeOrToken, SyntaxNode};
@@ -71,12 +70,12 @@ fn number_of<'t>(sight: &Sight<'t>, is_outer: bool, text: &'t str) -> Option<usi
     }
 }
 
-// Whether the parent of a node is a scope.
-fn is_in_scope(node: &SyntaxNode<'_>) -> bool
-    ensures { result ≡ is_in_scope (parent_of node.now) }
+// Whether the parent of the current node is a scope.
+fn is_in_scope(around: &Environment<'_>, node: &SyntaxNode<'_>) -> bool
+    ensures { result ≡ is_in_scope around.now (parent_of node.now) }
 {
     match node.parent() {
-        Some(parent) => is_scope(&parent),
+        Some(parent) => around.is_scope_around(&parent),
         None => false,
     }
 }
@@ -88,12 +87,12 @@ fn add_all_inherited<'t>(
     references: &mut Vec<Reference<'t>>,
 ) -> Result<(), AllocError>
     ensures { OnOk result (map resolved_of references.new.items ≡ map resolved_of references.old.items
-        ++ map (resolve_name around.now (is_in_scope (parent_of inherit.now)) true) (inherited_at inherit.now)) }
+        ++ map (resolve_name around.now (is_in_scope around.now (parent_of inherit.now)) true) (inherited_at inherit.now)) }
 {
     if inherit.from().is_some() {
         return Ok(());
     }
-    let in_scope = is_in_scope(inherit.syntax());
+    let in_scope = is_in_scope(around, inherit.syntax());
     for attr in inherit.attrs() {
         add_inherited(around, in_scope, attr.syntax(), references)?;
     }
@@ -145,6 +144,3 @@ pub fn resolve<'t>(alloc: Global, root: &SyntaxNode<'t>) -> Result<Resolution<'t
         references,
     })
 }
-
-#[cfg(test)]
-mod tests;

@@ -16,8 +16,8 @@ fn is_recursive(node: &SyntaxNode<'_>) -> bool
     }
 }
 
-// Whether a node of the kind binds names.
-fn is_binder(kind: SyntaxKind) -> bool
+/// Whether a node of the kind binds names.
+pub fn is_binder(kind: SyntaxKind) -> bool
     ensures { result ≡ is_binder kind }
 {
     matches!(

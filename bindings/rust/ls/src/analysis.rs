@@ -1,7 +1,7 @@
 //! What is known of a text: its tree, its errors, and its names.
 
 use crate::protocol::{Code, Failure};
-use rnix::ast::Str;
+use rnix::ast::{Dynamic, Expr};
 use rnix::scopes::{resolve, Binding, Reference, Resolution};
 use rnix::syntax::ast::AstNode as _;
 use rnix::{Parse, Root, SyntaxKind, SyntaxNode, SyntaxToken, TextRange, TextSize};
@@ -17,7 +17,7 @@ pub struct Analysis {
 /// A name in a text, and its numbers in the resolution. What is bound by an `inherit` has both numbers.
 #[derive(Clone, Debug)]
 pub struct Name {
-    /// What writes the name: an identifier or a string.
+    /// What writes the name: an identifier, a string or a `${}`.
     pub node: SyntaxNode,
     /// The binding that it writes.
     pub written: Option<usize>,
@@ -78,7 +78,7 @@ impl Analysis {
         names.into_iter().next()
     }
 
-    // A node as a name, if it is an identifier, or a string that is a name.
+    // A node as a name, if it is an identifier, or a string or `${}` that is a name.
     fn name_of(&self, node: SyntaxNode) -> Option<Name> {
         let range = node.text_range();
         let names = self.names();
@@ -112,14 +112,29 @@ impl Analysis {
     }
 }
 
-/// Returns the text of a name, without quotes.
-pub fn name_text(node: &SyntaxNode) -> String {
-    match Str::cast(node.clone()) {
-        Some(string) => {
-            let text = string.to_string();
-            let inner = text.strip_prefix('"').and_then(|text| text.strip_suffix('"'));
-            inner.unwrap_or(&text).to_owned()
+// The text of a string without its quotes.
+fn unquoted(text: &str) -> &str {
+    let inside = |quote| text.strip_prefix(quote).and_then(|text| text.strip_suffix(quote));
+    inside("\"").or_else(|| inside("''")).unwrap_or(text)
+}
+
+/// Returns an expression without the parentheses around it.
+pub fn without_parens(mut expr: Expr) -> Expr {
+    while let Expr::Paren(paren) = &expr {
+        match paren.expr() {
+            Some(inner) => expr = inner,
+            None => break,
         }
-        None => node.to_string(),
     }
+    expr
+}
+
+/// Returns the text of a name, without quotes and `${}`.
+pub fn name_text(node: &SyntaxNode) -> String {
+    let inner = Dynamic::cast(node.clone()).and_then(|name| name.expr());
+    let text = match inner {
+        Some(expr) => without_parens(expr).to_string(),
+        None => node.to_string(),
+    };
+    unquoted(&text).to_owned()
 }

@@ -6,7 +6,7 @@ from client import CAPABILITIES, URI, Client, applied, position_of, span
 
 TEXT = """\
 # A package.
-{ lib, stdenv, unused, ... }@args:
+args: { lib, stdenv, unused, ... }:
 let
   # The version of
   # the package.
@@ -159,6 +159,10 @@ class Features(unittest.TestCase):
         self.client.change(TEXT + ")")
         error = self.client.at("prepareRename", find("help"))
         self.assertEqual(error["message"], "the text has errors: correct these first")
+
+    def test_entries_of_a_pattern_whose_name_is_used_are_no_hints(self):
+        self.client.open("args@{ a, b ? 1 }: { c }: args")
+        self.assertEqual([span(it) for it in self.client.diagnostics()], [(0, 21, 0, 22)])
 
     def test_a_quick_fix_removes_an_unused_name(self):
         hints = self.client.diagnostics()

@@ -3,11 +3,11 @@
 //! It is refused where others see the name, and where a name would then refer to something else.
 
 use super::comments::has_comment;
-use crate::analysis::{Analysis, Name};
+use crate::analysis::{name_text, without_parens, Analysis, Name};
 use crate::json::{object, Value};
 use crate::protocol::{Failure, Outcome};
 use crate::request::Request;
-use rnix::ast::{Attr, Expr, Inherit};
+use rnix::ast::{Attr, Dynamic, Expr, Inherit, InterpolPart, Str};
 use rnix::scopes::{resolve, Binding, Resolution};
 use rnix::syntax::ast::AstNode as _;
 use rnix::{Edits, Root, SyntaxKind, SyntaxNode, TextRange, TextSize};
@@ -25,6 +25,14 @@ fn is_name(text: &str) -> bool {
     parse.errors().is_empty() && matches!(expr, Some(Expr::Ident(name)) if name.syntax().text() == text)
 }
 
+// Whether a text can refer to a name without writing it: operators call the first four, and paths in `<>` use the others.
+fn is_hidden(name: &str) -> bool {
+    matches!(
+        name,
+        "__sub" | "__mul" | "__div" | "__lessThan" | "__findFile" | "__nixPath"
+    )
+}
+
 // Why a part of a binding cannot be renamed, if it cannot.
 fn fixed(part: &Binding) -> Option<&'static str> {
     match (part.name.parent()?.kind(), part.scope.kind()) {
@@ -33,6 +41,7 @@ fn fixed(part: &Binding) -> Option<&'static str> {
         (_, SyntaxKind::NODE_ATTR_SET) => Some("the name is an attribute of a set, which other files may use"),
         _ if part.name.kind() != SyntaxKind::NODE_IDENT => Some("the name is written in quotes"),
         (_, SyntaxKind::NODE_LEGACY_LET) if part.name.text() == "body" => Some("the old `let` needs its `body`"),
+        _ if is_hidden(&name_text(&part.name)) => Some("operators or paths in `<>` refer to the name"),
         _ => None,
     }
 }
@@ -120,11 +129,39 @@ pub fn keeps_meaning(analysis: &Analysis, edits: &[Edit]) -> bool {
     }
 }
 
+// The value of an attribute that writes it with escapes or in several lines.
+fn respelled(node: SyntaxNode) -> Option<String> {
+    let parent = node.parent()?.kind();
+    let is_attr = matches!(parent, SyntaxKind::NODE_ATTRPATH | SyntaxKind::NODE_INHERIT);
+    let inner = match Dynamic::cast(node.clone()) {
+        Some(dynamic) => without_parens(dynamic.expr()?).syntax().clone(),
+        None => node.clone(),
+    };
+    let parts = Str::cast(inner).filter(|_| is_attr)?.normalized_parts();
+    match parts.as_slice() {
+        [InterpolPart::Literal(text)] if *text != name_text(&node) => Some(text.clone()),
+        _ => None,
+    }
+}
+
+// Whether some attribute writes one of two names with escapes or in several lines.
+fn is_respelled(analysis: &Analysis, old: &str, new: &str) -> bool {
+    let mut names = analysis.root().descendants().filter_map(respelled);
+    names.any(|name| name == old || name == new)
+}
+
 // The edits that give what a name is bound to a new name.
 fn rename_to(analysis: &Analysis, name: Option<&Name>, new: &str) -> Result<Vec<Edit>, Failure> {
     let number = renamed(analysis, name)?;
     if !is_name(new) {
         return Err(Failure::refused(format!("`{new}` is not a name")));
+    }
+    if is_hidden(new) {
+        return Err(Failure::refused(format!("operators or paths in `<>` refer to `{new}`")));
+    }
+    let old = analysis.binding(number).map(|binding| name_text(&binding.name));
+    if is_respelled(analysis, &old.unwrap_or_default(), new) {
+        return Err(Failure::refused("an attribute writes the old or the new name with escapes or in lines"));
     }
     match edits(analysis, number, new) {
         Some(edits) if keeps_meaning(analysis, &edits) => Ok(edits),
@@ -224,6 +261,27 @@ mod tests {
         assert!(refused("|a").contains("nothing in this file binds"));
         assert!(refused("1 |+ 2").contains("no name"));
         assert!(refused("let |a = 1; in a )").contains("errors"));
+    }
+
+    #[test]
+    fn names_of_operators_are_refused() {
+        let refused = |text, new| renamed_text(text, new).unwrap_err();
+        for new in ["__sub", "__mul", "__div", "__lessThan", "__findFile", "__nixPath"] {
+            assert!(
+                refused("let |f = a: b: 42; in f 5 3 - 1", new).contains("operators"),
+                "{new}"
+            );
+        }
+        assert!(refused("let |__sub = a: b: 42; in 5 - 3", "f").contains("operators"));
+    }
+
+    #[test]
+    fn names_in_quotes_and_dollars_bind() {
+        let refused = |text, new| renamed_text(text, new).unwrap_err();
+        assert_eq!(refused("|b: let ${\"a\"} = 1; in b", "a"), ELSE);
+        assert_eq!(refused("|b: let ${(''a'')} = 1; in b", "a"), ELSE);
+        assert!(refused("|b: let \"\\a\" = 1; in b", "a").contains("escapes"));
+        assert!(refused("|a: let ${''\n  a''} = 1; in a", "b").contains("escapes"));
     }
 
     #[test]

@@ -2,7 +2,8 @@
 
 use crate::analysis::{name_text, Analysis};
 use rnix::scopes::Binding;
-use rnix::SyntaxKind;
+use rnix::{SyntaxKind, TextRange};
+use std::collections::HashSet;
 
 // Whether a binding is reported if nothing uses it. The names of a `rec` set are its attributes, and the old `let` is for its `body`.
 fn is_reported(binding: &Binding) -> bool {
@@ -12,8 +13,14 @@ fn is_reported(binding: &Binding) -> bool {
     scope != SyntaxKind::NODE_ATTR_SET && !is_body && !name.starts_with('_')
 }
 
-/// Returns the numbers of the names of `let` and of parameters that nothing uses, except those that begin with `_`. In a text with errors there are
-/// none, since a use may be in what could not be read.
+// Whether a binding is the name of a whole pattern, as `a` of `a @ { b }`.
+fn is_whole(binding: &Binding) -> bool {
+    let parent = binding.name.parent();
+    parent.is_some_and(|parent| parent.kind() == SyntaxKind::NODE_PAT_BIND)
+}
+
+/// Returns the numbers of the names of `let` and of parameters that nothing uses, except those that begin with `_`, and the entries of a pattern
+/// whose own name is used: through it, they may be used too. In a text with errors there are none, since a use may be in what could not be read.
 pub fn unused(analysis: &Analysis) -> Vec<usize> {
     if analysis.has_errors() {
         return Vec::new();
@@ -24,9 +31,14 @@ pub fn unused(analysis: &Analysis) -> Vec<usize> {
         is_used[number] = true;
     }
     let numbered = names.bindings.iter().enumerate();
+    let used_wholes: HashSet<TextRange> = numbered
+        .clone()
+        .filter(|(number, binding)| is_used[*number] && is_whole(binding))
+        .map(|(_, binding)| binding.scope.text_range())
+        .collect();
     let unused = numbered.filter(|(number, binding)| binding.first == *number && !is_used[*number]);
     unused
-        .filter(|(_, binding)| is_reported(binding))
+        .filter(|(_, binding)| is_reported(binding) && !used_wholes.contains(&binding.scope.text_range()))
         .map(|(number, _)| number)
         .collect()
 }
@@ -49,6 +61,14 @@ mod tests {
             unused_in("let a.b = 1; a.c = 2; \"q\" = 3; inherit (x) y; in 1"),
             ["a", "q", "y"]
         );
+    }
+
+    #[test]
+    fn entries_of_a_pattern_whose_name_is_used_are_used() {
+        assert_eq!(unused_in("args@{ a }: args.a"), [""; 0]);
+        assert_eq!(unused_in("{ a, b ? 1 }@args: x: args"), ["x"]);
+        assert_eq!(unused_in("args@{ a }: 1"), ["args", "a"]);
+        assert_eq!(unused_in("args@{ a }: { b }: args"), ["b"]);
     }
 
     #[test]

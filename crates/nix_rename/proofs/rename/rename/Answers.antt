@@ -14,6 +14,7 @@ pub returns-clause-renamed : goal.returns-clause-renamed
 returns-clause-renamed c =
     renamed_from c.args.text.now c.args.root.now c.args.offset c.args.new.now c.in_ok-names.names c.in-Some-binding_at.binding.now c.named.result
     (when_true (IsName c.args.new.now) (IsNoName c.args.new.now) c.if-not-branch.false c.in_ok-is_name.ensures)
+    (sym c.is_hidden_name.ensures ∙ c.if-is_hidden_name.false)
     (meant c.args.root.now c.in-Some.node c.args.offset c.in_ok-names.names (Some c.in-Some-binding_at.binding.now)
     (record { bindings = c.in_ok-names.ensures.bindings; firsts = c.in_ok-names.ensures.firsts; resolved = c.in_ok-names.ensures.resolved })
     c.in-Some.ensures (sym c.binding_at.ensures ∙ ap (option_map (λ binding. binding.now)) c.in-Some-binding_at.is)) c.named.ensures.named

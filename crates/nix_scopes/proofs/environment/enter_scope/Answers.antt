@@ -5,14 +5,14 @@ use Rattle.nix_scopes.proofs.environment.enter_scope.Goals as goal
 pub returns-in_ok-push-clause-sees : goal.returns-in_ok-push-clause-sees
 returns-in_ok-push-clause-sees c = λ root n scopes l count h.
     subst (SeesScopes root c.enter.new.bindings.items c.enter.new.self c.push.new.self.items (c.args.node.now.number + 1))
-    (sym (cond-true (is_scope c.args.node.now) (c.args.node.now ∷ scopes) scopes (sym c.is_scope.ensures ∙ c.if-is_scope.true))) (
+    (sym (cond-true (is_scope c.args.node.now) (c.args.node.now ∷ scopes) scopes (sym c.requires ∙ c.if-binds.true))) (
       c.in_ok-enter.ensures.sees n scopes l h.0,
       end_added root c.args.left c.saturating_sub.result c.args.ends.now.items c.push.new.self.items c.args.node.now scopes count
           (c.saturating_sub.ensures ∙ ap (λ k. c.args.left - k) c.inside_count.ensures) c.in_ok-push.ensures.items h.1,
     )
 
-pub returns-else-is_scope-clause-sees : goal.returns-else-is_scope-clause-sees
-returns-else-is_scope-clause-sees c = λ root n scopes l count h.
+pub returns-else-binds-clause-sees : goal.returns-else-binds-clause-sees
+returns-else-binds-clause-sees c = λ root n scopes l count h.
     subst (SeesScopes root c.args.bindings.now.items c.args.sight.now c.args.ends.now.items (c.args.node.now.number + 1))
-    (sym (cond-false (is_scope c.args.node.now) (c.args.node.now ∷ scopes) scopes (sym c.is_scope.ensures ∙ c.if-is_scope.false)))
+    (sym (cond-false (is_scope c.args.node.now) (c.args.node.now ∷ scopes) scopes (sym c.requires ∙ c.if-binds.false)))
     (still_seen c.args.bindings.now.items c.args.sight.now n (c.args.node.now.number + 1) scopes (omega (arith, l)) h.0, h.1)

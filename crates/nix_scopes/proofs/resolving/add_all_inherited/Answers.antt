@@ -17,7 +17,7 @@ loop-attr-init c =
       listing =
           ap (λ names. map resolved_of c.args.references.now.items ++ map (resolve_name c.args.around.now c.is_in_scope-in_scope.result true) names) inherited
           ∙ ap (λ is_outer. map resolved_of c.args.references.now.items ++ map (resolve_name c.args.around.now is_outer true) (inherited_at c.args.inherit.now))
-          (c.is_in_scope-in_scope.ensures ∙ ap (λ e. is_in_scope (parent_of e)) c.syntax.ensures.node);
+          (c.is_in_scope-in_scope.ensures ∙ ap (λ e. is_in_scope c.args.around.now (parent_of e)) c.syntax.ensures.node);
     }
 
 pub loop-attr-preserved : goal.loop-attr-preserved
@@ -27,7 +27,7 @@ loop-attr-preserved c = record {
   listing = mapped_next (λ e. named_if e (attr_text e)) (resolve_name c.args.around.now c.is_in_scope-in_scope.result true)
       (map resolved_of c.loop-attr.references.items)
       (map resolved_of c.add_inherited.new.references.items)
-      (map resolved_of c.args.references.now.items ++ map (resolve_name c.args.around.now (is_in_scope (parent_of c.args.inherit.now)) true)
+      (map resolved_of c.args.references.now.items ++ map (resolve_name c.args.around.now (is_in_scope c.args.around.now (parent_of c.args.inherit.now)) true)
       (inherited_at c.args.inherit.now))
       (those_of is_attr c.loop-attr.attr-iterator) (those_of is_attr c.next.new.self) (attr_node c.in-Some.attr) c.syntax-in-loop-attr.result.now
       c.loop-attr.invariant.listing c.in-Some.ensures.steps c.syntax-in-loop-attr.ensures.node c.in_ok-add_inherited.ensures;

@@ -8,5 +8,5 @@ invariant-loop-attr l = record {
   next : (goal.iterator-loop-attr).can_next l.attr-iterator;
   ends : (goal.iterator-loop-attr).is_finite l.attr-iterator;
   listing : map resolved_of l.references.items ++ map (resolve_name l.around l.in_scope true) (names_written (those_of is_attr l.attr-iterator))
-      ≡ map resolved_of l.fn.references.items ++ map (resolve_name l.around (is_in_scope (parent_of l.inherit)) true) (inherited_at l.inherit);
+      ≡ map resolved_of l.fn.references.items ++ map (resolve_name l.around (is_in_scope l.around (parent_of l.inherit)) true) (inherited_at l.inherit);
 }

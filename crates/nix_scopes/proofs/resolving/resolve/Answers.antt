@@ -11,7 +11,7 @@ loop-element-init c = record {
       c.into_iter-element-iterator.result c.inside_count-left.ensures
       (c.into_iter-element-iterator.ensures.into_iter_gives ∙ c.descendants_with_tokens-element-items.ensures.elements) c.new-bindings.ensures.items
       c.new-references.ensures.items c.new-around.ensures.numbers c.new-around.ensures.hidden c.new-around.ensures.scopes
-      c.new-around.ensures.scope_ends c.new-around.ensures.body_ends;
+      c.new-around.ensures.scope_ends c.new-around.ensures.body_ends c.new-around.ensures.set_ends c.new-around.ensures.set_scopes;
 }
 
 pub loop-element-preserved : goal.loop-element-preserved

@@ -1,51 +1,11 @@
-//! What a text's names refer to is what a walk finds that enters and leaves each node, and what maps find, one for each scope.
+//! What a text's names refer to is what maps find, one for each scope.
 
-mod maps;
-mod texts;
-
-use self::maps::resolve_by_maps;
-use self::texts::made_text;
-use super::{add_references, resolve};
-use crate::environment::Environment;
-use crate::places::is_with_body;
-use crate::resolution::{Binding, Reference, Resolution};
-use crate::scopes::is_scope;
-use rnix::{Root, SyntaxNode, SyntaxNodePtr, WalkEvent};
+use crate::made_texts::made_text;
+use crate::scope_maps::resolve_by_maps;
+use nix_scopes::{Binding, Reference, resolve};
+use rnix::{Root, SyntaxNode, SyntaxNodePtr};
 use std::alloc::{AllocError, Global};
 use std::test::Fail;
-
-// Leaves a node, which is the innermost.
-fn leave<'t>(around: &mut Environment<'t>, node: &SyntaxNode<'_>, bindings: &[Binding<'t>]) {
-    if is_scope(node) {
-        around.sight.leave(bindings);
-    }
-    if is_with_body(node) {
-        let _end = around.body_ends.pop();
-    }
-}
-
-// Resolves the names inside a node by a walk that enters and leaves each node.
-fn resolve_by_events<'t>(
-    alloc: Global,
-    root: &SyntaxNode<'t>,
-) -> Result<Resolution<'t>, AllocError> {
-    let mut bindings = Vec::new(alloc);
-    let mut references = Vec::new(alloc);
-    let mut around = Environment::new(alloc);
-    for event in root.preorder() {
-        match event {
-            WalkEvent::Enter(node) => {
-                around.enter(alloc, &node, 0, &mut bindings)?;
-                add_references(&around, node, &mut references)?;
-            }
-            WalkEvent::Leave(node) => leave(&mut around, &node, &bindings),
-        }
-    }
-    Ok(Resolution {
-        bindings,
-        references,
-    })
-}
 
 // Whether two nodes of a tree are one.
 fn is_same_node(node: &SyntaxNode<'_>, other: &SyntaxNode<'_>) -> bool {
@@ -85,20 +45,17 @@ fn are_same_references(references: &[Reference<'_>], others: &[Reference<'_>]) -
     references.len() == others.len()
 }
 
-fn is_same_resolution(found: &Resolution<'_>, other: &Resolution<'_>) -> bool {
-    are_same_bindings(&found.bindings, &other.bindings)
-        && are_same_references(&found.references, &other.references)
-}
-
-// How many bindings and references are found inside a node, if the other walk and the maps find the same.
+// How many bindings and references are found inside a node, if the maps find the same.
 fn found_alike(alloc: Global, root: &SyntaxNode<'_>) -> Result<Option<(usize, usize)>, AllocError> {
     let found = resolve(alloc, root)?;
-    let is_alike = is_same_resolution(&found, &resolve_by_events(alloc, root)?)
-        && is_same_resolution(&found, &resolve_by_maps(alloc, root)?);
-    Ok(is_alike.then_some((found.bindings.len(), found.references.len())))
+    let (bindings, references) = (found.bindings(), found.references());
+    let others = resolve_by_maps(alloc, root)?;
+    let is_alike = are_same_bindings(bindings, &others.bindings)
+        && are_same_references(references, &others.references);
+    Ok(is_alike.then_some((bindings.len(), references.len())))
 }
 
-// The node of a text inside which the other walk finds something else, if there is one.
+// The node of a text inside which the maps find something else, if there is one.
 fn unlike_node(alloc: Global, text: &str) -> Result<Option<usize>, AllocError> {
     let read = Root::parse(alloc, text)?;
     for (number, node) in read.syntax().descendants().enumerate() {
@@ -111,7 +68,7 @@ fn unlike_node(alloc: Global, text: &str) -> Result<Option<usize>, AllocError> {
 
 // Scopes in scopes and behind them, some of which end at one place, bodies of `with`, what is inherited, names that are bound in parts or
 // twice, and texts with errors.
-const TEXTS: [&str; 20] = [
+const TEXTS: [&str; 22] = [
     "",
     "let x = 1; in let x = 2; y = x; in x + y",
     "let x = 1; in [ (let x = 2; in x) x (x: x) x ({ x }: x) x rec { x = x; } x ]",
@@ -125,6 +82,8 @@ const TEXTS: [&str; 20] = [
     "let { body = a; a = 1; }",
     "let a.b = 1; a.c = a; a = 2; in a",
     "rec { ${a} = b; \"c\" = d; \"${e}\" = c; c = a; }",
+    "a: { inherit a; b = rec { inherit a; c = { inherit a; }; inherit b; }; inherit b; d = { }; inherit c; }",
+    "b: let ${\"a\"} = b; ${(''c'')} = a; inherit ${\"b\"}; in { inherit ${(\"a\")} c; }",
     "let in",
     "[ x: y: with ]",
     "with ; a",
@@ -154,6 +113,38 @@ fn bindings_and_references_are_counted(rt: HostRuntime) -> Result<(), Fail> {
         let read = Root::parse(rt.alloc(), text)?;
         let found = found_alike(rt.alloc(), &read.syntax())?;
         assert!(rt; found == Some(wanted), "in {text}");
+    }
+    Ok(())
+}
+
+#[test]
+fn attributes_bind_what_they_name(rt: HostRuntime) -> Result<(), Fail> {
+    let rows = [
+        ("let a.b = 1; in a", Some("a")),
+        ("let \"a b\" = 1; in 2", Some("a b")),
+        ("let \"\" = 1; in 2", Some("")),
+        ("let ${\"a\"} = 1; in a", Some("a")),
+        ("let ${((\"a\"))}.b = 1; in a", Some("a")),
+        ("let ${''a b''} = 1; in 2", Some("a b")),
+        ("let ${http://a.b} = 1; in 2", Some("http://a.b")),
+        ("rec { ${\"a\" + \"b\"} = 1; }", None),
+        ("rec { ${a} = 1; }", None),
+        ("rec { \"a${\"b\"}\" = 1; }", None),
+        ("let \"\\a\" = 1; in 2", None),
+        ("let \"a\r\nb\" = 1; in 2", None),
+        ("let ${'' a''} = 1; in 2", None),
+        ("let ${''a\nb''} = 1; in 2", None),
+        ("let ${''a'''b''} = 1; in 2", None),
+        ("let ${''a$b''} = 1; in 2", None),
+    ];
+    for (text, wanted) in rows {
+        let read = Root::parse(rt.alloc(), text)?;
+        let names = resolve(rt.alloc(), &read.syntax())?;
+        let first = match names.bindings().first() {
+            Some(binding) => Some(binding.text),
+            None => None,
+        };
+        assert!(rt; first == wanted, "in {text}");
     }
     Ok(())
 }

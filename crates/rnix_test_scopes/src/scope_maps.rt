@@ -1,13 +1,45 @@
 //! What names refer to, found with a map for each scope, which is looked up from the innermost on.
 
-use crate::names::{Name, attr_text, names_bound};
-use crate::places::{is_expression, is_with_body};
-use crate::resolution::{Binding, Reference, Resolution};
-use crate::scopes::is_scope;
+use crate::bound_names::{Name, is_scope, names_bound};
+use nix_scopes::{Binding, Reference, attr_text};
 use rnix::ast::{AstNode, Inherit};
-use rnix::{SyntaxNode, WalkEvent};
+use rnix::{Direction, SyntaxKind, SyntaxNode, WalkEvent};
 use std::alloc::{AllocError, Global};
 use std::collections::HashMap;
+
+/// The bindings and references of a text, in the order in which `resolve` lists them.
+#[derive(Drop)]
+pub struct Found<'t> {
+    pub bindings: Vec<Binding<'t>>,
+    pub references: Vec<Reference<'t>>,
+}
+
+// Whether another node comes before this one in its parent.
+fn is_behind_node(node: &SyntaxNode<'_>) -> bool {
+    node.siblings(Direction::Prev).count() > 1
+}
+
+// Whether a node is the body of a `with`.
+fn is_with_body(node: &SyntaxNode<'_>) -> bool {
+    let parent = node.parent().map(|parent| parent.kind());
+    parent == Some(SyntaxKind::NODE_WITH) && is_behind_node(node)
+}
+
+// Whether a node is a name that is an expression: it is neither bound, nor inherited, nor a part of an attribute path.
+fn is_expression(node: &SyntaxNode<'_>) -> bool {
+    let Some(parent) = node.parent() else {
+        return false;
+    };
+    let is_value = match parent.kind() {
+        SyntaxKind::NODE_ATTRPATH
+        | SyntaxKind::NODE_INHERIT
+        | SyntaxKind::NODE_IDENT_PARAM
+        | SyntaxKind::NODE_PAT_BIND => false,
+        SyntaxKind::NODE_PAT_ENTRY => is_behind_node(node),
+        _ => true,
+    };
+    node.kind() == SyntaxKind::NODE_IDENT && is_value
+}
 
 // What is around a place: of each scope, the innermost last, the numbers of its bindings by their names; and the bodies of `with`.
 #[derive(Drop)]
@@ -164,10 +196,7 @@ fn add_references<'t>(
 }
 
 /// Resolves the names inside a node with a map for each scope.
-pub fn resolve_by_maps<'t>(
-    alloc: Global,
-    root: &SyntaxNode<'t>,
-) -> Result<Resolution<'t>, AllocError> {
+pub fn resolve_by_maps<'t>(alloc: Global, root: &SyntaxNode<'t>) -> Result<Found<'t>, AllocError> {
     let mut bindings = Vec::new(alloc);
     let mut references = Vec::new(alloc);
     let mut around = Environment {
@@ -183,7 +212,7 @@ pub fn resolve_by_maps<'t>(
             WalkEvent::Leave(node) => around.leave(&node),
         }
     }
-    Ok(Resolution {
+    Ok(Found {
         bindings,
         references,
     })

@@ -1,0 +1,11 @@
+//! Tests of names: what they refer to is what maps find, one for each scope, in texts that were written for it and in random ones.
+#![tactic(auto)]
+
+#[cfg(test)]
+mod bound_names;
+#[cfg(test)]
+mod made_texts;
+#[cfg(test)]
+mod resolutions;
+#[cfg(test)]
+mod scope_maps;
