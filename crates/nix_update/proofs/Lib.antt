@@ -1,2 +1,8 @@
 pub mod QuotedLemmas
 pub mod WordLemmas
+pub mod CollectedLists
+pub mod WayLemmas
+pub mod SameNamesLemmas
+pub mod PathLemmas
+pub mod UnmadeLemmas
+pub mod UpdatedLemmas

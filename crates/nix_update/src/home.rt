@@ -1,89 +1,62 @@
-//! Finds the set for a new attribute by its dotted path.
+//! The sets for a new attribute.
 
-use crate::path::end_of_entries;
-use rnix::ast::{AstNode, AttrpathValue};
-use rnix::{SyntaxKind, SyntaxNode, WalkEvent};
+ghost use Rattle.std.specs.Prelude.{◌≡◌, ◌++◌, IfOk, OnOk};
+ghost use Rattle.nix_update.specs.Updated.{most_names, is_home, home_if, homes_in};
+
+use crate::ways::Way;
+use rnix::{SyntaxKind, SyntaxNode};
 use std::alloc::{AllocError, Global};
 
-/// The set for a new attribute.
-#[derive(Drop)]
-pub struct Home<'t> {
-    /// The only set for the path, or the second one.
-    pub set: SyntaxNode<'t>,
-    /// Where the names of the entries around it end in the path.
-    pub end: usize,
-    pub is_only: bool,
-}
-
-// Returns whether the sets in a node are no sets for attributes: they are in a parameter, in a source of names or in a computed name.
-fn is_apart(node: &SyntaxNode<'_>) -> bool {
-    match node.kind() {
-        SyntaxKind::NODE_PATTERN
-        | SyntaxKind::NODE_INHERIT_FROM
-        | SyntaxKind::NODE_INTERPOL
-        | SyntaxKind::NODE_DYNAMIC => true,
-        _ => match node.parent() {
-            Some(parent) if parent.kind() == SyntaxKind::NODE_WITH => node.prev_sibling().is_none(),
-            _ => false,
-        },
-    }
-}
-
-// Returns the set for the path after one more node, around which the entries end at an offset of the path, or `None` if it stays.
-fn next_home<'t>(before: &Option<Home<'t>>, set: SyntaxNode<'t>, end: usize) -> Option<Home<'t>> {
-    if set.kind() != SyntaxKind::NODE_ATTR_SET {
-        return None;
-    }
-    let is_only = match before {
-        Some(before) if before.end > end => return None,
-        Some(before) => before.end < end,
-        None => true,
-    };
-    Some(Home { set, end, is_only })
-}
-
-// Returns where the names around the content of a node end in the path, if they are in the path.
-fn end_below(path: &str, around: Option<usize>, node: &SyntaxNode<'_>) -> Option<usize> {
-    if is_apart(node) {
-        return None;
-    }
-    match AttrpathValue::cast(node.clone()) {
-        Some(entry) => end_of_entries(path, around, &entry),
-        None => around,
-    }
-}
-
-/// Returns the set for a new attribute of a dotted path, in which each name is after a dot: of the sets whose entries around them are a
-/// part of the path, that of the longest part. There is none if an entry of a longer part has no set.
-pub fn find_home<'t>(
-    alloc: Global,
-    root: &SyntaxNode<'t>,
-    path: &str,
-) -> Result<Option<Home<'t>>, AllocError> {
-    let mut home: Option<Home<'t>> = None;
-    // The end of the longest part of the path that an entry has.
-    let mut longest = 0;
-    // Where the names around each node end in the path, the innermost last.
-    let mut around = Vec::new(alloc);
-    for event in root.preorder() {
-        match event {
-            WalkEvent::Enter(node) => {
-                let end = end_below(path, around.last().copied().unwrap_or(Some(0)), &node);
-                around.push(end)?;
-                if let Some(end) = end {
-                    longest = longest.max(end);
-                    if let Some(next) = next_home(&home, node, end) {
-                        home = Some(next);
-                    }
-                }
-            }
-            WalkEvent::Leave(_) => {
-                let _left = around.pop();
-            }
+// Returns the most names of a path that lead to attributes.
+fn most_names(ways: &[Way<'_>]) -> usize
+    ensures { result ≡ most_names 0 ways.now }
+{
+    let mut most = 0;
+    for way in ways {
+        if !way.in_let && most < way.at {
+            most = way.at;
         }
     }
-    match home {
-        Some(home) if home.end == longest => Ok(Some(home)),
-        _ => Ok(None),
+    most
+}
+
+// Returns whether an expression on the way is a set to which so many names lead, none of them of a `let`.
+fn is_home(way: &Way<'_>, most: usize) -> bool
+    ensures { result ≡ is_home most way.now }
+{
+    !way.in_let && way.at == most && way.node.kind() == SyntaxKind::NODE_ATTR_SET
+}
+
+// Adds an expression on the way, if it is such a set.
+fn add_home<'t>(most: usize, way: &Way<'t>, homes: &mut Vec<Way<'t>>) -> Result<(), AllocError>
+    ensures { OnOk result (homes.new.items ≡ homes.old.items ++ home_if most way.now) }
+{
+    if is_home(way, most) {
+        homes.push(way.copy())?;
     }
+    Ok(())
+}
+
+/// Returns the sets on the way of a path to which the most names lead: a new attribute is added to one of them.
+pub fn homes_of<'t>(alloc: Global, ways: &[Way<'t>]) -> Result<Vec<Way<'t>>, AllocError>
+    ensures { IfOk result (λ homes. homes.items ≡ homes_in ways.now) }
+{
+    let most = most_names(ways);
+    let mut homes = Vec::new(alloc);
+    for way in ways {
+        add_home(most, way, &mut homes)?;
+    }
+    Ok(homes)
+}
+
+/// Returns the last expression on the way of a path to which the most of its names lead, or the root.
+pub fn end_of_way<'t>(ways: &[Way<'t>], root: &SyntaxNode<'t>) -> SyntaxNode<'t> {
+    let most = most_names(ways);
+    let mut last = root.clone();
+    for way in ways {
+        if !way.in_let && way.at == most {
+            last = way.node.clone();
+        }
+    }
+    last
 }

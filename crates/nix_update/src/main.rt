@@ -3,22 +3,35 @@
 //! included.
 #![tactic(auto)]
 
+mod adding;
+mod change;
 mod edit;
-mod find;
+mod guard;
 mod home;
+mod inner;
+mod makers;
+mod meaning;
+mod meeting;
 mod outcome;
 mod path;
+mod place;
+mod plain;
+mod removing;
+mod request;
+mod setting;
 mod update;
 mod value;
+mod ways;
 
 use nix_cli::{
     Arguments, FAILED, FOUND, Program, Start, end, place_of, read_arguments, read_text, refuse,
     shown_name, write_text,
 };
-use outcome::{Outcome, Reason};
+use outcome::{Outcome, Refused};
+use request::{Action, Update};
 use std::io;
 use std::process::ExitCode;
-use update::{Action, Update, updated};
+use update::updated;
 use value::Form;
 
 const PROGRAM: Program = Program {
@@ -28,19 +41,24 @@ nix-update [OPTION..] PATH VALUE [FILE]
 nix-update [OPTION..] --remove PATH [FILE]
 
 Prints a Nix text in which the attribute of the dotted PATH is the string VALUE in place of another string, and all else is as before. In
-PATH, names are written as in the text, quotes included. - or no FILE means standard input.
+PATH, names are written as in the text, quotes included: a and \"a\" are one name. - or no FILE means standard input.
+
+PATH begins at the set that the text is, or that is in brackets, in the body of a function, `let`, `with` or `assert`, in the argument of a
+call, or beside names and calls of `//`; each value on the way is looked through likewise. If the set has no such attribute, the value of a
+name of a `let` around it is set, with a line on standard error that says so.
 
     --raw      VALUE is a Nix expression, as 1, true, null or [ a ], and replaces any value
     --list     VALUE is a list of strings, separated by white space, and replaces any value
     --add      add the attribute if none has the path, after the others of its set
     --remove   remove the attribute with its line and the comments after it there
+    --force    add or remove the attribute also where another name would then refer to something else
     -i         write the new text to FILE instead: to FILE.new, which is then renamed
 ",
     statuses: "
-The exit status is 0; 1 if no attribute or more than one has the path, or if it cannot be changed so; 2 if the text or VALUE is not Nix, or if
-something cannot be read or written.
+The exit status is 0; 1 if no entry or more than one makes the attribute, or if it cannot be changed so; 2 if the text or VALUE is not Nix, or
+if something cannot be read or written.
 ",
-    flags: &["--raw", "--list", "--add", "--remove", "-i"],
+    flags: &["--raw", "--list", "--add", "--remove", "--force", "-i"],
     has_colors: false,
     least: 1,
     most: 3,
@@ -55,6 +73,8 @@ fn wrong_with(arguments: &Arguments) -> Option<&'static str> {
         Some("--raw and --list exclude each other")
     } else if is_removed && (is_raw || is_list || arguments.has("--add")) {
         Some("--remove and --raw, --list or --add exclude each other")
+    } else if arguments.has("--force") && !is_removed && !arguments.has("--add") {
+        Some("--force needs --add or --remove")
     } else if is_removed && count > 2 {
         Some("an argument is too many: --remove has no VALUE")
     } else if !is_removed && count < 2 {
@@ -86,24 +106,41 @@ fn form_of(arguments: &Arguments) -> Form {
     }
 }
 
-// Reports why a text is not updated, and where.
-fn refuse_update(
+// Writes where in a file something is, and what.
+fn report(
     rt: &HostRuntime,
     name: &str,
     text: &str,
-    reason: Reason,
     offset: Option<usize>,
-) -> io::Result<u8> {
+    message: &str,
+) -> io::Result<()> {
     let shown = shown_name(name);
     match offset {
         Some(offset) => {
             let (line, column) = place_of(text, offset);
-            eprintln!(rt; "nix-update: {shown}:{line}:{column}: {reason}")?;
+            eprintln!(rt; "nix-update: {shown}:{line}:{column}: {message}")?;
         }
-        None => eprintln!(rt; "nix-update: {shown}: {reason}")?,
+        None => eprintln!(rt; "nix-update: {shown}: {message}")?,
     }
+    Ok(())
+}
+
+// Reports why a text is not updated, and where.
+fn refuse_update(rt: &HostRuntime, name: &str, text: &str, refused: Refused) -> io::Result<u8> {
+    let reason = refused.reason;
+    let message = match refused.first {
+        Some(first) => {
+            let (line, column) = place_of(text, first);
+            format!(in rt.alloc(); "{reason}; the first is at {line}:{column}")?
+        }
+        None => format!(in rt.alloc(); "{reason}")?,
+    };
+    report(rt, name, text, refused.place, message.as_str())?;
     Ok(if reason.is_failure() { FAILED } else { FOUND })
 }
+
+// What is reported where the value of a name of a `let` is set.
+const SET_IN_LET: &str = "no attribute has this path: this name of a `let` is set";
 
 // Writes the updated text of a file.
 fn update_file(rt: &HostRuntime, name: &str, update: Update<'_>, in_place: bool) -> io::Result<u8> {
@@ -119,7 +156,12 @@ fn update_file(rt: &HostRuntime, name: &str, update: Update<'_>, in_place: bool)
             write_text(rt, name, made.as_str(), in_place)?;
             Ok(0)
         }
-        Outcome::Refused(reason, offset) => refuse_update(rt, name, text.as_str(), reason, offset),
+        Outcome::SetInLet(made, offset) => {
+            write_text(rt, name, made.as_str(), in_place)?;
+            report(rt, name, text.as_str(), Some(offset), SET_IN_LET)?;
+            Ok(0)
+        }
+        Outcome::Refused(refused) => refuse_update(rt, name, text.as_str(), refused),
     }
 }
 
@@ -137,12 +179,12 @@ fn run_with(rt: &HostRuntime, arguments: &Arguments) -> io::Result<u8> {
         Action::Set | Action::Add => words.next().map_or("", |word| word.as_str()),
     };
     let name = words.next().map_or("-", |word| word.as_str());
-    let path = format!(in rt.alloc(); ".{path}")?;
     let update = Update {
         action,
-        path: path.as_str(),
+        path,
         form: form_of(arguments),
         value,
+        is_forced: arguments.has("--force"),
     };
     update_file(rt, name, update, arguments.has("-i"))
 }

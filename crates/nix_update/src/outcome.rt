@@ -6,44 +6,119 @@ use std::fmt;
 /// The reason why a text is not updated.
 #[derive(Clone, Copy, PartialEq, Eq, Debug)]
 pub enum Reason {
+    /// The path is not one of names that are written out.
+    NotAPath,
     /// The text has errors.
     NotNix,
     /// The text for the value must be an expression and is not.
     NotAnExpression,
     /// No attribute has the path.
     NoAttribute,
-    /// Several attributes have the path.
-    SeveralAttributes,
+    /// Several entries make the attribute.
+    SeveralEntries,
+    /// An entry makes only a part of the attribute.
+    OnlyAPart,
+    /// An `inherit` makes the attribute.
+    Inherited,
     /// The value is not a string without interpolations.
     NotAString,
     /// There is no set for the new attribute.
     NoSet,
     /// There are several sets for it.
     SeveralSets,
+    /// With the change, a name would refer to something else.
+    OtherMeaning,
+    /// An operator stands for the name, or the set treats it in its own way.
+    SpecialName,
+    /// In a `rec` set, the resolution of names does not know a name that is written so.
+    HiddenName,
+    /// Other entries add to the `rec` set in which the attribute would be added or removed.
+    SplitSet,
     /// The edit is refused.
     Edit(Refusal),
 }
 
-/// The result of an update: the new text, or the reason why there is none and the offset of its cause.
+/// Why a text is not updated, and where: the offset of the cause, and of the first one where that is the second.
+#[derive(Clone, Copy, PartialEq, Eq, Debug)]
+pub struct Refused {
+    pub reason: Reason,
+    pub place: Option<usize>,
+    pub first: Option<usize>,
+}
+
+/// The result of an update.
 #[derive(Drop)]
 pub enum Outcome {
+    /// The new text.
     Updated(String),
-    Refused(Reason, Option<usize>),
+    /// The new text, in which the value of a name of a `let` is set, and the offset of its entry.
+    SetInLet(String, usize),
+    Refused(Refused),
+}
+
+/// The result of an attempt to change a text.
+#[derive(Drop)]
+pub enum Attempt {
+    /// The new text.
+    Made(String),
+    Refused(Refused),
+}
+
+/// Returns the refusal for a reason that has one place.
+pub fn refuse_at(reason: Reason, place: usize) -> Refused {
+    Refused {
+        reason,
+        place: Some(place),
+        first: None,
+    }
+}
+
+/// Returns the refusal for a reason that has two places.
+pub fn refuse_twice(reason: Reason, first: usize, second: usize) -> Refused {
+    Refused {
+        reason,
+        place: Some(second),
+        first: Some(first),
+    }
+}
+
+/// Returns the refusal for a reason that has no place in the text.
+pub fn refuse(reason: Reason) -> Refused {
+    Refused {
+        reason,
+        place: None,
+        first: None,
+    }
 }
 
 impl Reason {
     // Returns the message.
     fn text(self) -> &'static str {
         match self {
+            Reason::NotAPath => "PATH is not a path of names that are written out, as a.b.\"c\"",
             Reason::NotNix => "this is not Nix",
             Reason::NotAnExpression => "VALUE is not one Nix expression",
             Reason::NoAttribute => "no attribute has this path",
-            Reason::SeveralAttributes => "several attributes have this path: this is the second",
+            Reason::SeveralEntries => "more than one entry makes the attribute: this is the second",
+            Reason::OnlyAPart => "this entry makes only a part of the attribute",
+            Reason::Inherited => "an `inherit` makes the attribute",
             Reason::NotAString => {
                 "its value is not a plain string: --raw or --list replaces any value"
             }
-            Reason::NoSet => "there is no set for the attribute",
+            Reason::NoSet => "there is no set for the attribute: this is not one",
             Reason::SeveralSets => "there are several sets for the attribute: this is the second",
+            Reason::OtherMeaning => {
+                "with the change, this name would refer to something else: --force changes the text all the same"
+            }
+            Reason::SpecialName => {
+                "in this set, the name has a meaning of its own for others: --force changes the text all the same"
+            }
+            Reason::HiddenName => {
+                "in this `rec` set, uses of a name that is written as ${\"a\"} or with an escape are not known: --force changes the text all the same"
+            }
+            Reason::SplitSet => {
+                "other entries add to this `rec` set, so names in them may change their meaning: --force changes the text all the same"
+            }
             Reason::Edit(Refusal::NotInText) => "this is not in the text",
             Reason::Edit(Refusal::HasErrors) => "the new text would not be Nix",
             Reason::Edit(Refusal::ReadOtherwise) => {

@@ -1,31 +1,103 @@
-//! The names of entries in a dotted path.
+//! The dotted path of an attribute.
 
-use rnix::ast::{AstNode, AttrpathValue};
+ghost use Rattle.std.specs.Prelude.{◌≡◌, ◌++◌, ◌-◌, Some, map, option_map, string_bytes, IfOk, IfSome, OnOk};
+ghost use Rattle.rnix_green.specs.Tree.{item_of};
+ghost use Rattle.rnix_green.specs.Walk.{nodes_in, children_of};
+ghost use Rattle.rnix_base.specs.Select.{child_of, nodes_of};
+ghost use Rattle.rnix.specs.NodeKinds.{is_attr, is_expr};
+ghost use Rattle.rnix.specs.AttrName.{static_name};
+ghost use Rattle.nix_update.specs.Path.{path_by, path_inside, entry_with, IsPath};
 
-// Returns where a name ends in a path, each name after a dot, if the path has this name at an offset.
-fn end_of_name(path: &str, start: usize, name: &str) -> Option<usize> {
-    let rest = path.get(start..)?.strip_prefix('.')?.strip_prefix(name)?;
-    if rest.is_empty() || rest.starts_with('.') {
-        Some(path.len().saturating_sub(rest.len()))
-    } else {
-        None
+use rnix::ast::{AstNode, AttrSet, Attrpath, AttrpathValue};
+use rnix::{Root, SyntaxNode};
+use std::alloc::{AllocError, Global};
+
+/// A path: what its names name, and where each begins in its text.
+#[derive(Drop)]
+pub struct Path<'p> {
+    pub text: &'p str,
+    pub names: Vec<String>,
+    pub starts: Vec<usize>,
+}
+
+// Returns the path of a node, if it is an entry with a value.
+fn path_by<'t>(node: SyntaxNode<'t>) -> Option<Attrpath<'t>>
+    ensures { result ≡ path_by (item_of node.entry).kind node.entry }
+{
+    AttrpathValue::cast(node)?.attrpath()
+}
+
+// Returns the path of the only entry of a text.
+fn only_path<'t>(root: &Root<'t>) -> Option<Attrpath<'t>>
+    ensures { result ≡ path_inside (child_of is_expr 0 root.now) }
+{
+    let expr = root.expr()?;
+    let set = AttrSet::cast(expr.syntax().clone())?;
+    let mut entries = set.syntax().children();
+    match (entries.next(), entries.next()) {
+        (Some(entry), None) => path_by(entry),
+        _ => None,
     }
 }
 
-/// Returns where the names of an entry end in a path, each name after a dot, if the path has them at an offset.
-pub fn end_of_entry(path: &str, start: usize, entry: &AttrpathValue<'_>) -> Option<usize> {
-    let mut end = start;
-    for attr in entry.attrpath()?.attrs() {
-        end = end_of_name(path, end, attr.syntax().text())?;
+// Returns the names of a path, and where each begins behind the first byte, or `None` if a name is computed.
+fn path_in<'p>(
+    alloc: Global,
+    text: &'p str,
+    attrpath: &Attrpath<'_>,
+) -> Result<Option<Path<'p>>, AllocError>
+    ensures text { IfOk result (λ path. IfSome path (λ path. path.text.now ≡ text.now)) }
+    ensures names { IfOk result (λ path. IfSome path (λ path. map static_name (nodes_of is_attr attrpath.now)
+        ≡ map Some (map string_bytes path.names.items))) }
+    ensures starts { IfOk result (λ path. IfSome path (λ path. map (λ attr. (item_of attr).start - 1) (nodes_of is_attr attrpath.now)
+        ≡ path.starts.items)) }
+{
+    let mut names = Vec::new(alloc);
+    let mut starts = Vec::new(alloc);
+    for attr in attrpath.attrs() {
+        let Some(name) = attr.static_name(alloc)? else {
+            return Ok(None);
+        };
+        names.push(name)?;
+        let start = attr.syntax().text_range().start();
+        starts.push(start.saturating_sub(1))?;
     }
-    Some(end)
+    Ok(Some(Path {
+        text,
+        names,
+        starts,
+    }))
 }
 
-/// Returns where the names of an entry end in a path, if the entries around it end at an offset, or are not in the path.
-pub fn end_of_entries(
-    path: &str,
-    around: Option<usize>,
-    entry: &AttrpathValue<'_>,
-) -> Option<usize> {
-    end_of_entry(path, around?, entry)
+/// Returns the path that a text is, or `None` if it is none or a name in it is computed.
+#[tactic(auto, using(crate::proofs::PathLemmas::whole_path))]
+pub fn path_of<'p>(alloc: Global, text: &'p str) -> Result<Option<Path<'p>>, AllocError>
+    ensures text { IfOk result (λ path. IfSome path (λ path. path.text.now ≡ text.now)) }
+    ensures is_path { IfOk result (λ path. IfSome path (λ path. IsPath text.now (map string_bytes path.names.items) path.starts.items)) }
+{
+    let entry = entry_with(alloc, text)?;
+    let read = Root::parse(alloc, entry.as_str())?;
+    if !read.errors().is_empty() {
+        return Ok(None);
+    }
+    match only_path(&read.tree()) {
+        Some(attrpath) => {
+            if attrpath.syntax().text() == text {
+                path_in(alloc, text, &attrpath)
+            } else {
+                Ok(None)
+            }
+        }
+        None => Ok(None),
+    }
+}
+
+// Returns a set of one entry with this path.
+fn entry_with(alloc: Global, path: &str) -> Result<String, AllocError>
+    ensures { IfOk result (λ text. string_bytes text ≡ entry_with path.now) }
+{
+    let mut text = String::from_str(alloc, "{")?;
+    text.push_str(path)?;
+    text.push_str("=0;}")?;
+    Ok(text)
 }

@@ -1,171 +1,148 @@
 //! Texts in which an attribute is set, added or removed.
 
-ghost use Rattle.std.specs.Prelude.{IfOk, IfSome, IfNone};
-ghost use Rattle.rnix_edit.specs.Edited.{IfDone, IfRefused};
-ghost use Rattle.nix_update.specs.NewValue.{IsNoValue, IsSetTo, IsNotSetTo};
+ghost use Rattle.std.specs.Prelude.{◌≡◌, true, map, string_bytes, IfOk};
+ghost use Rattle.nix_update.specs.Updated.{IfMade, IfUpdated, IfSetInLet, outcome_of, IsOnlySet, IsMakerUpdated, IsUnmadeUpdated, IsOutcome, IsUpdated};
 
-use crate::find::{Search, find, is_plain_string};
-use crate::home::find_home;
-use crate::outcome::{Outcome, Reason};
-use crate::value::{Form, value_of};
-use rnix::ast::{AstNode, AttrpathValue, Entry};
-use rnix::{Root, SyntaxKind, SyntaxNode};
-use rnix_edit::{Edited, insert_after, insert_inside, remove, replace};
+use crate::adding::add;
+use crate::home::end_of_way;
+use crate::makers::{Maker, makers_of};
+use crate::outcome::{Attempt, Outcome, Reason, Refused, refuse, refuse_at, refuse_twice};
+use crate::path::{Path, path_of};
+use crate::place::start_of;
+use crate::removing::remove_entry;
+use crate::request::{Action, Update};
+use crate::setting::set_entry;
+use crate::ways::{Way, ways_of};
+use rnix::{Root, SyntaxNode};
 use std::alloc::{AllocError, Global};
 
-/// An action on the attribute of a path.
-#[derive(Clone, Copy, PartialEq, Eq)]
-pub enum Action {
-    /// It gets a value.
-    Set,
-    /// It gets a value, and is added if there is none.
-    Add,
-    /// It is removed.
-    Remove,
+// Returns the refusal where several entries make the attribute.
+fn refuse_several(first: &Maker<'_>, second: &Maker<'_>) -> Refused {
+    refuse_twice(
+        Reason::SeveralEntries,
+        start_of(&first.entry),
+        start_of(&second.entry),
+    )
 }
 
-/// An update: an action on the attribute of a path, in which each name is after a dot, and the text and form of its value.
-#[derive(Clone, Copy)]
-pub struct Update<'a> {
-    pub action: Action,
-    pub path: &'a str,
-    pub form: Form,
-    pub value: &'a str,
+// Returns the refusal where no entry makes the attribute.
+fn refuse_none(ways: &[Way<'_>], root: &SyntaxNode<'_>) -> Refused {
+    let end = end_of_way(ways, root);
+    refuse_at(Reason::NoAttribute, start_of(&end))
 }
 
-/// Returns the text with a new value in place of a node, or `None` if the form is `Raw` and the value is not an expression.
-pub fn set_value(
+// Sets the value of the name of a `let`, where no attribute has the path.
+fn set_in_let(
     alloc: Global,
     text: &str,
     root: &SyntaxNode<'_>,
-    node: &SyntaxNode<'_>,
-    form: Form,
-    value: &str,
-) -> Result<Option<Edited>, AllocError>
-    ensures done { IfOk result (λ edited. IfSome edited (IfDone (IsSetTo form value.now text.now root.now node.now))) }
-    ensures refused { IfOk result (λ edited. IfSome edited (IfRefused (λ refusal. IsNotSetTo refusal form value.now text.now root.now node.now))) }
-    ensures none { IfOk result (λ edited. IfNone edited (IsNoValue form value.now)) }
+    path: &Path<'_>,
+    ways: &[Way<'_>],
+    update: Update<'_>,
+) -> Result<Outcome, AllocError>
+    ensures set { IfOk result (IfSetInLet (IsOnlySet true update.entry (map string_bytes path.now.names.items) ways.now text.now root.now)) }
+    ensures no_other { IfOk result (IfUpdated (λ made. ⊥)) }
 {
-    let Some(new) = value_of(alloc, form, value)? else {
-        return Ok(None);
+    let makers = makers_of(alloc, &path.names, ways, true)?;
+    let Some(maker) = makers.first() else {
+        return Ok(Outcome::Refused(refuse_none(ways, root)));
     };
-    let edited = replace(alloc, text, root, node, new.kind, new.text.as_str())?;
-    Ok(Some(edited))
+    match makers.get(1) {
+        Some(second) => Ok(Outcome::Refused(refuse_several(maker, second))),
+        None => match set_entry(alloc, text, root, update, maker)? {
+            Attempt::Made(made) => Ok(Outcome::SetInLet(made, start_of(&maker.entry))),
+            Attempt::Refused(refused) => Ok(Outcome::Refused(refused)),
+        },
+    }
 }
 
-// Returns the last entry of a set.
-fn last_entry<'t>(set: &SyntaxNode<'t>) -> Option<SyntaxNode<'t>> {
-    let mut last = None;
-    for node in set.children() {
-        if Entry::can_cast(node.kind()) {
-            last = Some(node);
+// Updates the attribute that a single entry makes.
+fn update_made(
+    alloc: Global,
+    text: &str,
+    root: &SyntaxNode<'_>,
+    names: &[String],
+    ways: &[Way<'_>],
+    update: Update<'_>,
+    maker: &Maker<'_>,
+) -> Result<Attempt, AllocError>
+    ensures { IfOk result (IfMade (IsMakerUpdated update.entry.action update.entry text.now root.now maker.now)) }
+{
+    match update.action {
+        Action::Remove => remove_entry(alloc, text, root, names, ways, update, maker),
+        Action::Set | Action::Add => set_entry(alloc, text, root, update, maker),
+    }
+}
+
+// Updates an attribute that no entry makes.
+fn update_unmade(
+    alloc: Global,
+    text: &str,
+    root: &SyntaxNode<'_>,
+    path: &Path<'_>,
+    ways: &[Way<'_>],
+    update: Update<'_>,
+) -> Result<Outcome, AllocError>
+    ensures { IfOk result (IsUnmadeUpdated update.entry (map string_bytes path.now.names.items) path.now.text.now path.now.starts.items
+        ways.now text.now root.now) }
+{
+    match update.action {
+        Action::Remove => Ok(Outcome::Refused(refuse_none(ways, root))),
+        Action::Add => {
+            let attempt = add(alloc, text, root, path, ways, update)?;
+            Ok(outcome_of(attempt))
+        }
+        Action::Set => set_in_let(alloc, text, root, path, ways, update),
+    }
+}
+
+// Returns the result of an attempt.
+fn outcome_of(attempt: Attempt) -> Outcome
+    ensures { result ≡ outcome_of attempt }
+{
+    match attempt {
+        Attempt::Made(made) => Outcome::Updated(made),
+        Attempt::Refused(refused) => Outcome::Refused(refused),
+    }
+}
+
+// Updates a text, given the expressions on the way of the path.
+fn update_in(
+    alloc: Global,
+    text: &str,
+    root: &SyntaxNode<'_>,
+    path: &Path<'_>,
+    ways: &[Way<'_>],
+    update: Update<'_>,
+) -> Result<Outcome, AllocError>
+    ensures { IfOk result (IsOutcome update.entry (map string_bytes path.now.names.items) path.now.text.now path.now.starts.items ways.now text.now root.now) }
+{
+    let makers = makers_of(alloc, &path.names, ways, false)?;
+    let Some(maker) = makers.first() else {
+        return update_unmade(alloc, text, root, path, ways, update);
+    };
+    match makers.get(1) {
+        Some(second) => Ok(Outcome::Refused(refuse_several(maker, second))),
+        None => {
+            let attempt = update_made(alloc, text, root, &path.names, ways, update, maker)?;
+            Ok(outcome_of(attempt))
         }
     }
-    last
-}
-
-// Returns the text in which a set has one more attribute after its others, or `None` if there is no value.
-fn add_value(
-    alloc: Global,
-    text: &str,
-    root: &SyntaxNode<'_>,
-    set: &SyntaxNode<'_>,
-    names: &str,
-    update: Update<'_>,
-) -> Result<Option<Edited>, AllocError> {
-    let Some(new) = value_of(alloc, update.form, update.value)? else {
-        return Ok(None);
-    };
-    let entry = format!(in alloc; "{names} = {};", new.text.as_str())?;
-    let kind = SyntaxKind::NODE_ATTRPATH_VALUE;
-    let edited = match last_entry(set) {
-        Some(last) => insert_after(alloc, text, root, &last, kind, entry.as_str())?,
-        None => insert_inside(alloc, text, root, set, kind, entry.as_str())?,
-    };
-    Ok(Some(edited))
-}
-
-// Returns the result of an update by an edit at an offset.
-fn outcome_of(edited: Option<Edited>, offset: usize) -> Outcome {
-    match edited {
-        Some(Edited::Done(made)) => Outcome::Updated(made),
-        Some(Edited::Refused(refusal)) => Outcome::Refused(Reason::Edit(refusal), Some(offset)),
-        None => Outcome::Refused(Reason::NotAnExpression, None),
-    }
-}
-
-// Sets the value of an entry.
-fn set(
-    alloc: Global,
-    text: &str,
-    root: &SyntaxNode<'_>,
-    entry: &AttrpathValue<'_>,
-    update: Update<'_>,
-) -> Result<Outcome, AllocError> {
-    let Some(value) = entry.value() else {
-        return Ok(Outcome::Refused(Reason::NotNix, None));
-    };
-    let node = value.syntax();
-    let start = node.text_range().start();
-    if update.form == Form::Text && !is_plain_string(&value) {
-        return Ok(Outcome::Refused(Reason::NotAString, Some(start)));
-    }
-    let edited = set_value(alloc, text, root, node, update.form, update.value)?;
-    Ok(outcome_of(edited, start))
-}
-
-// Adds an attribute.
-fn add(
-    alloc: Global,
-    text: &str,
-    root: &SyntaxNode<'_>,
-    update: Update<'_>,
-) -> Result<Outcome, AllocError> {
-    let Some(home) = find_home(alloc, root, update.path)? else {
-        return Ok(Outcome::Refused(Reason::NoSet, None));
-    };
-    let start = home.set.text_range().start();
-    if !home.is_only {
-        return Ok(Outcome::Refused(Reason::SeveralSets, Some(start)));
-    }
-    let names = update
-        .path
-        .get(home.end..)
-        .unwrap_or("")
-        .trim_start_matches('.');
-    let edited = add_value(alloc, text, root, &home.set, names, update)?;
-    Ok(outcome_of(edited, start))
-}
-
-// Removes an entry.
-fn drop_entry(
-    alloc: Global,
-    text: &str,
-    root: &SyntaxNode<'_>,
-    entry: &SyntaxNode<'_>,
-) -> Result<Outcome, AllocError> {
-    let edited = remove(alloc, text, root, entry)?;
-    Ok(outcome_of(Some(edited), entry.text_range().start()))
 }
 
 /// Returns the updated text, or why there is none.
-pub fn updated(alloc: Global, text: &str, update: Update<'_>) -> Result<Outcome, AllocError> {
+pub fn updated(alloc: Global, text: &str, update: Update<'_>) -> Result<Outcome, AllocError>
+    ensures { IfOk result (IsUpdated update.entry text.now) }
+{
+    let Some(path) = path_of(alloc, update.path)? else {
+        return Ok(Outcome::Refused(refuse(Reason::NotAPath)));
+    };
     let read = Root::parse(alloc, text)?;
     if let Some(error) = read.errors().first() {
         let offset = error.range().map_or(text.len(), |range| range.start());
-        return Ok(Outcome::Refused(Reason::NotNix, Some(offset)));
+        return Ok(Outcome::Refused(refuse_at(Reason::NotNix, offset)));
     }
     let root = read.syntax();
-    match find(alloc, &root, update.path)? {
-        Search::One(entry) if update.action == Action::Remove => {
-            drop_entry(alloc, text, &root, entry.syntax())
-        }
-        Search::One(entry) => set(alloc, text, &root, &entry, update),
-        Search::Several(second) => {
-            let start = second.syntax().text_range().start();
-            Ok(Outcome::Refused(Reason::SeveralAttributes, Some(start)))
-        }
-        Search::Nothing if update.action == Action::Add => add(alloc, text, &root, update),
-        Search::Nothing => Ok(Outcome::Refused(Reason::NoAttribute, None)),
-    }
+    let ways = ways_of(alloc, &root, &path.names)?;
+    update_in(alloc, text, &root, &path, &ways, update)
 }

@@ -1,0 +1,56 @@
+-- Which part of an expression has the attributes that the expression has.
+use Rattle.std.specs.Prelude.{Bool, true, false, ◌&&◌, not, Option, Some, None, if◌then◌else◌}
+use Rattle.rnix_kinds.specs.declared.kinds.SyntaxKind.{SyntaxKind}
+use Rattle.rnix_kinds.specs.declared.kinds.SyntaxKind.TheVariants as k
+use Rattle.rnix_green.specs.Tree.{Located, item_of}
+use Rattle.rnix_green.specs.Walk.{children_of}
+use Rattle.rnix_green.specs.Equality.{same_kind}
+use Rattle.rnix_base.specs.declared.operators.BinOpKind.{BinOpKind}
+use Rattle.rnix_base.specs.declared.operators.BinOpKind.TheVariants as op
+use Rattle.rnix_base.specs.TokenOperators.{first_operator, binary_operator}
+use Rattle.rnix_base.specs.Select.{child_of, tokens_in}
+use Rattle.rnix.specs.NodeKinds.{is_expr}
+
+-- whether an operand of `//` of this kind may be the one that is meant: a set, or another operation
+abbrev pub is_meant : SyntaxKind → Bool
+is_meant k.NODE_ATTR_SET = true
+is_meant k.NODE_BIN_OP = true
+is_meant _ = false
+
+-- the one of two operands that may be meant, if the other one may not
+abbrev pub one_of : Located → Located → Option Located
+one_of left right =
+    if is_meant (item_of left).kind then (if is_meant (item_of right).kind then None else Some left)
+    else (if is_meant (item_of right).kind then Some right else None)
+
+-- the same, where both are there
+abbrev pub one_if : Option Located → Option Located → Option Located
+one_if (Some left) (Some right) = one_of left right
+one_if _ _ = None
+
+-- the operand that is meant of a node with an operator: `//` alone has one
+abbrev pub operand_by : Option BinOpKind → Located → Option Located
+operand_by (Some op.Update) e = one_if (child_of is_expr 0 e) (child_of is_expr 1 e)
+operand_by _ e = None
+
+-- the operand that is meant of a node, if it is an operation
+abbrev pub operand : Located → Option Located
+operand e =
+    if same_kind k.NODE_BIN_OP (item_of e).kind then operand_by (first_operator binary_operator (tokens_in (children_of e))) e else None
+
+-- the expression that a path means where it means a node of a kind
+abbrev pub inner_by : SyntaxKind → Located → Option Located
+inner_by k.NODE_ROOT e = child_of is_expr 0 e
+inner_by k.NODE_PAREN e = child_of is_expr 0 e
+inner_by k.NODE_LAMBDA e = child_of is_expr 0 e
+inner_by k.NODE_LET_IN e = child_of is_expr 0 e
+inner_by k.NODE_WITH e = child_of is_expr 1 e
+inner_by k.NODE_ASSERT e = child_of is_expr 1 e
+inner_by k.NODE_APPLY e = child_of is_expr 1 e
+inner_by k.NODE_BIN_OP e = operand e
+inner_by _ e = None
+
+-- the expression that a path means where it means a node: that in brackets, the body of a function, a `let`, a `with` or an `assert`, the
+-- argument of a call, or the only operand of `//` that is a set or another operation
+abbrev pub inner : Located → Option Located
+inner e = inner_by (item_of e).kind e

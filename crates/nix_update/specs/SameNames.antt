@@ -1,0 +1,46 @@
+-- When the names of a text mean the same in another one that lacks one of its entries.
+use Rattle.std.specs.Prelude.{◌≡◌, ℕ, ◌-◌, nat_lt, nat_le, ◌||◌, Bool, List, Option, Some, None, filter, slice_get, if◌then◌else◌}
+use Rattle.std.specs.List.{AllZip}
+use Rattle.rnix_green.specs.Tree.{Located, item_of}
+use Rattle.nix_scopes.specs.declared.resolution.Binding.{Binding}
+use Rattle.nix_scopes.specs.declared.resolution.Reference.{Reference}
+use Rattle.nix_scopes.specs.declared.resolution.Resolution.{Resolution}
+use Rattle.nix_scopes.specs.Bound.{bindings_of, references_of}
+use Rattle.nix_update.specs.declared.meaning.Change.{Change}
+
+-- where an offset of the longer text is in the shorter one, if it is not in the entry
+abbrev pub moved : Change → ℕ → Option ℕ
+moved change offset =
+    if nat_lt offset change.start then Some offset
+    else (if nat_lt offset change.end then None
+    else (if nat_le change.by offset then Some (offset - change.by) else None))
+
+-- where a node begins
+abbrev pub start_of : Located → ℕ
+start_of e = (item_of e).start
+
+-- whether a reference is not in the entry
+abbrev pub is_outside : Change → Reference → Bool
+is_outside change reference = nat_lt (start_of reference.node) change.start || nat_le change.end (start_of reference.node)
+
+-- the binding of a number, if there is one
+abbrev pub binding_at : Resolution → Option ℕ → Option Binding
+binding_at names None = None
+binding_at names (Some number) = slice_get (bindings_of names) number
+
+-- two bindings, one of each text, are in the same scope; or there are none
+abbrev pub AreInOneScope : Change → Option Binding → Option Binding → Type 0
+AreInOneScope change (Some longer) (Some shorter) = moved change (start_of longer.scope) ≡ Some (start_of shorter.scope)
+AreInOneScope change None None = Unit {0}
+AreInOneScope change _ _ = ⊥
+
+-- a reference is the same one in the shorter text: its name is bound in the same scope, or by nothing in the text
+pub record RefersAlike (change : Change) (longer shorter : Resolution) (reference other : Reference) : Type 0 where
+  pub text : reference.text.now ≡ other.text.now
+  pub is_inherited : reference.is_inherited ≡ other.is_inherited
+  pub is_open : reference.is_open ≡ other.is_open
+  pub scope : AreInOneScope change (binding_at longer reference.binding) (binding_at shorter other.binding)
+
+-- the references outside of the entry are those of the shorter text, one for one, and each means the same
+abbrev pub MeanAlike : Change → Resolution → Resolution → Type 0
+MeanAlike change longer shorter = AllZip (RefersAlike change longer shorter) (filter (is_outside change) (references_of longer)) (references_of shorter)

@@ -1,0 +1,231 @@
+-- What an update makes of a text.
+use Rattle.std.specs.Prelude.{◌≡◌, ◌⊎◌, ℕ, ◌-◌, nat_eq, nat_lt, ◌&&◌, not, Bool, true, false, if◌then◌else◌, List, [], ◌∷◌, ◌++◌, codes, length, drop, flat_map, find, slice_get, Option, Some, None, string_bytes}
+use Rattle.rnix_kinds.specs.declared.kinds.SyntaxKind.{SyntaxKind}
+use Rattle.rnix_kinds.specs.declared.kinds.SyntaxKind.TheVariants as k
+use Rattle.rnix_kinds.specs.Lexical.Tokens.{tokens_of}
+use Rattle.rnix_green.specs.Tree.{Tree, Located, item_of}
+use Rattle.rnix_green.specs.Equality.{same_kind}
+use Rattle.rnix_green.specs.Walk.{nodes_in, elements_of, children_of}
+use Rattle.rnix_base.specs.Select.{child_of}
+use Rattle.rnix_grammar.specs.Parsed.{IsParsed}
+use Rattle.rnix.specs.NodeKinds.{is_expr, is_entry}
+use Rattle.rnix.specs.ParseResult.{Reading, root_of}
+use Rattle.rnix_edit.specs.Edited.{root_in, IsRemoved, IsInsertedAfter, IsInsertedInside}
+use Rattle.nix_scopes.specs.declared.resolution.Resolution.{Resolution}
+use Rattle.nix_scopes.specs.Alike.{IsResolution}
+use Rattle.nix_update.specs.declared.meaning.Change.{Change}
+use Rattle.nix_update.specs.declared.meeting.Meeting.TheVariants as meets
+use Rattle.nix_update.specs.declared.makers.Maker.{Maker}
+use Rattle.nix_update.specs.declared.ways.Way.{Way}
+use Rattle.nix_update.specs.declared.value.Form.{Form}
+use Rattle.nix_update.specs.declared.outcome.Attempt.{Attempt}
+use Rattle.nix_update.specs.declared.outcome.Attempt.TheVariants as attempt
+use Rattle.nix_update.specs.declared.outcome.Outcome.{Outcome}
+use Rattle.nix_update.specs.declared.outcome.Outcome.TheVariants as outcome
+use Rattle.nix_update.specs.declared.request.Action.{Action}
+use Rattle.nix_update.specs.declared.request.Action.TheVariants as action
+use Rattle.nix_update.specs.declared.request.Update.{Update}
+use Rattle.nix_update.specs.NewValue.{IsValueOf, IsSetTo}
+use Rattle.nix_update.specs.Meetings.{is_removable}
+use Rattle.nix_update.specs.Path.{IsPath}
+use Rattle.nix_update.specs.Ways.{AreWays, makers_in}
+use Rattle.nix_update.specs.SameNames.{MeanAlike}
+
+-- the value of an entry is set
+pub record IsValueSet (form : Form) (value text : List ℕ) (root entry : Located) (made : List ℕ) : Type 0 where
+  pub node : Located
+  pub node_is : child_of is_expr 0 entry ≡ Some node
+  pub set_to : IsSetTo form value text root node made
+
+-- an entry makes the whole attribute, and its value is set
+pub record IsEntrySet (form : Form) (value text : List ℕ) (root : Located) (maker : Maker) (made : List ℕ) : Type 0 where
+  pub whole : maker.meeting ≡ meets.Whole
+  pub is_set : IsValueSet form value text root maker.entry made
+
+-- the entry that a longer text has in addition to a shorter one
+abbrev pub change_of : Located → List ℕ → List ℕ → Change
+change_of entry longer shorter = record { start = (item_of entry).start; end = (item_of entry).end; by = length longer - length shorter }
+
+-- without an entry, the names outside of it mean the same
+pub record IsMeaningKeptWithout (text : List ℕ) (root entry : Located) (made : List ℕ) : Type 0 where
+  pub read : Reading
+  pub is_read : IsParsed (tokens_of made) read.tree read.faults
+  pub names : Resolution
+  pub found : IsResolution root names
+  pub others : Resolution
+  pub others_found : IsResolution (root_of read) others
+  pub alike : MeanAlike (change_of entry text made) names others
+
+-- an entry that makes the attribute, or a part of it, is removed; unless it is forced, names mean the same without it
+pub record IsEntryRemoved (is_forced : Bool) (text : List ℕ) (root : Located) (maker : Maker) (made : List ℕ) : Type 0 where
+  pub removable : is_removable maker.meeting ≡ true
+  pub removed : IsRemoved text root maker.entry made
+  pub kept : is_forced ≡ false → IsMeaningKeptWithout text root maker.entry made
+
+-- the last entry among these nodes, or else another node
+abbrev pub last_among : Option Located → List Located → Option Located
+last_among found [] = found
+last_among found (e ∷ es) = last_among (if is_entry (item_of e).kind then Some e else found) es
+
+-- the last entry of a set
+abbrev pub last_entry : Located → Option Located
+last_entry set = last_among None (nodes_in (children_of set))
+
+-- whether a node is a set that begins at an offset
+abbrev pub is_set_at : ℕ → Located → Bool
+is_set_at start e = same_kind (item_of e).kind k.NODE_ATTR_SET && nat_eq (item_of e).start start
+
+-- the first set inside a node that begins at an offset
+abbrev pub set_at : ℕ → Located → Option Located
+set_at start root = find (is_set_at start) (nodes_in (elements_of root))
+
+-- the last entry of that set
+abbrev pub entry_at : Option Located → Option Located
+entry_at None = None
+entry_at (Some set) = last_entry set
+
+-- with a last entry more in a set, the names outside of it mean the same
+pub record IsMeaningKeptWith (text : List ℕ) (root set : Located) (made : List ℕ) : Type 0 where
+  pub read : Reading
+  pub is_read : IsParsed (tokens_of made) read.tree read.faults
+  pub entry : Located
+  pub entry_is : entry_at (set_at (item_of set).start (root_of read)) ≡ Some entry
+  pub names : Resolution
+  pub found : IsResolution root names
+  pub others : Resolution
+  pub others_found : IsResolution (root_of read) others
+  pub alike : MeanAlike (change_of entry made text) others names
+
+-- the text of an entry
+abbrev pub entry_text : List ℕ → List ℕ → List ℕ
+entry_text names new = names ++ (codes " = " ++ (new ++ codes ";"))
+
+-- a set gets an entry after its last one, or before its closing bracket
+abbrev pub IsEntryInserted : Option Located → List ℕ → Located → Located → List ℕ → List ℕ → Type 0
+IsEntryInserted None text root set entry made = IsInsertedInside text root set k.NODE_ATTRPATH_VALUE entry made
+IsEntryInserted (Some last) text root set entry made = IsInsertedAfter text root last k.NODE_ATTRPATH_VALUE entry made
+
+-- a set gets an entry with these names and what a value means
+pub record IsEntryAdded (form : Form) (value names text : List ℕ) (root set : Located) (made : List ℕ) : Type 0 where
+  pub kind : SyntaxKind
+  pub new : List ℕ
+  pub is_value : IsValueOf form value kind new
+  pub inserted : IsEntryInserted (last_entry set) text root set (entry_text names new) made
+
+-- the most names of a path that lead to attributes, or this number if it is more
+abbrev pub most_names : ℕ → List Way → ℕ
+most_names most [] = most
+most_names most (w ∷ ways) = most_names (if not w.in_let && nat_lt most w.at then w.at else most) ways
+
+-- whether an expression on the way is a set to which so many names lead, none of them of a `let`
+abbrev pub is_home : ℕ → Way → Bool
+is_home most w = not w.in_let && (nat_eq w.at most && same_kind (item_of w.node).kind k.NODE_ATTR_SET)
+
+-- such an expression
+abbrev pub home_if : ℕ → Way → List Way
+home_if most w = if is_home most w then w ∷ [] else []
+
+-- the sets on the way to which the most names lead
+abbrev pub homes_in : List Way → List Way
+homes_in ways = flat_map (home_if (most_names 0 ways)) ways
+
+-- these are the names of a path from a number on, as they are written
+pub record IsRest (starts path : List ℕ) (at : ℕ) (rest : List ℕ) : Type 0 where
+  pub start : ℕ
+  pub start_is : slice_get starts at ≡ Some start
+  pub rest_is : rest ≡ drop start path
+
+-- a set gets an entry with the other names of the path; unless it is forced, names mean the same with it
+pub record IsAddedTo (is_forced : Bool) (form : Form) (value path starts : List ℕ) (home : Way) (text : List ℕ) (root : Located) (made : List ℕ)
+    : Type 0 where
+  pub names : List ℕ
+  pub are_rest : IsRest starts path home.at names
+  pub added : IsEntryAdded form value names text root home.node made
+  pub kept : is_forced ≡ false → IsMeaningKeptWith text root home.node made
+
+-- so it is with the only set to which the most names lead
+pub record IsAdded (is_forced : Bool) (form : Form) (value path starts : List ℕ) (ways : List Way) (text : List ℕ) (root : Located) (made : List ℕ)
+    : Type 0 where
+  pub home : Way
+  pub only : homes_in ways ≡ home ∷ []
+  pub added : IsAddedTo is_forced form value path starts home text root made
+
+-- the only entry that makes the attribute, of sets or of a `let`, makes all of it, and its value is set
+pub record IsOnlySet (of_let : Bool) (update : Update) (names : List (List ℕ)) (ways : List Way) (text : List ℕ) (root : Located) (made : List ℕ)
+    : Type 0 where
+  pub maker : Maker
+  pub only : makers_in names of_let ways ≡ maker ∷ []
+  pub is_set : IsEntrySet update.form update.value.now text root maker made
+
+-- what an action makes of the attribute that a single entry makes
+abbrev pub IsMakerUpdated : Action → Update → List ℕ → Located → Maker → List ℕ → Type 0
+IsMakerUpdated action.Remove update text root maker made = IsEntryRemoved update.is_forced text root maker made
+IsMakerUpdated action.Set update text root maker made = IsEntrySet update.form update.value.now text root maker made
+IsMakerUpdated action.Add update text root maker made = IsEntrySet update.form update.value.now text root maker made
+
+-- P holds of the new text, if there is one
+abbrev pub IfMade : (List ℕ → Type 0) → Attempt → Type 0
+IfMade P (attempt.Made made) = P (string_bytes made)
+IfMade P (attempt.Refused refused) = Unit {0}
+
+-- P holds of the new text, if there is one in which no name of a `let` is set
+abbrev pub IfUpdated : (List ℕ → Type 0) → Outcome → Type 0
+IfUpdated P (outcome.Updated made) = P (string_bytes made)
+IfUpdated P (outcome.SetInLet made offset) = Unit {0}
+IfUpdated P (outcome.Refused refused) = Unit {0}
+
+-- P holds of the new text, if there is one in which a name of a `let` is set
+abbrev pub IfSetInLet : (List ℕ → Type 0) → Outcome → Type 0
+IfSetInLet P (outcome.Updated made) = Unit {0}
+IfSetInLet P (outcome.SetInLet made offset) = P (string_bytes made)
+IfSetInLet P (outcome.Refused refused) = Unit {0}
+
+-- the result of an attempt
+abbrev pub outcome_of : Attempt → Outcome
+outcome_of (attempt.Made made) = outcome.Updated made
+outcome_of (attempt.Refused refused) = outcome.Refused refused
+
+-- what an update makes of an attribute that no entry makes: it is added, or the value of a name of a `let` is set
+abbrev pub IsUnmadeUpdated : Update → List (List ℕ) → List ℕ → List ℕ → List Way → List ℕ → Located → Outcome → Type 0
+IsUnmadeUpdated update names path starts ways text root (outcome.Updated made) =
+    (update.action ≡ action.Add)
+    × IsAdded update.is_forced update.form update.value.now path starts ways text root (string_bytes made)
+IsUnmadeUpdated update names path starts ways text root (outcome.SetInLet made offset) =
+    (update.action ≡ action.Set) × IsOnlySet true update names ways text root (string_bytes made)
+IsUnmadeUpdated update names path starts ways text root (outcome.Refused refused) = Unit {0}
+
+-- a single entry of sets makes the attribute, or a part of it, and it is updated
+pub record IsOneUpdated (update : Update) (names : List (List ℕ)) (ways : List Way) (text : List ℕ) (root : Located) (made : List ℕ) : Type 0 where
+  pub maker : Maker
+  pub only : makers_in names false ways ≡ maker ∷ []
+  pub is_updated : IsMakerUpdated update.action update text root maker made
+
+-- no entry of sets makes it
+abbrev pub IsNoneUpdated : Update → List (List ℕ) → List ℕ → List ℕ → List Way → List ℕ → Located → Outcome → Type 0
+IsNoneUpdated update names path starts ways text root made =
+    (makers_in names false ways ≡ []) × IsUnmadeUpdated update names path starts ways text root made
+
+-- what an update makes of a text, given the names of its path and the expressions on its way
+abbrev pub IsOutcome : Update → List (List ℕ) → List ℕ → List ℕ → List Way → List ℕ → Located → Outcome → Type 0
+IsOutcome update names path starts ways text root (outcome.Updated made) =
+    IsOneUpdated update names ways text root (string_bytes made) ⊎ IsNoneUpdated update names path starts ways text root (outcome.Updated made)
+IsOutcome update names path starts ways text root (outcome.SetInLet made offset) =
+    IsNoneUpdated update names path starts ways text root (outcome.SetInLet made offset)
+IsOutcome update names path starts ways text root (outcome.Refused refused) = Unit {0}
+
+-- an outcome is that of an update of a text, which is read without errors
+pub record IsOutcomeOf (update : Update) (text : List ℕ) (made : Outcome) : Type 0 where
+  pub names : List (List ℕ)
+  pub starts : List ℕ
+  pub is_path : IsPath update.path.now names starts
+  pub tree : Tree
+  pub is_read : IsParsed (tokens_of text) tree []
+  pub ways : List Way
+  pub are_ways : AreWays names (root_in tree) ways
+  pub is_outcome : IsOutcome update names update.path.now starts ways text (root_in tree) made
+
+-- a new text is that of an update
+abbrev pub IsUpdated : Update → List ℕ → Outcome → Type 0
+IsUpdated update text (outcome.Refused refused) = Unit {0}
+IsUpdated update text (outcome.Updated made) = IsOutcomeOf update text (outcome.Updated made)
+IsUpdated update text (outcome.SetInLet made offset) = IsOutcomeOf update text (outcome.SetInLet made offset)

@@ -1,0 +1,124 @@
+//! Adding an attribute.
+
+ghost use Rattle.std.specs.Prelude.{◌≡◌, false, string_bytes, IfOk, IfSome};
+ghost use Rattle.nix_update.specs.Updated.{IfMade, IsRest, IsEntryAdded, IsAddedTo, IsAdded, IsMeaningKeptWith};
+
+use crate::change::add_value;
+use crate::guard::{Site, hinders_adding};
+use crate::home::{end_of_way, homes_of};
+use crate::outcome::{Attempt, Reason, refuse, refuse_at, refuse_twice};
+use crate::path::Path;
+use crate::place::start_of;
+use crate::request::Update;
+use crate::ways::Way;
+use rnix::SyntaxNode;
+use rnix_edit::Edited;
+use std::alloc::{AllocError, Global};
+
+// Returns the names of a path from a number on, as they are written.
+fn rest_at<'p>(path: &Path<'p>, at: usize) -> Option<&'p str>
+    ensures { IfSome result (λ rest. IsRest path.now.starts.items path.now.text.now at rest.now) }
+{
+    let start = path.starts.get(at)?;
+    path.text.get(*start..)
+}
+
+// Adds an attribute to a set, whatever names then refer to.
+fn add_entry(
+    alloc: Global,
+    text: &str,
+    root: &SyntaxNode<'_>,
+    names: &str,
+    update: Update<'_>,
+    set: &SyntaxNode<'_>,
+) -> Result<Attempt, AllocError>
+    ensures { IfOk result (IfMade (IsEntryAdded update.entry.form update.entry.value.now names.now text.now root.now set.now)) }
+{
+    let edited = add_value(alloc, text, root, set, names, update.form, update.value)?;
+    match edited {
+        Some(Edited::Done(made)) => Ok(Attempt::Made(made)),
+        Some(Edited::Refused(refusal)) => Ok(Attempt::Refused(refuse_at(
+            Reason::Edit(refusal),
+            start_of(set),
+        ))),
+        None => Ok(Attempt::Refused(refuse(Reason::NotAnExpression))),
+    }
+}
+
+// Returns a text with an attribute more, unless with it a name would refer to something else and it is not forced.
+fn keep_added(
+    alloc: Global,
+    site: Site<'_, '_>,
+    is_forced: bool,
+    made: String,
+) -> Result<Attempt, AllocError>
+    ensures { IfOk result (IfMade (λ text. (text ≡ string_bytes made)
+        × (is_forced ≡ false → IsMeaningKeptWith site.entry.text.now site.entry.root.now site.entry.set.now text))) }
+{
+    if is_forced {
+        return Ok(Attempt::Made(made));
+    }
+    match hinders_adding(alloc, site, made.as_str())? {
+        Some(refused) => Ok(Attempt::Refused(refused)),
+        None => Ok(Attempt::Made(made)),
+    }
+}
+
+// Adds the attribute to the only set to which the most names of its path lead.
+fn add_to(
+    alloc: Global,
+    text: &str,
+    root: &SyntaxNode<'_>,
+    path: &Path<'_>,
+    ways: &[Way<'_>],
+    update: Update<'_>,
+    home: &Way<'_>,
+) -> Result<Attempt, AllocError>
+    ensures { IfOk result (IfMade (IsAddedTo update.entry.is_forced update.entry.form update.entry.value.now path.now.text.now path.now.starts.items
+        home.now text.now root.now)) }
+{
+    let Some(names) = rest_at(path, home.at) else {
+        return Ok(Attempt::Refused(refuse(Reason::NotAPath)));
+    };
+    let made = match add_entry(alloc, text, root, names, update, &home.node)? {
+        Attempt::Made(made) => made,
+        Attempt::Refused(refused) => return Ok(Attempt::Refused(refused)),
+    };
+    let site = Site {
+        text,
+        root,
+        set: &home.node,
+        names: &path.names,
+        ways,
+        at: home.at,
+        written: names,
+    };
+    keep_added(alloc, site, update.is_forced, made)
+}
+
+/// Adds the attribute to the set to which the most names of its path lead, if there is just one.
+pub fn add(
+    alloc: Global,
+    text: &str,
+    root: &SyntaxNode<'_>,
+    path: &Path<'_>,
+    ways: &[Way<'_>],
+    update: Update<'_>,
+) -> Result<Attempt, AllocError>
+    ensures { IfOk result (IfMade (IsAdded update.entry.is_forced update.entry.form update.entry.value.now path.now.text.now path.now.starts.items
+        ways.now text.now root.now)) }
+{
+    let homes = homes_of(alloc, ways)?;
+    let Some(home) = homes.first() else {
+        let end = end_of_way(ways, root);
+        return Ok(Attempt::Refused(refuse_at(Reason::NoSet, start_of(&end))));
+    };
+    match homes.get(1) {
+        Some(second) => Ok(Attempt::Refused(refuse_twice(
+            Reason::SeveralSets,
+            start_of(&home.node),
+            start_of(&second.node),
+        ))),
+        None => add_to(alloc, text, root, path, ways, update, home),
+    }
+}

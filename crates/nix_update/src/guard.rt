@@ -1,0 +1,249 @@
+//! Whether other names keep their meaning when an attribute is added or removed.
+
+ghost use Rattle.std.specs.Prelude.{◌≡◌, None, IfOk, IfNone};
+ghost use Rattle.nix_update.specs.Updated.{set_at, entry_at, change_of, IsMeaningKeptWith, IsMeaningKeptWithout};
+
+use crate::change::last_entry;
+use crate::meaning::{Change, first_unlike};
+use crate::meeting::meet;
+use crate::outcome::{Reason, Refused, refuse_at};
+use crate::ways::Way;
+use nix_scopes::resolve;
+use rnix::ast::{AstNode, AttrSet};
+use rnix::{Root, SyntaxKind, SyntaxNode};
+use std::alloc::{AllocError, Global};
+
+/// The set in which an attribute is added or removed.
+#[derive(Clone, Copy)]
+pub struct Site<'s, 't> {
+    pub text: &'s str,
+    pub root: &'s SyntaxNode<'t>,
+    pub set: &'s SyntaxNode<'t>,
+    /// The names of the path of the attribute, and the expressions on its way.
+    pub names: &'s [String],
+    pub ways: &'s [Way<'t>],
+    /// The number of names that lead to the set.
+    pub at: usize,
+    /// The names of the entry in the set, as they are written.
+    pub written: &'s str,
+}
+
+// Returns whether a name is one for which operators stand, or that sets with `rec` treat in their own way.
+fn is_special(name: &str) -> bool {
+    matches!(
+        name,
+        "__sub" | "__mul" | "__div" | "__lessThan" | "__findFile" | "__nixPath" | "__overrides"
+    )
+}
+
+// Returns whether the name of a number is such a name.
+fn is_special_at(names: &[String], at: usize) -> bool {
+    match names.get(at) {
+        Some(name) => is_special(name.as_str()),
+        None => false,
+    }
+}
+
+// Returns whether the first of some names is written so that the resolution of names does not know it: as `${"a"}`, or with an escape.
+fn is_hidden(written: &str) -> bool {
+    written.starts_with("${") || (written.starts_with('"') && written.contains('\\'))
+}
+
+// Returns whether a node is a set with `rec`.
+fn is_recursive(node: &SyntaxNode<'_>) -> bool {
+    match AttrSet::cast(node.clone()) {
+        Some(set) => set.rec_token().is_some(),
+        None => false,
+    }
+}
+
+// Returns whether an expression on the way is a set, and no name of a `let` leads to it.
+fn is_set(way: &Way<'_>) -> bool {
+    way.node.kind() == SyntaxKind::NODE_ATTR_SET && !way.in_let
+}
+
+// Returns the first `rec` set on the way that is the value of an attribute.
+fn inner_recursive<'w, 't>(ways: &'w [Way<'t>]) -> Option<&'w SyntaxNode<'t>> {
+    for way in ways {
+        if is_set(way) && way.at > 0 && is_recursive(&way.node) {
+            return Some(&way.node);
+        }
+    }
+    None
+}
+
+// Returns whether more than one entry of a node makes the attribute of a name of a path, or a part of it.
+fn is_shared(
+    alloc: Global,
+    names: &[String],
+    at: usize,
+    node: &SyntaxNode<'_>,
+) -> Result<bool, AllocError> {
+    let names = names.get(..at.saturating_add(1)).unwrap_or(names);
+    let mut has_one = false;
+    for entry in node.children() {
+        if meet(alloc, names, at, &entry)?.is_making() {
+            if has_one {
+                return Ok(true);
+            }
+            has_one = true;
+        }
+    }
+    Ok(false)
+}
+
+// Returns whether more than one entry makes an attribute on the way, or a part of it.
+fn has_shared(alloc: Global, site: Site<'_, '_>) -> Result<bool, AllocError> {
+    for way in site.ways {
+        if is_set(way) && is_shared(alloc, site.names, way.at, &way.node)? {
+            return Ok(true);
+        }
+    }
+    Ok(false)
+}
+
+// Returns where a `rec` set on the way begins to which other entries may add.
+fn split_set(alloc: Global, site: Site<'_, '_>) -> Result<Option<usize>, AllocError> {
+    let Some(set) = inner_recursive(site.ways) else {
+        return Ok(None);
+    };
+    if has_shared(alloc, site)? {
+        Ok(Some(set.text_range().start()))
+    } else {
+        Ok(None)
+    }
+}
+
+// Returns why no attribute is added to a set or removed from it, whatever names refer to.
+fn barred(alloc: Global, site: Site<'_, '_>) -> Result<Option<Refused>, AllocError> {
+    if let Some(start) = split_set(alloc, site)? {
+        return Ok(Some(refuse_at(Reason::SplitSet, start)));
+    }
+    if !is_recursive(site.set) {
+        return Ok(None);
+    }
+    let start = site.set.text_range().start();
+    if is_special_at(site.names, site.at) {
+        return Ok(Some(refuse_at(Reason::SpecialName, start)));
+    }
+    if is_hidden(site.written) {
+        return Ok(Some(refuse_at(Reason::HiddenName, start)));
+    }
+    Ok(None)
+}
+
+// Returns the first set inside a node that begins at an offset.
+fn set_at<'t>(root: &SyntaxNode<'t>, start: usize) -> Option<SyntaxNode<'t>>
+    ensures { result ≡ set_at start root.now }
+{
+    for node in root.descendants() {
+        if node.kind() == SyntaxKind::NODE_ATTR_SET && node.text_range().start() == start {
+            return Some(node);
+        }
+    }
+    None
+}
+
+// Returns the last entry of that set.
+fn entry_at<'t>(root: &SyntaxNode<'t>, start: usize) -> Option<SyntaxNode<'t>>
+    ensures { result ≡ entry_at (set_at start root.now) }
+{
+    last_entry(&set_at(root, start)?)
+}
+
+// Returns the entry that a longer text has in addition to a shorter one.
+fn change_of(entry: &SyntaxNode<'_>, longer: &str, shorter: &str) -> Change
+    ensures { result ≡ change_of entry.now longer.now shorter.now }
+{
+    let range = entry.text_range();
+    Change {
+        start: range.start(),
+        end: range.end(),
+        by: longer.len().saturating_sub(shorter.len()),
+    }
+}
+
+// Returns names that mean something else with the last entry of a set, which is new, or `None` if all mean the same.
+fn unlike_with(
+    alloc: Global,
+    text: &str,
+    root: &SyntaxNode<'_>,
+    set: &SyntaxNode<'_>,
+    made: &str,
+) -> Result<Option<usize>, AllocError>
+    ensures { IfOk result (λ place. IfNone place (IsMeaningKeptWith text.now root.now set.now made.now)) }
+{
+    let start = set.text_range().start();
+    let read = Root::parse(alloc, made)?;
+    let new = read.syntax();
+    let Some(entry) = entry_at(&new, start) else {
+        return Ok(Some(start));
+    };
+    let names = resolve(alloc, root)?;
+    let others = resolve(alloc, &new)?;
+    match first_unlike(change_of(&entry, made, text), &others, &names) {
+        Some(unlike) => Ok(Some(unlike.shorter.unwrap_or(start))),
+        None => Ok(None),
+    }
+}
+
+// Returns names that mean something else without an entry, or `None` if all mean the same.
+fn unlike_without(
+    alloc: Global,
+    text: &str,
+    root: &SyntaxNode<'_>,
+    entry: &SyntaxNode<'_>,
+    made: &str,
+) -> Result<Option<usize>, AllocError>
+    ensures { IfOk result (λ place. IfNone place (IsMeaningKeptWithout text.now root.now entry.now made.now)) }
+{
+    let start = entry.text_range().start();
+    let read = Root::parse(alloc, made)?;
+    let names = resolve(alloc, root)?;
+    let others = resolve(alloc, &read.syntax())?;
+    match first_unlike(change_of(entry, text, made), &names, &others) {
+        Some(unlike) => Ok(Some(unlike.longer.unwrap_or(start))),
+        None => Ok(None),
+    }
+}
+
+// Returns the refusal for a name that would mean something else, if there is one.
+fn other_meaning(place: Option<usize>) -> Option<Refused>
+    ensures { IfNone result (place ≡ None) }
+{
+    match place {
+        Some(place) => Some(refuse_at(Reason::OtherMeaning, place)),
+        None => None,
+    }
+}
+
+/// Returns why an attribute is not added, if with it a name would refer to something else: the last one of its set in the new text.
+pub fn hinders_adding(
+    alloc: Global,
+    site: Site<'_, '_>,
+    made: &str,
+) -> Result<Option<Refused>, AllocError>
+    ensures { IfOk result (λ refused. IfNone refused (IsMeaningKeptWith site.entry.text.now site.entry.root.now site.entry.set.now made.now)) }
+{
+    if let Some(refused) = barred(alloc, site)? {
+        return Ok(Some(refused));
+    }
+    let place = unlike_with(alloc, site.text, site.root, site.set, made)?;
+    Ok(other_meaning(place))
+}
+
+/// Returns why an entry is not removed, if without it a name would refer to something else.
+pub fn hinders_removing(
+    alloc: Global,
+    site: Site<'_, '_>,
+    entry: &SyntaxNode<'_>,
+    made: &str,
+) -> Result<Option<Refused>, AllocError>
+    ensures { IfOk result (λ refused. IfNone refused (IsMeaningKeptWithout site.entry.text.now site.entry.root.now entry.now made.now)) }
+{
+    if let Some(refused) = barred(alloc, site)? {
+        return Ok(Some(refused));
+    }
+    let place = unlike_without(alloc, site.text, site.root, entry, made)?;
+    Ok(other_meaning(place))
+}

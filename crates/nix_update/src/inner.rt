@@ -1,0 +1,73 @@
+//! Which part of an expression has the attributes that the expression has.
+
+ghost use Rattle.std.specs.Prelude.{◌≡◌};
+ghost use Rattle.rnix_green.specs.Tree.{item_of};
+ghost use Rattle.rnix_base.specs.Select.{child_of, tokens_in};
+ghost use Rattle.rnix_base.specs.TokenOperators.{first_operator, binary_operator};
+ghost use Rattle.rnix_green.specs.Walk.{children_of};
+ghost use Rattle.rnix.specs.NodeKinds.{is_expr};
+ghost use Rattle.nix_update.specs.Inner.{is_meant, one_of, operand, inner};
+
+use rnix::ast::{AstNode, BinOp, BinOpKind, Expr};
+use rnix::{SyntaxKind, SyntaxNode};
+use rnix_base::child_at;
+
+/// Returns the expression with a number, from 0, right below a node.
+pub fn expr_at<'t>(node: &SyntaxNode<'t>, number: usize) -> Option<SyntaxNode<'t>>
+    ensures { result ≡ child_of is_expr number node.now }
+{
+    let expr = child_at::<Expr<'t>>(node, number)?;
+    Some(expr.syntax().clone())
+}
+
+// Returns whether an operand of `//` may be the one that is meant: it is a set or another operation.
+fn is_meant(operand: &SyntaxNode<'_>) -> bool
+    ensures { result ≡ is_meant (item_of operand.now).kind }
+{
+    matches!(
+        operand.kind(),
+        SyntaxKind::NODE_ATTR_SET | SyntaxKind::NODE_BIN_OP
+    )
+}
+
+// Returns the one of two operands that is a set or another operation, if the other one is neither.
+fn one_of<'t>(left: SyntaxNode<'t>, right: SyntaxNode<'t>) -> Option<SyntaxNode<'t>>
+    ensures { result ≡ one_of left.entry right.entry }
+{
+    if is_meant(&left) {
+        if is_meant(&right) { None } else { Some(left) }
+    } else if is_meant(&right) {
+        Some(right)
+    } else {
+        None
+    }
+}
+
+// Returns the operand of an operation that is meant, if the operation is `//` and there is just one.
+fn operand<'t>(node: &SyntaxNode<'t>) -> Option<SyntaxNode<'t>>
+    ensures { result ≡ operand node.now }
+{
+    let operation = BinOp::cast(node.clone())?;
+    match operation.operator() {
+        Some(BinOpKind::Update) => one_of(expr_at(node, 0)?, expr_at(node, 1)?),
+        _ => None,
+    }
+}
+
+/// Returns the expression in a node that PATH means where it means the node: that in brackets, the body of a function, a `let`, a `with` or
+/// an `assert`, the argument of a call, or the only operand of `//` that is a set or another operation.
+pub fn inner<'t>(node: &SyntaxNode<'t>) -> Option<SyntaxNode<'t>>
+    ensures { result ≡ inner node.now }
+{
+    match node.kind() {
+        SyntaxKind::NODE_ROOT
+        | SyntaxKind::NODE_PAREN
+        | SyntaxKind::NODE_LAMBDA
+        | SyntaxKind::NODE_LET_IN => expr_at(node, 0),
+        SyntaxKind::NODE_WITH | SyntaxKind::NODE_ASSERT | SyntaxKind::NODE_APPLY => {
+            expr_at(node, 1)
+        }
+        SyntaxKind::NODE_BIN_OP => operand(node),
+        _ => None,
+    }
+}

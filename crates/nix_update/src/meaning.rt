@@ -1,0 +1,141 @@
+//! Whether names mean the same in a text with one entry more.
+
+ghost use Rattle.std.specs.Prelude.{◌≡◌, option_map, IfSome, IfNone};
+ghost use Rattle.std.specs.Bool.{Decides};
+ghost use Rattle.nix_update.specs.SameNames.{moved, start_of, is_outside, binding_at, AreInOneScope, RefersAlike, MeanAlike};
+
+use nix_scopes::{Binding, Reference, Resolution};
+use rnix::SyntaxNode;
+
+/// One of two texts has an entry more than the other one.
+#[derive(Clone, Copy)]
+pub struct Change {
+    /// Where the entry begins and ends in the longer text.
+    pub start: usize,
+    pub end: usize,
+    /// How many bytes longer that text is.
+    pub by: usize,
+}
+
+/// Names that do not mean the same: where they are in the longer and in the shorter text, if they are in both.
+#[derive(Clone, Copy, PartialEq, Eq, Debug)]
+pub struct Unlike {
+    pub longer: Option<usize>,
+    pub shorter: Option<usize>,
+}
+
+// Returns where an offset of the longer text is in the shorter one, if it is not in the entry.
+fn moved(change: Change, offset: usize) -> Option<usize>
+    ensures { result ≡ moved change offset }
+{
+    if offset < change.start {
+        Some(offset)
+    } else if offset < change.end {
+        None
+    } else if change.by <= offset {
+        Some(offset - change.by)
+    } else {
+        None
+    }
+}
+
+// Returns where a node begins.
+fn start_of(node: &SyntaxNode<'_>) -> usize
+    ensures { result ≡ start_of node.now }
+{
+    node.text_range().start()
+}
+
+// Returns whether a reference is not in the entry.
+fn is_outside(change: Change, reference: &Reference<'_>) -> bool
+    ensures { result ≡ is_outside change reference.now }
+{
+    let start = start_of(&reference.node);
+    start < change.start || change.end <= start
+}
+
+// Returns whether two bindings, if there are any, are in the same scope.
+fn are_in_one_scope(
+    change: Change,
+    longer: Option<&Binding<'_>>,
+    shorter: Option<&Binding<'_>>,
+) -> bool
+    ensures { Decides result (AreInOneScope change (option_map (λ binding. binding.now) longer.entry) (option_map (λ binding. binding.now) shorter.entry)) }
+{
+    match (longer, shorter) {
+        (Some(longer), Some(shorter)) => {
+            moved(change, start_of(&longer.scope)) == Some(start_of(&shorter.scope))
+        }
+        (None, None) => true,
+        _ => false,
+    }
+}
+
+// Returns the binding of a number, if there is one.
+fn binding_at<'r, 't>(names: &'r Resolution<'t>, number: Option<usize>) -> Option<&'r Binding<'t>>
+    ensures { option_map (λ binding. binding.now) result ≡ binding_at names.now number }
+{
+    names.bindings().get(number?)
+}
+
+// Returns whether a reference is the same one in the shorter text: its name is bound in the same scope, or by nothing in the text.
+fn refers_alike(
+    change: Change,
+    longer: &Resolution<'_>,
+    shorter: &Resolution<'_>,
+    reference: &Reference<'_>,
+    other: &Reference<'_>,
+) -> bool
+    ensures { Decides result (RefersAlike change longer.now shorter.now reference.now other.now) }
+{
+    reference.text == other.text
+        && reference.is_inherited == other.is_inherited
+        && reference.is_open == other.is_open
+        && are_in_one_scope(
+            change,
+            binding_at(longer, reference.binding),
+            binding_at(shorter, other.binding),
+        )
+}
+
+// Returns where a reference is, if there is one.
+fn place_of(reference: Option<&Reference<'_>>) -> Option<usize> {
+    match reference {
+        Some(reference) => Some(start_of(&reference.node)),
+        None => None,
+    }
+}
+
+// Returns names of which at least one does not mean the same.
+fn names_at(longer: Option<&Reference<'_>>, shorter: Option<&Reference<'_>>) -> Unlike {
+    Unlike {
+        longer: place_of(longer),
+        shorter: place_of(shorter),
+    }
+}
+
+/// Returns the first names outside of an entry that do not mean the same in the text with the entry and in that without it.
+pub fn first_unlike(
+    change: Change,
+    longer: &Resolution<'_>,
+    shorter: &Resolution<'_>,
+) -> Option<Unlike>
+    ensures none { IfNone result (MeanAlike change longer.now shorter.now) }
+    ensures some { IfSome result (λ names. ¬ MeanAlike change longer.now shorter.now) }
+{
+    let others = shorter.references();
+    let mut next = 0;
+    for reference in longer.references() {
+        if is_outside(change, reference) {
+            let Some(other) = others.get(next) else {
+                return Some(names_at(Some(reference), None));
+            };
+            if !refers_alike(change, longer, shorter, reference, other) {
+                return Some(names_at(Some(reference), Some(other)));
+            }
+            next += 1;
+        }
+    }
+    let other = others.get(next)?;
+    Some(names_at(None, Some(other)))
+}

@@ -1,0 +1,81 @@
+//! Removing an entry.
+
+ghost use Rattle.std.specs.Prelude.{◌≡◌, false, string_bytes, IfOk};
+ghost use Rattle.nix_update.specs.Updated.{IfMade, IsEntryRemoved, IsMeaningKeptWithout};
+
+use crate::guard::{Site, hinders_removing};
+use crate::makers::Maker;
+use crate::outcome::{Attempt, Reason, refuse_at};
+use crate::place::start_of;
+use crate::request::Update;
+use crate::ways::Way;
+use rnix::SyntaxNode;
+use rnix::ast::{AstNode, AttrpathValue};
+use rnix_edit::{Edited, remove};
+use std::alloc::{AllocError, Global};
+
+// Returns a text without an entry, unless without it a name would refer to something else and it is not forced.
+fn keep_removed(
+    alloc: Global,
+    site: Site<'_, '_>,
+    is_forced: bool,
+    entry: &SyntaxNode<'_>,
+    made: String,
+) -> Result<Attempt, AllocError>
+    ensures { IfOk result (IfMade (λ text. (text ≡ string_bytes made)
+        × (is_forced ≡ false → IsMeaningKeptWithout site.entry.text.now site.entry.root.now entry.now text))) }
+{
+    if is_forced {
+        return Ok(Attempt::Made(made));
+    }
+    match hinders_removing(alloc, site, entry, made.as_str())? {
+        Some(refused) => Ok(Attempt::Refused(refused)),
+        None => Ok(Attempt::Made(made)),
+    }
+}
+
+// Returns the path of an entry, as it is written.
+fn written_path<'t>(entry: &SyntaxNode<'t>) -> &'t str {
+    match AttrpathValue::cast(entry.clone()) {
+        Some(entry) => match entry.attrpath() {
+            Some(path) => path.syntax().text(),
+            None => "",
+        },
+        None => "",
+    }
+}
+
+/// Removes an entry that makes the attribute.
+pub fn remove_entry(
+    alloc: Global,
+    text: &str,
+    root: &SyntaxNode<'_>,
+    names: &[String],
+    ways: &[Way<'_>],
+    update: Update<'_>,
+    maker: &Maker<'_>,
+) -> Result<Attempt, AllocError>
+    ensures { IfOk result (IfMade (IsEntryRemoved update.entry.is_forced text.now root.now maker.now)) }
+{
+    let entry = &maker.entry;
+    if !maker.meeting.is_removable() {
+        return Ok(Attempt::Refused(refuse_at(Reason::Inherited, start_of(entry))));
+    }
+    let made = match remove(alloc, text, root, entry)? {
+        Edited::Done(made) => made,
+        Edited::Refused(refusal) => {
+            let refused = refuse_at(Reason::Edit(refusal), start_of(entry));
+            return Ok(Attempt::Refused(refused));
+        }
+    };
+    let site = Site {
+        text,
+        root,
+        set: &maker.home,
+        names,
+        ways,
+        at: maker.at,
+        written: written_path(entry),
+    };
+    keep_removed(alloc, site, update.is_forced, entry, made)
+}
