@@ -3,10 +3,10 @@
 use crate::json::write_json;
 use crate::sarif::write_result;
 use nix_cli::write_excerpt;
-use nix_diagnostics::{Diagnostic, Note, diagnostics};
+use nix_diagnostics::{Diagnostic, Note, all_diagnostics, diagnostics};
 use rnix::{Root, TextRange};
 use rnix_text::{ColumnUnit, LineIndex, Position};
-use std::alloc::Global;
+use std::alloc::{AllocError, Global};
 use std::io;
 use std::io::Write;
 
@@ -26,6 +26,8 @@ pub enum Format {
 pub struct Style {
     /// The most diagnostics of a file that are printed.
     pub limit: usize,
+    /// Whether each error has its own diagnostic. Otherwise errors that follow from the same mistake share one.
+    pub is_each: bool,
     /// Their form.
     pub format: Format,
     /// Whether the text is colored.
@@ -97,6 +99,16 @@ fn write_diagnostic<W: Write>(
     Ok(())
 }
 
+// The diagnostics of a text that the style asks for.
+fn find(alloc: Global, text: &str, style: Style) -> Result<Vec<Diagnostic>, AllocError> {
+    let parse = Root::parse(alloc, text)?;
+    if style.is_each {
+        all_diagnostics(alloc, &parse)
+    } else {
+        diagnostics(alloc, &parse)
+    }
+}
+
 /// Writes the diagnostics of a text, up to the limit, after `earlier` diagnostics of other texts, and returns their number. Columns count
 /// characters, from 1.
 pub fn check_text<W: Write>(
@@ -107,7 +119,7 @@ pub fn check_text<W: Write>(
     earlier: usize,
     out: &mut W,
 ) -> io::Result<usize> {
-    let found = diagnostics(alloc, &Root::parse(alloc, text)?)?;
+    let found = find(alloc, text, style)?;
     if found.is_empty() {
         return Ok(0);
     }

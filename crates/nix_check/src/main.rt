@@ -24,10 +24,10 @@ const PROGRAM: Program = Program {
 nix-check [OPTION..] [FILE..]
 
 Prints the syntax errors of Nix files: the place, the line, what was expected there, and what may help. A mistake that leads to several errors
-is reported once. A folder stands for all files in it and below that end with .nix; - and no FILE mean standard input.
+is reported once, unless --all is given. A folder stands for all files in it and below that end with .nix; - and no FILE mean standard input.
 The grammar is that of rnix 0.14, which differs from Nix's in a few places: see docs/nix.md.
 
-    --all      print all errors of a file instead of the first 20
+    --all      print every error of a file: also those that follow from another, and more than the first 20
     --json     print each error as a line of JSON
     --sarif    print all errors as one SARIF 2.1.0 file
     --color WHEN    use colors: auto (at a terminal, unless NO_COLOR is set), always or never
@@ -124,6 +124,7 @@ fn check_all(rt: &HostRuntime, arguments: &Arguments, format: Format) -> io::Res
         } else {
             usize::MAX
         },
+        is_each: arguments.has("--all"),
         format,
         is_colored: is_colored(rt, arguments),
     };

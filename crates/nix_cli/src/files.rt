@@ -4,6 +4,8 @@ ghost use Rattle.std.specs.Io.KnownBytes.{Keeps};
 
 use crate::arguments::Program;
 use crate::file_replacement::replace_text;
+use std::alloc::AllocError;
+use std::fs::FileType;
 use std::io::{Read, Write};
 use std::{fmt, fs, io};
 
@@ -43,6 +45,15 @@ fn kind_of(rt: &HostRuntime, name: &str) -> Kind {
     }
 }
 
+// Which symbolic links in folders count as files.
+#[derive(Clone, Copy, PartialEq, Eq)]
+enum Links {
+    // Those that lead to regular files, or nowhere.
+    Read,
+    // None.
+    PassedOver,
+}
+
 // What is found in a folder and below.
 #[derive(Drop)]
 struct Found {
@@ -50,8 +61,46 @@ struct Found {
     names: Vec<String>,
     // The folders that are still to be read.
     folders: Vec<String>,
+    // What was passed over although its name ends with `.nix`, each with the reason.
+    passed_over: Vec<String>,
+    // Which symbolic links count as files.
+    links: Links,
     // Whether all of the files are regular.
     are_regular: bool,
+}
+
+// Why a file in a folder is passed over, if it is. Reading anything but a regular file might wait forever.
+fn reason_of(rt: &HostRuntime, name: &str, kind: FileType, links: Links) -> Option<&'static str> {
+    if kind.is_file() {
+        return None;
+    }
+    if kind.is_symlink() && links == Links::PassedOver {
+        return Some("a symbolic link");
+    }
+    match fs::metadata(rt, name) {
+        Ok(data) if !data.is_file() => Some("not a regular file"),
+        Ok(_) | Err(_) => None,
+    }
+}
+
+// Adds a file in a folder, unless it is passed over.
+fn add_file(
+    rt: &HostRuntime,
+    name: String,
+    kind: FileType,
+    found: &mut Found,
+) -> Result<(), AllocError> {
+    match reason_of(rt, name.as_str(), kind, found.links) {
+        Some(reason) => {
+            let message = format!(in rt.alloc(); "{name}: {reason}, passed over")?;
+            found.passed_over.push(message)?;
+        }
+        None => {
+            found.names.push(name)?;
+            found.are_regular = found.are_regular && kind.is_file();
+        }
+    }
+    Ok(())
 }
 
 // Adds what is in a folder. Links to folders are not followed.
@@ -63,18 +112,19 @@ fn list(rt: &HostRuntime, folder: &str, found: &mut Found) -> io::Result<()> {
         if kind.is_dir() {
             found.folders.push(name)?;
         } else if name.ends_with(".nix") {
-            found.names.push(name)?;
-            found.are_regular = found.are_regular && kind.is_file();
+            add_file(rt, name, kind, found)?;
         }
     }
     Ok(())
 }
 
-// What is found in a folder and below, the names of the files sorted.
-fn files_below(rt: &HostRuntime, folder: &str) -> io::Result<Found> {
+// What is found in a folder and below, sorted.
+fn files_below(rt: &HostRuntime, folder: &str, links: Links) -> io::Result<Found> {
     let mut found = Found {
         names: Vec::new(rt.alloc()),
         folders: Vec::new(rt.alloc()),
+        passed_over: Vec::new(rt.alloc()),
+        links,
         are_regular: true,
     };
     found.folders.push(String::from_str(rt.alloc(), folder)?)?;
@@ -85,44 +135,73 @@ fn files_below(rt: &HostRuntime, folder: &str) -> io::Result<Found> {
         list(rt, next.as_str(), &mut found)?;
     }
     found.names.sort()?;
+    found.passed_over.sort()?;
     Ok(found)
 }
 
-/// Returns the files that the arguments name: `-` is standard input, a folder means all files in it and below that end with `.nix`, and
-/// any other name is a file. No names mean standard input. A folder that cannot be read is reported and counted.
-pub fn find_files(rt: &HostRuntime, program: &Program, names: &[String]) -> io::Result<Files> {
-    Ok(find_inputs(rt, program, names)?.files)
+// Adds the files in a folder and below, and reports what is passed over there. A folder that cannot be read is reported and counted.
+fn add_folder(
+    rt: &HostRuntime,
+    program: &Program,
+    folder: &str,
+    links: Links,
+    inputs: &mut Inputs,
+) -> io::Result<()> {
+    let below = match files_below(rt, folder, links) {
+        Ok(below) => below,
+        Err(error) => {
+            inputs.files.failed = inputs.files.failed.saturating_add(1);
+            return eprintln!(rt; "{}: {folder}: {error}", program.name);
+        }
+    };
+    inputs.files.names.extend(below.names)?;
+    inputs.are_regular = inputs.are_regular && below.are_regular;
+    for message in &below.passed_over {
+        eprintln!(rt; "{}: {message}", program.name)?;
+    }
+    Ok(())
 }
 
-/// Finds files as [`find_files`] does, for [`Inputs::read_text`].
+/// Returns the files that a program replaces: those of [`find_inputs`], except that symbolic links in folders are passed over, and reported.
+pub fn find_files(rt: &HostRuntime, program: &Program, names: &[String]) -> io::Result<Files> {
+    Ok(inputs_of(rt, program, names, Links::PassedOver)?.files)
+}
+
+/// Returns the files that the arguments name, for [`Inputs::read_text`]: `-` is standard input, a folder means all regular files in it and below
+/// that end with `.nix`, with symbolic links to such files, and any other name is a file. No names mean standard input. Anything else in a folder
+/// that ends with `.nix` is passed over, and reported. A folder that cannot be read is reported and counted.
 pub fn find_inputs(rt: &HostRuntime, program: &Program, names: &[String]) -> io::Result<Inputs> {
-    let mut files = Files {
-        names: Vec::new(rt.alloc()),
-        failed: 0,
+    inputs_of(rt, program, names, Links::Read)
+}
+
+// Returns the files that the arguments name.
+fn inputs_of(
+    rt: &HostRuntime,
+    program: &Program,
+    names: &[String],
+    links: Links,
+) -> io::Result<Inputs> {
+    let mut inputs = Inputs {
+        files: Files {
+            names: Vec::new(rt.alloc()),
+            failed: 0,
+        },
+        are_regular: true,
     };
     if names.is_empty() {
-        files.names.push(String::from_str(rt.alloc(), "-")?)?;
+        let input = String::from_str(rt.alloc(), "-")?;
+        inputs.files.names.push(input)?;
     }
-    let mut are_regular = true;
     for name in names {
         let kind = kind_of(rt, name.as_str());
-        if kind != Kind::Folder {
-            files.names.push(name.clone()?)?;
-            are_regular = are_regular && kind == Kind::Regular;
-            continue;
-        }
-        match files_below(rt, name.as_str()) {
-            Ok(below) => {
-                files.names.extend(below.names)?;
-                are_regular = are_regular && below.are_regular;
-            }
-            Err(error) => {
-                files.failed = files.failed.saturating_add(1);
-                eprintln!(rt; "{}: {name}: {error}", program.name)?;
-            }
+        if kind == Kind::Folder {
+            add_folder(rt, program, name.as_str(), links, &mut inputs)?;
+        } else {
+            inputs.files.names.push(name.clone()?)?;
+            inputs.are_regular = inputs.are_regular && kind == Kind::Regular;
         }
     }
-    Ok(Inputs { files, are_regular })
+    Ok(inputs)
 }
 
 /// The name of a file in messages.

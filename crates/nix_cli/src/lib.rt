@@ -14,7 +14,7 @@ pub use arguments::{Arguments, Program, Start, VERSION, parse_arguments, read_ar
 pub use colors::is_colored;
 pub use ending::{FAILED, FOUND, end, refuse, refuse_after_output};
 pub use excerpt::write_excerpt;
-pub use file_replacement::replace_text;
+pub use file_replacement::{replace_text, replaceable};
 pub use files::{
     Files, Inputs, find_files, find_inputs, place_of, read_text, shown_name, write_text,
 };

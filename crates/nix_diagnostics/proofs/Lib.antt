@@ -1,3 +1,5 @@
 pub mod BracketExamples
+pub mod ApartExamples
+pub mod ApartLemmas
 pub mod FollowingLemmas
 pub mod ShownLemmas

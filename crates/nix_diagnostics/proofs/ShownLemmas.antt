@@ -10,7 +10,7 @@ use Rattle.nix_diagnostics.specs.declared.diagnostic.Diagnostic.{Diagnostic}
 use Rattle.nix_diagnostics.specs.Places.{place_of}
 use Rattle.nix_diagnostics.specs.Following.{must_follow, MayFollow}
 use Rattle.nix_diagnostics.proofs.FollowingLemmas.{may_not}
-use Rattle.nix_diagnostics.specs.Shown.{IsWorded, IsFolded, MayAllFollow, Shows, none, one_more, shown}
+use Rattle.nix_diagnostics.specs.Shown.{IsWorded, IsFolded, IsSingle, MayAllFollow, Shows, none, one_more, shown, ShowsEach, none_each, one_each}
 
 -- no diagnostics show no errors
 pub nothing_shown : (root : Located) (all faults : List Fault) (ds : List Diagnostic) → faults ≡ [] → ds ≡ [] → Shows root all faults ds
@@ -37,12 +37,23 @@ some_shown root all faults (d ∷ ds) fault are may = omega arith
 
 -- one error more is shown by a diagnostic that is added
 pub shown_added : (root : Located) (all faults more : List Fault) (ds next : List Diagnostic) (fault : Fault) (d : Diagnostic) →
-    Shows root all faults ds → must_follow root faults fault ≡ false → bounds_of d.range ≡ place_of root fault → IsWorded d → d.first_error ≡ length faults →
-    d.end_error ≡ length faults + 1 → more ≡ faults ++ fault ∷ [] → next ≡ ds ++ d ∷ [] → Shows root all more next
-shown_added root all faults more ds next fault d are new at worded first end is added =
+    Shows root all faults ds → must_follow root faults fault ≡ false → IsSingle root (length faults) fault d →
+    more ≡ faults ++ fault ∷ [] → next ≡ ds ++ d ∷ [] → Shows root all more next
+shown_added root all faults more ds next fault d are new single is added =
     subst (λ f. Shows root all f next) (sym is)
     (subst (λ r. Shows root all (faults ++ fault ∷ []) r) (sym added)
-    (shown faults [] ds fault d are new none at worded first (end ∙ sym (length_push faults fault))))
+    (shown faults [] ds fault d are new none single.range single.worded single.first (single.end ∙ sym (length_push faults fault))))
+
+-- one error more is shown by one diagnostic more
+pub each_added : (root : Located) (faults more : List Fault) (ds next : List Diagnostic) (fault : Fault) (d : Diagnostic) → ShowsEach root faults ds →
+    IsSingle root (length faults) fault d → more ≡ faults ++ fault ∷ [] → next ≡ ds ++ d ∷ [] → ShowsEach root more next
+each_added root faults more ds next fault d are single is added =
+    subst (λ f. ShowsEach root f next) (sym is) (subst (λ r. ShowsEach root (faults ++ fault ∷ []) r) (sym added) (one_each faults ds fault d are single))
+
+-- no diagnostics show no errors, one each
+pub none_shown_each : (root : Located) (faults : List Fault) (ds : List Diagnostic) → faults ≡ [] → ds ≡ [] → ShowsEach root faults ds
+none_shown_each root faults ds no_error no_ds =
+    subst (λ f. ShowsEach root f ds) (sym no_error) (subst (λ r. ShowsEach root [] r) (sym no_ds) none_each)
 
 -- what shows some errors with a last diagnostic, taken apart
 pub record IsLastRun (root : Located) (all faults : List Fault) (before : List Diagnostic) (d : Diagnostic) : Type 0 where

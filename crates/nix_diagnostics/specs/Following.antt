@@ -1,10 +1,10 @@
 -- Which errors follow from an earlier one, so that they may share its diagnostic.
-use Rattle.std.specs.Prelude.{◌≡◌, ℕ, ◌+◌, ◌-◌, ◌≤◌, ◌==◌, Bool, true, false, not, nat_lt, ◌||◌, List, [], ◌∷◌, ◌++◌, take, drop, Option, Some, None}
+use Rattle.std.specs.Prelude.{◌≡◌, ℕ, ◌+◌, ◌-◌, ◌≤◌, ◌==◌, Bool, true, false, not, nat_lt, ◌||◌, ◌&&◌, List, [], ◌∷◌, ◌++◌, take, drop, Option, Some, None}
 use Rattle.std.specs.Prelude.{is_some, IfSome, if◌then◌else◌}
 use Rattle.std.specs.List.{list_any}
 use Rattle.rnix_kinds.specs.declared.kinds.SyntaxKind.{SyntaxKind}
 use Rattle.rnix_kinds.specs.declared.kinds.SyntaxKind.TheVariants.{NODE_LIST, NODE_PATTERN, NODE_STRING, NODE_DYNAMIC, NODE_INHERIT}
-use Rattle.rnix_kinds.specs.declared.kinds.SyntaxKind.TheVariants.{NODE_ATTRPATH_VALUE, TOKEN_STRING_START}
+use Rattle.rnix_kinds.specs.declared.kinds.SyntaxKind.TheVariants.{NODE_ATTRPATH_VALUE, TOKEN_STRING_START, TOKEN_STRING_CONTENT}
 use Rattle.rnix_green.specs.declared.range.TextRange.{TextRange}
 use Rattle.rnix_green.specs.Range.{Extent, bounds_of}
 use Rattle.rnix_green.specs.Tree.{Located, item_of, extent_of, text_at, IsTokenAt}
@@ -13,7 +13,9 @@ use Rattle.rnix_grammar.specs.Fault.{Fault, extra, duplicated_args, unexpected_e
 use Rattle.rnix_grammar.specs.Ranges.{range_in, is_error_node}
 use Rattle.rnix.specs.WholeTree.{IsInTree}
 use Rattle.nix_diagnostics.specs.Places.{end_of_items, place_of}
-use Rattle.nix_diagnostics.specs.Brackets.{opens, skips_brackets}
+use Rattle.nix_diagnostics.specs.Brackets.{opens, closes, skips_brackets}
+use Rattle.nix_diagnostics.specs.Slips.{is_slip}
+use Rattle.nix_diagnostics.specs.Apart.{is_apart}
 
 -- a node of the kind is one in which one mistake leads to several errors
 abbrev pub is_group : SyntaxKind → Bool
@@ -24,12 +26,6 @@ is_group NODE_DYNAMIC = true
 is_group NODE_INHERIT = true
 is_group NODE_ATTRPATH_VALUE = true
 is_group kind = false
-
--- the error is about an unexpected or a missing token: not about a duplicate argument, nor about tokens after the expression
-abbrev pub is_slip : Fault → Bool
-is_slip (extra range) = false
-is_slip (duplicated_args range name) = false
-is_slip fault = true
 
 -- the error is about tokens after the expression
 abbrev pub is_extra : Fault → Bool
@@ -73,11 +69,12 @@ abbrev pub is_near : Located → Option Fault → Fault → Bool
 is_near root None fault = false
 is_near root (Some last) fault = are_close (text_at root) (place_of root last).end (place_of root fault).start
 
--- an error has to follow from earlier ones: it is about tokens after the expression, in which there is an error; or it is near the last error
+-- an error has to follow from earlier ones: it is about tokens after the expression, in which there is an error; or it is near the last error, and
+-- not apart from the earlier ones
 abbrev pub must_follow : Located → List Fault → Fault → Bool
 must_follow root before (extra range) = is_some (last_slip before)
 must_follow root before (duplicated_args range name) = false
-must_follow root before fault = is_near root (last_slip before) fault
+must_follow root before fault = not (is_apart root before fault) && is_near root (last_slip before) fault
 
 -- the error node of an error
 pub record IsErrorNode (root : Located) (fault : Fault) (node : Located) : Type 0 where
@@ -112,42 +109,69 @@ abbrev pub group_around : Option Located → Option Extent
 group_around None = None
 group_around (Some node) = range_if_group (parent_of node)
 
--- a token of the kind begins a string
-abbrev pub begins_string : SyntaxKind → Bool
-begins_string TOKEN_STRING_START = true
-begins_string kind = false
-
--- the offset from which errors count as following a token that opens something: its start, but 0 for a string, which takes any text
-abbrev pub counts_from : Located → ℕ
-counts_from token = if begins_string (item_of token).kind then 0 else (item_of token).start
+-- a token of the kind begins a string, or is in one
+abbrev pub is_of_string : SyntaxKind → Bool
+is_of_string TOKEN_STRING_START = true
+is_of_string TOKEN_STRING_CONTENT = true
+is_of_string kind = false
 
 -- a token of the text
 pub record IsTokenOf (root token : Located) : Type 0 where
   pub tree : IsInTree root token
   pub is_token : IsTokenAt token
 
+-- the last token of a text, other than trivia, has such a kind
+pub record EndsWith (root : Located) (test : SyntaxKind → Bool) : Type 0 where
+  pub token : Located
+  pub is_token : IsTokenOf root token
+  pub passes : test (item_of token).kind ≡ true
+  pub end : (item_of token).end ≡ end_of_items root
+
+-- the tokens of the error node of an error, one of which may be unmatched, close something around it, or leave something open
+pub record Skips (root : Located) (fault : Fault) : Type 0 where
+  pub node : Located
+  pub unmatched : Option TextRange
+  pub is_node : IsErrorNode root fault node
+  pub skips : skips_brackets unmatched node ≡ true
+
 -- the parser loses its way at an error
 pub data Loses (root : Located) (all : List Fault) (fault : Fault) : Type 0 where
   -- the error has no range: at the limit of nesting, or at the end of the text
   no_range : range_in fault ≡ None → Loses root all fault
   at_end : end_of_items root ≤ (place_of root fault).end → Loses root all fault
-  -- the tokens of its error node, one of which may be unmatched, close something around it, or leave something open
-  skips : (node : Located) (unmatched : Option TextRange) → IsErrorNode root fault node → skips_brackets unmatched node ≡ true → Loses root all fault
+  -- its error node skips brackets
+  skips : Skips root fault → Loses root all fault
   -- it follows a token that opens something, in a text that ends too early
-  after_opening : (token : Located) → IsTokenOf root token → opens (item_of token).kind ≡ true → counts_from token ≤ (place_of root fault).start →
+  after_opening : (token : Located) → IsTokenOf root token → opens (item_of token).kind ≡ true → (item_of token).start ≤ (place_of root fault).start →
       list_any is_at_end all ≡ true → Loses root all fault
 
--- the parser loses its way at one of these errors
-pub record AreLost (root : Located) (all before : List Fault) : Type 0 where
+-- one of these errors has a property
+pub record OneOf (property : Fault → Type 0) (faults : List Fault) : Type 0 where
   pub first : List Fault
   pub fault : Fault
   pub rest : List Fault
-  pub is : before ≡ first ++ fault ∷ rest
-  pub loses : Loses root all fault
+  pub is : faults ≡ first ++ fault ∷ rest
+  pub holds : property fault
+
+-- the parser loses its way at one of these errors
+abbrev pub AreLost : Located → List Fault → List Fault → Type 0
+AreLost root all before = OneOf (Loses root all) before
+
+-- an error that is not apart from earlier ones may share their diagnostic
+pub data MayShare (root : Located) (all before : List Fault) (fault : Fault) : Type 0 where
+  -- it is in the list, pattern, .. of the last error
+  same_group : (last : Fault) (range : Extent) → last_slip before ≡ Some last → IsInGroup root last range → IsInGroup root fault range →
+      MayShare root all before fault
+  -- the parser has lost its way
+  lost : AreLost root all before → MayShare root all before fault
 
 -- an error may share the diagnostic of earlier ones
 pub data MayFollow (root : Located) (all before : List Fault) (fault : Fault) : Type 0 where
   must : must_follow root before fault ≡ true → MayFollow root all before fault
-  same_group : (last : Fault) (range : Extent) → last_slip before ≡ Some last → IsInGroup root last range → IsInGroup root fault range →
+  -- it is about an unexpected or a missing token, and not apart from the earlier ones
+  shares : is_slip fault ≡ true → is_apart root before fault ≡ false → MayShare root all before fault → MayFollow root all before fault
+  -- the text ends inside a string: whatever follows the first error may be on the wrong side of a quote
+  in_string : EndsWith root is_of_string → is_some (last_slip before) ≡ true → MayFollow root all before fault
+  -- it is at the end of a text that ends with what closes something, and brackets were skipped before
+  unbalanced : is_slip fault ≡ true → OneOf (Skips root) before → EndsWith root closes → end_of_items root ≤ (place_of root fault).end →
       MayFollow root all before fault
-  lost : AreLost root all before → MayFollow root all before fault

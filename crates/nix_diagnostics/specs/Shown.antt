@@ -30,6 +30,19 @@ pub data Shows (root : Located) (all : List Fault) : List Fault → List Diagnos
 abbrev pub AreShown : Located → List Fault → List Diagnostic → Type 0
 AreShown root all ds = Shows root all all ds
 
+-- a diagnostic shows the error of a number alone
+pub record IsSingle (root : Located) (number : ℕ) (fault : Fault) (d : Diagnostic) : Type 0 where
+  pub range : bounds_of d.range ≡ place_of root fault
+  pub worded : IsWorded d
+  pub first : d.first_error ≡ number
+  pub end : d.end_error ≡ number + 1
+
+-- diagnostics show errors, one each, in order
+pub data ShowsEach (root : Located) : List Fault → List Diagnostic → Type 0 where
+  none_each : ShowsEach root [] []
+  one_each : (faults : List Fault) (ds : List Diagnostic) (fault : Fault) (d : Diagnostic) → ShowsEach root faults ds →
+      IsSingle root (length faults) fault d → ShowsEach root (faults ++ fault ∷ []) (ds ++ d ∷ [])
+
 -- the last of some diagnostics covers one more error, up to a number
 pub record IsFolded (number : ℕ) (old new : List Diagnostic) : Type 0 where
   pub before : List Diagnostic

@@ -5,8 +5,9 @@ ghost use Rattle.rnix_green.specs.Range.{bounds_of};
 ghost use Rattle.rnix_grammar.specs.Fault.{fault_of};
 ghost use Rattle.rnix.specs.ParseResult.{root_of};
 ghost use Rattle.nix_diagnostics.specs.Places.{end_of_items, error_range, own_range, place_of};
-ghost use Rattle.nix_diagnostics.specs.Shown.{IsFolded, AreShown};
+ghost use Rattle.nix_diagnostics.specs.Shown.{IsFolded, IsSingle, ShowsEach, AreShown};
 
+use crate::apart::semicolons;
 use crate::brackets::match_brackets;
 use crate::folding::Folding;
 use crate::message::message;
@@ -79,6 +80,50 @@ fn fold(found: &mut Vec<Diagnostic>, number: usize) -> Result<(), AllocError>
     Ok(())
 }
 
+// The diagnostic of an error alone.
+fn single<'t>(
+    alloc: Global,
+    number: usize,
+    error: &ParseError,
+    root: &SyntaxNode<'t>,
+    node: Option<SyntaxNode<'t>>,
+    range: TextRange,
+    finder: &mut NoteFinder,
+) -> Result<Diagnostic, AllocError>
+    requires room { number + 1 < 2 ^ 64 }
+    requires place { bounds_of range ≡ place_of root.now (fault_of error.now) }
+    ensures { IfOk result (IsSingle root.now number (fault_of error.now)) }
+{
+    Ok(Diagnostic {
+        range,
+        message: message(alloc, error, node.as_ref())?,
+        first_error: number,
+        end_error: number + 1,
+        notes: finder.notes(alloc, error, root, node, range)?,
+    })
+}
+
+/// Returns a diagnostic for each error of a text, in order.
+pub fn all_diagnostics(alloc: Global, read: &Parse) -> Result<Vec<Diagnostic>, AllocError>
+    ensures { IfOk result (λ found. ShowsEach (root_of read.now) read.now.faults found.items) }
+{
+    let mut found = Vec::new(alloc);
+    let errors = read.errors();
+    let root = read.syntax();
+    let matching = match_brackets(alloc, &root)?;
+    let end = matching.end;
+    let mut finder = NoteFinder::new(matching);
+    let mut earlier = root.clone();
+    for number in 0..errors.len() {
+        let error = &errors[number];
+        let range = place_of(error, &root, end);
+        let node = error_node(&root, &mut earlier, error);
+        let alone = single(alloc, number, error, &root, node, range, &mut finder)?;
+        found.push(alone)?;
+    }
+    Ok(found)
+}
+
 /// Returns the diagnostics of a text, in the order of its errors. Errors that may follow from the same mistake share a diagnostic.
 pub fn diagnostics(alloc: Global, read: &Parse) -> Result<Vec<Diagnostic>, AllocError>
     ensures { IfOk result (λ found. AreShown (root_of read.now) read.now.faults found.items) }
@@ -91,7 +136,8 @@ pub fn diagnostics(alloc: Global, read: &Parse) -> Result<Vec<Diagnostic>, Alloc
     let root = read.syntax();
     let matching = match_brackets(alloc, &root)?;
     let end = matching.end;
-    let mut folding = Folding::new(&root, errors, matching.mismatch, end);
+    let entries = semicolons(alloc, &root)?;
+    let mut folding = Folding::new(&root, errors, matching.mismatch, end, entries);
     let mut finder = NoteFinder::new(matching);
     let mut earlier = root.clone();
     for number in 0..errors.len() {
@@ -102,15 +148,8 @@ pub fn diagnostics(alloc: Global, read: &Parse) -> Result<Vec<Diagnostic>, Alloc
         if folds {
             fold(&mut found, number)?;
         } else {
-            let message = message(alloc, error, node.as_ref())?;
-            let notes = finder.notes(alloc, error, &root, node, range)?;
-            found.push(Diagnostic {
-                range,
-                message,
-                first_error: number,
-                end_error: number + 1,
-                notes,
-            })?;
+            let alone = single(alloc, number, error, &root, node, range, &mut finder)?;
+            found.push(alone)?;
         }
     }
     Ok(found)

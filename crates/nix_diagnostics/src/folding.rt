@@ -1,25 +1,38 @@
 //! Deciding which errors follow from an earlier one.
 
-ghost use Rattle.std.specs.Prelude.{◌≡◌, ◌+◌, ◌^◌, ◌<◌, ◌≤◌, [], true, false, ◌||◌, nat_lt, is_none, IfSome, option_map, map};
-ghost use Rattle.std.specs.List.{list_any};
+ghost use Rattle.std.specs.Prelude.{◌≡◌, ◌+◌, ◌^◌, ◌<◌, ◌≤◌, [], true, Some, ◌||◌, ◌&&◌, is_none, is_some, option_map, map};
 ghost use Rattle.rnix_green.specs.Range.{bounds_of};
 ghost use Rattle.rnix_green.specs.Relatives.{parent_of};
 ghost use Rattle.rnix_green.specs.Tree.{item_of};
 ghost use Rattle.rnix_grammar.specs.Fault.{fault_of};
 ghost use Rattle.rnix_grammar.specs.Ranges.{range_in};
 ghost use Rattle.nix_diagnostics.specs.Places.{end_of_items, place_of};
-ghost use Rattle.nix_diagnostics.specs.Brackets.{opens, has_range, closes_around, depth_after, skips_brackets};
-ghost use Rattle.nix_diagnostics.specs.Following.{is_group, is_at_end, is_slip, is_extra, is_blank, words, are_close, counts_from, range_if_group};
-ghost use Rattle.nix_diagnostics.specs.Following.{group_around, IfErrorNode};
-ghost use Rattle.nix_diagnostics.specs.Known.{are_shared, is_from, skips_if, loses, is_following, IsLostFrom, Knows, JudgesNext};
+ghost use Rattle.nix_diagnostics.specs.Brackets.{opens, closes, has_range, closes_around, depth_after, skips_brackets};
+ghost use Rattle.nix_diagnostics.specs.Slips.{is_slip};
+ghost use Rattle.nix_diagnostics.specs.Apart.{larger, semicolons_of};
+ghost use Rattle.nix_diagnostics.specs.Following.{is_group, is_extra, range_if_group, group_around, IfErrorNode};
+ghost use Rattle.nix_diagnostics.specs.Known.{are_shared, is_from, skips_if, loses, is_apart_in, is_sharing, is_following, Knows, HasReached, JudgesNext};
 
-use crate::brackets::{Mismatch, Opening, closes, opens};
+use crate::apart::{Semicolon, ends_between, first_since};
+use crate::brackets::{Mismatch, closes, opens};
+use crate::ends::{ends_closed, ends_in_string, lost_from};
+use crate::near::are_close;
 use SyntaxKind::*;
 use rnix::{NodeOrToken, ParseError, SyntaxKind, SyntaxNode, SyntaxToken, TextRange};
 
 /// What is known of the errors so far.
-#[derive(Clone, Copy)]
+#[derive(Drop)]
 pub struct Folding {
+    // The `;` of the entries and `inherit`s, in order.
+    semicolons: Vec<Semicolon>,
+    // How far the errors about unexpected or missing tokens reach, and the number of the first `;` that does not start before that.
+    reach: usize,
+    passed: usize,
+    // Whether the text ends inside a string, and whether it ends with what closes something.
+    in_string: bool,
+    ends_closed: bool,
+    // Whether an error node skipped brackets.
+    is_unbalanced: bool,
     // The offset of what is never closed, in a text that ends too early: later errors follow from it.
     lost_from: Option<usize>,
     // The first token that closes nothing.
@@ -76,93 +89,11 @@ fn is_shared(own: Option<TextRange>, last: Option<TextRange>) -> bool
     }
 }
 
-// Whether a byte is white space.
-fn is_blank(byte: u8) -> bool
-    ensures { result ≡ is_blank byte }
+// The larger of two numbers.
+fn larger(one: usize, two: usize) -> usize
+    ensures { result ≡ larger one two }
 {
-    byte == b' ' || byte == b'\n' || byte == b'\t' || byte == b'\r'
-}
-
-// Whether a text has at most two words.
-fn has_few_words(text: &[u8]) -> bool
-    ensures { result ≡ nat_lt (words false text.now) 3 }
-{
-    let mut count: usize = 0;
-    let mut inside = false;
-    for byte in text {
-        let is_blank = is_blank(*byte);
-        if !is_blank && !inside {
-            if count == 2 {
-                return false;
-            }
-            count += 1;
-        }
-        inside = !is_blank;
-    }
-    true
-}
-
-// Whether there is no line feed, or at most two words, between two offsets.
-fn are_close(text: &[u8], from: usize, to: usize) -> bool
-    ensures { result ≡ are_close text.now from to }
-{
-    let rest = text.get(from..).unwrap_or(&[]);
-    let between = rest.get(..to.saturating_sub(from)).unwrap_or(rest);
-    !between.contains(&b'\n') || has_few_words(between)
-}
-
-// Whether an error is at the end of the text.
-fn is_at_end(error: &ParseError) -> bool
-    ensures { result ≡ is_at_end (fault_of error.now) }
-{
-    matches!(
-        error,
-        ParseError::UnexpectedEOF | ParseError::UnexpectedEOFWanted(_)
-    )
-}
-
-// Whether a text ends too early.
-fn ends_early(errors: &[ParseError]) -> bool
-    ensures { result ≡ list_any is_at_end (map fault_of errors.now) }
-{
-    for error in errors {
-        if is_at_end(error) {
-            return true;
-        }
-    }
-    false
-}
-
-// The offset from which errors count as following a token that opens something: its start, but 0 for a string, which takes any text.
-fn counts_from(token: &SyntaxToken<'_>) -> Option<usize>
-    ensures { IfSome result (λ start. (opens (item_of token.now).kind ≡ true) × (start ≡ counts_from token.now)) }
-{
-    let kind = token.kind();
-    if kind == TOKEN_STRING_START {
-        return Some(0);
-    }
-    if opens(kind) {
-        Some(token.text_range().start())
-    } else {
-        None
-    }
-}
-
-// The offset from which errors count as following what is never closed, in a text that ends too early.
-fn lost_from(
-    root: &SyntaxNode<'_>,
-    errors: &[ParseError],
-    unclosed: Option<Opening>,
-) -> Option<usize>
-    ensures { IfSome result (λ start. IsLostFrom root.now (map fault_of errors.now) start) }
-{
-    if !ends_early(errors) {
-        return None;
-    }
-    let token = root
-        .token_at_offset(unclosed?.range.start())
-        .right_biased()?;
-    counts_from(&token)
+    if one < two { two } else { one }
 }
 
 // Whether an offset is not before another, if there is another.
@@ -228,17 +159,25 @@ fn is_extra(error: &ParseError) -> bool
 }
 
 impl Folding {
-    /// The state before the first error of a text whose mismatch is given, and the end of its last token other than trivia.
+    /// The state before the first error of a text whose mismatch is given, the end of its last token other than trivia, and the `;` of its entries.
     pub fn new(
         root: &SyntaxNode<'_>,
         errors: &[ParseError],
         mismatch: Mismatch,
         end: usize,
+        semicolons: Vec<Semicolon>,
     ) -> Folding
-        requires { end ≡ end_of_items root.now }
+        requires end { end ≡ end_of_items root.now }
+        requires semicolons { semicolons.items ≡ semicolons_of root.now }
         ensures { Knows root.now (map fault_of errors.now) [] result }
     {
         Folding {
+            passed: first_since(semicolons.as_slice(), 0, 0),
+            semicolons,
+            reach: 0,
+            in_string: ends_in_string(root, end),
+            ends_closed: ends_closed(root, end),
+            is_unbalanced: false,
             lost_from: lost_from(root, errors, mismatch.unclosed),
             extra: mismatch.extra,
             end,
@@ -281,43 +220,89 @@ impl Folding {
         }
     }
 
-    // Whether the parser loses its way at an error.
-    fn loses(&self, error: &ParseError, node: &Option<SyntaxNode<'_>>, place: TextRange) -> bool
-        ensures { result ≡ loses self.now (fault_of error.now) node.now place }
+    // Whether the parser loses its way at an error, whose node skips brackets or does not.
+    fn loses(&self, error: &ParseError, skips: bool, place: TextRange) -> bool
+        ensures { result ≡ loses self.now (fault_of error.now) skips place }
     {
         has_no_range(error)
             || self.end <= place.end()
             || is_from(self.lost_from, place.start())
-            || self.skips_if(node)
+            || skips
     }
 
-    // Whether the parser has lost its way at an error or before it.
-    fn is_lost_at(
+    // Whether the parser has lost its way at an error, or before it at one from which it follows.
+    fn is_lost_at(&self, follows: bool, error: &ParseError, skips: bool, place: TextRange) -> bool
+        ensures { result ≡ ((self.now.is_lost && follows) || loses self.now (fault_of error.now) skips place) }
+    {
+        self.is_lost && follows || self.loses(error, skips, place)
+    }
+
+    // Whether brackets were skipped at an error, whose node skips some or does not, or before it.
+    fn is_unbalanced_at(&self, skips: bool) -> bool
+        ensures { result ≡ (self.now.is_unbalanced || skips) }
+    {
+        self.is_unbalanced || skips
+    }
+
+    // Whether an error is apart from the earlier ones: between them an entry ends, in a set or `let` that starts before their end.
+    fn is_apart(&self, place: TextRange) -> bool
+        ensures { result ≡ is_apart_in self.now place }
+    {
+        ends_between(
+            self.semicolons.as_slice(),
+            self.passed,
+            self.reach,
+            place.start(),
+        )
+    }
+
+    // Whether an error close after an offset shares the diagnostic of the earlier ones, from which it is not apart: the parser has lost its way, or
+    // the error shares a list, pattern, .. with the last one or is near it.
+    fn shares(
         &self,
-        error: &ParseError,
-        node: &Option<SyntaxNode<'_>>,
+        root: &SyntaxNode<'_>,
+        group: Option<TextRange>,
+        last: usize,
         place: TextRange,
     ) -> bool
-        ensures { result ≡ (self.now.is_lost || loses self.now (fault_of error.now) node.now place) }
+        requires { self.now.last ≡ Some last }
+        ensures { result ≡ is_sharing root.now self.now group place }
     {
-        self.is_lost || self.loses(error, node, place)
+        if self.is_lost || is_shared(group, self.group) {
+            return true;
+        }
+        are_close(root.text().as_bytes(), last, place.start())
     }
 
-    // Whether an error follows from earlier ones: the parser has lost its way, or the error shares a list, pattern, .. with the last one or is
-    // near it.
+    // Whether an error follows from earlier ones.
     fn follows(&self, root: &SyntaxNode<'_>, group: Option<TextRange>, place: TextRange) -> bool
         ensures { result ≡ is_following root.now self.now group place }
     {
         let Some(last) = self.last else {
             return false;
         };
-        if self.is_lost {
+        if self.in_string {
             return true;
         }
-        if is_shared(group, self.group) {
-            return true;
+        if self.is_apart(place) {
+            return self.is_unbalanced && self.ends_closed && self.end <= place.end();
         }
-        are_close(root.text().as_bytes(), last, place.start())
+        self.shares(root, group, last, place)
+    }
+
+    // Whether the text ends inside a string, and there was an error about an unexpected or a missing token.
+    fn is_inside(&self) -> bool
+        ensures { result ≡ (self.now.in_string && is_some self.now.last) }
+    {
+        self.in_string && self.last.is_some()
+    }
+
+    // Notes how far an error reaches.
+    fn reach_to(&mut self, end: usize)
+        ensures { HasReached self.old self.new end }
+    {
+        self.reach = larger(self.reach, end);
+        self.passed = first_since(self.semicolons.as_slice(), self.passed, self.reach);
     }
 
     // Whether an error about an unexpected or a missing token follows from earlier ones. It is the last one then.
@@ -335,13 +320,15 @@ impl Folding {
     {
         let group = group_of(node);
         let follows = self.follows(root, group, place);
-        let is_lost = self.is_lost_at(error, node, place);
-        *self = Folding {
-            last: Some(place.end()),
-            group,
-            is_lost,
-            ..*self
-        };
+        let skips = self.skips_if(node);
+        let is_lost = self.is_lost_at(follows, error, skips, place);
+        let is_unbalanced = self.is_unbalanced_at(skips);
+        let end = place.end();
+        self.is_lost = is_lost;
+        self.is_unbalanced = is_unbalanced;
+        self.last = Some(end);
+        self.group = group;
+        self.reach_to(end);
         follows
     }
 
@@ -362,7 +349,7 @@ impl Folding {
         } else if is_extra(error) {
             self.last.is_some()
         } else {
-            self.is_lost
+            self.is_inside()
         }
     }
 }

@@ -1,9 +1,9 @@
 use Rattle.std.proofs.Common.{rules, arith, ap, sym, subst, map, [], take, ◌+◌, refl}
 use Rattle.rnix_grammar.specs.Fault.{fault_of}
 use Rattle.nix_diagnostics.specs.Known.{Knows}
-use Rattle.nix_diagnostics.specs.Shown.{IsFolded}
+use Rattle.nix_diagnostics.specs.Shown.{IsFolded, IsSingle}
 use Rattle.nix_diagnostics.proofs.ShownLemmas.{nothing_shown, no_errors, some_shown, shown_added, shown_folded, count_before, up_to}
-use Rattle.nix_diagnostics.proofs.diagnostic.diagnostics.Goals.{then-folds+in_ok-fold, else-folds+in_ok-message+in_ok-notes+in_ok-push}
+use Rattle.nix_diagnostics.proofs.diagnostic.diagnostics.Goals.{then-folds+in_ok-fold, else-folds+in_ok-alone+in_ok-push}
 use Rattle.nix_diagnostics.proofs.diagnostic.diagnostics.Goals as goal
 
 pub returns-then-is_empty : goal.returns-then-is_empty
@@ -38,10 +38,10 @@ loop-number-preserved c =
             shown_folded root all before _ i c.loop-number.found.items _ (fault_of e) c.loop-number.invariant.shown
             (subst (λ xs. IsFolded i c.loop-number.found.items xs) (sym (ap (λ v. v.items) w.found-is)) w.in_ok-fold.ensures)
             (judged.0.0 w.if-folds.true) counts more
-        | else-folds+in_ok-message+in_ok-notes+in_ok-push w ↦
-            shown_added root all before _ c.loop-number.found.items _ (fault_of e)
-            record { range = c.place_of-range.result; message = w.in_ok-message.message; first_error = i; end_error = i + 1; notes = w.in_ok-notes.notes }
-            c.loop-number.invariant.shown (judged.0.1 w.if-folds.false) c.place_of-range.ensures w.in_ok-message.ensures counts (ap (λ n. n + 1) counts) more
+        | else-folds+in_ok-alone+in_ok-push w ↦
+            shown_added root all before _ c.loop-number.found.items _ (fault_of e) w.in_ok-alone.alone
+            c.loop-number.invariant.shown (judged.0.1 w.if-folds.false)
+            (subst (λ n. IsSingle root n (fault_of e) w.in_ok-alone.alone) counts w.in_ok-alone.ensures) more
             (grind (arith, w.found-is, w.in_ok-push.ensures.items))
       ];
       known = subst (λ faults. Knows root all faults c.folds-folds.new.self) (sym more) judged.1;

@@ -16,6 +16,6 @@ returns-else-is_extra c = λ all before known.
     let root = c.args.root.now in
     let fault = fault_of c.args.error.now in
     let other = sym c.is_slip.ensures ∙ c.if-is_slip.false in (
-      judged_name root all before fault c.args.self.now known other (sym c.is_extra.ensures ∙ c.if-is_extra.false),
+      judged_name root all before fault c.args.self.now c.is_inside.result known other (sym c.is_extra.ensures ∙ c.if-is_extra.false) c.is_inside.ensures,
       knows_other root all before fault c.args.self.now known other,
     )

@@ -1,6 +1,6 @@
 use Rattle.std.proofs.Common.{◌≡◌, ◌+◌, ◌<◌, drop, false}
 use Rattle.nix_diagnostics.specs.Following.{words}
-use Rattle.nix_diagnostics.proofs.folding.has_few_words.Given as goal
+use Rattle.nix_diagnostics.proofs.near.has_few_words.Given as goal
 
 abbrev pub invariant-loop-byte : goal.invariant-loop-byte
 invariant-loop-byte l = record {

@@ -2,7 +2,7 @@ use Rattle.std.proofs.Common.{◌≡◌, drop, map}
 use Rattle.std.specs.List.{list_any}
 use Rattle.rnix_grammar.specs.Fault.{fault_of}
 use Rattle.nix_diagnostics.specs.Following.{is_at_end}
-use Rattle.nix_diagnostics.proofs.folding.ends_early.Given as goal
+use Rattle.nix_diagnostics.proofs.ends.ends_early.Given as goal
 
 abbrev pub invariant-loop-error : goal.invariant-loop-error
 invariant-loop-error l =

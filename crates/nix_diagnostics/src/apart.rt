@@ -1,0 +1,100 @@
+//! Entries that end between two errors.
+
+ghost use Rattle.std.specs.Prelude.{◌≡◌, drop, IfOk};
+ghost use Rattle.nix_diagnostics.specs.Apart.{is_entry_kind, is_entry, ends_entry, start_around, semicolons_of, since, ends_between};
+
+use SyntaxKind::*;
+use rnix::{NodeOrToken, SyntaxKind, SyntaxNode, SyntaxToken};
+use std::alloc::{AllocError, Global};
+
+/// The `;` of an entry or of an `inherit`.
+#[derive(Clone, Copy)]
+pub struct Semicolon {
+    /// Its start.
+    pub start: usize,
+    /// The start of the set or `let` around the entry.
+    pub set: usize,
+}
+
+// Whether a node of the kind is an entry or an `inherit`.
+fn is_entry_kind(kind: SyntaxKind) -> bool
+    ensures { result ≡ is_entry_kind kind }
+{
+    matches!(kind, NODE_ATTRPATH_VALUE | NODE_INHERIT)
+}
+
+// Whether a node is an entry or an `inherit`.
+fn is_entry(node: &Option<SyntaxNode<'_>>) -> bool
+    ensures { result ≡ is_entry node.now }
+{
+    match node {
+        Some(node) => is_entry_kind(node.kind()),
+        None => false,
+    }
+}
+
+// The start of the node around a node, if there is one.
+fn start_around(node: &Option<SyntaxNode<'_>>) -> usize
+    ensures { result ≡ start_around node.now }
+{
+    match node {
+        Some(node) => match node.parent() {
+            Some(around) => around.text_range().start(),
+            None => 0,
+        },
+        None => 0,
+    }
+}
+
+// Whether a token is the `;` of an entry or of an `inherit`.
+fn ends_entry(token: &SyntaxToken<'_>) -> bool
+    ensures { result ≡ ends_entry token.now }
+{
+    token.kind() == TOKEN_SEMICOLON && is_entry(&token.parent())
+}
+
+/// Returns the `;` of the entries and `inherit`s in a node, in order.
+pub fn semicolons(alloc: Global, root: &SyntaxNode<'_>) -> Result<Vec<Semicolon>, AllocError>
+    ensures { IfOk result (λ found. found.items ≡ semicolons_of root.now) }
+{
+    let mut found = Vec::new(alloc);
+    for element in root.descendants_with_tokens() {
+        if let NodeOrToken::Token(token) = element {
+            if ends_entry(&token) {
+                found.push(Semicolon {
+                    start: token.text_range().start(),
+                    set: start_around(&token.parent()),
+                })?;
+            }
+        }
+    }
+    Ok(found)
+}
+
+/// Returns the number of the first `;` from a given one on that does not start before an offset.
+pub fn first_since(semicolons: &[Semicolon], from: usize, offset: usize) -> usize
+    ensures { drop result semicolons.now ≡ since offset (drop from semicolons.now) }
+{
+    for index in from..semicolons.len() {
+        if offset <= semicolons[index].start {
+            return index;
+        }
+    }
+    semicolons.len()
+}
+
+/// Whether an entry ends from a given `;` on and before an offset, and the set or `let` around it starts before another offset.
+pub fn ends_between(semicolons: &[Semicolon], from: usize, set_before: usize, offset: usize) -> bool
+    ensures { result ≡ ends_between set_before offset (drop from semicolons.now) }
+{
+    for index in from..semicolons.len() {
+        let semicolon = semicolons[index];
+        if offset <= semicolon.start {
+            return false;
+        }
+        if semicolon.set < set_before {
+            return true;
+        }
+    }
+    false
+}
