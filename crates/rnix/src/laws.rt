@@ -1,12 +1,9 @@
-//! Laws that hold for every text. Each is the contract of a function that computes nothing; calling it gives the proof its clauses.
+//! The laws on which the parser and the programs build; the crate `rnix_laws` has more. Each is the contract of a function that computes nothing;
+//! calling it gives the proof its clauses.
 
 pub use crate::whole::nodes_have_parts;
 pub use rnix_kinds::{longest, one_list};
 pub use rnix_parser::{
-    all_follows, correct_prefix, error_forms, has_reading, layout, one_derivation, one_reading,
-    one_text, ranges_of_errors, size, tree_derivation, tree_text,
+    all_follows, error_forms, has_reading, layout, one_derivation, one_reading, one_text,
+    ranges_of_errors, size, tree_derivation, tree_text,
 };
-pub use rnix_proof_locality::locality;
-pub use rnix_proof_lookahead::lookahead;
-pub use rnix_proof_separation::separation;
-pub use rnix_proof_steps::steps;

@@ -5,4 +5,3 @@ pub mod Witnesses
 pub mod SignificantTrees
 pub mod AlikeTexts
 pub mod SizedTexts
-pub mod PrefixTexts

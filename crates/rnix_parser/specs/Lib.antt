@@ -1,4 +1,3 @@
 pub mod Significant
 pub mod ReadingLaws
 pub mod ReadAlike
-pub mod ReadPrefix

@@ -10,6 +10,5 @@ pub use derivation::{one_derivation, tree_derivation};
 pub use error_ranges::ranges_of_errors;
 pub use parsing::parse;
 pub use readings::{
-    all_follows, correct_prefix, error_forms, has_reading, layout, one_reading, one_text, size,
-    tree_text,
+    all_follows, error_forms, has_reading, layout, one_reading, one_text, size, tree_text,
 };

@@ -14,7 +14,6 @@ ghost use Rattle.rnix_grammar.specs.Nesting.{depth_of, AreLimited};
 ghost use Rattle.rnix_grammar.specs.Reading.{IsReading};
 ghost use Rattle.rnix_grammar.specs.Parsed.{IsParsed};
 ghost use Rattle.rnix_parser.specs.ReadAlike.{items_of, AreReadAlike};
-ghost use Rattle.rnix_parser.specs.ReadPrefix.{HasCorrectPrefix};
 ghost use Rattle.rnix_parser.specs.ReadingLaws.{OfRead, OfReadings, HaveOneReading, AreOneText, elements_in};
 
 /// Tokens have one reading at most: two trees with their errors that are readings of one list of tokens are equal.
@@ -40,14 +39,6 @@ pub fn one_text(first: &str, second: &str)
 /// same, one by one, but for their ranges, and these are those of the same items.
 pub fn layout(first: &str, second: &str)
     ensures { AreReadAlike first.now second.now }
-{
-    let _len = first.len().min(second.len());
-}
-
-/// What may begin a correct text is not blamed: if the first items of two texts are alike, as for `layout`, and the second text is read without errors,
-/// each error of the first text that has a range begins behind these items, unless they end with `{` and `...`.
-pub fn correct_prefix(first: &str, second: &str)
-    ensures { HasCorrectPrefix first.now second.now }
 {
     let _len = first.len().min(second.len());
 }

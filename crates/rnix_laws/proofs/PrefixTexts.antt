@@ -3,7 +3,7 @@ use Rattle.{std.proofs.Common.{◌≡◌, ℕ, false, List, take, None, refl, sy
 use Rattle.rnix_grammar.specs.AnnotatedForest.{AnnotatedForest, tokens_in, without_trivia, placed_from, end_from}
 use Rattle.{rnix_proof_uniqueness.proofs.AllReads.{ended_with, reads_runs}, rnix_proof_layout.specs.AlikeItems.AreAlike}
 use Rattle.rnix_proof_prefix.{specs.Prefix.{BeginAllFrom, end_undecided}, proofs.{Ordered.{AreOrdered, ordered_placed, ordered_items}, PrefixReadings.AllRun}}
-use Rattle.{rnix_proof_prefix.proofs.PrefixReadings.prefix_readings, rnix_parser.specs.{ReadAlike.items_of, ReadPrefix.HasCorrectPrefix}}
+use Rattle.{rnix_proof_prefix.proofs.PrefixReadings.prefix_readings, rnix_parser.specs.ReadAlike.items_of, rnix_laws.specs.ReadPrefix.HasCorrectPrefix}
 use Rattle.rnix_parser.proofs.OneReading.{reading_items}
 
 -- each reading is what the steps make

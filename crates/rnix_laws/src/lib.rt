@@ -1,0 +1,14 @@
+//! Laws that hold for every text. Each is the contract of a function that computes nothing; calling it gives the proof its clauses.
+#![tactic(auto)]
+
+mod prefix;
+
+pub use prefix::correct_prefix;
+pub use rnix::laws::{
+    all_follows, error_forms, has_reading, layout, longest, nodes_have_parts, one_derivation,
+    one_list, one_reading, one_text, ranges_of_errors, size, tree_derivation, tree_text,
+};
+pub use rnix_proof_locality::locality;
+pub use rnix_proof_lookahead::lookahead;
+pub use rnix_proof_separation::separation;
+pub use rnix_proof_steps::steps;

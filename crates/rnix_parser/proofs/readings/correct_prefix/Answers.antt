@@ -1,5 +1,0 @@
-use Rattle.rnix_parser.proofs.PrefixTexts.{prefix_texts}
-use Rattle.rnix_parser.proofs.readings.correct_prefix.Goals as goal
-
-pub returns : goal.returns
-returns c = prefix_texts c.args.first.now c.args.second.now
