@@ -20,10 +20,10 @@ use Rattle.nix_rename.specs.declared.refusal.Refusal.{Refusal}
 use Rattle.nix_rename.specs.declared.refusal.Refusal.TheVariants as refusal
 
 -- the names to which a text refers without writing them: `-` calls `__sub`, `*` calls `__mul`, `/` calls `__div`, and `<`, `<=`, `>` and `>=` call
--- `__lessThan`; a path in `<>` is what `__findFile` finds in `__nixPath`
+-- `__lessThan`; a path in `<>` is what `__findFile` finds in `__nixPath`; the attributes of `__overrides` replace those of its set, or of an old `let`
 abbrev pub hidden_names : List (List ℕ)
 hidden_names =
-    codes "__sub" ∷ codes "__mul" ∷ codes "__div" ∷ codes "__lessThan" ∷ codes "__findFile" ∷ codes "__nixPath" ∷ []
+    codes "__sub" ∷ codes "__mul" ∷ codes "__div" ∷ codes "__lessThan" ∷ codes "__findFile" ∷ codes "__nixPath" ∷ codes "__overrides" ∷ []
 
 -- whether a name is one of them
 abbrev pub is_hidden_name : List ℕ → Bool
@@ -36,13 +36,13 @@ kept_text kept.Argument = codes "callers give this argument by its name"
 kept_text kept.Attribute = codes "the name is an attribute of a set"
 kept_text kept.Quoted = codes "the name is written in quotes"
 kept_text kept.Body = codes "the old `let` needs its `body`"
-kept_text kept.Hidden = codes "operators or paths in `<>` refer to the name"
+kept_text kept.Hidden = codes "operators, paths in `<>` or the old `let` refer to the name"
 kept_text kept.InheritedBySet = codes "a set inherits the name: give it its own entry first"
 
 -- why a name is not renamed
 abbrev pub refusal_text : Refusal → List ℕ
 refusal_text refusal.NotAName = codes "NAME is not a name"
-refusal_text refusal.HiddenName = codes "operators or paths in `<>` refer to NAME"
+refusal_text refusal.HiddenName = codes "operators, paths in `<>` or the old `let` refer to NAME"
 refusal_text refusal.NoName = codes "there is no name here"
 refusal_text refusal.Unbound = codes "nothing in the text binds the name"
 refusal_text (refusal.Kept reason) = kept_text reason

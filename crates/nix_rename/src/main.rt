@@ -22,7 +22,7 @@ const PROGRAM: Program = Program {
 nix-rename [-i] FILE LINE:COLUMN NAME
 
 Prints a Nix text in which the binding of the name at a place is called NAME, with all its uses, and all else is as before. It refuses
-where some name would then mean something else, and names that operators or paths in <> use, as __sub. Lines and columns count from 1,
+where some name would then mean something else, and names that operators, paths in <> or the old let use, as __sub. Lines and columns count from 1,
 columns in characters; an offset in bytes may replace LINE:COLUMN. - stands for standard input.
 
     -i         write the new text to FILE instead: to FILE.new, which is then renamed

@@ -49,8 +49,8 @@ pub enum Refusal {
     OtherMeaning,
 }
 
-/// Returns whether a text can refer to a name without writing it: operators call `__sub`, `__mul`, `__div` and `__lessThan`, and paths in
-/// `<>` use `__findFile` and `__nixPath`.
+/// Returns whether a text can refer to a name without writing it: operators call `__sub`, `__mul`, `__div` and `__lessThan`, paths in
+/// `<>` use `__findFile` and `__nixPath`, and the old `let` takes the values of its names from `__overrides`.
 pub fn is_hidden_name(name: &str) -> bool
     ensures { result ≡ is_hidden_name name.now }
 {
@@ -60,6 +60,7 @@ pub fn is_hidden_name(name: &str) -> bool
         || name == "__lessThan"
         || name == "__findFile"
         || name == "__nixPath"
+        || name == "__overrides"
 }
 
 impl Kept {
@@ -73,7 +74,7 @@ impl Kept {
             Kept::Attribute => "the name is an attribute of a set",
             Kept::Quoted => "the name is written in quotes",
             Kept::Body => "the old `let` needs its `body`",
-            Kept::Hidden => "operators or paths in `<>` refer to the name",
+            Kept::Hidden => "operators, paths in `<>` or the old `let` refer to the name",
             Kept::InheritedBySet => "a set inherits the name: give it its own entry first",
         }
     }
@@ -86,7 +87,7 @@ impl Refusal {
     {
         match self {
             Refusal::NotAName => "NAME is not a name",
-            Refusal::HiddenName => "operators or paths in `<>` refer to NAME",
+            Refusal::HiddenName => "operators, paths in `<>` or the old `let` refer to NAME",
             Refusal::NoName => "there is no name here",
             Refusal::Unbound => "nothing in the text binds the name",
             Refusal::Kept(kept) => kept.text(),

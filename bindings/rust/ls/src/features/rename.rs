@@ -25,11 +25,11 @@ fn is_name(text: &str) -> bool {
     parse.errors().is_empty() && matches!(expr, Some(Expr::Ident(name)) if name.syntax().text() == text)
 }
 
-// Whether a text can refer to a name without writing it: operators call the first four, and paths in `<>` use the others.
+// Whether a text can refer to a name without writing it: operators call the first four, paths in `<>` use the next two, and the old `let` the last.
 fn is_hidden(name: &str) -> bool {
     matches!(
         name,
-        "__sub" | "__mul" | "__div" | "__lessThan" | "__findFile" | "__nixPath"
+        "__sub" | "__mul" | "__div" | "__lessThan" | "__findFile" | "__nixPath" | "__overrides"
     )
 }
 
@@ -41,7 +41,7 @@ fn fixed(part: &Binding) -> Option<&'static str> {
         (_, SyntaxKind::NODE_ATTR_SET) => Some("the name is an attribute of a set, which other files may use"),
         _ if part.name.kind() != SyntaxKind::NODE_IDENT => Some("the name is written in quotes"),
         (_, SyntaxKind::NODE_LEGACY_LET) if part.name.text() == "body" => Some("the old `let` needs its `body`"),
-        _ if is_hidden(&name_text(&part.name)) => Some("operators or paths in `<>` refer to the name"),
+        _ if is_hidden(&name_text(&part.name)) => Some("operators, paths in `<>` or the old `let` refer to the name"),
         _ => None,
     }
 }
@@ -157,7 +157,7 @@ fn rename_to(analysis: &Analysis, name: Option<&Name>, new: &str) -> Result<Vec<
         return Err(Failure::refused(format!("`{new}` is not a name")));
     }
     if is_hidden(new) {
-        return Err(Failure::refused(format!("operators or paths in `<>` refer to `{new}`")));
+        return Err(Failure::refused(format!("operators, paths in `<>` or the old `let` refer to `{new}`")));
     }
     let old = analysis.binding(number).map(|binding| name_text(&binding.name));
     if is_respelled(analysis, &old.unwrap_or_default(), new) {
@@ -266,7 +266,7 @@ mod tests {
     #[test]
     fn names_of_operators_are_refused() {
         let refused = |text, new| renamed_text(text, new).unwrap_err();
-        for new in ["__sub", "__mul", "__div", "__lessThan", "__findFile", "__nixPath"] {
+        for new in ["__sub", "__mul", "__div", "__lessThan", "__findFile", "__nixPath", "__overrides"] {
             assert!(
                 refused("let |f = a: b: 42; in f 5 3 - 1", new).contains("operators"),
                 "{new}"
