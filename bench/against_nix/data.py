@@ -142,7 +142,7 @@ def alike(printed, value):
 # Why nix-json refuses what Nix evaluates, by docs/json.md.
 MAY_REFUSE = re.compile(
     "(a call|`assert`|an operator|`__curPos`|a computed name|a name|`if`|`inherit`|an interpolation|a function|`let`|`rec`|a search path|a selection|`with`)"
-    " is not data"
+    " is not data|a string cannot hold the character 0"
 )
 RETURN = "Nix reads this carriage return as a line feed"
 
