@@ -285,21 +285,21 @@ struct rnix_diagnostic {
 
 /* A name that a `let`, a `rec` set or a function binds: 48 bytes. */
 struct rnix_binding {
-    uint64_t start; /* the range of the name, with the quotes if it is a string */
+    uint64_t start; /* the range of the name, with its quotes or its `${` and `}` */
     uint64_t end;
     uint64_t scope_start; /* the range of the scope in which the name is visible */
     uint64_t scope_end;
     uint64_t first;      /* the number of the first binding of this name in this scope: its own, unless a set is written in parts */
-    uint32_t kind;       /* the kind of the name: RNIX_NODE_IDENT or RNIX_NODE_STRING */
+    uint32_t kind;       /* the kind of the name: RNIX_NODE_IDENT, RNIX_NODE_STRING or RNIX_NODE_DYNAMIC */
     uint32_t scope_kind; /* the kind of the scope: RNIX_NODE_LET_IN, RNIX_NODE_LEGACY_LET, RNIX_NODE_ATTR_SET or RNIX_NODE_LAMBDA */
 };
 
 /* A name that refers to a binding: 40 bytes, the last 4 unused. */
 struct rnix_reference {
-    uint64_t start; /* the range of the name, with the quotes if it is a string */
+    uint64_t start; /* the range of the name, with its quotes or its `${` and `}` */
     uint64_t end;
     uint64_t binding;      /* the number of the binding, in the innermost scope that binds the name; RNIX_NO_NUMBER if no scope does */
-    uint32_t kind;         /* the kind of the name: RNIX_NODE_IDENT or RNIX_NODE_STRING */
+    uint32_t kind;         /* the kind of the name: RNIX_NODE_IDENT, RNIX_NODE_STRING or RNIX_NODE_DYNAMIC */
     uint32_t is_inherited; /* 1 for a name of an `inherit` without a source */
     uint32_t is_open;      /* 1 if it has no binding and is in the body of a `with` */
 };
@@ -378,8 +378,9 @@ int64_t rnix_strings(const uint8_t *text, size_t len, struct rnix_string_part *p
                      uint64_t *buffer_len);
 
 /*
- * Writes the text of one string without its interpolations, as in rnix_strings, in UTF-8, without a terminating zero. The string is given by its number among the
- * elements; its kind is RNIX_NODE_STRING. This parses the text again: for many strings, use rnix_strings. Returns the number of bytes.
+ * Writes the text of one string without its interpolations, as in rnix_strings, in UTF-8, without a terminating zero. The string is given by its
+ * number among the elements; its kind is RNIX_NODE_STRING. This parses the text again: for many strings, use rnix_strings.
+ * Returns the number of bytes.
  * Refusals: RNIX_NOT_UTF8, RNIX_TOO_LONG, RNIX_NO_MEMORY; RNIX_NONE_SUCH if the number is not that of a string.
  */
 int64_t rnix_string_text(const uint8_t *text, size_t len, size_t element, uint8_t *buffer, size_t room);

@@ -99,9 +99,13 @@ class Maker:
         quoted = '"' + escaped(name) + '"'
         if name == "or" and self.odds(0.7) or is_identifier(name) and self.odds(0.8):
             return name
+        # A letter behind a backslash is itself, but for three.
+        if name[:1].isalpha() and name[0] not in "nrt" and self.odds(0.2):
+            quoted = '"\\' + escaped(name) + '"'
         if self.odds(0.6):
             return quoted
-        return "${" + (quoted if self.odds(0.8) or not name.isalpha() else "''" + name + "''") + "}"
+        inner = quoted if self.odds(0.8) or not name.isalpha() else self.chance.choice(["''", "''\n  "]) + name + "''"
+        return "${" + (inner if self.odds(0.8) else f"({inner})") + "}"
 
     def computed(self, name):
         """An attribute's name that is computed."""

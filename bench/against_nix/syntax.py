@@ -4,6 +4,7 @@ import re
 from . import expressions
 from .evaluate import Failure, parse
 from .programs import Case, Difference, value_shown
+from .repeated import repeated
 from .trees import trees
 
 TOKENS = """
@@ -141,7 +142,7 @@ class Check:
 
     @staticmethod
     def make(chance):
-        return Case(chance.choice([soup, nested, nested, nested, broken])(chance))
+        return Case(chance.choice([soup, nested, nested, nested, broken, repeated])(chance))
 
     @staticmethod
     def judge(programs, folder, cases):
@@ -160,6 +161,8 @@ class Check:
 
 def wrong_with(text, root, errors, failure):
     """In a few words, how the verdicts differ, or nothing if docs/nix.md lists it."""
+    if failure is None and not errors:
+        return "Nix accepts what nix-check reports beyond the grammar"
     if failure is None:
         return None if any(it(text, root, errors[0]) for it in ACCEPTED_BY_NIX) else "Nix accepts it: " + re.sub(r" at \d.*", "", errors[0]["message"])[:60]
     if any(re.search(it, failure.said) for it in BEYOND_GRAMMAR) or any(it(node) for it in REFUSED_BY_NIX for node in [root, *root.below()]):
@@ -230,8 +233,7 @@ def ends_comment(text, root, error):
 ACCEPTED_BY_NIX = [has_nul, ends_comment, is_inversion, is_old_let, is_error_token, is_path_of_dots, is_zero_selected]
 
 # What Nix refuses and rnix does not: what it says beyond the grammar, and what the tree shows.
-BEYOND_GRAMMAR = ["already defined at", "duplicate formal function argument", "dynamic attributes not allowed in (let|inherit)", "invalid integer",
-                  "invalid float"]
+BEYOND_GRAMMAR = ["duplicate formal function argument", "dynamic attributes not allowed in (let|inherit)", "invalid integer", "invalid float"]
 
 
 def is_lambda_operand(node):

@@ -1,112 +1,125 @@
-//! Printing the diagnostics of a text.
+//! What is found in one text: finding and printing its diagnostics.
+
+ghost use Rattle.std.specs.Prelude.{◌≡◌, ◌+◌, ◌==◌, IfOk, OnOk};
+ghost use Rattle.std.specs.Io.KnownBytes.{Appends};
+ghost use Rattle.rnix.specs.ParseResult.{root_of};
+ghost use Rattle.nix_cli.specs.MessagePlaces.{IsIndexed};
+ghost use Rattle.nix_check.specs.FoundDiagnostics.{AreErrors, AreFound};
+ghost use Rattle.nix_check.specs.Listed.{Prints};
+ghost use Rattle.nix_check.specs.Printed.{more_line, IsPrinted, AreFormed, ArePrinted, IsChecked};
 
 use crate::json::write_json;
-use crate::sarif::write_result;
-use nix_cli::write_excerpt;
-use nix_diagnostics::{Diagnostic, Note, all_diagnostics, diagnostics};
-use rnix::{Root, TextRange};
-use rnix_text::{ColumnUnit, LineIndex, Position};
+use crate::lints::repetitions;
+use crate::sarif::write_separated;
+use crate::style::{Format, Style};
+use crate::text::write_text;
+use nix_cli::Source;
+use nix_diagnostics::{Diagnostic, all_diagnostics, diagnostics};
+use rnix::{Parse, Root};
+use rnix_text::{ColumnUnit, LineIndex};
 use std::alloc::{AllocError, Global};
-use std::io;
-use std::io::Write;
+use std::io::{self, Write};
 
-/// The form in which a diagnostic is printed.
-#[derive(Clone, Copy, PartialEq, Eq)]
-pub enum Format {
-    /// Its message, the line with carets, and the notes.
-    Text,
-    /// A line of JSON.
-    Json,
-    /// A result of SARIF.
-    Sarif,
-}
-
-/// How diagnostics are printed.
-#[derive(Clone, Copy)]
-pub struct Style {
-    /// The most diagnostics of a file that are printed.
-    pub limit: usize,
-    /// Whether each error has its own diagnostic. Otherwise errors that follow from the same mistake share one.
-    pub is_each: bool,
-    /// Their form.
-    pub format: Format,
-    /// Whether the text is colored.
-    pub is_colored: bool,
-}
-
-// A text with its name and lines.
-#[derive(Clone, Copy)]
-struct Source<'a> {
-    name: &'a str,
-    text: &'a str,
-    index: &'a LineIndex<'a>,
-}
-
-// Writes a word, in bold and a color if the style has colors.
-fn write_word<W: Write>(word: &str, color: &str, style: Style, out: &mut W) -> io::Result<()> {
-    if style.is_colored {
-        write!(out, "\x1b[1;{color}m{word}\x1b[0m")
-    } else {
-        out.write_all(word.as_bytes())
+// The diagnostics of the errors of a parsed text: of each error, or of each mistake.
+fn find_errors(alloc: Global, read: &Parse, is_each: bool) -> Result<Vec<Diagnostic>, AllocError>
+    ensures { IfOk result (λ found. AreErrors is_each (root_of read.now) read.now.faults found.items) }
+{
+    if is_each {
+        let each = all_diagnostics(alloc, read)?;
+        return Ok(each);
     }
+    let found = diagnostics(alloc, read)?;
+    Ok(found)
 }
 
-// Writes the name of the text and the line and column of a range, both from 1.
-fn write_place<W: Write>(source: Source<'_>, range: TextRange, out: &mut W) -> io::Result<()> {
-    let Position { line, column } = source.index.position(range.start()).unwrap_or_default();
-    let (line, column) = (line.saturating_add(1), column.saturating_add(1));
-    write!(out, "{}:{line}:{column}: ", source.name)
+// The diagnostics of a parsed text: of its errors, or if it has none, of the attributes that are defined again.
+fn find(alloc: Global, read: &Parse, is_each: bool) -> Result<Vec<Diagnostic>, AllocError>
+    ensures { IfOk result (λ found. AreFound is_each (root_of read.now) read.now.faults found.items) }
+{
+    let errors = find_errors(alloc, read, is_each)?;
+    if errors.is_empty() {
+        let repeated = repetitions(alloc, &read.syntax())?;
+        return Ok(repeated);
+    }
+    Ok(errors)
 }
 
-// Writes a note: its place, the line and carets, or without a place `help` and its message.
-fn write_note<W: Write>(
-    source: Source<'_>,
-    note: Note,
-    style: Style,
-    out: &mut W,
-) -> io::Result<()> {
-    let Some(range) = note.range else {
-        out.write_all(b"  ")?;
-        write_word("help:", "36", style, out)?;
-        return writeln!(out, " {}", note.message);
-    };
-    write_place(source, range, out)?;
-    write_word("note:", "36", style, out)?;
-    writeln!(out, " {}", note.message)?;
-    write_excerpt(source.text, range.start()..range.end(), out)
-}
-
-// Writes a diagnostic in the form that the style asks for: of text its place, message, line with carets, and notes.
+// Writes a diagnostic that follows a number of others.
 fn write_diagnostic<W: Write>(
-    source: Source<'_>,
+    source: &Source<'_>,
     diagnostic: &Diagnostic,
     style: Style,
+    is_first: bool,
     out: &mut W,
-) -> io::Result<()> {
+) -> io::Result<()>
+    requires { IsIndexed source.now }
+    ensures { OnOk result
+        (Prints (IsPrinted style source.now.name.now source.now.text.now is_first diagnostic.now) (W.contents out.old) (W.contents out.new)) }
+{
     match style.format {
-        Format::Text => {}
-        Format::Json => return write_json(source.name, source.index, diagnostic, out),
-        Format::Sarif => return write_result(source.name, source.index, diagnostic, out),
+        Format::Text => write_text(source, diagnostic, style.is_colored, out),
+        Format::Json => write_json(source, diagnostic, out),
+        Format::Sarif => write_separated(source, diagnostic, is_first, out),
     }
-    write_place(source, diagnostic.range, out)?;
-    write_word("error:", "31", style, out)?;
-    writeln!(out, " {}", diagnostic.message)?;
-    let (start, end) = (diagnostic.range.start(), diagnostic.range.end());
-    write_excerpt(source.text, start..end, out)?;
-    for note in &diagnostic.notes {
-        write_note(source, *note, style, out)?;
+}
+
+// Whether a diagnostic is the first one of all: none precede it in its text or in others.
+fn is_first_of_all(earlier: usize, number: usize) -> bool
+    ensures { result ≡ (earlier + number == 0) }
+{
+    if earlier == 0 {
+        return number == 0;
+    }
+    false
+}
+
+// Writes diagnostics after `earlier` diagnostics of other texts.
+fn write_first<W: Write>(
+    source: &Source<'_>,
+    found: &[Diagnostic],
+    style: Style,
+    earlier: usize,
+    out: &mut W,
+) -> io::Result<()>
+    requires { IsIndexed source.now }
+    ensures { OnOk result
+        (Prints (AreFormed style source.now.name.now source.now.text.now earlier found.now) (W.contents out.old) (W.contents out.new)) }
+{
+    for number in 0..found.len() {
+        let is_first = is_first_of_all(earlier, number);
+        write_diagnostic(source, &found[number], style, is_first, out)?;
     }
     Ok(())
 }
 
-// The diagnostics of a text that the style asks for.
-fn find(alloc: Global, text: &str, style: Style) -> Result<Vec<Diagnostic>, AllocError> {
-    let parse = Root::parse(alloc, text)?;
-    if style.is_each {
-        all_diagnostics(alloc, &parse)
+// Writes a line on diagnostics that are not shown.
+fn write_more<W: Write>(name: &str, more: usize, out: &mut W) -> io::Result<()>
+    ensures { OnOk result (Appends (W.contents out.old) (W.contents out.new) (more_line name.now more)) }
+{
+    if more == 0 {
+        Ok(())
+    } else if more == 1 {
+        writeln!(out, "{name}: 1 more error (shown with --all)")
     } else {
-        diagnostics(alloc, &parse)
+        writeln!(out, "{name}: {more} more errors (shown with --all)")
     }
+}
+
+// Writes diagnostics up to the limit, and a line on the others.
+fn write_found<W: Write>(
+    source: &Source<'_>,
+    found: &[Diagnostic],
+    style: Style,
+    earlier: usize,
+    out: &mut W,
+) -> io::Result<()>
+    requires { IsIndexed source.now }
+    ensures { OnOk result
+        (Prints (ArePrinted style source.now.name.now source.now.text.now earlier found.now) (W.contents out.old) (W.contents out.new)) }
+{
+    let more = found.len().saturating_sub(style.limit);
+    write_first(source, &found[..found.len() - more], style, earlier, out)?;
+    write_more(source.name, more, out)
 }
 
 /// Writes the diagnostics of a text, up to the limit, after `earlier` diagnostics of other texts, and returns their number. Columns count
@@ -118,8 +131,11 @@ pub fn check_text<W: Write>(
     style: Style,
     earlier: usize,
     out: &mut W,
-) -> io::Result<usize> {
-    let found = find(alloc, text, style)?;
+) -> io::Result<usize>
+    ensures { IfOk result (IsChecked style name.now text.now earlier (W.contents out.old) (W.contents out.new)) }
+{
+    let read = Root::parse(alloc, text)?;
+    let found = find(alloc, &read, style.is_each)?;
     if found.is_empty() {
         return Ok(0);
     }
@@ -129,20 +145,6 @@ pub fn check_text<W: Write>(
         text,
         index: &index,
     };
-    for (number, diagnostic) in found.iter().take(style.limit).enumerate() {
-        if style.format == Format::Sarif {
-            out.write_all(if earlier > 0 || number > 0 {
-                b",\n"
-            } else {
-                b"\n"
-            })?;
-        }
-        write_diagnostic(source, diagnostic, style, out)?;
-    }
-    match found.len().saturating_sub(style.limit) {
-        0 => {}
-        1 => writeln!(out, "{name}: 1 more error (shown with --all)")?,
-        more => writeln!(out, "{name}: {more} more errors (shown with --all)")?,
-    }
+    write_found(&source, &found, style, earlier, out)?;
     Ok(found.len())
 }

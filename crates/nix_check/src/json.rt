@@ -1,41 +1,101 @@
 //! Diagnostics as lines of JSON.
 
-use nix_cli::write_json_string;
-use nix_diagnostics::Diagnostic;
+ghost use Rattle.std.specs.Prelude.{map, OnOk};
+ghost use Rattle.std.specs.Io.KnownBytes.{Appends};
+ghost use Rattle.nix_cli.specs.MessagePlaces.{IsIndexed};
+ghost use Rattle.nix_check.specs.Listed.{comma, comma_joined};
+ghost use Rattle.nix_check.specs.AsJson.{message_members, note_object, errors_member, json_line};
+
+use nix_cli::{Source, write_json_string};
+use nix_diagnostics::{Code, Diagnostic, Note};
 use rnix::TextRange;
-use rnix_text::LineIndex;
 use std::io::{self, Write};
 
-// Writes a range: its line and column, both from 1, the latter in characters, and its bounds in bytes from 0.
-fn write_range<W: Write>(index: &LineIndex<'_>, range: TextRange, out: &mut W) -> io::Result<()> {
-    let place = index.position(range.start()).unwrap_or_default();
-    let (line, column) = (place.line.saturating_add(1), place.column.saturating_add(1));
+/// Writes the comma in front of a value, if others precede it.
+pub fn write_comma<W: Write>(number: usize, out: &mut W) -> io::Result<()>
+    ensures { OnOk result (Appends (W.contents out.old) (W.contents out.new) (comma number)) }
+{
+    out.write_all(if number == 0 { b"" } else { b"," })
+}
+
+// Writes a range and a message: the line and column, both from 1, the latter in characters, and the bounds in bytes from 0.
+fn write_message<W: Write>(
+    source: &Source<'_>,
+    range: TextRange,
+    message: &str,
+    out: &mut W,
+) -> io::Result<()>
+    requires { IsIndexed source.now }
+    ensures { OnOk result (Appends (W.contents out.old) (W.contents out.new) (message_members source.now.text.now range message.now)) }
+{
+    let (line, column) = source.position(range.start());
     let (start, end) = (range.start(), range.end());
     write!(
         out,
         "\"line\":{line},\"column\":{column},\"start\":{start},\"end\":{end},\"message\":"
+    )?;
+    write_json_string(message, out)
+}
+
+// Writes a note of a diagnostic at a range.
+fn write_note<W: Write>(
+    source: &Source<'_>,
+    range: TextRange,
+    note: Note,
+    out: &mut W,
+) -> io::Result<()>
+    requires { IsIndexed source.now }
+    ensures { OnOk result (Appends (W.contents out.old) (W.contents out.new) (note_object source.now.text.now range note)) }
+{
+    out.write_all(b"{")?;
+    write_message(source, note.range.unwrap_or(range), note.message, out)?;
+    out.write_all(b"}")
+}
+
+// Writes the notes of a diagnostic at a range.
+fn write_notes<W: Write>(
+    source: &Source<'_>,
+    range: TextRange,
+    notes: &[Note],
+    out: &mut W,
+) -> io::Result<()>
+    requires { IsIndexed source.now }
+    ensures { OnOk result
+        (Appends (W.contents out.old) (W.contents out.new) (comma_joined (map (note_object source.now.text.now range) notes.now))) }
+{
+    for number in 0..notes.len() {
+        write_comma(number, out)?;
+        write_note(source, range, notes[number], out)?;
+    }
+    Ok(())
+}
+
+// Writes what a diagnostic reports and the number of its errors, before its notes.
+fn write_errors<W: Write>(code: Code, errors: usize, out: &mut W) -> io::Result<()>
+    ensures { OnOk result (Appends (W.contents out.old) (W.contents out.new) (errors_member code errors)) }
+{
+    let name = code.name();
+    write!(
+        out,
+        ",\"severity\":\"error\",\"code\":\"{name}\",\"errors\":{errors},\"notes\":["
     )
 }
 
-/// Writes a diagnostic of a file as a line of JSON.
+/// Writes a diagnostic as a line of JSON.
 pub fn write_json<W: Write>(
-    name: &str,
-    index: &LineIndex<'_>,
+    source: &Source<'_>,
     diagnostic: &Diagnostic,
     out: &mut W,
-) -> io::Result<()> {
+) -> io::Result<()>
+    requires { IsIndexed source.now }
+    ensures { OnOk result (Appends (W.contents out.old) (W.contents out.new) (json_line source.now.name.now source.now.text.now diagnostic.now)) }
+{
     let errors = diagnostic.end_error.saturating_sub(diagnostic.first_error);
     out.write_all(b"{\"file\":")?;
-    write_json_string(name, out)?;
+    write_json_string(source.name, out)?;
     out.write_all(b",")?;
-    write_range(index, diagnostic.range, out)?;
-    write_json_string(diagnostic.message.as_str(), out)?;
-    write!(out, ",\"errors\":{errors},\"notes\":[")?;
-    for (number, note) in diagnostic.notes.iter().enumerate() {
-        out.write_all(if number > 0 { b",{" } else { b"{" })?;
-        write_range(index, note.range.unwrap_or(diagnostic.range), out)?;
-        write_json_string(note.message, out)?;
-        out.write_all(b"}")?;
-    }
+    write_message(source, diagnostic.range, diagnostic.message.as_str(), out)?;
+    write_errors(diagnostic.code, errors, out)?;
+    write_notes(source, diagnostic.range, &diagnostic.notes, out)?;
     out.write_all(b"]}\n")
 }

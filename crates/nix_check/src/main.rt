@@ -2,18 +2,24 @@
 #![tactic(auto)]
 
 mod check;
+mod fixing;
 mod json;
+mod lints;
+mod report;
 mod sarif;
+mod style;
+mod text;
 
-use check::{Format, Style, check_text};
+use fixing::fix_files;
 use nix_cli::{
-    Arguments, FAILED, FOUND, Inputs, Program, Progress, Start, end, find_inputs, is_colored,
-    read_arguments, refuse, shown_name,
+    Arguments, FAILED, Program, Start, end, find_files, find_inputs, is_colored, read_arguments,
+    refuse,
 };
-use sarif::{write_head, write_tail};
+use report::report_files;
 use std::io;
 use std::io::{BufWriter, Write};
 use std::process::ExitCode;
+use style::{Format, Style};
 
 // The most diagnostics of a file that are printed without `--all`.
 const LIMIT: usize = 20;
@@ -24,101 +30,41 @@ const PROGRAM: Program = Program {
 nix-check [OPTION..] [FILE..]
 
 Prints the syntax errors of Nix files: the place, the line, what was expected there, and what may help. A mistake that leads to several errors
-is reported once, unless --all is given. A folder stands for all files in it and below that end with .nix; - and no FILE mean standard input.
-The grammar is that of rnix 0.14, which differs from Nix's in a few places: see docs/nix.md.
+is reported once, unless --all is given. In files without syntax errors, attributes that are defined again are errors, where Nix refuses them.
+A folder stands for all files in it and below that end with .nix; - and no FILE mean standard input. The grammar is that of rnix 0.14, which
+differs from Nix's in a few places: see docs/nix.md.
 
     --all      print every error of a file: also those that follow from another, and more than the first 20
     --json     print each error as a line of JSON
     --sarif    print all errors as one SARIF 2.1.0 file
+    --fix      write what the notes on the errors propose, wherever a file then has fewer errors: to FILE.new, which is then renamed, or the text
+               of standard input to standard output. The number of fixes and the errors that are left are printed on standard error
     --color WHEN    use colors: auto (at a terminal, unless NO_COLOR is set), always or never
 ",
     statuses: "
-Ends with 0 if there are no errors, 1 if there are some, 2 if something could not be read or written.
+Ends with 0 if there are no errors, or none are left, 1 if there are some, 2 if something could not be read or written.
 ",
-    flags: &["--all", "--json", "--sarif"],
+    flags: &["--all", "--json", "--sarif", "--fix"],
     has_colors: true,
     least: 0,
     most: usize::MAX,
 };
 
-// The counts over all files.
-#[derive(Clone, Copy, Default)]
-struct Tally {
-    // Errors that were found.
-    errors: usize,
-    // Files and folders that could not be read.
-    unread: usize,
-}
-
-// Checks a file, and counts its errors, or the file if it cannot be read.
-fn check_file<W: Write>(
-    rt: &HostRuntime,
-    inputs: &Inputs,
-    name: &str,
-    style: Style,
-    tally: &mut Tally,
-    out: &mut W,
-) -> io::Result<()> {
-    match inputs.read_text(rt, &PROGRAM, name, out)? {
-        Some(text) => {
-            let (shown, earlier) = (shown_name(name), tally.errors);
-            let found = check_text(rt.alloc(), shown, text.as_str(), style, earlier, out)?;
-            tally.errors = tally.errors.saturating_add(found);
-        }
-        None => tally.unread = tally.unread.saturating_add(1),
-    }
-    Ok(())
-}
-
-// Checks the files in order.
-fn check_files<W: Write>(
-    rt: &HostRuntime,
-    inputs: &Inputs,
-    style: Style,
-    out: &mut W,
-) -> io::Result<Tally> {
-    let progress = Progress::of(rt, inputs.files.names.len());
-    let mut tally = Tally {
-        errors: 0,
-        unread: inputs.files.failed,
-    };
-    for (number, name) in inputs.files.names.iter().enumerate() {
-        progress.show(rt, number)?;
-        let before = tally.errors;
-        check_file(rt, inputs, name.as_str(), style, &mut tally, out)?;
-        if tally.errors != before {
-            progress.clear(rt)?;
-            out.flush()?;
-        }
-    }
-    progress.clear(rt)?;
-    Ok(tally)
-}
-
-// Writes the last line, the number of errors. Without errors there is none if some files could not be read.
-fn write_count<W: Write>(tally: Tally, out: &mut W) -> io::Result<()> {
-    match (tally.errors, tally.unread) {
-        (0, 0) => writeln!(out, "no errors"),
-        (0, _) => Ok(()),
-        (1, _) => writeln!(out, "1 error"),
-        (count, _) => writeln!(out, "{count} errors"),
+// The format that the options ask for.
+fn format_of(arguments: &Arguments) -> Format {
+    if arguments.has("--json") {
+        Format::Json
+    } else if arguments.has("--sarif") {
+        Format::Sarif
+    } else {
+        Format::Text
     }
 }
 
-// The format that the options ask for, None if they ask for two.
-fn format_of(arguments: &Arguments) -> Option<Format> {
-    match (arguments.has("--json"), arguments.has("--sarif")) {
-        (true, true) => None,
-        (true, false) => Some(Format::Json),
-        (false, true) => Some(Format::Sarif),
-        (false, false) => Some(Format::Text),
-    }
-}
-
-// Prints the errors of the files that the command line names.
-fn check_all(rt: &HostRuntime, arguments: &Arguments, format: Format) -> io::Result<Tally> {
+// How the options ask for diagnostics to be printed.
+fn style_of(rt: &HostRuntime, arguments: &Arguments, format: Format) -> Style {
     let is_text = format == Format::Text;
-    let style = Style {
+    Style {
         limit: if is_text && !arguments.has("--all") {
             LIMIT
         } else {
@@ -127,35 +73,51 @@ fn check_all(rt: &HostRuntime, arguments: &Arguments, format: Format) -> io::Res
         is_each: arguments.has("--all"),
         format,
         is_colored: is_colored(rt, arguments),
-    };
+    }
+}
+
+// Prints the errors of the files that the command line names, and returns the exit status.
+fn check_all(rt: &HostRuntime, arguments: &Arguments, format: Format) -> io::Result<u8> {
+    let style = style_of(rt, arguments, format);
     let mut out = BufWriter::new(rt.alloc(), rt.stdout())?;
     // Folders are read, and those that cannot be are reported, before anything is written.
     let inputs = find_inputs(rt, &PROGRAM, &arguments.words)?;
-    if format == Format::Sarif {
-        write_head(PROGRAM.name, &mut out)?;
-    }
-    let tally = check_files(rt, &inputs, style, &mut out)?;
-    match format {
-        Format::Text => write_count(tally, &mut out)?,
-        Format::Json => {}
-        Format::Sarif => write_tail(tally.unread == 0, &mut out)?,
-    }
+    let status = report_files(rt, &inputs, style, &mut out)?;
     out.flush()?;
-    Ok(tally)
+    Ok(status)
 }
 
-// Checks the files that the command line names, and returns the exit status.
+// Fixes the files that the command line names, prints the errors that are left, and returns the exit status.
+fn fix_all(rt: &HostRuntime, arguments: &Arguments) -> io::Result<u8> {
+    let style = style_of(rt, arguments, Format::Text);
+    let mut out = BufWriter::new(rt.alloc(), rt.stderr())?;
+    let files = find_files(rt, &PROGRAM, &arguments.words)?;
+    fix_files(rt, &PROGRAM, &files, style, &mut out)
+}
+
+// Returns why the options exclude each other, if they do.
+fn wrong_with(arguments: &Arguments) -> Option<&'static str> {
+    let is_other = arguments.has("--json") || arguments.has("--sarif");
+    if arguments.has("--json") && arguments.has("--sarif") {
+        Some("--json and --sarif exclude each other")
+    } else if arguments.has("--fix") && is_other {
+        Some("--fix and --json or --sarif exclude each other")
+    } else {
+        None
+    }
+}
+
+// Checks or fixes the files that the command line names, and returns the exit status.
 fn run_with(rt: &HostRuntime, arguments: &Arguments) -> io::Result<u8> {
-    let Some(format) = format_of(arguments) else {
-        refuse(rt, &PROGRAM, "--json and --sarif exclude each other")?;
+    if let Some(reason) = wrong_with(arguments) {
+        refuse(rt, &PROGRAM, reason)?;
         return Ok(FAILED);
-    };
-    let tally = check_all(rt, arguments, format)?;
-    Ok(match (tally.errors, tally.unread) {
-        (0, 0) => 0,
-        (_, 0) => FOUND,
-        _ => FAILED,
-    })
+    }
+    if arguments.has("--fix") {
+        fix_all(rt, arguments)
+    } else {
+        check_all(rt, arguments, format_of(arguments))
+    }
 }
 
 // Does what the command line asks for.

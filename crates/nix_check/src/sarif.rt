@@ -1,95 +1,232 @@
 //! Diagnostics in SARIF 2.1.0, the format in which code hosts read the results of checkers: one run for all files.
 
-use nix_cli::{VERSION, write_json_string};
-use nix_diagnostics::Diagnostic;
+ghost use Rattle.std.specs.Prelude.{◌≡◌, ◌<◌, ◌++◌, map, OnOk};
+ghost use Rattle.std.specs.List.{flat_map};
+ghost use Rattle.std.specs.Io.KnownBytes.{Appends};
+ghost use Rattle.nix_cli.specs.MessagePlaces.{IsIndexed};
+ghost use Rattle.nix_check.specs.Listed.{comma_joined};
+ghost use Rattle.nix_check.specs.AsSarif.{sarif_rules, sarif_head, truth_text, sarif_tail, is_unreserved, upper_digit, uri_byte, uri, region, location, message_object, related_location, rule_members, sarif_result, separator};
+
+use crate::json::write_comma;
+use nix_cli::{Source, VERSION, write_json_string};
+use nix_diagnostics::{Code, Diagnostic, Note};
 use rnix::TextRange;
-use rnix_text::LineIndex;
 use std::io::{self, Write};
 
 // The beginning of the file, up to the program's name.
-const HEAD: &str =
-    "{\"$schema\":\"https://json.schemastore.org/sarif-2.1.0.json\",\"version\":\"2.1.0\",\"runs\":[{\"tool\":{\"driver\":{\"name\":";
-// What follows the program's version, up to the first result. All results are of one rule.
-const RESULTS: &str =
-    ",\"rules\":[{\"id\":\"syntax\",\"shortDescription\":{\"text\":\"A syntax error\"}}]}},\"columnKind\":\"unicodeCodePoints\",\"results\":[";
+const HEAD: &[u8] =
+    b"{\"$schema\":\"https://json.schemastore.org/sarif-2.1.0.json\",\"version\":\"2.1.0\",\"runs\":[{\"tool\":{\"driver\":{\"name\":";
+// The rules, one for each code.
+const SYNTAX_RULE: &[u8] =
+    b",\"rules\":[{\"id\":\"syntax-error\",\"shortDescription\":{\"text\":\"A syntax error\"}},";
+
+const DEPTH_RULE: &[u8] =
+    b"{\"id\":\"nested-too-deep\",\"shortDescription\":{\"text\":\"Expressions that are nested too deep\"}},";
+
+const REPETITION_RULE: &[u8] =
+    b"{\"id\":\"repeated-attribute\",\"shortDescription\":{\"text\":\"An attribute that is defined again\"}}]";
+// What follows the rules, up to the first result.
+const RESULTS: &[u8] = b"}},\"columnKind\":\"unicodeCodePoints\",\"results\":[";
+
+// Writes the rules.
+fn write_rules<W: Write>(out: &mut W) -> io::Result<()>
+    ensures { OnOk result (Appends (W.contents out.old) (W.contents out.new) sarif_rules) }
+{
+    out.write_all(SYNTAX_RULE)?;
+    out.write_all(DEPTH_RULE)?;
+    out.write_all(REPETITION_RULE)
+}
 
 /// Writes what precedes the first result.
-pub fn write_head<W: Write>(program: &str, out: &mut W) -> io::Result<()> {
-    out.write_all(HEAD.as_bytes())?;
+pub fn write_head<W: Write>(program: &str, out: &mut W) -> io::Result<()>
+    ensures { OnOk result (Appends (W.contents out.old) (W.contents out.new) (sarif_head program.now VERSION.now)) }
+{
+    out.write_all(HEAD)?;
     write_json_string(program, out)?;
     out.write_all(b",\"version\":")?;
     write_json_string(VERSION, out)?;
-    out.write_all(RESULTS.as_bytes())
+    write_rules(out)?;
+    out.write_all(RESULTS)
+}
+
+// Writes `true` or `false`.
+fn write_truth<W: Write>(is_true: bool, out: &mut W) -> io::Result<()>
+    ensures { OnOk result (Appends (W.contents out.old) (W.contents out.new) (truth_text is_true)) }
+{
+    out.write_all(if is_true { b"true" } else { b"false" })
 }
 
 /// Writes what follows the last result, and whether all files were read.
-pub fn write_tail<W: Write>(is_complete: bool, out: &mut W) -> io::Result<()> {
-    writeln!(
-        out,
-        "\n],\"invocations\":[{{\"executionSuccessful\":{is_complete}}}]}}]}}"
-    )
+pub fn write_tail<W: Write>(is_complete: bool, out: &mut W) -> io::Result<()>
+    ensures { OnOk result (Appends (W.contents out.old) (W.contents out.new) (sarif_tail is_complete)) }
+{
+    out.write_all(b"\n],\"invocations\":[{\"executionSuccessful\":")?;
+    write_truth(is_complete, out)?;
+    out.write_all(b"}]}]}\n")
+}
+
+// Whether a byte needs no escape in a URI.
+fn is_unreserved(byte: u8) -> bool
+    ensures { result ≡ is_unreserved byte }
+{
+    byte.is_ascii_alphanumeric() || matches!(byte, b'/' | b'.' | b'-' | b'_' | b'~')
+}
+
+// The hexadecimal digit of a number below 16.
+fn upper_digit(number: u8) -> u8
+    ensures { number < 16 → result ≡ upper_digit number }
+{
+    if number < 10 {
+        b'0' + number
+    } else {
+        b'7'.wrapping_add(number)
+    }
+}
+
+// Writes a byte as a URI has it.
+fn write_uri_byte<W: Write>(byte: u8, out: &mut W) -> io::Result<()>
+    ensures { OnOk result (Appends (W.contents out.old) (W.contents out.new) (uri_byte byte)) }
+{
+    if is_unreserved(byte) {
+        out.write_all(&[byte])
+    } else {
+        out.write_all(&[b'%', upper_digit(byte / 16), upper_digit(byte % 16)])
+    }
+}
+
+// Writes bytes as a URI has them.
+fn write_uri_bytes<W: Write>(bytes: &[u8], out: &mut W) -> io::Result<()>
+    ensures { OnOk result (Appends (W.contents out.old) (W.contents out.new) (flat_map uri_byte bytes.now)) }
+{
+    for byte in bytes {
+        write_uri_byte(*byte, out)?;
+    }
+    Ok(())
 }
 
 // Writes the name of a file as a URI: bytes other than ASCII letters, digits and `/.-_~` are percent-encoded.
-fn write_uri<W: Write>(name: &str, out: &mut W) -> io::Result<()> {
+fn write_uri<W: Write>(name: &str, out: &mut W) -> io::Result<()>
+    ensures { OnOk result (Appends (W.contents out.old) (W.contents out.new) (uri name.now)) }
+{
     out.write_all(b"\"")?;
-    for byte in name.bytes() {
-        if byte.is_ascii_alphanumeric() || matches!(byte, b'/' | b'.' | b'-' | b'_' | b'~') {
-            out.write_all(&[byte])?;
-        } else {
-            write!(out, "%{byte:02X}")?;
-        }
-    }
+    write_uri_bytes(name.as_bytes(), out)?;
     out.write_all(b"\"")
 }
 
-// Writes the file and the region of a range, the bounds as lines and columns from 1.
-fn write_location<W: Write>(
-    name: &str,
-    index: &LineIndex<'_>,
-    range: TextRange,
-    out: &mut W,
-) -> io::Result<()> {
-    let (start, end) = (
-        index.position(range.start()).unwrap_or_default(),
-        index.position(range.end()).unwrap_or_default(),
-    );
-    out.write_all(b"\"physicalLocation\":{\"artifactLocation\":{\"uri\":")?;
-    write_uri(name, out)?;
-    let (line, column) = (start.line.saturating_add(1), start.column.saturating_add(1));
+// Writes the bounds of a region as lines and columns from 1.
+fn write_region<W: Write>(start: (usize, usize), end: (usize, usize), out: &mut W) -> io::Result<()>
+    ensures { OnOk result (Appends (W.contents out.old) (W.contents out.new) (region start end)) }
+{
+    let (line, column) = start;
+    let (end_line, end_column) = end;
     write!(
         out,
-        "}},\"region\":{{\"startLine\":{line},\"startColumn\":{column}"
-    )?;
-    let (line, column) = (end.line.saturating_add(1), end.column.saturating_add(1));
-    write!(out, ",\"endLine\":{line},\"endColumn\":{column}}}}}")
+        "\"startLine\":{line},\"startColumn\":{column},\"endLine\":{end_line},\"endColumn\":{end_column}}}}}"
+    )
+}
+
+// Writes the file and the region of a range.
+fn write_location<W: Write>(source: &Source<'_>, range: TextRange, out: &mut W) -> io::Result<()>
+    requires { IsIndexed source.now }
+    ensures { OnOk result (Appends (W.contents out.old) (W.contents out.new) (location source.now.name.now source.now.text.now range)) }
+{
+    let start = source.position(range.start());
+    let end = source.position(range.end());
+    out.write_all(b"\"physicalLocation\":{\"artifactLocation\":{\"uri\":")?;
+    write_uri(source.name, out)?;
+    out.write_all(b"},\"region\":{")?;
+    write_region(start, end, out)
 }
 
 // Writes a message.
-fn write_message<W: Write>(message: &str, out: &mut W) -> io::Result<()> {
+fn write_message<W: Write>(message: &str, out: &mut W) -> io::Result<()>
+    ensures { OnOk result (Appends (W.contents out.old) (W.contents out.new) (message_object message.now)) }
+{
     out.write_all(b"\"message\":{\"text\":")?;
     write_json_string(message, out)?;
     out.write_all(b"}")
 }
 
-/// Writes a diagnostic of a file as a result, with its notes as related locations.
-pub fn write_result<W: Write>(
-    name: &str,
-    index: &LineIndex<'_>,
+// Writes a note of a diagnostic at a range as a related location.
+fn write_related<W: Write>(
+    source: &Source<'_>,
+    range: TextRange,
+    note: Note,
+    out: &mut W,
+) -> io::Result<()>
+    requires { IsIndexed source.now }
+    ensures { OnOk result
+        (Appends (W.contents out.old) (W.contents out.new) (related_location source.now.name.now source.now.text.now range note)) }
+{
+    out.write_all(b"{")?;
+    write_location(source, note.range.unwrap_or(range), out)?;
+    out.write_all(b",")?;
+    write_message(note.message, out)?;
+    out.write_all(b"}")
+}
+
+// Writes the notes of a diagnostic at a range as related locations.
+fn write_all_related<W: Write>(
+    source: &Source<'_>,
+    range: TextRange,
+    notes: &[Note],
+    out: &mut W,
+) -> io::Result<()>
+    requires { IsIndexed source.now }
+    ensures { OnOk result (Appends (W.contents out.old) (W.contents out.new)
+        (comma_joined (map (related_location source.now.name.now source.now.text.now range) notes.now))) }
+{
+    for number in 0..notes.len() {
+        write_comma(number, out)?;
+        write_related(source, range, notes[number], out)?;
+    }
+    Ok(())
+}
+
+// Writes what separates a result from what precedes it.
+fn write_separator<W: Write>(is_first: bool, out: &mut W) -> io::Result<()>
+    ensures { OnOk result (Appends (W.contents out.old) (W.contents out.new) (separator is_first)) }
+{
+    out.write_all(if is_first { b"\n" } else { b",\n" })
+}
+
+// Writes what a result reports.
+fn write_rule<W: Write>(code: Code, out: &mut W) -> io::Result<()>
+    ensures { OnOk result (Appends (W.contents out.old) (W.contents out.new) (rule_members code)) }
+{
+    let name = code.name();
+    write!(out, "{{\"ruleId\":\"{name}\",\"level\":\"error\",")
+}
+
+// Writes a diagnostic as a result, with its notes as related locations.
+fn write_result<W: Write>(
+    source: &Source<'_>,
     diagnostic: &Diagnostic,
     out: &mut W,
-) -> io::Result<()> {
-    out.write_all(b"{\"ruleId\":\"syntax\",\"level\":\"error\",")?;
+) -> io::Result<()>
+    requires { IsIndexed source.now }
+    ensures { OnOk result (Appends (W.contents out.old) (W.contents out.new) (sarif_result source.now.name.now source.now.text.now diagnostic.now)) }
+{
+    write_rule(diagnostic.code, out)?;
     write_message(diagnostic.message.as_str(), out)?;
     out.write_all(b",\"locations\":[{")?;
-    write_location(name, index, diagnostic.range, out)?;
+    write_location(source, diagnostic.range, out)?;
     out.write_all(b"}],\"relatedLocations\":[")?;
-    for (number, note) in diagnostic.notes.iter().enumerate() {
-        out.write_all(if number > 0 { b",{" } else { b"{" })?;
-        write_location(name, index, note.range.unwrap_or(diagnostic.range), out)?;
-        out.write_all(b",")?;
-        write_message(note.message, out)?;
-        out.write_all(b"}")?;
-    }
+    write_all_related(source, diagnostic.range, &diagnostic.notes, out)?;
     out.write_all(b"]}")
+}
+
+/// Writes a diagnostic as a result, with its notes as related locations, after what separates it from what precedes it.
+pub fn write_separated<W: Write>(
+    source: &Source<'_>,
+    diagnostic: &Diagnostic,
+    is_first: bool,
+    out: &mut W,
+) -> io::Result<()>
+    requires { IsIndexed source.now }
+    ensures { OnOk result (Appends (W.contents out.old) (W.contents out.new)
+        (separator is_first ++ sarif_result source.now.name.now source.now.text.now diagnostic.now)) }
+{
+    write_separator(is_first, out)?;
+    write_result(source, diagnostic, out)
 }

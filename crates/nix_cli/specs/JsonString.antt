@@ -1,7 +1,7 @@
 -- A text as a JSON string. A text is the list of its bytes.
 use Rattle.std.specs.Prelude.{ℕ, ◌==◌, nat_lt, ◌/◌, ◌%◌, Bool, not, ◌&&◌, List, [], ◌∷◌, ◌++◌, codes, if◌then◌else◌}
 use Rattle.std.specs.Char.{digit_char}
-use Rattle.std.specs.List.{flat_map}
+use Rattle.std.specs.List.{flat_map, list_all}
 
 -- whether a byte stands for itself: it is no control character below 32, no quote and no backslash
 abbrev pub is_plain : ℕ → Bool
@@ -17,3 +17,7 @@ escape b =
 -- the text between quotes, with escapes
 abbrev pub json_string : List ℕ → List ℕ
 json_string text = codes "\"" ++ (flat_map escape text ++ codes "\"")
+
+-- a name for people: the text itself, or the JSON string if that has escapes
+abbrev pub shown_text : List ℕ → List ℕ
+shown_text text = if list_all is_plain text then text else json_string text

@@ -1,6 +1,6 @@
 //! An excerpt: one line of a text, with carets under a range in it.
 
-ghost use Rattle.std.specs.Prelude.{◌≡◌, IsTrue, OnOk, length};
+ghost use Rattle.std.specs.Prelude.{◌≡◌, ℕ, List, IsTrue, OnOk, length};
 ghost use Rattle.std.specs.Str.{chars};
 ghost use Rattle.std.specs.List.{flat_map, prefix_len};
 ghost use Rattle.std.specs.Io.KnownBytes.{Appends};
@@ -168,7 +168,9 @@ fn write_carets<W: Write>(part: &str, out: &mut W) -> io::Result<()>
 }
 
 /// Writes the line where a range of bytes starts, at most 120 columns of it, and carets below the part of the range in it.
-pub fn write_excerpt<W: Write>(text: &str, range: Range<usize>, out: &mut W) -> io::Result<()> {
+pub fn write_excerpt<W: Write>(text: &str, range: Range<usize>, out: &mut W) -> io::Result<()>
+    ensures { OnOk result ((lines : List ℕ) × Appends (W.contents out.old) (W.contents out.new) lines) }
+{
     let (start, end) = (
         start_of_part(text, range.start),
         end_of_part(text, range.start),

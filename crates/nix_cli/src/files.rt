@@ -1,8 +1,12 @@
 //! Finding and reading files.
 
+ghost use Rattle.std.specs.Prelude.{◌≡◌};
 ghost use Rattle.std.specs.Io.KnownBytes.{Keeps};
+ghost use Rattle.nix_cli.specs.MessagePlaces.{shown_name};
+ghost use Rattle.nix_cli.specs.Statuses.{first_status};
 
 use crate::arguments::Program;
+use crate::ending::FAILED;
 use crate::file_replacement::replace_text;
 use std::alloc::AllocError;
 use std::fs::FileType;
@@ -18,6 +22,15 @@ pub struct Files {
     pub failed: usize,
 }
 
+impl Files {
+    /// Returns the exit status before any of the files is read.
+    pub fn status(&self) -> u8
+        ensures { result ≡ first_status self.now.failed }
+    {
+        if self.failed == 0 { 0 } else { FAILED }
+    }
+}
+
 /// The files that the arguments name, for a program that gathers its output.
 #[derive(Drop)]
 pub struct Inputs {
@@ -27,7 +40,7 @@ pub struct Inputs {
     are_regular: bool,
 }
 
-// What a name stands for.
+// What a name refers to.
 #[derive(Clone, Copy, PartialEq, Eq)]
 enum Kind {
     Folder,
@@ -36,7 +49,7 @@ enum Kind {
     Other,
 }
 
-// What a name on the command line stands for.
+// What a name on the command line refers to.
 fn kind_of(rt: &HostRuntime, name: &str) -> Kind {
     match fs::metadata(rt, name) {
         Ok(data) if data.is_dir() => Kind::Folder,
@@ -205,7 +218,9 @@ fn inputs_of(
 }
 
 /// The name of a file in messages.
-pub fn shown_name(name: &str) -> &str {
+pub fn shown_name(name: &str) -> &str
+    ensures { result.now ≡ shown_name name.now }
+{
     if name == "-" { "<stdin>" } else { name }
 }
 
@@ -227,7 +242,7 @@ pub fn place_of(text: &str, offset: usize) -> (usize, usize) {
     end_place(text.get(..offset).unwrap_or(text))
 }
 
-// Why a text could not be read, as it stands in a message behind the name of the file.
+// Why a text could not be read, as messages say it after the name of the file.
 #[derive(Drop)]
 enum Unread {
     // The file or standard input could not be read.

@@ -2,13 +2,13 @@
 
 ghost use Rattle.std.specs.Prelude.{◌≡◌, ◌≤◌, ◌<◌, false, length, take, OnOk, IfOk};
 ghost use Rattle.std.specs.Char.{digit_char};
-ghost use Rattle.std.specs.List.{flat_map, prefix_len};
+ghost use Rattle.std.specs.List.{flat_map, list_all, prefix_len};
 ghost use Rattle.std.specs.Io.KnownBytes.{Appends};
-ghost use Rattle.nix_cli.specs.JsonString.{is_plain, escape, json_string};
+ghost use Rattle.nix_cli.specs.JsonString.{is_plain, escape, json_string, shown_text};
 
 use std::io::{self, Write};
 
-// Whether a byte stands for itself in a JSON string.
+// Whether a byte needs no escape in a JSON string.
 #[inline(always)]
 fn is_plain(byte: u8) -> bool
     ensures { result ≡ is_plain byte }
@@ -35,7 +35,7 @@ fn digit(number: u8) -> u8
     }
 }
 
-// What stands for a control character below 32.
+// The escape of a control character below 32.
 #[tactic(auto, unfolding(crate::specs::JsonString::escape))]
 fn control_escape(byte: u8) -> [u8; 6]
     ensures { byte < 32 → result ≡ escape byte }
@@ -74,4 +74,26 @@ pub fn write_json_string<W: Write>(text: &str, out: &mut W) -> io::Result<()>
         }
     }
     out.write_all(b"\"")
+}
+
+// Whether no byte of a text needs an escape in a JSON string.
+fn is_plain_text(text: &str) -> bool
+    ensures { result ≡ list_all is_plain text.now }
+{
+    text.bytes().all(
+        |byte: u8| -> bool
+            ensures { result ≡ is_plain byte }
+        { is_plain(byte) },
+    )
+}
+
+/// Writes a name for people, without line breaks: as it is, or as a JSON string if that has escapes.
+pub fn write_shown<W: Write>(name: &str, out: &mut W) -> io::Result<()>
+    ensures { OnOk result (Appends (W.contents out.old) (W.contents out.new) (shown_text name.now)) }
+{
+    if is_plain_text(name) {
+        out.write_all(name.as_bytes())
+    } else {
+        write_json_string(name, out)
+    }
 }

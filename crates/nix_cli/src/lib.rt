@@ -9,6 +9,7 @@ mod file_replacement;
 mod files;
 mod json;
 mod progress;
+mod source;
 
 pub use arguments::{Arguments, Program, Start, VERSION, parse_arguments, read_arguments};
 pub use colors::is_colored;
@@ -18,5 +19,6 @@ pub use file_replacement::{replace_text, replaceable};
 pub use files::{
     Files, Inputs, find_files, find_inputs, place_of, read_text, shown_name, write_text,
 };
-pub use json::write_json_string;
+pub use json::{write_json_string, write_shown};
 pub use progress::Progress;
+pub use source::{Source, write_place};

@@ -1,3 +1,4 @@
+pub mod DifferentNames
 pub mod MeaningLemmas
 pub mod WrittenLemmas
 pub mod NixStringLemmas

@@ -1,10 +1,12 @@
 -- What certain expressions mean, by computation.
-use Rattle.std.proofs.Common.{◌≡◌, ℕ, List, [], ◌∷◌, get_or, true, false, ap, arith, refl, codes}
+use Rattle.std.proofs.Common.{◌≡◌, ◌∙◌, ℕ, ◌^◌, pos, neg_ℤ, List, [], ◌∷◌, get_or, true, false, ap, arith, sym, refl, codes}
 use Rattle.rnix_kinds.specs.declared.kinds.SyntaxKind.TheVariants as k
 use Rattle.rnix_green.specs.Forest.{Forest, empty, leaf, node}
 use Rattle.rnix_green.specs.Tree.{Located}
-use Rattle.nix_values.specs.Contents.{Plain, null, boolean, float, list, set, Entry}
-use Rattle.nix_data.specs.Meaning.{Means, HasValue}
+use Rattle.nix_values.specs.Contents.{Plain, null, boolean, integer, float, list, set, Entry}
+use Rattle.std.specs.List.{IsDistinct}
+use Rattle.nix_values.specs.Floats.{is_held}
+use Rattle.nix_data.specs.Meaning.{Means, HasValue, HaveDifferentNames}
 use Rattle.nix_data.proofs.UniqueLemmas.{one_meaning}
 
 -- the expression of a text
@@ -37,16 +39,17 @@ abbrev a_set : Forest
 a_set = node k.NODE_ATTR_SET (leaf k.TOKEN_L_BRACE (codes "{") (node k.NODE_ATTRPATH_VALUE (node k.NODE_ATTRPATH (ident (codes "a") empty)
     (leaf k.TOKEN_ASSIGN (codes "=") (ident (codes "true") (leaf k.TOKEN_SEMICOLON (codes ";") empty)))) (leaf k.TOKEN_R_BRACE (codes "}") empty))) empty
 
-list_means : Means 2 0 [] (expression a_list) (entry_of 0 [] list ∷ entry_of 1 [] null ∷ entry_of 1 [] (float (codes "-1.5")) ∷ [])
+list_means : is_held (codes "-1.5") ≡ true →
+    Means 2 0 [] (expression a_list) (entry_of 0 [] list ∷ entry_of 1 [] null ∷ entry_of 1 [] (float (codes "-1.5")) ∷ [])
 unfolding Means
-list_means = (
+list_means held = (
   entry_of 0 [] list,
   entry_of 1 [] null ∷ entry_of 1 [] (float (codes "-1.5")) ∷ [],
   (refl, refl, refl),
   (
     entry_of 1 [] null ∷ [],
     entry_of 1 [] (float (codes "-1.5")) ∷ [],
-    ([], record { tree = (expression a_list).tree; number = 3 }, (refl, refl), (entry_of 1 [] null, [], (refl, refl, (refl, refl)), refl, refl)),
+    ([], record { tree = (expression a_list).tree; number = 3 }, (refl, refl), (entry_of 1 [] null, [], (refl, refl, (refl, refl)), refl, refl, tt)),
     (
       entry_of 1 [] (float (codes "-1.5")) ∷ [],
       [],
@@ -54,7 +57,7 @@ list_means = (
         [],
         record { tree = (expression a_list).tree; number = 5 },
         (refl, refl),
-        (entry_of 1 [] (float (codes "-1.5")), [], (refl, refl, ((refl, refl), refl)), refl, refl),
+        (entry_of 1 [] (float (codes "-1.5")), [], (refl, refl, ((refl, refl), refl, held)), refl, refl, tt),
       ),
       refl,
       refl,
@@ -62,10 +65,11 @@ list_means = (
     refl,
   ),
   refl,
+  tt,
 )
 
 set_means : Means 2 0 [] (expression a_set) (entry_of 0 [] set ∷ entry_of 1 (codes "a") (boolean true) ∷ [])
-unfolding Means
+unfolding Means IsDistinct
 set_means = (
   entry_of 0 [] set,
   entry_of 1 (codes "a") (boolean true) ∷ [],
@@ -77,12 +81,13 @@ set_means = (
       codes "a",
       record { tree = (expression a_set).tree; number = 8 },
       (refl, refl, refl),
-      (entry_of 1 (codes "a") (boolean true), [], (refl, refl, (refl, refl)), refl, refl),
+      (entry_of 1 (codes "a") (boolean true), [], (refl, refl, (refl, refl)), refl, refl, tt),
     ),
     refl,
     refl,
   ),
   refl,
+  (tt, tt),
 )
 
 -- another name, or another value, is not what the set means
@@ -103,3 +108,26 @@ other_value h =
 -- an integer is not a float
 no_float : HasValue (expression (node k.NODE_LITERAL (leaf k.TOKEN_INTEGER (codes "1") empty) empty)) (float (codes "1")) → ⊥
 no_float h = absurd (cc (h.0.1))
+
+-- a float that Nix cannot hold is no value, and the least integer of 64 bits is none
+no_infinity : (e : Located) (digits : List ℕ) → is_held digits ≡ false → HasValue e (float digits) → ⊥
+no_infinity e digits not_held h =
+    let clash : false ≡ true = sym not_held ∙ h.2 in
+    absurd (cc)
+
+no_least : (e : Located) → HasValue e (integer (neg_ℤ (pos (2 ^ 63)))) → ⊥
+no_least e h = omega (arith, h.2)
+
+-- the entry of that set: one entry has a name of its own, and two that are the same do not
+abbrev an_entry : Located
+an_entry = record { tree = (expression a_set).tree; number = 3 }
+
+one_name : HaveDifferentNames set (an_entry ∷ [])
+unfolding IsDistinct
+one_name = (tt, tt)
+
+same_names : HaveDifferentNames set (an_entry ∷ an_entry ∷ []) → ⊥
+unfolding IsDistinct
+same_names h =
+    let clash : true ≡ false = h.0.0 in
+    absurd (cc)

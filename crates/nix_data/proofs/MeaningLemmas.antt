@@ -12,7 +12,8 @@ use Rattle.rnix_base.specs.declared.parts.InterpolPart.{InterpolPart}
 use Rattle.rnix_base.specs.declared.parts.InterpolPart.TheVariants.{Literal, Interpolation}
 use Rattle.rnix_base.specs.Normal.{Parts, with_text}
 use Rattle.nix_values.specs.Contents.{Plain, has_parts, Entry}
-use Rattle.nix_data.specs.Meaning.{name_of_kind, unwrapped, parts_of, IsPart, MeansPart, Means, InOrder, IsHead, MeansFirst}
+use Rattle.nix_data.specs.Meaning.{name_of_kind, unwrapped, parts_of, IsPart, HaveDifferentNames, MeansPart, Means, InOrder, IsHead, MeansFirst}
+use Rattle.nix_data.proofs.DifferentNames.{names_of_none}
 
 -- a node that is neither an identifier nor a string is no name
 pub name_of_other : (kind : SyntaxKind) (e : Located) → (kind ≡ k.NODE_IDENT → ⊥) → (kind ≡ k.NODE_STRING → ⊥) → name_of_kind kind e ≡ None
@@ -47,37 +48,41 @@ used_more levels depth own all left after child inner name head entries rest nex
 
 -- an expression means its own value and those of its parts
 means_all : (levels depth : ℕ) (name : List ℕ) (e : Located) (head : Entry) (inside : List Entry) → IsHead depth name (unwrapped e) head →
-    InOrder (MeansPart (Means levels (depth + 1)) head.plain) (parts_of head.plain (unwrapped e)) inside → Means (suc levels) depth name e (head ∷ inside)
+    InOrder (MeansPart (Means levels (depth + 1)) head.plain) (parts_of head.plain (unwrapped e)) inside →
+    HaveDifferentNames head.plain (parts_of head.plain (unwrapped e)) → Means (suc levels) depth name e (head ∷ inside)
 unfolding Means
-means_all levels depth name e head inside is parts = (head, inside, is, parts, refl)
+means_all levels depth name e head inside is parts differ = (head, inside, is, parts, refl, differ)
 
 -- so it means the first of some values
 means_first : (total depth : ℕ) (name : List ℕ) (e : Located) (head : Entry) (inside entries rest : List Entry) → 0 < total →
     IsHead depth name (unwrapped e) head →
-    InOrder (MeansPart (Means (total - 1) (depth + 1)) head.plain) (parts_of head.plain (unwrapped e)) inside → entries ≡ head ∷ (inside ++ rest) →
-    MeansFirst total depth name e entries rest
-means_first total depth name e head inside entries rest some is parts all =
+    InOrder (MeansPart (Means (total - 1) (depth + 1)) head.plain) (parts_of head.plain (unwrapped e)) inside →
+    HaveDifferentNames head.plain (parts_of head.plain (unwrapped e)) → entries ≡ head ∷ (inside ++ rest) → MeansFirst total depth name e entries rest
+means_first total depth name e head inside entries rest some is parts differ all =
     let total_is : suc (total - 1) ≡ total = omega arith in
-    subst (λ t. MeansFirst t depth name e entries rest) total_is (head ∷ inside, means_all (total - 1) depth name e head inside is parts, all)
+    subst (λ t. MeansFirst t depth name e entries rest) total_is (head ∷ inside, means_all (total - 1) depth name e head inside is parts differ, all)
 
 -- an expression whose value has no values inside it means that value alone
 pub means_alone : (total depth : ℕ) (name : List ℕ) (e : Located) (head : Entry) (entries rest : List Entry) → 0 < total →
     IsHead depth name (unwrapped e) head → has_parts head.plain ≡ false → entries ≡ head ∷ rest → MeansFirst total depth name e entries rest
 means_alone total depth name e head entries rest some is alone all =
+    let none : parts_of head.plain (unwrapped e) ≡ [] = cond-false (has_parts head.plain) (nodes_in (children_of (unwrapped e))) [] alone in
     means_first total depth name e head [] entries rest some is
-    (subst (λ nodes. InOrder (MeansPart (Means (total - 1) (depth + 1)) head.plain) nodes [])
-    (sym (cond-false (has_parts head.plain) (nodes_in (children_of (unwrapped e))) [] alone)) refl) all
+    (subst (λ nodes. InOrder (MeansPart (Means (total - 1) (depth + 1)) head.plain) nodes []) (sym none) refl)
+    (subst (HaveDifferentNames head.plain) (sym none) (names_of_none head.plain)) all
 
--- an expression all of whose child nodes are used
+-- an expression all of whose child nodes are used, and have different names in a set
 pub means_used : (total depth : ℕ) (name : List ℕ) (e : Located) (head : Entry) (left : List Located) (entries rest : List Entry) → 0 < total →
     IsHead depth name (unwrapped e) head → has_parts head.plain ≡ true → left ≡ [] →
     Used (MeansPart (Means (total - 1) (depth + 1)) head.plain) (nodes_in (children_of (unwrapped e))) left head entries rest →
-    MeansFirst total depth name e entries rest
-means_used total depth name e head left entries rest some is there none so_far =
+    HaveDifferentNames head.plain (nodes_in (children_of (unwrapped e))) → MeansFirst total depth name e entries rest
+means_used total depth name e head left entries rest some is there none so_far differ =
+    let are_parts : nodes_in (children_of (unwrapped e)) ≡ parts_of head.plain (unwrapped e) =
+    sym (cond-true (has_parts head.plain) (nodes_in (children_of (unwrapped e))) [] there) in
     let inside : List Entry = so_far.0 in
     let order : InOrder (MeansPart (Means (total - 1) (depth + 1)) head.plain) (nodes_in (children_of (unwrapped e))) inside =
     subst (InOrder (MeansPart (Means (total - 1) (depth + 1)) head.plain) (nodes_in (children_of (unwrapped e)))) (append-nil inside)
     (so_far.1 [] (subst (λ nodes. InOrder (MeansPart (Means (total - 1) (depth + 1)) head.plain) nodes []) (sym none) refl)) in
     means_first total depth name e head inside entries rest some is
-    (subst (λ nodes. InOrder (MeansPart (Means (total - 1) (depth + 1)) head.plain) nodes inside)
-    (sym (cond-true (has_parts head.plain) (nodes_in (children_of (unwrapped e))) [] there)) order) so_far.2
+    (subst (λ nodes. InOrder (MeansPart (Means (total - 1) (depth + 1)) head.plain) nodes inside) are_parts order)
+    (subst (HaveDifferentNames head.plain) are_parts differ) so_far.2

@@ -2,7 +2,7 @@
 use Rattle.std.proofs.Common.{◌≡◌, ◌++◌, ◌∷◌, [], true, false, refl}
 use Rattle.std.specs.Prelude.{codes}
 use Rattle.rnix_kinds.specs.declared.kinds.SyntaxKind.TheVariants as k
-use Rattle.nix_data.specs.Misread.{is_misread}
+use Rattle.nix_data.specs.Misread.{is_misread, is_altered}
 
 -- space, tab, carriage return and line feed
 blanks : is_misread k.TOKEN_WHITESPACE (32 ∷ 9 ∷ 13 ∷ 10 ∷ []) ≡ false
@@ -38,3 +38,16 @@ digit = refl
 
 one : is_misread k.TOKEN_FLOAT (codes "1.") ≡ false
 one = refl
+
+-- strings: a carriage return between quotes, its escape, one in `''`, and the character 0
+return : is_altered (codes "\"a" ++ 13 ∷ codes "b\"") ≡ true
+return = refl
+
+escape : is_altered (codes "\"a\\rb\"") ≡ false
+escape = refl
+
+return_in_lines : is_altered (codes "''a" ++ 13 ∷ codes "b''") ≡ false
+return_in_lines = refl
+
+nul : is_altered (codes "''a" ++ 0 ∷ codes "b''") ≡ true
+nul = refl

@@ -1,13 +1,15 @@
 -- A text means at most one list of values.
 use Rattle.std.proofs.Common.{◌≡◌, ◌∙◌, ℕ, zero, suc, ◌+◌, ℤ, Bool, true, false, arith, List, [], ◌∷◌, ◌++◌, get_or, ap, ap₂, sym, refl, subst, Option, Some, None}
-use Rattle.std.specs.Prelude.{codes, unwrap_or, IsSomeAnd}
+use Rattle.std.specs.Prelude.{◌<◌, ◌^◌, codes, unwrap_or, IsSomeAnd, unsigned_abs, FitsSigned, if◌then◌else◌}
+use Rattle.std.specs.Int.{w64}
 use Rattle.std.proofs.lemmas.Bool.{cond-false}
 use Rattle.std.proofs.lemmas.Fmt.{signed_decimal_injective}
+use Rattle.std.proofs.lemmas.Int.{fits_signed_from_abs}
 use Rattle.rnix_kinds.specs.declared.kinds.SyntaxKind.{SyntaxKind}
 use Rattle.rnix_kinds.specs.declared.kinds.SyntaxKind.TheVariants as k
 use Rattle.rnix_kinds.specs.Lexical.Tokens.{Lexeme, tokens_of}
 use Rattle.rnix_green.specs.Equality.{same_kind, same_kind-decides}
-use Rattle.rnix_green.specs.Tree.{Tree, Located, item_of}
+use Rattle.rnix_green.specs.Tree.{Tree, Located, item_of, text_at}
 use Rattle.rnix_base.specs.declared.literal.LiteralKind.{LiteralKind}
 use Rattle.rnix_base.specs.declared.literal.LiteralKind.TheVariants as literal
 use Rattle.rnix_base.specs.Literal.{first_literal}
@@ -19,6 +21,7 @@ use Rattle.nix_values.specs.Contents.{Plain, null, boolean, integer, float, text
 use Rattle.nix_data.specs.declared.nix_writer.TheConstants.{LEVELS}
 use Rattle.rnix.specs.StringParts.{plain_value}
 use Rattle.nix_data.specs.Meaning.{expression_text, unsigned, is_integer, is_float, word_of, HasValue, unwrapped, parts_of, IsPart, InOrder, MeansPart, Means}
+use Rattle.nix_data.specs.Misread.{is_altered}
 use Rattle.nix_data.specs.Written.{IsWritten}
 
 -- the sorts of expressions that have values
@@ -65,12 +68,21 @@ number_sort e false is h =
     has_sort k.NODE_LITERAL e
     (subst (HasKind k.NODE_LITERAL) (cond-false (same_kind k.NODE_UNARY_OP (item_of e).kind) (unwrap_or (child_of is_expr 0 e) e) e is) h)
 
+-- what is found behind two tests passed the second one
+second_passed : (altered is_string : Bool) (found : Option (List ℕ)) (t : List ℕ) →
+    (if altered then None else (if is_string then found else None)) ≡ Some t → is_string ≡ true
+second_passed true is_string found t h = absurd (cc)
+second_passed false true found t h = refl
+second_passed false false found t h = absurd (cc)
+
 -- what has a text is a string
-string_sort : (e : Located) (t : List ℕ) (b : Bool) → same_kind k.NODE_STRING (item_of e).kind ≡ b → expression_text e ≡ Some t → string ≡ sort_at e
-string_sort e t true is h = has_sort k.NODE_STRING e is
-string_sort e t false is h =
-    let none : None ≡ Some t = sym (cond-false (same_kind k.NODE_STRING (item_of e).kind) (plain_value e) None is) ∙ h in
-    absurd (cc)
+string_sort : (e : Located) (t : List ℕ) → expression_text e ≡ Some t → string ≡ sort_at e
+string_sort e t h =
+    has_sort k.NODE_STRING e (second_passed (is_altered (text_at e)) (same_kind k.NODE_STRING (item_of e).kind) (plain_value e) t h)
+
+-- an integer that Nix can write has 64 bits
+fits : (n : ℤ) → unsigned_abs n < 2 ^ 63 → FitsSigned w64 n
+fits n few = fits_signed_from_abs w64 n few
 
 -- a value is of the sort of its expression
 value_sort : (e : Located) (a : Plain) → HasValue e a → IsOfSort a (sort_at e)
@@ -78,7 +90,7 @@ value_sort e null h = subst (IsOfSort null) (has_sort k.NODE_IDENT e h.0) a_null
 value_sort e (boolean b) h = subst (IsOfSort (boolean b)) (has_sort k.NODE_IDENT e h.0) (a_boolean b)
 value_sort e (integer n) h = subst (IsOfSort (integer n)) (number_sort e (same_kind k.NODE_UNARY_OP (item_of e).kind) refl h.0.0) (an_integer n)
 value_sort e (float digits) h = subst (IsOfSort (float digits)) (number_sort e (same_kind k.NODE_UNARY_OP (item_of e).kind) refl h.0.0) (a_float digits)
-value_sort e (text t) h = subst (IsOfSort (text t)) (string_sort e t (same_kind k.NODE_STRING (item_of e).kind) refl h) (a_text t)
+value_sort e (text t) h = subst (IsOfSort (text t)) (string_sort e t h) (a_text t)
 value_sort e list h = subst (IsOfSort list) (has_sort k.NODE_LIST e h) a_list
 value_sort e set h = subst (IsOfSort set) (has_sort k.NODE_ATTR_SET e h.0) a_set
 
@@ -106,7 +118,7 @@ same_value e _ _ _ a_null a_null p q = refl
 same_value e _ _ _ a_null (a_boolean b) p q = absurd (null_differs b (sym p.1 ∙ q.1))
 same_value e _ _ _ (a_boolean a) a_null p q = absurd (null_differs a (sym q.1 ∙ p.1))
 same_value e _ _ _ (a_boolean a) (a_boolean b) p q = ap boolean (words_differ a b (sym p.1 ∙ q.1))
-same_value e _ _ _ (an_integer m) (an_integer n) p q = ap integer (signed_decimal_injective m n p.2.sfits q.2.sfits (sym p.1 ∙ q.1))
+same_value e _ _ _ (an_integer m) (an_integer n) p q = ap integer (signed_decimal_injective m n (fits m p.2).sfits (fits n q.2).sfits (sym p.1 ∙ q.1))
 same_value e _ _ _ (an_integer m) (a_float d) p q = absurd (not_both (first_literal (unsigned e)) p.0.1 q.0.1)
 same_value e _ _ _ (a_float d) (an_integer n) p q = absurd (not_both (first_literal (unsigned e)) q.0.1 p.0.1)
 same_value e _ _ _ (a_float c) (a_float d) p q = ap float (sym p.1 ∙ q.1)

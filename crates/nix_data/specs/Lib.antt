@@ -1,4 +1,5 @@
 pub mod Meaning
+pub mod NewNames
 pub mod Misread
 pub mod NixString
 pub mod Written

@@ -1,7 +1,7 @@
 -- What an expression means that contains only literals, lists, and sets whose paths are single names.
-use Rattle.std.specs.Prelude.{◌≡◌, ℕ, zero, suc, ◌+◌, Bool, true, false, List, [], ◌∷◌, ◌++◌, map, codes, Option, Some, None, option_map, unwrap_or, if◌then◌else◌, FitsSigned}
+use Rattle.std.specs.Prelude.{◌≡◌, ℕ, zero, suc, ◌+◌, Bool, true, false, List, [], ◌∷◌, ◌++◌, map, codes, bytes_eq, Option, Some, None, option_map, unwrap_or, if◌then◌else◌, ◌<◌, ◌^◌, unsigned_abs}
 use Rattle.std.specs.Fmt.{signed_decimal}
-use Rattle.std.specs.Int.{w64}
+use Rattle.std.specs.List.{IsDistinct}
 use Rattle.rnix_kinds.specs.declared.kinds.SyntaxKind.{SyntaxKind}
 use Rattle.rnix_kinds.specs.declared.kinds.SyntaxKind.TheVariants as k
 use Rattle.rnix_green.specs.Equality.{same_kind}
@@ -15,10 +15,12 @@ use Rattle.rnix.specs.NodeKinds.{is_expr, is_attr}
 use Rattle.rnix.specs.StringParts.{plain_value}
 use Rattle.nix_values.specs.declared.data.Item.{Item}
 use Rattle.nix_values.specs.Contents.{Plain, null, boolean, integer, float, text, list, set, has_parts, Entry, entry_of}
+use Rattle.nix_values.specs.Floats.{is_held}
+use Rattle.nix_data.specs.Misread.{is_altered}
 
--- the value, as Nix makes it, of an expression that is a string without interpolations
+-- the value, as Nix makes it, of an expression that is a string without interpolations, unless Nix changes it
 abbrev pub expression_text : Located → Option (List ℕ)
-expression_text e = if same_kind k.NODE_STRING (item_of e).kind then plain_value e else None
+expression_text e = if is_altered (text_at e) then None else (if same_kind k.NODE_STRING (item_of e).kind then plain_value e else None)
 
 -- the operand of an operation in front of it, as `1` of `-1`; any other expression is its own
 abbrev pub unsigned : Located → Located
@@ -42,12 +44,12 @@ IsNumber is_sort e = HasKind k.NODE_LITERAL (unsigned e) × (is_sort (first_lite
 abbrev pub word_of : Bool → List ℕ
 word_of b = if b then codes "true" else codes "false"
 
--- an expression has a value, not counting the values inside it
+-- an expression has a value that Nix can hold, not counting the values inside it
 abbrev pub HasValue : Located → Plain → Type 0
 HasValue e null = HasKind k.NODE_IDENT e × (text_at e ≡ codes "null")
 HasValue e (boolean b) = HasKind k.NODE_IDENT e × (text_at e ≡ word_of b)
-HasValue e (integer n) = IsNumber is_integer e × (text_at e ≡ signed_decimal n) × FitsSigned w64 n
-HasValue e (float digits) = IsNumber is_float e × (text_at e ≡ digits)
+HasValue e (integer n) = IsNumber is_integer e × (text_at e ≡ signed_decimal n) × (unsigned_abs n < 2 ^ 63)
+HasValue e (float digits) = IsNumber is_float e × (text_at e ≡ digits) × (is_held digits ≡ true)
 HasValue e (text t) = expression_text e ≡ Some t
 HasValue e list = HasKind k.NODE_LIST e
 HasValue e set = HasKind k.NODE_ATTR_SET e × (token_of (same_kind k.TOKEN_REC) e ≡ None)
@@ -55,7 +57,7 @@ HasValue e set = HasKind k.NODE_ATTR_SET e × (token_of (same_kind k.TOKEN_REC) 
 -- the name that a node of a kind is
 abbrev pub name_of_kind : SyntaxKind → Located → Option (List ℕ)
 name_of_kind k.NODE_IDENT e = Some (text_at e)
-name_of_kind k.NODE_STRING e = plain_value e
+name_of_kind k.NODE_STRING e = expression_text e
 name_of_kind _ e = None
 
 -- the name that an attribute is: an identifier, or a string without interpolations
@@ -77,6 +79,15 @@ abbrev pub IsPart : Plain → Located → List ℕ → Located → Type 0
 IsPart set child name inner =
     HasKind k.NODE_ATTRPATH_VALUE child × (path_name (child_of (same_kind k.NODE_ATTRPATH) 0 child) ≡ Some name) × (child_of is_expr 0 child ≡ Some inner)
 IsPart _ child name inner = (name ≡ []) × (child ≡ inner)
+
+-- the names of the entries of a set
+abbrev pub names_in : List Located → List (List ℕ)
+names_in = map (λ entry. unwrap_or (path_name (child_of (same_kind k.NODE_ATTRPATH) 0 entry)) [])
+
+-- the child nodes of an expression have different names, if its value is a set
+abbrev pub HaveDifferentNames : Plain → List Located → Type 0
+HaveDifferentNames set entries = IsDistinct bytes_eq (names_in entries)
+HaveDifferentNames _ nodes = Unit {0}
 
 -- the child nodes of an expression, if its value contains others
 abbrev pub parts_of : Plain → Located → List Located
@@ -100,12 +111,13 @@ MeansPart means own child entries = (name : List ℕ) × (inner : Located) × Is
 abbrev pub IsHead : ℕ → List ℕ → Located → Entry → Type 0
 IsHead depth name node head = (head.depth ≡ depth) × (head.name ≡ name) × HasValue node head.plain
 
--- an expression with a name, at a depth, means values: its own, followed by those of its parts; they nest less than `levels` deep
+-- an expression with a name, at a depth, means values: its own, followed by those of its parts, whose names differ in a set; they nest less than `levels` deep
 unfoldable pub Means : ℕ → ℕ → List ℕ → Located → List Entry → Type 0
 Means zero depth name e entries = ⊥
 Means (suc levels) depth name e entries =
     (head : Entry) × (inside : List Entry) × IsHead depth name (unwrapped e) head
     × InOrder (MeansPart (Means levels (depth + 1)) head.plain) (parts_of head.plain (unwrapped e)) inside × (entries ≡ head ∷ inside)
+    × HaveDifferentNames head.plain (parts_of head.plain (unwrapped e))
 
 -- an expression means the first of some values; these are the rest
 abbrev pub MeansFirst : ℕ → ℕ → List ℕ → Located → List Entry → List Entry → Type 0

@@ -34,6 +34,10 @@ is_misread k.TOKEN_COMMENT text = ends_early text
 is_misread k.TOKEN_FLOAT text = lacks_digit text
 is_misread kind text = false
 
+-- Nix changes a string: it cuts it at the character 0, and reads a carriage return in `"` as a line feed
+abbrev pub is_altered : List ℕ → Bool
+is_altered source = list_any (λ b. b == 0) source || (slice_index source 0 == 34 && list_any (λ b. b == 13) source)
+
 -- an element is a token that Nix reads otherwise
 abbrev pub is_misread_at : Spot → Bool
 is_misread_at spot = not spot.0 && is_misread (item_of spot.1).kind (text_at spot.1)

@@ -8,19 +8,28 @@ ghost use Rattle.rnix_base.specs.Literal.{first_literal};
 ghost use Rattle.rnix_base.specs.Select.{HasKind, token_of};
 ghost use Rattle.nix_values.specs.Contents.{set, plain_of, entry_of};
 ghost use Rattle.nix_data.specs.Meaning.{expression_text, unsigned, is_integer, is_float, IsNumber, word_of, HasValue, name_of, path_name, IsPart, unwrapped, IsHead, MeansItems};
+ghost use Rattle.nix_data.specs.NewNames.{IsNewName};
 
-use nix_values::{Item, Value};
+use crate::misread::is_altered;
+use nix_values::{Item, Value, is_held};
 use rnix::ast::{
     AstNode, AttrSet, Attrpath, AttrpathValue, Ident, List, Literal, LiteralKind, Paren, Str,
     UnaryOp,
 };
 use rnix::{SyntaxKind, SyntaxNode};
 use std::alloc::{AllocError, Global};
+use std::collections::BTreeSet;
 
-// The value of an expression that is a string without interpolations.
+// The least number above the integers that Nix can write.
+const INTEGERS_END: u64 = 1 << 63;
+
+// The value of an expression that is a string without interpolations, unless Nix changes it.
 fn expression_text(alloc: Global, node: &SyntaxNode<'_>) -> Result<Option<String>, AllocError>
     ensures { IfOk result (λ found. option_map string_bytes found ≡ expression_text node.now) }
 {
+    if is_altered(node.text()) {
+        return Ok(None);
+    }
     match Str::cast(node.clone()) {
         Some(string) => string.plain_value(alloc),
         None => Ok(None),
@@ -94,7 +103,7 @@ fn is_plain_set(node: &SyntaxNode<'_>) -> bool
     }
 }
 
-// Whether an expression has a value, not counting the values inside it.
+// Whether an expression has a value that Nix can hold, not counting the values inside it.
 fn has_value(alloc: Global, node: &SyntaxNode<'_>, value: &Value) -> Result<bool, AllocError>
     ensures { IfOk result (λ has_value. IsTrue has_value → HasValue node.now (plain_of value.now)) }
 {
@@ -104,9 +113,13 @@ fn has_value(alloc: Global, node: &SyntaxNode<'_>, value: &Value) -> Result<bool
         Value::Integer(number) => {
             let number = *number;
             let digits = format!(in alloc; "{number}")?;
-            Ok(is_integer(node) && node.text() == digits.as_str())
+            let can_be_written = number.unsigned_abs() < INTEGERS_END;
+            Ok(can_be_written && is_integer(node) && node.text() == digits.as_str())
         }
-        Value::Float(digits) => Ok(is_float(node) && node.text() == digits.as_str()),
+        Value::Float(digits) => {
+            let digits = digits.as_str();
+            Ok(is_held(digits) && is_float(node) && node.text() == digits)
+        }
         Value::Text(text) => match expression_text(alloc, node)? {
             Some(found) => Ok(found.as_str() == text.as_str()),
             None => Ok(false),
@@ -214,8 +227,19 @@ fn is_head(
     has_value(alloc, node, &item.value)
 }
 
-/// Returns the items that follow those that an expression means: its own and those inside it. Returns `None` if the items do not begin with these, or
-/// if they nest `levels` deep.
+// Adds a name to those of the entries of a set so far, and returns whether it was not among them. In a list any name is new.
+#[tactic(auto, using(crate::proofs::DifferentNames::new_name))]
+fn is_new(around: &Value, names: &mut BTreeSet<String>, name: String) -> Result<bool, AllocError>
+    ensures { IfOk result (λ is_new. IsTrue is_new → IsNewName (plain_of around.now) names.old (string_bytes name) names.new) }
+{
+    match around {
+        Value::Set => Ok(names.insert(name)?),
+        _ => Ok(true),
+    }
+}
+
+/// Returns the items that follow those that an expression means: its own and those inside it. Returns `None` if the items do not begin with
+/// these, if they nest `levels` deep, or if two entries of a set have the same name.
 pub fn items_after<'a>(
     alloc: Global,
     levels: usize,
@@ -229,17 +253,15 @@ pub fn items_after<'a>(
     let Some((head, inside)) = items.split_first() else {
         return Ok(None);
     };
-    if levels == 0 || depth == usize::MAX {
-        return Ok(None);
-    }
     let node = unwrapped(expr);
-    if !is_head(alloc, depth, name, &node, head)? {
+    if levels == 0 || depth == usize::MAX || !is_head(alloc, depth, name, &node, head)? {
         return Ok(None);
     }
     let mut rest = inside;
     if !head.value.has_parts() {
         return Ok(Some(rest));
     }
+    let mut names = BTreeSet::new(alloc);
     for child in node.children() {
         let Some(part) = part_in(alloc, &head.value, child)? else {
             return Ok(None);
@@ -248,6 +270,9 @@ pub fn items_after<'a>(
         match items_after(alloc, levels - 1, depth + 1, part_name, &part.node, rest)? {
             Some(left) => rest = left,
             None => return Ok(None),
+        }
+        if !is_new(&head.value, &mut names, part.name)? {
+            return Ok(None);
         }
     }
     Ok(Some(rest))

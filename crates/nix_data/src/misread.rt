@@ -1,9 +1,9 @@
 //! Tokens that Nix reads otherwise.
 
-ghost use Rattle.std.specs.Prelude.{◌≡◌, not, false, is_some, slice_index};
-ghost use Rattle.std.specs.List.{list_all};
+ghost use Rattle.std.specs.Prelude.{◌≡◌, ◌==◌, not, false, is_some, slice_index};
+ghost use Rattle.std.specs.List.{list_all, list_any};
 ghost use Rattle.rnix_green.specs.Tree.{item_of, text_at};
-ghost use Rattle.nix_data.specs.Misread.{is_blank, goes_on, ends_early, lacks_digit, is_misread};
+ghost use Rattle.nix_data.specs.Misread.{is_blank, goes_on, ends_early, lacks_digit, is_misread, is_altered};
 
 use crate::no_data::{NoData, Reason};
 use rnix::{SyntaxKind, SyntaxToken, TextRange};
@@ -54,7 +54,7 @@ fn byte_at(text: &[u8], index: usize) -> u8
     }
 }
 
-// The number of the carriage return at which a `#` comment ends for Nix, if it goes on after it.
+// The offset of the carriage return at which a `#` comment ends for Nix, if the comment continues after it.
 fn early_end(text: &[u8]) -> Option<usize>
     ensures { is_some result ≡ ends_early text.now }
 {
@@ -70,6 +70,21 @@ fn lacks_digit(text: &[u8]) -> bool
     ensures { result ≡ lacks_digit text.now }
 {
     byte_at(text, 0) == b'0' && byte_at(text, 1) == b'.' && !byte_at(text, 2).is_ascii_digit()
+}
+
+// Whether a byte is in a text.
+fn has_byte(text: &[u8], wanted: u8) -> bool
+    ensures { result ≡ list_any (λ b. b == wanted) text.now }
+{
+    text.iter().any(|byte| *byte == wanted)
+}
+
+/// Returns whether Nix changes a string with this source: it has the character 0, or it is in `"` and has a carriage return.
+pub fn is_altered(source: &str) -> bool
+    ensures { result ≡ is_altered source.now }
+{
+    let bytes = source.as_bytes();
+    has_byte(bytes, 0) || (byte_at(bytes, 0) == b'"' && has_byte(bytes, b'\r'))
 }
 
 // The number of the byte from which Nix reads a token otherwise, if it does.

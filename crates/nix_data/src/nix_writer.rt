@@ -88,7 +88,7 @@ impl Writing {
         self.end_line()
     }
 
-    // Writes an item. `is_empty` tells whether no item is inside it.
+    // Writes an item. `is_empty` is whether no item is inside it.
     fn write(&mut self, item: &Item, is_empty: bool) -> Result<(), AllocError> {
         self.close(item.depth)?;
         push_indentation(self.open.len(), &mut self.text)?;

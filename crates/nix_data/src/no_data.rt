@@ -23,9 +23,9 @@ pub enum Reason {
     IndentedName,
     /// An attribute that is already defined.
     Repeated,
-    /// White space that is none for Nix.
+    /// A character that Nix does not read as white space.
     ForeignSpace,
-    /// A carriage return in a `#` comment that goes on after it: for Nix, the comment ends there.
+    /// A carriage return inside a `#` comment: for Nix, the comment ends there.
     EarlyEnd,
     /// A float that begins with `0.` and has no digit there.
     LacksDigit,

@@ -6,7 +6,7 @@ ghost use Rattle.nix_data.specs.NixString.{is_ordinary, begins_with_brace, escap
 
 use std::alloc::AllocError;
 
-// Whether a byte stands for itself whatever follows.
+// Whether a byte needs no escape, whatever follows.
 #[inline(always)]
 fn is_ordinary(byte: u8) -> bool
     ensures { result ≡ is_ordinary byte }
@@ -14,7 +14,7 @@ fn is_ordinary(byte: u8) -> bool
     byte != b'\t' && byte != b'\n' && byte != b'\r' && byte != b'"' && byte != b'$' && byte != b'\\'
 }
 
-// The number of bytes that come first and stand for themselves whatever follows.
+// The number of leading bytes that need no escape, whatever follows.
 fn plain_len(bytes: &[u8]) -> usize
     ensures len { result ≡ prefix_len is_ordinary bytes.now }
     ensures within { result ≤ length bytes.now }
@@ -40,7 +40,7 @@ fn push_letter(letter: char, text: &mut String) -> Result<(), AllocError>
     text.push(letter)
 }
 
-// Writes what stands for a byte in front of a text, if it may not stand for itself.
+// Writes a byte before a text, with an escape if it needs one.
 #[tactic(auto, unfolding(crate::specs::NixString::escape))]
 fn push_escape(byte: u8, rest: &str, text: &mut String) -> Result<(), AllocError>
     ensures { OnOk result (is_ordinary byte ≡ false → string_bytes text.new ≡ string_bytes text.old ++ escape byte rest.now) }
@@ -67,7 +67,7 @@ fn push_some(part: &str, text: &mut String) -> Result<(), AllocError>
     }
 }
 
-// Writes the bytes that come first and stand for themselves and what stands for the byte behind them, and returns the rest.
+// Writes the leading bytes that need no escape and the byte after them, and returns the rest.
 fn push_run<'t>(value: &'t str, text: &mut String) -> Result<&'t str, AllocError>
     ensures written { IfOk result (λ rest. string_bytes text.new ++ escaped rest.now ≡ string_bytes text.old ++ escaped value.now) }
     ensures fewer { IfOk result (λ rest. 0 < length value.now → length rest.now < length value.now) }

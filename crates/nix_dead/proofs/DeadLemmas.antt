@@ -1,7 +1,7 @@
 -- Bindings that are not marked are those that are not used.
 use Rattle.std.proofs.Common.{◌≡◌, ℕ, suc, ◌+◌, ◌<◌, ◌==◌, List, [], ◌∷◌, ◌++◌, length, take, map, get_or, Bool, true, false, nat_eq, Some, refl, ap, sym, ◌∙◌, subst, arith}
 use Rattle.std.{proofs.{Common.append_assoc, lemmas.List.{append-nil, take_more, length-take-le, Sorted.IsPermutation-map}}, specs.Prelude.{◌&&◌, ◌||◌, not}}
-use Rattle.{std.specs.{Prelude.if◌then◌else◌, List.{list_any, Sorted.IsPermutation}, BTreeSet.BTreeSet}, nix_scopes.specs.declared.resolution.Binding.Binding}
+use Rattle.{std.specs.{Cow.cow_str_bytes, Prelude.if◌then◌else◌, List.{list_any, Sorted.IsPermutation}, BTreeSet.BTreeSet}, nix_scopes.specs.declared.resolution.Binding.Binding}
 use Rattle.nix_scopes.specs.{declared.resolution.Reference.Reference, Bound.{bound_of, resolved_of, AreFirst}, Occurrences.is_number, Scopes.{Bound, Resolved}}
 use Rattle.{nix_scopes.specs.Scopes.{number_in, bindings_in, resolved_in}, rnix_green.specs.Tree.Located, nix_dead.specs.declared.dead.Name.Name}
 use Rattle.nix_dead.specs.Dead.{listed_name, refers, is_judged, listed, is_used, is_dead, dead_from, dead_in, marked, AreMarked, unmarked, unmarked_from}
@@ -60,7 +60,7 @@ unmarked_push marks wholes n m (y ∷ xs) x is =
 
 -- what is known of the binding of a number
 pub record IsKnown (all : List Bound) (names : List Resolved) (marks : List Bool) (wholes : BTreeSet ℕ) (number : ℕ) (binding : Binding) : Type 0 where
-  pub first : number_in all binding.text.now binding.scope ≡ Some binding.first
+  pub first : number_in all (cow_str_bytes binding.text) binding.scope ≡ Some binding.first
   pub mark : (get_or marks number true || has_offset wholes (scope_start (bound_of binding))) ≡ is_used all names number (bound_of binding)
 
 -- the bindings that are not marked are dead
@@ -71,10 +71,10 @@ unmarked_dead all names marks wholes n [] known = refl
 unmarked_dead all names marks wholes n (x ∷ xs) known =
     let here : IsKnown all names marks wholes n x =
     (let same : n + 0 ≡ n = omega arith in subst (λ k. IsKnown all names marks wholes k x) same (known 0 x (omega arith))) in
-    let first : nat_eq x.first n ≡ is_number n (number_in all x.text.now x.scope) = ap (is_number n) (sym here.first) in
+    let first : nat_eq x.first n ≡ is_number n (number_in all (cow_str_bytes x.text) x.scope) = ap (is_number n) (sym here.first) in
     let is_used_here = get_or marks n true || has_offset wholes (scope_start (bound_of x)) in
     ap (λ b. (if b && (is_judged (bound_of x) && not is_used_here) then listed (bound_of x) ∷ [] else []) ++ unmarked_from marks wholes (n + 1) xs) first
-    ∙ ap (λ b. (if is_number n (number_in all x.text.now x.scope) && (is_judged (bound_of x) && not b) then listed (bound_of x) ∷ [] else [])
+    ∙ ap (λ b. (if is_number n (number_in all (cow_str_bytes x.text) x.scope) && (is_judged (bound_of x) && not b) then listed (bound_of x) ∷ [] else [])
     ++ unmarked_from marks wholes (n + 1) xs) here.mark
     ∙ ap (λ rest. (if is_dead all names n (bound_of x) then listed (bound_of x) ∷ [] else []) ++ rest)
     (unmarked_dead all names marks wholes (n + 1) xs (λ k d l. let same : n + suc k ≡ n + 1 + k = omega arith in

@@ -1,1 +1,2 @@
 pub mod DeadLemmas
+pub mod ReportedNames

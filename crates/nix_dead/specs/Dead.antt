@@ -4,6 +4,7 @@ use Rattle.std.specs.List.{list_any, starts_with}
 use Rattle.std.specs.Ordering.{nat_cmp}
 use Rattle.std.specs.Str.{bytes_eq}
 use Rattle.std.specs.BTreeSet.{BTreeSet, contains}
+use Rattle.std.specs.Cow.{cow_str_bytes}
 use Rattle.rnix_kinds.specs.declared.kinds.SyntaxKind.TheVariants as k
 use Rattle.rnix_green.specs.Equality.{same_kind}
 use Rattle.rnix_green.specs.Tree.{Located, item_of, extent_of}
@@ -82,7 +83,7 @@ dead_in root = dead_from (bindings_in root) (resolved_in root) 0 (bindings_in ro
 
 -- a name of the program
 abbrev pub listed_name : Name → Listed
-listed_name name = (name.text.now, name.start)
+listed_name name = (cow_str_bytes name.text, name.start)
 
 -- the marks with that of a number set, if there is one
 abbrev pub marked : List Bool → ℕ → List Bool

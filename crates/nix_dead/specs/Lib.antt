@@ -1,1 +1,2 @@
 pub mod Dead
+pub mod Report

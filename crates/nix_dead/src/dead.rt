@@ -10,13 +10,14 @@ ghost use Rattle.nix_dead.specs.declared.dead.Name.{Name as Dead};
 use nix_scopes::{Binding, Reference, resolve};
 use rnix::{SyntaxKind, SyntaxNode};
 use std::alloc::{AllocError, Global};
+use std::borrow::CowStr;
 use std::collections::BTreeSet;
 
 /// A name that is bound.
-#[derive(Clone, Copy)]
+#[derive(Drop)]
 pub struct Name<'t> {
-    /// The name.
-    pub text: &'t str,
+    /// What the name is: without quotes and `${}`, and with escapes replaced.
+    pub text: CowStr<'t>,
     /// The offset in bytes where the binding writes it.
     pub start: usize,
 }
@@ -33,8 +34,8 @@ fn is_judged(binding: &Binding<'_>) -> bool
     ensures { result ≡ is_judged (bound_of binding.now) }
 {
     let scope = binding.scope.kind();
-    let is_body = scope == SyntaxKind::NODE_LEGACY_LET && binding.text == "body";
-    scope != SyntaxKind::NODE_ATTR_SET && !is_body && !is_unmeant(binding.text)
+    let is_body = scope == SyntaxKind::NODE_LEGACY_LET && binding.text.as_str() == "body";
+    scope != SyntaxKind::NODE_ATTR_SET && !is_body && !is_unmeant(binding.text.as_str())
 }
 
 // Marks a number, if the list is longer.
@@ -126,7 +127,7 @@ fn add_unused<'t>(
     let is_used = is_used.get(number).copied().unwrap_or(true);
     if binding.first == number && is_judged(binding) && !is_used && !is_in_whole(binding, wholes) {
         dead.push(Name {
-            text: binding.text,
+            text: binding.text.clone()?,
             start: binding.node.text_range().start(),
         })?;
     }

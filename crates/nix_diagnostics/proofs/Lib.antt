@@ -1,5 +1,9 @@
 pub mod BracketExamples
 pub mod ApartExamples
 pub mod ApartLemmas
+pub mod FaultNodeLemmas
+pub mod UnmatchedLemmas
+pub mod LostLemmas
 pub mod FollowingLemmas
+pub mod FollowingExamples
 pub mod ShownLemmas

@@ -4,7 +4,7 @@ use Rattle.rnix_kinds.specs.declared.kinds.SyntaxKind.{SyntaxKind}
 use Rattle.rnix_kinds.specs.declared.kinds.SyntaxKind.TheVariants.{TOKEN_L_BRACE, TOKEN_L_BRACK, TOKEN_L_PAREN, TOKEN_INTERPOL_START}
 use Rattle.rnix_kinds.specs.declared.kinds.SyntaxKind.TheVariants.{TOKEN_STRING_START, TOKEN_LET, TOKEN_IF, TOKEN_THEN, TOKEN_R_BRACE}
 use Rattle.rnix_kinds.specs.declared.kinds.SyntaxKind.TheVariants.{TOKEN_R_BRACK, TOKEN_R_PAREN, TOKEN_INTERPOL_END, TOKEN_STRING_END, TOKEN_IN, TOKEN_ELSE}
-use Rattle.rnix_green.specs.declared.range.TextRange.{TextRange}
+use Rattle.rnix_green.specs.Range.{Extent}
 use Rattle.rnix_green.specs.Tree.{Located, item_of}
 use Rattle.rnix_green.specs.Walk.{Spot, elements_of}
 
@@ -33,12 +33,12 @@ closes TOKEN_ELSE = true
 closes kind = false
 
 -- a token has the range, if there is one
-abbrev pub has_range : Option TextRange → Located → Bool
+abbrev pub has_range : Option Extent → Located → Bool
 has_range None token = false
 has_range (Some range) token = range.start == (item_of token).start && range.end == (item_of token).end
 
 -- a token closes something that is open before a walk in which so much is open; the unmatched token closes nothing
-abbrev pub closes_around : Option TextRange → ℕ → Located → Bool
+abbrev pub closes_around : Option Extent → ℕ → Located → Bool
 closes_around unmatched depth token = closes (item_of token).kind && (depth == 0 && not (has_range unmatched token))
 
 -- how much is open after a token of the kind; `then` closes `if`, and opens what `else` closes
@@ -46,12 +46,12 @@ abbrev pub depth_after : ℕ → SyntaxKind → ℕ
 depth_after depth kind = (if closes kind then depth - 1 else depth) + (if opens kind then 1 else 0)
 
 -- the tokens of a walk in which so much is open close something that is open before it, or leave something open
-abbrev pub is_unbalanced : Option TextRange → ℕ → List Spot → Bool
+abbrev pub is_unbalanced : Option Extent → ℕ → List Spot → Bool
 is_unbalanced unmatched depth [] = nat_lt 0 depth
 is_unbalanced unmatched depth (spot ∷ spots) =
     if spot.0 then is_unbalanced unmatched depth spots
     else (if closes_around unmatched depth spot.1 then true else is_unbalanced unmatched (depth_after depth (item_of spot.1).kind) spots)
 
 -- the tokens of a node close something that is open before it, or leave something open; the unmatched token closes nothing
-abbrev pub skips_brackets : Option TextRange → Located → Bool
+abbrev pub skips_brackets : Option Extent → Located → Bool
 skips_brackets unmatched node = is_unbalanced unmatched 0 (elements_of node)

@@ -1,36 +1,29 @@
 -- What the state of `Folding` says of the errors so far.
-use Rattle.std.specs.Prelude.{◌≡◌, ℕ, drop, if◌then◌else◌, ◌==◌, nat_le, ◌&&◌, ◌||◌, Bool, true, false, List, [], ◌∷◌, ◌++◌, Option, Some, None, option_map, is_some, is_none, IfSome}
-use Rattle.std.specs.List.{list_any}
+use Rattle.std.specs.Prelude.{◌≡◌, ℕ, drop, if◌then◌else◌, nat_le, ◌&&◌, ◌||◌, Bool, true, false, List, [], ◌∷◌, ◌++◌, Option, Some, None, option_map, is_some, is_none}
 use Rattle.rnix_green.specs.declared.range.TextRange.{TextRange}
 use Rattle.rnix_green.specs.Range.{Extent, bounds_of}
-use Rattle.rnix_green.specs.Tree.{Located, item_of, text_at}
+use Rattle.rnix_green.specs.Tree.{Located, text_at}
 use Rattle.rnix_grammar.specs.Fault.{Fault}
 use Rattle.rnix_grammar.specs.Ranges.{range_in}
 use Rattle.nix_diagnostics.specs.Places.{end_of_items, place_of}
-use Rattle.nix_diagnostics.specs.Brackets.{opens, closes, skips_brackets}
-use Rattle.nix_diagnostics.specs.Following.{is_at_end, is_of_string, last_slip, are_close, must_follow, IsTokenOf, IsInGroup, OneOf, Skips, EndsWith, AreLost, MayFollow}
+use Rattle.nix_diagnostics.specs.Unmatched.{unmatched}
+use Rattle.nix_diagnostics.specs.Ends.{last_kind, ends_in_string, ends_closed, lost_from, is_from}
+use Rattle.nix_diagnostics.specs.FaultNodes.{are_one}
+use Rattle.nix_diagnostics.specs.Following.{last_slip, are_close, group_if, is_lost, has_skipped, follows}
 use Rattle.nix_diagnostics.specs.Apart.{since, larger, ends_between, reach, semicolons_of}
 use Rattle.nix_diagnostics.specs.declared.folding.Folding.{Folding}
+use Rattle.nix_diagnostics.specs.declared.brackets.Matching.{Matching}
 
--- there are two ranges, and they are equal
-abbrev pub are_shared : Option TextRange → Option TextRange → Bool
-are_shared (Some own) (Some last) = own.start == last.start && own.end == last.end
-are_shared own last = false
-
--- an offset is not before a given one, if there is one
-abbrev pub is_from : Option ℕ → ℕ → Bool
-is_from None offset = false
-is_from (Some start) offset = nat_le start offset
-
--- an error node, if there is one, skips brackets
-abbrev pub skips_if : Option TextRange → Option Located → Bool
-skips_if unmatched None = false
-skips_if unmatched (Some node) = skips_brackets unmatched node
+-- what is known of the tokens of a text
+pub record IsMatching (root : Located) (m : Matching) : Type 0 where
+  pub end : m.end ≡ end_of_items root
+  pub last : m.last ≡ last_kind root
+  pub extra : option_map bounds_of m.mismatch.extra ≡ unmatched root
 
 -- the parser loses its way at an error with this place, whose node skips brackets or does not: it has no range, or ends with the last token other
 -- than trivia or after it, or follows what is never closed, or its node skips brackets
-abbrev pub loses : Folding → Fault → Bool → TextRange → Bool
-loses f fault skips place = is_none (range_in fault) || (nat_le f.end place.end || (is_from f.lost_from place.start || skips))
+abbrev pub loses_in : Folding → Fault → Bool → TextRange → Bool
+loses_in f fault skips place = is_none (range_in fault) || (nat_le f.end place.end || (is_from f.lost_from place.start || skips))
 
 -- an offset is close after another, if there is another
 abbrev pub is_close_after : List ℕ → Option ℕ → ℕ → Bool
@@ -43,40 +36,27 @@ is_apart_in f place = ends_between f.reach place.start (drop f.passed f.semicolo
 
 -- an error about an unexpected or a missing token, with this list, pattern, .. around it and this place, shares that of the earlier ones, from which
 -- it is not apart: the parser has lost its way, or the last one shares that list, pattern, .., or is close before it
-abbrev pub is_sharing : Located → Folding → Option TextRange → TextRange → Bool
-is_sharing root f group place = f.is_lost || (are_shared group f.group || is_close_after (text_at root) f.last place.start)
+abbrev pub is_joined_in : Located → Folding → Option TextRange → TextRange → Bool
+is_joined_in root f group place =
+    f.is_lost || (are_one (option_map bounds_of group) (option_map bounds_of f.group) || is_close_after (text_at root) f.last place.start)
 
 -- such an error follows from earlier ones: there are some, and the text ends inside a string; or it is apart from them, brackets were skipped, and it is
 -- at the end of a text that ends with what closes something; or it is not, and shares theirs
-abbrev pub is_following : Located → Folding → Option TextRange → TextRange → Bool
-is_following root f group place =
-    is_some f.last && (f.in_string || (if is_apart_in f place then f.is_unbalanced && (f.ends_closed && nat_le f.end place.end)
-    else is_sharing root f group place))
-
--- from an offset on errors follow a token that opens something, in a text that ends too early
-pub record IsLostFrom (root : Located) (all : List Fault) (start : ℕ) : Type 0 where
-  pub token : Located
-  pub is_token : IsTokenOf root token
-  pub opens : opens (item_of token).kind ≡ true
-  pub start_is : start ≡ (item_of token).start
-  pub early : list_any is_at_end all ≡ true
-
--- the last error about an unexpected or a missing token is in a list, pattern, .. of the range
-pub record IsLastIn (root : Located) (before : List Fault) (range : Extent) : Type 0 where
-  pub last : Fault
-  pub is : last_slip before ≡ Some last
-  pub group : IsInGroup root last range
+abbrev pub follows_in : Located → Folding → Bool → Option TextRange → TextRange → Bool
+follows_in root f apart group place =
+    is_some f.last && (f.in_string || (if apart then f.is_unbalanced && (f.ends_closed && nat_le f.end place.end) else is_joined_in root f group place))
 
 -- the state fits the errors so far
 pub record Knows (root : Located) (all before : List Fault) (f : Folding) : Type 0 where
   pub last : f.last ≡ option_map (λ fault. (place_of root fault).end) (last_slip before)
   pub end : f.end ≡ end_of_items root
-  pub lost_from : IfSome f.lost_from (λ start. IsLostFrom root all start)
-  pub group : IfSome f.group (λ range. IsLastIn root before (bounds_of range))
-  pub lost : f.is_lost ≡ true → AreLost root all before
-  pub unbalanced : f.is_unbalanced ≡ true → OneOf (Skips root) before
-  pub in_string : f.in_string ≡ true → EndsWith root is_of_string
-  pub closed : f.ends_closed ≡ true → EndsWith root closes
+  pub extra : option_map bounds_of f.extra ≡ unmatched root
+  pub lost_from : f.lost_from ≡ lost_from root all
+  pub group : option_map bounds_of f.group ≡ group_if root (last_slip before)
+  pub lost : f.is_lost ≡ is_lost root all before
+  pub unbalanced : f.is_unbalanced ≡ has_skipped root before
+  pub in_string : f.in_string ≡ ends_in_string root
+  pub closed : f.ends_closed ≡ ends_closed root
   pub reaches : f.reach ≡ reach root before
   pub left : drop f.passed f.semicolons.items ≡ since f.reach (semicolons_of root)
 
@@ -99,12 +79,7 @@ pub record HasReached (old new : Folding) (end : ℕ) : Type 0 where
     is_lost = old.is_lost;
   }
 
--- an error that is judged to follow from earlier ones may do so, and any other need not
-abbrev pub Judges : Located → List Fault → List Fault → Fault → Bool → Type 0
-Judges root all before fault follows = (follows ≡ true → MayFollow root all before fault) × (follows ≡ false → must_follow root before fault ≡ false)
-
--- the result judges an error, whatever the earlier ones are, and the new state fits them and it
+-- the result says whether an error follows, whatever the earlier ones are, and the new state fits them and it
 abbrev pub JudgesNext : Located → Fault → Folding → Folding → Bool → Type 0
-JudgesNext root fault old new follows =
-    (all before : List Fault) → Knows root all before old →
-    Judges root all before fault follows × Knows root all (before ++ fault ∷ []) new
+JudgesNext root fault old new result =
+    (all before : List Fault) → Knows root all before old → (result ≡ follows root all before fault) × Knows root all (before ++ fault ∷ []) new

@@ -1,7 +1,11 @@
 pub mod Places
 pub mod Brackets
+pub mod Unmatched
+pub mod Ends
+pub mod FaultNodes
 pub mod Slips
 pub mod Apart
 pub mod Following
 pub mod Known
+pub mod Codes
 pub mod Shown

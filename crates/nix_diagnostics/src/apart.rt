@@ -1,11 +1,13 @@
 //! Entries that end between two errors.
 
-ghost use Rattle.std.specs.Prelude.{◌≡◌, drop, IfOk};
-ghost use Rattle.nix_diagnostics.specs.Apart.{is_entry_kind, is_entry, ends_entry, start_around, semicolons_of, since, ends_between};
+ghost use Rattle.std.specs.Prelude.{◌≡◌, ◌++◌, ◌∷◌, List, false, drop, OnOk};
+ghost use Rattle.rnix_green.specs.Tree.{item_of};
+ghost use Rattle.rnix_green.specs.Walk.{Spot};
+ghost use Rattle.nix_diagnostics.specs.Apart.{is_entry_kind, is_entry, ends_entry, start_around, semicolons_in, since, ends_between};
 
 use SyntaxKind::*;
-use rnix::{NodeOrToken, SyntaxKind, SyntaxNode, SyntaxToken};
-use std::alloc::{AllocError, Global};
+use rnix::{SyntaxKind, SyntaxNode, SyntaxToken};
+use std::alloc::AllocError;
 
 /// The `;` of an entry or of an `inherit`.
 #[derive(Clone, Copy)]
@@ -46,29 +48,32 @@ fn start_around(node: &Option<SyntaxNode<'_>>) -> usize
     }
 }
 
-// Whether a token is the `;` of an entry or of an `inherit`.
-fn ends_entry(token: &SyntaxToken<'_>) -> bool
+// Whether a token of the given kind is the `;` of an entry or of an `inherit`.
+fn ends_entry(token: &SyntaxToken<'_>, kind: SyntaxKind) -> bool
+    requires { kind ≡ (item_of token.now).kind }
     ensures { result ≡ ends_entry token.now }
 {
-    token.kind() == TOKEN_SEMICOLON && is_entry(&token.parent())
+    kind == TOKEN_SEMICOLON && is_entry(&token.parent())
 }
 
-/// Returns the `;` of the entries and `inherit`s in a node, in order.
-pub fn semicolons(alloc: Global, root: &SyntaxNode<'_>) -> Result<Vec<Semicolon>, AllocError>
-    ensures { IfOk result (λ found. found.items ≡ semicolons_of root.now) }
+/// Adds a token of the given kind, if it is the `;` of an entry or of an `inherit`.
+#[inline(always)]
+pub fn add_semicolon(
+    token: &SyntaxToken<'_>,
+    kind: SyntaxKind,
+    found: &mut Vec<Semicolon>,
+) -> Result<(), AllocError>
+    requires { kind ≡ (item_of token.now).kind }
+    ensures { OnOk result ((spots : List Spot) → found.old.items ++ semicolons_in ((false, token.now) ∷ spots)
+        ≡ found.new.items ++ semicolons_in spots) }
 {
-    let mut found = Vec::new(alloc);
-    for element in root.descendants_with_tokens() {
-        if let NodeOrToken::Token(token) = element {
-            if ends_entry(&token) {
-                found.push(Semicolon {
-                    start: token.text_range().start(),
-                    set: start_around(&token.parent()),
-                })?;
-            }
-        }
+    if ends_entry(token, kind) {
+        found.push(Semicolon {
+            start: token.text_range().start(),
+            set: start_around(&token.parent()),
+        })?;
     }
-    Ok(found)
+    Ok(())
 }
 
 /// Returns the number of the first `;` from a given one on that does not start before an offset.

@@ -1,9 +1,12 @@
 //! Matching of brackets, strings and keywords by the tokens of a text alone.
 
 ghost use Rattle.std.specs.Prelude.{◌≡◌, IfOk};
-ghost use Rattle.nix_diagnostics.specs.Brackets.{opens, closes};
-ghost use Rattle.nix_diagnostics.specs.Places.{end_of_items};
+ghost use Rattle.rnix_kinds.specs.SyntaxKind.{is_trivia};
+ghost use Rattle.nix_diagnostics.specs.Apart.{semicolons_of};
+ghost use Rattle.nix_diagnostics.specs.Known.{IsMatching};
 
+use crate::apart::{Semicolon, add_semicolon};
+use crate::openings::{Openings, is_bracket, opener_of, opens};
 use SyntaxKind::*;
 use rnix::{NodeOrToken, SyntaxKind, SyntaxNode, SyntaxToken, TextRange};
 use std::alloc::{AllocError, Global};
@@ -20,60 +23,13 @@ pub struct Opening {
     pub range: TextRange,
     /// Whether it starts a string in `"` that spans several lines.
     pub is_long: bool,
+    /// Whether it may lack its own closing token: what closes it is the first token of a line that is indented less.
+    pub is_suspect: bool,
     // The number of its line, and the indentation of that line in bytes.
     line: usize,
     indent: usize,
     // The kinds of this opening and of those around it, as the sum of their bits.
     kinds: u8,
-}
-
-/// Whether a token opens something.
-pub fn opens(kind: SyntaxKind) -> bool
-    ensures { result ≡ opens kind }
-{
-    matches!(
-        kind,
-        TOKEN_L_BRACE
-            | TOKEN_L_BRACK
-            | TOKEN_L_PAREN
-            | TOKEN_INTERPOL_START
-            | TOKEN_STRING_START
-            | TOKEN_LET
-            | TOKEN_IF
-            | TOKEN_THEN
-    )
-}
-
-/// Whether a token closes something.
-pub fn closes(kind: SyntaxKind) -> bool
-    ensures { result ≡ closes kind }
-{
-    matches!(
-        kind,
-        TOKEN_R_BRACE
-            | TOKEN_R_BRACK
-            | TOKEN_R_PAREN
-            | TOKEN_INTERPOL_END
-            | TOKEN_STRING_END
-            | TOKEN_IN
-            | TOKEN_THEN
-            | TOKEN_ELSE
-    )
-}
-
-// The kind of token that a token closes, if it closes one.
-fn opener_of(closing: SyntaxKind) -> Option<SyntaxKind> {
-    match closing {
-        TOKEN_R_BRACE => Some(TOKEN_L_BRACE),
-        TOKEN_R_BRACK => Some(TOKEN_L_BRACK),
-        TOKEN_R_PAREN => Some(TOKEN_L_PAREN),
-        TOKEN_INTERPOL_END => Some(TOKEN_INTERPOL_START),
-        TOKEN_STRING_END => Some(TOKEN_STRING_START),
-        TOKEN_IN => Some(TOKEN_LET),
-        TOKEN_THEN => Some(TOKEN_IF),
-        TOKEN_ELSE => Some(TOKEN_THEN),
-        _ => None,
-    }
 }
 
 // The bit of a kind that opens something.
@@ -103,8 +59,6 @@ struct Brackets {
     suspect: Option<Opening>,
     // The first string in `"` that spans several lines.
     long: Option<Opening>,
-    // The first token that closes nothing.
-    extra: Option<TextRange>,
     // The starts of the braces that `:` or `@` follows.
     patterns: Vec<usize>,
     // The start of the braces that the last token other than trivia closes.
@@ -128,7 +82,6 @@ impl Brackets {
             unclosed: None,
             suspect: None,
             long: None,
-            extra: None,
             patterns: Vec::new(alloc),
             closed: None,
             inherit: None,
@@ -140,12 +93,12 @@ impl Brackets {
     }
 
     // Reads trivia or the content of a string: keeps count of lines, and notes a string that spans several.
-    fn skip(&mut self, kind: SyntaxKind, text: &str) {
-        let Some((_, line)) = text.rsplit_once('\n') else {
+    fn skip(&mut self, kind: SyntaxKind, text: &[u8]) {
+        let Some(feed) = text.iter().rposition(|byte| *byte == b'\n') else {
             return;
         };
         self.line = self.line.saturating_add(1);
-        self.indent = line.len();
+        self.indent = text.len().saturating_sub(feed).saturating_sub(1);
         self.is_first = true;
         if let (TOKEN_STRING_CONTENT, 0, Some(string)) = (kind, self.deeper, self.open.last()) {
             if string.range.len() == 1 {
@@ -169,6 +122,7 @@ impl Brackets {
             kind,
             range,
             is_long: false,
+            is_suspect: false,
             line: self.line,
             indent: self.indent,
             kinds: around | bit_of(kind),
@@ -195,16 +149,19 @@ impl Brackets {
     }
 
     // Closes the innermost opening of a kind. The openings inside it are never closed.
-    fn close(&mut self, kind: SyntaxKind, range: TextRange) {
+    fn close(&mut self, kind: SyntaxKind) {
         let Some(number) = self.innermost(kind) else {
-            self.extra = Some(self.extra.unwrap_or(range));
             return;
         };
         if let Some(inside) = self.open.get(number.saturating_add(1)) {
             self.unclosed = Some(self.unclosed.unwrap_or(*inside));
         } else if let Some(own) = self.open.get(number) {
             if self.is_first && own.line != self.line && self.indent < own.indent {
-                self.suspect = Some(self.suspect.unwrap_or(*own));
+                let suspect = Opening {
+                    is_suspect: true,
+                    ..*own
+                };
+                self.suspect = Some(self.suspect.unwrap_or(suspect));
             }
         }
         if kind == TOKEN_L_BRACE {
@@ -214,10 +171,10 @@ impl Brackets {
     }
 
     // Closes what a token closes. What is nested too deep to be kept is closed by any token.
-    fn close_with(&mut self, kind: SyntaxKind, range: TextRange) {
+    fn close_with(&mut self, kind: SyntaxKind) {
         match opener_of(kind) {
             Some(_) if self.deeper > 0 => self.forget(),
-            Some(opener) => self.close(opener, range),
+            Some(opener) => self.close(opener),
             None => {}
         }
     }
@@ -231,26 +188,37 @@ impl Brackets {
         Ok(())
     }
 
-    // Reads the next token.
-    fn read(&mut self, token: &SyntaxToken<'_>) -> Result<(), AllocError> {
-        let kind = token.kind();
-        if kind.is_trivia() || kind == TOKEN_STRING_CONTENT {
-            self.skip(kind, token.text());
-            return Ok(());
-        }
-        self.end_braces(kind)?;
-        self.close_with(kind, token.text_range());
-        match kind {
-            TOKEN_INHERIT => self.inherit = Some(token.text_range()),
-            TOKEN_SEMICOLON => self.inherit = None,
-            _ => {}
-        }
+    // Reads the next token, if it opens or closes something.
+    fn read_bracket(
+        &mut self,
+        token: &SyntaxToken<'_>,
+        kind: SyntaxKind,
+    ) -> Result<(), AllocError> {
+        self.close_with(kind);
         // A legacy `let` has no `in`.
         if kind == TOKEN_L_BRACE && self.last == Some(TOKEN_LET) {
             self.forget();
         }
         if opens(kind) {
             self.add_opening(kind, token.text_range())?;
+        }
+        Ok(())
+    }
+
+    // Reads the next token, of the given kind.
+    fn read(&mut self, token: &SyntaxToken<'_>, kind: SyntaxKind) -> Result<(), AllocError> {
+        if is_trivia(kind) || kind == TOKEN_STRING_CONTENT {
+            self.skip(kind, token.text().as_bytes());
+            return Ok(());
+        }
+        self.end_braces(kind)?;
+        if is_bracket(kind) {
+            self.read_bracket(token, kind)?;
+        }
+        match kind {
+            TOKEN_INHERIT => self.inherit = Some(token.text_range()),
+            TOKEN_SEMICOLON => self.inherit = None,
+            _ => {}
         }
         self.last = Some(kind);
         self.is_first = false;
@@ -274,6 +242,24 @@ impl Brackets {
             (None, None) => None,
         }
     }
+
+    // The brackets that do not match, of which the first token that closes nothing is given.
+    fn mismatch(&self, extra: Option<TextRange>) -> Mismatch
+        ensures { result.extra ≡ extra }
+    {
+        Mismatch {
+            unclosed: self.unclosed(),
+            extra,
+            inherit: self.inherit,
+        }
+    }
+
+    // The starts of the braces that `:` or `@` follows, sorted.
+    fn into_patterns(self) -> Result<Vec<usize>, AllocError> {
+        let mut patterns = self.patterns;
+        patterns.sort()?;
+        Ok(patterns)
+    }
 }
 
 /// The brackets of a text that do not match.
@@ -294,6 +280,8 @@ pub struct Matching {
     pub mismatch: Mismatch,
     /// The end of the last token other than trivia, 0 if there is none.
     pub end: usize,
+    /// The kind of that token.
+    pub last: Option<SyntaxKind>,
     // The starts of the braces that `:` or `@` follows, sorted.
     patterns: Vec<usize>,
 }
@@ -305,30 +293,43 @@ impl Matching {
     }
 }
 
-/// Matches the brackets in a node.
-pub fn match_brackets(alloc: Global, node: &SyntaxNode<'_>) -> Result<Matching, AllocError>
-    ensures { IfOk result (λ matching. matching.end ≡ end_of_items node.now) }
+// Whether a token of the kind is trivia.
+#[inline(always)]
+fn is_trivia(kind: SyntaxKind) -> bool
+    ensures { result ≡ is_trivia kind }
+{
+    matches!(kind, TOKEN_COMMENT | TOKEN_WHITESPACE)
+}
+
+/// Matches the brackets in a node. Also returns the `;` of the entries and `inherit`s in it, in order.
+pub fn match_brackets(
+    alloc: Global,
+    node: &SyntaxNode<'_>,
+) -> Result<(Matching, Vec<Semicolon>), AllocError>
+    ensures matching { IfOk result (λ found. IsMatching node.now found.0) }
+    ensures semicolons { IfOk result (λ found. found.1.items ≡ semicolons_of node.now) }
 {
     let mut brackets = Brackets::new(alloc);
-    let mut end = 0;
+    let mut openings = Openings::new(alloc);
+    let mut semicolons = Vec::new(alloc);
+    let (mut end, mut last) = (0, None);
     for element in node.descendants_with_tokens() {
         if let NodeOrToken::Token(token) = element {
-            if !token.kind().is_trivia() {
+            let kind = token.kind();
+            if !is_trivia(kind) {
                 end = token.text_range().end();
+                last = Some(kind);
             }
-            brackets.read(&token)?;
+            add_semicolon(&token, kind, &mut semicolons)?;
+            openings.read(&token, kind)?;
+            brackets.read(&token, kind)?;
         }
     }
-    let mismatch = Mismatch {
-        unclosed: brackets.unclosed(),
-        extra: brackets.extra,
-        inherit: brackets.inherit,
-    };
-    let mut patterns = brackets.patterns;
-    patterns.sort()?;
-    Ok(Matching {
-        mismatch,
+    let matching = Matching {
+        mismatch: brackets.mismatch(openings.extra),
         end,
-        patterns,
-    })
+        last,
+        patterns: brackets.into_patterns()?,
+    };
+    Ok((matching, semicolons))
 }

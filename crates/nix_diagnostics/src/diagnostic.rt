@@ -5,10 +5,10 @@ ghost use Rattle.rnix_green.specs.Range.{bounds_of};
 ghost use Rattle.rnix_grammar.specs.Fault.{fault_of};
 ghost use Rattle.rnix.specs.ParseResult.{root_of};
 ghost use Rattle.nix_diagnostics.specs.Places.{end_of_items, error_range, own_range, place_of};
-ghost use Rattle.nix_diagnostics.specs.Shown.{IsFolded, IsSingle, ShowsEach, AreShown};
+ghost use Rattle.nix_diagnostics.specs.Shown.{IsFolded, IsSingle, ShowsEach, AreShown, CoverRuns};
 
-use crate::apart::semicolons;
 use crate::brackets::match_brackets;
+use crate::code::Code;
 use crate::folding::Folding;
 use crate::message::message;
 use crate::notes::{Note, NoteFinder};
@@ -19,9 +19,11 @@ use std::alloc::{AllocError, Global};
 /// A mistake in a text: the bytes to underline, none if something is missing at the end, and a message such as
 /// `expected ";" after the value of "a", found the name "b"`.
 ///
-/// It covers a run of errors in `Parse::errors`: it is shown at the first of them, and the others may follow from the same mistake.
+/// It covers a run of errors in `Parse::errors`: it is shown at the first of them, from which the others follow.
 #[derive(Drop)]
 pub struct Diagnostic {
+    /// What it reports.
+    pub code: Code,
     /// The bytes to underline.
     pub range: TextRange,
     /// The message, in one line.
@@ -95,6 +97,7 @@ fn single<'t>(
     ensures { IfOk result (IsSingle root.now number (fault_of error.now)) }
 {
     Ok(Diagnostic {
+        code: Code::of(error),
         range,
         message: message(alloc, error, node.as_ref())?,
         first_error: number,
@@ -110,7 +113,7 @@ pub fn all_diagnostics(alloc: Global, read: &Parse) -> Result<Vec<Diagnostic>, A
     let mut found = Vec::new(alloc);
     let errors = read.errors();
     let root = read.syntax();
-    let matching = match_brackets(alloc, &root)?;
+    let (matching, _semicolons) = match_brackets(alloc, &root)?;
     let end = matching.end;
     let mut finder = NoteFinder::new(matching);
     let mut earlier = root.clone();
@@ -124,20 +127,24 @@ pub fn all_diagnostics(alloc: Global, read: &Parse) -> Result<Vec<Diagnostic>, A
     Ok(found)
 }
 
-/// Returns the diagnostics of a text, in the order of its errors. Errors that may follow from the same mistake share a diagnostic.
+/// Returns the diagnostics of a text, in the order of its errors. Errors that follow from an earlier one share its diagnostic.
 pub fn diagnostics(alloc: Global, read: &Parse) -> Result<Vec<Diagnostic>, AllocError>
-    ensures { IfOk result (λ found. AreShown (root_of read.now) read.now.faults found.items) }
+    ensures shown { IfOk result (λ found. AreShown (root_of read.now) read.now.faults found.items) }
+    ensures runs { IfOk result (λ found. CoverRuns (root_of read.now) read.now.faults found.items) }
 {
     let mut found = Vec::new(alloc);
     let errors = read.errors();
     if errors.is_empty() {
         return Ok(found);
     }
+    if errors.len() == 1 {
+        let single = all_diagnostics(alloc, read)?;
+        return Ok(single);
+    }
     let root = read.syntax();
-    let matching = match_brackets(alloc, &root)?;
+    let (matching, semicolons) = match_brackets(alloc, &root)?;
     let end = matching.end;
-    let entries = semicolons(alloc, &root)?;
-    let mut folding = Folding::new(&root, errors, matching.mismatch, end, entries);
+    let mut folding = Folding::new(&root, errors, &matching, semicolons);
     let mut finder = NoteFinder::new(matching);
     let mut earlier = root.clone();
     for number in 0..errors.len() {

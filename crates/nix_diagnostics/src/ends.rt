@@ -1,17 +1,42 @@
-//! How a text ends.
+//! How a text ends, and what goes on to its end.
 
-ghost use Rattle.std.specs.Prelude.{◌≡◌, true, IfSome, map};
-ghost use Rattle.std.specs.List.{list_any};
-ghost use Rattle.rnix_green.specs.Tree.{item_of};
+ghost use Rattle.std.specs.Prelude.{◌≡◌, map};
+ghost use Rattle.rnix_green.specs.Walk.{elements_of};
 ghost use Rattle.rnix_grammar.specs.Fault.{fault_of};
+ghost use Rattle.nix_diagnostics.specs.Brackets.{closes};
 ghost use Rattle.nix_diagnostics.specs.Places.{end_of_items};
-ghost use Rattle.nix_diagnostics.specs.Brackets.{opens, closes};
-ghost use Rattle.nix_diagnostics.specs.Following.{is_at_end, is_of_string, EndsWith, IsTokenOf};
-ghost use Rattle.nix_diagnostics.specs.Known.{IsLostFrom};
+ghost use Rattle.nix_diagnostics.specs.Ends.{passes, is_of_string, is_at_end, ends_early, goes_on, first_opening, lost_from, is_from};
 
-use crate::brackets::{Opening, closes, opens};
+use crate::openings::{closes, opens};
 use SyntaxKind::*;
-use rnix::{ParseError, SyntaxKind, SyntaxNode, SyntaxToken};
+use rnix::{NodeOrToken, ParseError, SyntaxKind, SyntaxNode};
+
+// Whether a token begins a string or is in one.
+fn is_of_string(kind: SyntaxKind) -> bool
+    ensures { result ≡ is_of_string kind }
+{
+    matches!(kind, TOKEN_STRING_START | TOKEN_STRING_CONTENT)
+}
+
+/// Whether a text ends inside a string, by the kind of its last token other than trivia.
+pub fn ends_in_string(last: Option<SyntaxKind>) -> bool
+    ensures { result ≡ passes is_of_string last }
+{
+    match last {
+        Some(kind) => is_of_string(kind),
+        None => false,
+    }
+}
+
+/// Whether a text ends with what closes something, by the kind of its last token other than trivia.
+pub fn ends_closed(last: Option<SyntaxKind>) -> bool
+    ensures { result ≡ passes closes last }
+{
+    match last {
+        Some(kind) => closes(kind),
+        None => false,
+    }
+}
 
 // Whether an error is at the end of the text.
 fn is_at_end(error: &ParseError) -> bool
@@ -25,7 +50,7 @@ fn is_at_end(error: &ParseError) -> bool
 
 // Whether a text ends too early.
 fn ends_early(errors: &[ParseError]) -> bool
-    ensures { result ≡ list_any is_at_end (map fault_of errors.now) }
+    ensures { result ≡ ends_early (map fault_of errors.now) }
 {
     for error in errors {
         if is_at_end(error) {
@@ -35,71 +60,48 @@ fn ends_early(errors: &[ParseError]) -> bool
     false
 }
 
-// The start of a token, if it opens something.
-fn start_of_opening(token: &SyntaxToken<'_>) -> Option<usize>
-    ensures { IfSome result (λ start. (opens (item_of token.now).kind ≡ true) × (start ≡ (item_of token.now).start)) }
+// Whether a node goes on to an offset, if there is one.
+fn goes_on(node: &Option<SyntaxNode<'_>>, end: usize) -> bool
+    ensures { result ≡ goes_on end node.now }
 {
-    if opens(token.kind()) {
-        Some(token.text_range().start())
-    } else {
-        None
-    }
-}
-
-// The last token of a text, other than trivia, whose end is given.
-fn last_item<'t>(root: &SyntaxNode<'t>, end: usize) -> Option<SyntaxToken<'t>>
-    ensures { IfSome result (λ token. IsTokenOf root.now token × ((item_of token).end ≡ end)) }
-{
-    let token = root.token_at_offset(end).left_biased()?;
-    if token.text_range().end() == end {
-        Some(token)
-    } else {
-        None
-    }
-}
-
-// Whether a token begins a string or is in one.
-fn is_of_string(kind: SyntaxKind) -> bool
-    ensures { result ≡ is_of_string kind }
-{
-    matches!(kind, TOKEN_STRING_START | TOKEN_STRING_CONTENT)
-}
-
-/// Whether a text ends inside a string.
-pub fn ends_in_string(root: &SyntaxNode<'_>, end: usize) -> bool
-    requires { end ≡ end_of_items root.now }
-    ensures { result ≡ true → EndsWith root.now is_of_string }
-{
-    match last_item(root, end) {
-        Some(token) => is_of_string(token.kind()),
+    match node {
+        Some(node) => end <= node.text_range().end(),
         None => false,
     }
 }
 
-/// Whether a text ends with what closes something.
-pub fn ends_closed(root: &SyntaxNode<'_>, end: usize) -> bool
-    requires { end ≡ end_of_items root.now }
-    ensures { result ≡ true → EndsWith root.now closes }
+// The start of the first token that opens something in a node that goes on to an offset.
+fn first_opening(root: &SyntaxNode<'_>, end: usize) -> Option<usize>
+    ensures { result ≡ first_opening end (elements_of root.now) }
 {
-    match last_item(root, end) {
-        Some(token) => closes(token.kind()),
-        None => false,
+    for element in root.descendants_with_tokens() {
+        if let NodeOrToken::Token(token) = element {
+            if opens(token.kind()) && goes_on(&token.parent(), end) {
+                return Some(token.text_range().start());
+            }
+        }
     }
+    None
 }
 
 /// The offset from which errors count as following what is never closed, in a text that ends too early.
-pub fn lost_from(
-    root: &SyntaxNode<'_>,
-    errors: &[ParseError],
-    unclosed: Option<Opening>,
-) -> Option<usize>
-    ensures { IfSome result (λ start. IsLostFrom root.now (map fault_of errors.now) start) }
+pub fn lost_from(root: &SyntaxNode<'_>, errors: &[ParseError], end: usize) -> Option<usize>
+    requires { end ≡ end_of_items root.now }
+    ensures { result ≡ lost_from root.now (map fault_of errors.now) }
 {
-    if !ends_early(errors) {
-        return None;
+    if ends_early(errors) {
+        first_opening(root, end)
+    } else {
+        None
     }
-    let token = root
-        .token_at_offset(unclosed?.range.start())
-        .right_biased()?;
-    start_of_opening(&token)
+}
+
+/// Whether an offset is not before another, if there is another.
+pub fn is_from(start: Option<usize>, offset: usize) -> bool
+    ensures { result ≡ is_from start offset }
+{
+    match start {
+        Some(start) => start <= offset,
+        None => false,
+    }
 }

@@ -1,22 +1,24 @@
 //! Deciding which errors follow from an earlier one.
 
-ghost use Rattle.std.specs.Prelude.{◌≡◌, ◌+◌, ◌^◌, ◌<◌, ◌≤◌, [], true, Some, ◌||◌, ◌&&◌, is_none, is_some, option_map, map};
+ghost use Rattle.std.specs.Prelude.{◌≡◌, ◌+◌, ◌^◌, ◌<◌, ◌≤◌, [], true, Some, not, ◌||◌, ◌&&◌, is_none, is_some, option_map, map};
 ghost use Rattle.rnix_green.specs.Range.{bounds_of};
 ghost use Rattle.rnix_green.specs.Relatives.{parent_of};
 ghost use Rattle.rnix_green.specs.Tree.{item_of};
 ghost use Rattle.rnix_grammar.specs.Fault.{fault_of};
 ghost use Rattle.rnix_grammar.specs.Ranges.{range_in};
-ghost use Rattle.nix_diagnostics.specs.Places.{end_of_items, place_of};
-ghost use Rattle.nix_diagnostics.specs.Brackets.{opens, closes, has_range, closes_around, depth_after, skips_brackets};
+ghost use Rattle.nix_diagnostics.specs.Places.{place_of};
+ghost use Rattle.nix_diagnostics.specs.Brackets.{has_range, closes_around, depth_after, skips_brackets};
 ghost use Rattle.nix_diagnostics.specs.Slips.{is_slip};
 ghost use Rattle.nix_diagnostics.specs.Apart.{larger, semicolons_of};
-ghost use Rattle.nix_diagnostics.specs.Following.{is_group, is_extra, range_if_group, group_around, IfErrorNode};
-ghost use Rattle.nix_diagnostics.specs.Known.{are_shared, is_from, skips_if, loses, is_apart_in, is_sharing, is_following, Knows, HasReached, JudgesNext};
+ghost use Rattle.nix_diagnostics.specs.FaultNodes.{error_node, is_group, range_if_group, group_around, are_one};
+ghost use Rattle.nix_diagnostics.specs.Following.{is_extra, skips_if};
+ghost use Rattle.nix_diagnostics.specs.Known.{loses_in, is_apart_in, is_joined_in, follows_in, IsMatching, Knows, HasReached, JudgesNext};
 
 use crate::apart::{Semicolon, ends_between, first_since};
-use crate::brackets::{Mismatch, closes, opens};
-use crate::ends::{ends_closed, ends_in_string, lost_from};
+use crate::brackets::Matching;
+use crate::ends::{ends_closed, ends_in_string, is_from, lost_from};
 use crate::near::are_close;
+use crate::openings::{closes, opens};
 use SyntaxKind::*;
 use rnix::{NodeOrToken, ParseError, SyntaxKind, SyntaxNode, SyntaxToken, TextRange};
 
@@ -33,7 +35,7 @@ pub struct Folding {
     ends_closed: bool,
     // Whether an error node skipped brackets.
     is_unbalanced: bool,
-    // The offset of what is never closed, in a text that ends too early: later errors follow from it.
+    // The start of what is never closed, in a text that ends too early: later errors follow from it.
     lost_from: Option<usize>,
     // The first token that closes nothing.
     extra: Option<TextRange>,
@@ -80,8 +82,8 @@ fn group_of(node: &Option<SyntaxNode<'_>>) -> Option<TextRange>
 }
 
 // Whether there are two ranges, and they are equal.
-fn is_shared(own: Option<TextRange>, last: Option<TextRange>) -> bool
-    ensures { result ≡ are_shared own last }
+fn are_one(own: Option<TextRange>, last: Option<TextRange>) -> bool
+    ensures { result ≡ are_one (option_map bounds_of own) (option_map bounds_of last) }
 {
     match (own, last) {
         (Some(own), Some(last)) => own.start() == last.start() && own.end() == last.end(),
@@ -96,19 +98,9 @@ fn larger(one: usize, two: usize) -> usize
     if one < two { two } else { one }
 }
 
-// Whether an offset is not before another, if there is another.
-fn is_from(start: Option<usize>, offset: usize) -> bool
-    ensures { result ≡ is_from start offset }
-{
-    match start {
-        Some(start) => start <= offset,
-        None => false,
-    }
-}
-
 // Whether a token has a range, if there is one.
 fn has_range(range: Option<TextRange>, token: &SyntaxToken<'_>) -> bool
-    ensures { result ≡ has_range range token.now }
+    ensures { result ≡ has_range (option_map bounds_of range) token.now }
 {
     let own = token.text_range();
     match range {
@@ -159,15 +151,14 @@ fn is_extra(error: &ParseError) -> bool
 }
 
 impl Folding {
-    /// The state before the first error of a text whose mismatch is given, the end of its last token other than trivia, and the `;` of its entries.
+    /// The state before the first error of a text whose brackets are matched, and the `;` of whose entries are given.
     pub fn new(
         root: &SyntaxNode<'_>,
         errors: &[ParseError],
-        mismatch: Mismatch,
-        end: usize,
+        matching: &Matching,
         semicolons: Vec<Semicolon>,
     ) -> Folding
-        requires end { end ≡ end_of_items root.now }
+        requires matching { IsMatching root.now matching.now }
         requires semicolons { semicolons.items ≡ semicolons_of root.now }
         ensures { Knows root.now (map fault_of errors.now) [] result }
     {
@@ -175,12 +166,12 @@ impl Folding {
             passed: first_since(semicolons.as_slice(), 0, 0),
             semicolons,
             reach: 0,
-            in_string: ends_in_string(root, end),
-            ends_closed: ends_closed(root, end),
+            in_string: ends_in_string(matching.last),
+            ends_closed: ends_closed(matching.last),
             is_unbalanced: false,
-            lost_from: lost_from(root, errors, mismatch.unclosed),
-            extra: mismatch.extra,
-            end,
+            lost_from: lost_from(root, errors, matching.end),
+            extra: matching.mismatch.extra,
+            end: matching.end,
             last: None,
             group: None,
             is_lost: false,
@@ -189,14 +180,14 @@ impl Folding {
 
     // Whether a token closes something that is open before a walk in which so much is open.
     fn closes_around(&self, depth: usize, token: &SyntaxToken<'_>) -> bool
-        ensures { result ≡ closes_around self.now.extra depth token.now }
+        ensures { result ≡ closes_around (option_map bounds_of self.now.extra) depth token.now }
     {
         closes(token.kind()) && depth == 0 && !has_range(self.extra, token)
     }
 
     // Whether the tokens of a node close something that is open before it, or leave something open.
     fn skips_brackets(&self, node: &SyntaxNode<'_>) -> bool
-        ensures { result ≡ skips_brackets self.now.extra node.now }
+        ensures { result ≡ skips_brackets (option_map bounds_of self.now.extra) node.now }
     {
         let mut depth: usize = 0;
         for element in node.descendants_with_tokens() {
@@ -212,7 +203,7 @@ impl Folding {
 
     // The same for an error node, if there is one.
     fn skips_if(&self, node: &Option<SyntaxNode<'_>>) -> bool
-        ensures { result ≡ skips_if self.now.extra node.now }
+        ensures { result ≡ skips_if (option_map bounds_of self.now.extra) node.now }
     {
         match node {
             Some(node) => self.skips_brackets(node),
@@ -222,7 +213,7 @@ impl Folding {
 
     // Whether the parser loses its way at an error, whose node skips brackets or does not.
     fn loses(&self, error: &ParseError, skips: bool, place: TextRange) -> bool
-        ensures { result ≡ loses self.now (fault_of error.now) skips place }
+        ensures { result ≡ loses_in self.now (fault_of error.now) skips place }
     {
         has_no_range(error)
             || self.end <= place.end()
@@ -230,11 +221,11 @@ impl Folding {
             || skips
     }
 
-    // Whether the parser has lost its way at an error, or before it at one from which it follows.
-    fn is_lost_at(&self, follows: bool, error: &ParseError, skips: bool, place: TextRange) -> bool
-        ensures { result ≡ ((self.now.is_lost && follows) || loses self.now (fault_of error.now) skips place) }
+    // Whether the parser has lost its way at an error, or before it and the error is not apart from those before it.
+    fn is_lost_at(&self, is_apart: bool, error: &ParseError, skips: bool, place: TextRange) -> bool
+        ensures { result ≡ ((self.now.is_lost && not is_apart) || loses_in self.now (fault_of error.now) skips place) }
     {
-        self.is_lost && follows || self.loses(error, skips, place)
+        self.is_lost && !is_apart || self.loses(error, skips, place)
     }
 
     // Whether brackets were skipped at an error, whose node skips some or does not, or before it.
@@ -256,9 +247,9 @@ impl Folding {
         )
     }
 
-    // Whether an error close after an offset shares the diagnostic of the earlier ones, from which it is not apart: the parser has lost its way, or
-    // the error shares a list, pattern, .. with the last one or is near it.
-    fn shares(
+    // Whether an error shares the diagnostic of the earlier ones, from which it is not apart, where the last one ends at an offset: the parser has
+    // lost its way, or the error shares a list, pattern, .. with the last one or is near it.
+    fn is_joined(
         &self,
         root: &SyntaxNode<'_>,
         group: Option<TextRange>,
@@ -266,17 +257,23 @@ impl Folding {
         place: TextRange,
     ) -> bool
         requires { self.now.last ≡ Some last }
-        ensures { result ≡ is_sharing root.now self.now group place }
+        ensures { result ≡ is_joined_in root.now self.now group place }
     {
-        if self.is_lost || is_shared(group, self.group) {
+        if self.is_lost || are_one(group, self.group) {
             return true;
         }
         are_close(root.text().as_bytes(), last, place.start())
     }
 
-    // Whether an error follows from earlier ones.
-    fn follows(&self, root: &SyntaxNode<'_>, group: Option<TextRange>, place: TextRange) -> bool
-        ensures { result ≡ is_following root.now self.now group place }
+    // Whether an error, which is apart from the earlier ones or not, follows from them.
+    fn follows(
+        &self,
+        root: &SyntaxNode<'_>,
+        is_apart: bool,
+        group: Option<TextRange>,
+        place: TextRange,
+    ) -> bool
+        ensures { result ≡ follows_in root.now self.now is_apart group place }
     {
         let Some(last) = self.last else {
             return false;
@@ -284,10 +281,10 @@ impl Folding {
         if self.in_string {
             return true;
         }
-        if self.is_apart(place) {
+        if is_apart {
             return self.is_unbalanced && self.ends_closed && self.end <= place.end();
         }
-        self.shares(root, group, last, place)
+        self.is_joined(root, group, last, place)
     }
 
     // Whether the text ends inside a string, and there was an error about an unexpected or a missing token.
@@ -315,13 +312,14 @@ impl Folding {
     ) -> bool
         requires slip { is_slip (fault_of error.now) ≡ true }
         requires place { bounds_of place ≡ place_of root.now (fault_of error.now) }
-        requires node { IfErrorNode root.now (fault_of error.now) node.now }
+        requires node { node.now ≡ error_node root.now (fault_of error.now) }
         ensures { JudgesNext root.now (fault_of error.now) self.old self.new result }
     {
         let group = group_of(node);
-        let follows = self.follows(root, group, place);
+        let is_apart = self.is_apart(place);
+        let follows = self.follows(root, is_apart, group, place);
         let skips = self.skips_if(node);
-        let is_lost = self.is_lost_at(follows, error, skips, place);
+        let is_lost = self.is_lost_at(is_apart, error, skips, place);
         let is_unbalanced = self.is_unbalanced_at(skips);
         let end = place.end();
         self.is_lost = is_lost;
@@ -341,7 +339,7 @@ impl Folding {
         place: TextRange,
     ) -> bool
         requires place { bounds_of place ≡ place_of root.now (fault_of error.now) }
-        requires node { IfErrorNode root.now (fault_of error.now) node.now }
+        requires node { node.now ≡ error_node root.now (fault_of error.now) }
         ensures { JudgesNext root.now (fault_of error.now) self.old self.new result }
     {
         if is_slip(error) {

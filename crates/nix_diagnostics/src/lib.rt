@@ -3,6 +3,8 @@
 
 mod apart;
 mod brackets;
+mod closings;
+mod code;
 mod diagnostic;
 mod ends;
 mod folding;
@@ -10,9 +12,14 @@ mod hints;
 mod message;
 mod near;
 mod notes;
+mod openings;
 mod place;
+mod proposals;
+mod replacement;
 mod unwanted;
 mod words;
 
+pub use code::Code;
 pub use diagnostic::{Diagnostic, all_diagnostics, diagnostics};
 pub use notes::Note;
+pub use replacement::Replacement;

@@ -88,13 +88,16 @@ fn headline(error: &ParseError) -> &'static str
     }
 }
 
+// Initial capacity of the rest of a message, in bytes: most are shorter.
+const ROOM: usize = 80;
+
 // The rest of the message: what was expected, where, and what was found.
 fn details(
     alloc: Global,
     error: &ParseError,
     node: Option<&SyntaxNode<'_>>,
 ) -> Result<String, AllocError> {
-    let mut text = String::new(alloc);
+    let mut text = String::with_capacity(alloc, ROOM)?;
     match error {
         ParseError::UnexpectedWanted(_, _, wanted) => {
             add_wanted(wanted, &mut text)?;

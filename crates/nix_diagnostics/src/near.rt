@@ -3,6 +3,11 @@
 ghost use Rattle.std.specs.Prelude.{◌≡◌, false, nat_lt};
 ghost use Rattle.nix_diagnostics.specs.Following.{is_blank, words, are_close};
 
+// How many characters are searched for another one.
+const MOST_SEARCHED: usize = 200;
+// The most bytes of what is searched line by line.
+const MOST_BYTES: usize = 20_000;
+
 // Whether a byte is white space.
 fn is_blank(byte: u8) -> bool
     ensures { result ≡ is_blank byte }
@@ -36,4 +41,42 @@ pub fn are_close(text: &[u8], from: usize, to: usize) -> bool
     let rest = text.get(from..).unwrap_or(&[]);
     let between = rest.get(..to.saturating_sub(from)).unwrap_or(rest);
     !between.contains(&b'\n') || has_few_words(between)
+}
+
+/// Returns the text from an offset up to a character, if it is one of the next 200.
+pub fn text_before(text: &str, start: usize, character: char) -> Option<&str> {
+    let rest = text.get(start..)?;
+    let (end, _) = rest
+        .char_indices()
+        .take(MOST_SEARCHED)
+        .find(|(_, next)| *next == character)?;
+    rest.get(..end)
+}
+
+/// Returns the start of the line around an offset, if that is among the previous 200 characters.
+pub fn line_start(text: &str, offset: usize) -> Option<usize> {
+    let before = text.get(..offset)?;
+    let mut start = offset;
+    for character in before.chars().rev().take(MOST_SEARCHED) {
+        if character == '\n' {
+            return Some(start);
+        }
+        start = start.saturating_sub(character.len_utf8());
+    }
+    if start == 0 { Some(0) } else { None }
+}
+
+/// Returns the number of bytes of white space at the start of a line.
+pub fn indentation(line: &str) -> usize {
+    line.len().saturating_sub(line.trim_start().len())
+}
+
+/// Returns the first 20,000 bytes of a text, or up to three less, so that they end between characters.
+pub fn first_part(text: &str) -> &str {
+    for fewer in 0..4 {
+        if let Some(part) = text.get(..MOST_BYTES - fewer) {
+            return part;
+        }
+    }
+    text
 }

@@ -1,8 +1,11 @@
 //! Notes on errors: what is not closed, where something is missing, what was meant.
 
 use crate::brackets::{Matching, Opening};
-use crate::hints::hint;
+use crate::closings::closing;
+use crate::hints::hint_of;
 use crate::place::token_before;
+use crate::proposals::proposal;
+use crate::replacement::Replacement;
 use crate::unwanted::Unwanted;
 use SyntaxKind::*;
 use rnix::ast::{AstNode, Pattern};
@@ -19,6 +22,8 @@ pub struct Note {
     pub range: Option<TextRange>,
     /// The message, in one line.
     pub message: &'static str,
+    /// What to write instead, if there is a guess. It may leave as many errors, or make others.
+    pub replacement: Option<Replacement>,
 }
 
 // The message for a token that opens something and is not closed.
@@ -70,6 +75,7 @@ fn first_argument(
             return Some(Note {
                 range: Some(argument_in(&pattern, name, entries_left)?),
                 message: "first declared here",
+                replacement: None,
             });
         }
     }
@@ -89,11 +95,12 @@ fn missing_semicolon(unwanted: &Unwanted<'_>) -> Option<Note> {
     Some(Note {
         range: Some(TextRange::empty(offset)),
         message: "\";\" is missing here",
+        replacement: Some(Replacement::insertion(offset, ";")),
     })
 }
 
-// The note on an `inherit` whose `;` is missing at the end of the text.
-fn open_inherit(error: &ParseError, inherit: Option<TextRange>) -> Option<Note> {
+// The note on an `inherit` whose `;` is missing at the end of the text, where the error is shown.
+fn open_inherit(error: &ParseError, inherit: Option<TextRange>, place: TextRange) -> Option<Note> {
     let is_missing = match error {
         ParseError::UnexpectedEOF => true,
         ParseError::UnexpectedEOFWanted(wanted) => wanted.contains(&TOKEN_SEMICOLON),
@@ -105,24 +112,32 @@ fn open_inherit(error: &ParseError, inherit: Option<TextRange>) -> Option<Note> 
     Some(Note {
         range: Some(inherit?),
         message: "this \"inherit\" has no \";\"",
+        replacement: Some(Replacement::insertion(place.end(), ";")),
     })
 }
 
 // The hint for an unexpected token, or the place where a ";" is missing. There is none if something is not closed, which explains the error.
-fn remark(unwanted: &Unwanted<'_>, is_explained: bool, extra: Option<TextRange>) -> Option<Note> {
+fn remark(
+    unwanted: &Unwanted<'_>,
+    is_explained: bool,
+    extra: Option<TextRange>,
+    text: &str,
+) -> Option<Note> {
     let kind = unwanted.token.kind();
     let is_closing = matches!(kind, TOKEN_R_BRACE | TOKEN_R_BRACK | TOKEN_R_PAREN);
     if is_closing && !is_explained && extra == Some(unwanted.token.text_range()) {
         return Some(Note {
             range: None,
             message: "no opening bracket matches this",
+            replacement: Some(Replacement::new(unwanted.token.text_range(), "")),
         });
     }
-    match hint(unwanted) {
+    match hint_of(unwanted) {
         Some(_) if is_explained && kind == TOKEN_SEMICOLON && unwanted.wants_expression() => None,
-        Some(message) => Some(Note {
+        Some(hint) => Some(Note {
             range: None,
-            message,
+            message: hint.message(),
+            replacement: proposal(hint, unwanted, text),
         }),
         None if is_explained => None,
         None => missing_semicolon(unwanted),
@@ -161,7 +176,8 @@ impl NoteFinder {
             notes.extend(first)?;
             return Ok(notes);
         }
-        let mismatch = self.matching.mismatch;
+        let (mismatch, text) = (self.matching.mismatch, root.text());
+        let unwanted = Unwanted::of(error, node, &self.matching);
         let unclosed = mismatch
             .unclosed
             .filter(|opening| opening.range.start() <= place.start());
@@ -169,11 +185,12 @@ impl NoteFinder {
             notes.push(Note {
                 range: Some(opening.range),
                 message: opened(opening),
+                replacement: closing(opening, unwanted.as_ref(), place, mismatch.extra, text),
             })?;
         }
-        notes.extend(open_inherit(error, mismatch.inherit))?;
-        if let Some(unwanted) = Unwanted::of(error, node, &self.matching) {
-            notes.extend(remark(&unwanted, unclosed.is_some(), mismatch.extra))?;
+        notes.extend(open_inherit(error, mismatch.inherit, place))?;
+        if let Some(unwanted) = unwanted {
+            notes.extend(remark(&unwanted, unclosed.is_some(), mismatch.extra, text))?;
         }
         Ok(notes)
     }

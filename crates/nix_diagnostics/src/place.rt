@@ -1,9 +1,12 @@
 //! Finding errors in a tree.
 
-ghost use Rattle.std.specs.Prelude.{IfSome};
-ghost use Rattle.rnix_grammar.specs.Fault.{fault_of};
+ghost use Rattle.std.specs.Prelude.{◌≡◌, ◌==◌, ◌&&◌, IfSome, Some, None, option_map, if◌then◌else◌};
+ghost use Rattle.rnix_green.specs.Range.{bounds_of};
+ghost use Rattle.rnix_green.specs.Tree.{item_of, extent_of, IsTokenAt};
+ghost use Rattle.rnix_grammar.specs.Fault.{fault_of, same_extent};
+ghost use Rattle.rnix_grammar.specs.Ranges.{is_error_node};
 ghost use Rattle.rnix.specs.WholeTree.{IsInTree};
-ghost use Rattle.nix_diagnostics.specs.Following.{IfErrorNode};
+ghost use Rattle.nix_diagnostics.specs.FaultNodes.{IsFrom, token_from, if_error, error_at, node_range, error_node};
 
 use rnix::{ParseError, SyntaxKind, SyntaxNode, SyntaxToken, TextRange};
 
@@ -14,37 +17,137 @@ const MOST_TRIVIA: usize = 64;
 
 // Returns the token that starts at an offset, if it is among the next from a token on.
 fn near_token<'t>(from: &SyntaxToken<'t>, offset: usize) -> Option<SyntaxToken<'t>>
-    ensures { IfSome result (IsInTree from.now) }
+    requires { IsTokenAt from.now }
+    ensures { IfSome result (IsFrom from.now offset) }
 {
     let mut token = from.clone();
     for _step in 0..MOST_STEPS {
-        let start = token.text_range().start();
-        if start == offset {
+        let range = token.text_range();
+        if range.start() == offset && offset < range.end() {
             return Some(token);
         }
-        if start > offset {
+        if range.start() > offset {
             return None;
         }
-        token = token.next_token()?;
+        let next = token.next_token()?;
+        token = next;
     }
     None
 }
 
-// Returns the token at an offset, which is first searched for after the beginning of an earlier node.
-fn token_at<'t>(
+// Returns a token, if it starts at an offset.
+fn if_from<'t>(token: SyntaxToken<'t>, offset: usize) -> Option<SyntaxToken<'t>>
+    ensures token { result ≡ (if (item_of token.entry).start == offset then Some token.entry else None) }
+    ensures tree { IfSome result (IsInTree token.entry) }
+{
+    if token.text_range().start() == offset {
+        Some(token)
+    } else {
+        None
+    }
+}
+
+// Returns the token that starts at an offset, if it is among the first of a node or behind them.
+fn near_node<'t>(earlier: &SyntaxNode<'t>, offset: usize) -> Option<SyntaxToken<'t>>
+    ensures { IfSome result (IsFrom earlier.now offset) }
+{
+    match earlier.first_token() {
+        Some(first) => near_token(&first, offset),
+        None => None,
+    }
+}
+
+// Returns the token that starts at an offset.
+fn token_from<'t>(root: &SyntaxNode<'t>, offset: usize) -> Option<SyntaxToken<'t>>
+    requires { root.now.number ≡ 0 }
+    ensures token { result ≡ token_from root.now offset }
+    ensures tree { IfSome result (IsInTree root.now) }
+{
+    match root.token_at_offset(offset).right_biased() {
+        Some(token) => if_from(token, offset),
+        None => None,
+    }
+}
+
+// The same, if an earlier node is known, after whose beginning the token is first searched for.
+fn token_after<'t>(
     root: &SyntaxNode<'t>,
     earlier: &SyntaxNode<'t>,
     offset: usize,
 ) -> Option<SyntaxToken<'t>>
-    requires { IsInTree root.now earlier.now }
-    ensures { IfSome result (IsInTree root.now) }
+    requires tree { IsInTree root.now earlier.now }
+    requires top { root.now.number ≡ 0 }
+    ensures token { result ≡ token_from root.now offset }
+    ensures tree { IfSome result (IsInTree root.now) }
 {
-    if let Some(first) = earlier.first_token() {
-        if let Some(token) = near_token(&first, offset) {
-            return Some(token);
-        }
+    match near_node(earlier, offset) {
+        Some(token) => Some(token),
+        None => token_from(root, offset),
     }
-    root.token_at_offset(offset).right_biased()
+}
+
+// Whether a node is an error node with a range.
+fn is_error(node: &SyntaxNode<'_>, range: TextRange) -> bool
+    ensures { result ≡ (is_error_node (item_of node.now).kind && same_extent (extent_of node.now) (bounds_of range)) }
+{
+    let own = node.text_range();
+    matches!(node.kind(), SyntaxKind::NODE_ERROR)
+        && own.start() == range.start()
+        && own.end() == range.end()
+}
+
+// Returns a node, if it is an error node with a range.
+fn if_error<'t>(node: Option<SyntaxNode<'t>>, range: TextRange) -> Option<SyntaxNode<'t>>
+    ensures { result ≡ if_error (bounds_of range) node.entry }
+{
+    match node {
+        Some(node) if is_error(&node, range) => Some(node),
+        _ => None,
+    }
+}
+
+// Returns the error node with a range. It is searched for after an earlier node.
+fn error_with<'t>(
+    root: &SyntaxNode<'t>,
+    earlier: &SyntaxNode<'t>,
+    range: TextRange,
+) -> Option<SyntaxNode<'t>>
+    requires tree { IsInTree root.now earlier.now }
+    requires top { root.now.number ≡ 0 }
+    ensures node { result ≡ error_at root.now (Some (bounds_of range)) }
+    ensures tree { IfSome result (IsInTree root.now) }
+{
+    match token_after(root, earlier, range.start()) {
+        Some(token) => if_error(token.parent(), range),
+        None => None,
+    }
+}
+
+// The same, if there is a range.
+fn error_at<'t>(
+    root: &SyntaxNode<'t>,
+    earlier: &SyntaxNode<'t>,
+    range: Option<TextRange>,
+) -> Option<SyntaxNode<'t>>
+    requires tree { IsInTree root.now earlier.now }
+    requires top { root.now.number ≡ 0 }
+    ensures node { result ≡ error_at root.now (option_map bounds_of range) }
+    ensures tree { IfSome result (IsInTree root.now) }
+{
+    match range {
+        Some(range) => error_with(root, earlier, range),
+        None => None,
+    }
+}
+
+// The range of an error, unless it is about a repeated name, which is no error node.
+fn node_range(error: &ParseError) -> Option<TextRange>
+    ensures { option_map bounds_of result ≡ node_range (fault_of error.now) }
+{
+    match error {
+        ParseError::DuplicatedArgs(..) => None,
+        _ => error.range(),
+    }
 }
 
 /// Returns the error node of an error, if it has one. It is searched for after that of an earlier error, and replaces it.
@@ -53,21 +156,17 @@ pub fn error_node<'t>(
     earlier: &mut SyntaxNode<'t>,
     error: &ParseError,
 ) -> Option<SyntaxNode<'t>>
-    requires { IsInTree root.now earlier.old }
-    ensures node { IfErrorNode root.now (fault_of error.now) result }
+    requires tree { IsInTree root.now earlier.old }
+    requires top { root.now.number ≡ 0 }
+    ensures node { result ≡ error_node root.now (fault_of error.now) }
     ensures earlier { IsInTree root.now earlier.new }
 {
-    // A repeated name is no error node: nothing is searched for.
-    if matches!(error, ParseError::DuplicatedArgs(..)) {
-        return None;
-    }
-    let range = error.range()?;
-    let node = token_at(root, earlier, range.start())?.parent()?;
-    if node.kind() == SyntaxKind::NODE_ERROR && node.text_range() == range {
-        *earlier = node.clone();
-        Some(node)
-    } else {
-        None
+    match error_at(root, earlier, node_range(error)) {
+        Some(node) => {
+            *earlier = node.clone();
+            Some(node)
+        }
+        None => None,
     }
 }
 

@@ -64,23 +64,37 @@ impl<'t> Unwanted<'t> {
         self.wanted == Some(TOKEN_IDENT)
     }
 
-    /// The end of the value before it. If the value spans several lines and its last argument, on a line of its own, is followed by `=`, that
-    /// argument is the name of the next entry.
-    pub fn end_of_value(&self) -> Option<usize> {
-        let before = self.before.as_ref()?;
-        if self.token.kind() != TOKEN_ASSIGN {
-            return Some(before.text_range().end());
-        }
+    /// Returns the call in the value of an entry that ends before it, if there is one.
+    pub fn call_in_value(&self) -> Option<SyntaxNode<'t>> {
         let value = AttrpathValue::cast(self.parent.clone())?.value()?;
-        let call = call_before(before, value.syntax())?;
-        let function = call.first_child()?.text_range().end();
-        let argument = call.last_child()?.text_range().start();
-        let start = self.parent.text_range().start();
-        let between = self.parent.text().get(
-            function.saturating_sub(start)..argument.saturating_sub(start),
-        );
-        between.filter(|text| text.contains('\n')).map(|_| function)
+        call_before(self.before.as_ref()?, value.syntax())
     }
+
+    /// The end of the value before it. If that is a call of which the last argument is followed by `=`, and the argument is on a line of its own or what is
+    /// called is no function, the argument is the name of the next entry.
+    pub fn end_of_value(&self) -> Option<usize> {
+        if self.token.kind() != TOKEN_ASSIGN {
+            return Some(self.before.as_ref()?.text_range().end());
+        }
+        let call = self.call_in_value()?;
+        let function = call.first_child()?;
+        let (end, argument) = (
+            function.text_range().end(),
+            call.last_child()?.text_range().start(),
+        );
+        let start = self.parent.text_range().start();
+        let between = self
+            .parent
+            .text()
+            .get(end.saturating_sub(start)..argument.saturating_sub(start));
+        let is_apart = between.is_some_and(|text| text.contains('\n'));
+        (is_apart || is_data(function.kind())).then_some(end)
+    }
+}
+
+// Whether a node of a kind is never a function.
+fn is_data(kind: SyntaxKind) -> bool {
+    matches!(kind, NODE_LITERAL | NODE_STRING | NODE_LIST)
 }
 
 // The outermost call in a value that ends with a token.

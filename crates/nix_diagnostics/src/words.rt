@@ -71,8 +71,16 @@ fn shown(letter: char) -> char {
     }
 }
 
+// Whether a text has nothing but spaces and visible characters of ASCII.
+fn is_plain(text: &str) -> bool {
+    text.bytes().all(|byte| matches!(byte, b' '..=b'~'))
+}
+
 /// Adds a text with every character visible and on one line.
 pub fn add_shown(own: &str, text: &mut String) -> Result<(), AllocError> {
+    if is_plain(own) {
+        return text.push_str(own);
+    }
     for letter in own.chars() {
         text.push(shown(letter))?;
     }

@@ -1,6 +1,12 @@
 -- What the definitions say of certain texts.
-use Rattle.std.proofs.Common.{◌≡◌, [], ◌∷◌, refl}
+use Rattle.std.proofs.Common.{◌≡◌, ℕ, List, [], ◌∷◌, ◌++◌, Some, refl, ap, ◌∙◌, arith}
+use Rattle.std.proofs.lemmas.Fmt.{decimal_digit}
+use Rattle.std.specs.Prelude.{None, codes, decimal}
+use denote.Ref.{Bor}
+use Rattle.nix_format.specs.declared.diff.DiffLine.TheVariants.{Common, Removed, Added}
 use Rattle.nix_format.specs.Diff.{lines_of}
+use Rattle.nix_format.specs.Applied.{applied_to, reversed}
+use Rattle.nix_format.specs.Unified.{with_end, range_text}
 
 -- an empty text has no lines
 no_lines : lines_of [] ≡ []
@@ -17,3 +23,34 @@ last_line_ended = refl
 -- line feeds alone are empty lines
 empty_lines : lines_of (10 ∷ 10 ∷ 97 ∷ []) ≡ (10 ∷ []) ∷ (10 ∷ []) ∷ (97 ∷ []) ∷ []
 empty_lines = refl
+
+-- an added line comes of nothing, and backwards it goes
+added_comes : (line : Bor (List ℕ)) → applied_to (Added line ∷ []) [] ≡ Some (line.now ∷ [])
+added_comes line = refl
+
+added_goes : (line : Bor (List ℕ)) → reversed (Added line ∷ []) ≡ Removed line ∷ []
+added_goes line = refl
+
+-- a line that is not there is not removed, and no line is left over
+removed_missing : (line : Bor (List ℕ)) → applied_to (Removed line ∷ []) [] ≡ None
+removed_missing line = refl
+
+line_left : (line : List ℕ) → applied_to [] (line ∷ []) ≡ None
+line_left line = refl
+
+-- a line without a line feed
+open_line : with_end (codes "a") ≡ codes "a\n\\ No newline at end of file\n"
+open_line = refl
+
+ended_line : with_end (codes "a\n") ≡ codes "a\n"
+ended_line = refl
+
+-- the lines of a text in a header: none after the fourth, the fifth, and the fifth and two more
+no_range : range_text 4 0 ≡ codes "4,0"
+no_range = ap (λ d. d ++ codes ",0") (decimal_digit 4 (omega arith))
+
+single_range : range_text 4 1 ≡ codes "5"
+single_range = decimal_digit 5 (omega arith)
+
+wide_range : range_text 4 3 ≡ codes "5,3"
+wide_range = ap (λ d. d ++ codes "," ++ decimal 3) (decimal_digit 5 (omega arith)) ∙ ap (λ d. codes "5," ++ d) (decimal_digit 3 (omega arith))

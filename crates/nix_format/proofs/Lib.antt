@@ -1,2 +1,8 @@
+pub mod AppliedDiffs
 pub mod DiffLemmas
 pub mod DiffRows
+pub mod HunkLemmas
+pub mod PatchedLines
+pub mod FormattedFiles
+pub mod OutcomeExamples
+pub mod FinishedTexts

@@ -1,1 +1,5 @@
 pub mod Diff
+pub mod Applied
+pub mod Hunks
+pub mod Unified
+pub mod Outcomes

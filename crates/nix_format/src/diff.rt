@@ -1,7 +1,9 @@
 //! The difference of two texts, line by line.
 
-ghost use Rattle.std.specs.Prelude.{◌≡◌, ◌++◌, ◌∷◌, [], ◌≤◌, length, true, IfOk, OnOk};
+ghost use Rattle.std.specs.Prelude.{◌≡◌, ◌++◌, ◌∷◌, [], ◌≤◌, length, true, Some, IfOk, OnOk};
 ghost use Rattle.nix_format.specs.Diff.{lines_of, old_lines, new_lines, texts_of, AddsLines, IsDiff};
+ghost use Rattle.nix_format.specs.Applied.{applied, reversed};
+ghost use Rattle.nix_format.specs.Hunks.{is_common, is_old, is_new};
 
 use std::alloc::{AllocError, Global};
 
@@ -14,6 +16,29 @@ pub enum DiffLine<'t> {
     Removed(&'t str),
     /// A line of the new text only.
     Added(&'t str),
+}
+
+impl<'t> DiffLine<'t> {
+    /// Whether it is a line of both texts.
+    pub fn is_common(&self) -> bool
+        ensures { result ≡ is_common self.now }
+    {
+        matches!(self, DiffLine::Common(_))
+    }
+
+    /// Whether it is a line of the old text.
+    pub fn is_old(&self) -> bool
+        ensures { result ≡ is_old self.now }
+    {
+        !matches!(self, DiffLine::Added(_))
+    }
+
+    /// Whether it is a line of the new text.
+    pub fn is_new(&self) -> bool
+        ensures { result ≡ is_new self.now }
+    {
+        !matches!(self, DiffLine::Removed(_))
+    }
 }
 
 // A line of a text, and the numbers of bytes other than white space before it and up to its end. Two texts that differ in white space alone have the
@@ -104,15 +129,8 @@ fn add_old<'t>(
     Ok(0)
 }
 
-/// Returns the difference of two texts. In each run of lines that differ, the removed ones come before the added ones.
-///
-/// Lines correspond if they are equal and the same number of bytes other than white space precedes them. So the difference is short if the texts
-/// differ in white space alone, and right for any two texts.
-pub fn line_diff<'t>(
-    alloc: Global,
-    old: &'t str,
-    new: &'t str,
-) -> Result<Vec<DiffLine<'t>>, AllocError>
+// Returns the difference of two texts, as `line_diff` does.
+fn diff_of<'t>(alloc: Global, old: &'t str, new: &'t str) -> Result<Vec<DiffLine<'t>>, AllocError>
     ensures { IfOk result (λ diff. IsDiff old.now new.now diff.items) }
 {
     let olds = lines_of(alloc, old)?;
@@ -123,5 +141,26 @@ pub fn line_diff<'t>(
         done += add_old(&mut diff, line, &news[done..])?;
     }
     add_new(&mut diff, &news[done..])?;
+    Ok(diff)
+}
+
+/// Returns the difference of two texts. In each run of lines that differ, the removed ones come before the added ones.
+///
+/// Lines correspond if they are equal and the same number of bytes other than white space precedes them. So the difference is short if the texts
+/// differ in white space alone, and right for any two texts.
+#[tactic(auto, using(crate::proofs::AppliedDiffs::diff_applies, crate::proofs::AppliedDiffs::diff_reverses))]
+pub fn line_diff<'t>(
+    alloc: Global,
+    old: &'t str,
+    new: &'t str,
+) -> Result<Vec<DiffLine<'t>>, AllocError>
+    // The common and the removed lines are those of the old text, the common and the added ones those of the new text.
+    ensures lines { IfOk result (λ diff. IsDiff old.now new.now diff.items) }
+    // Applied to the old text, it makes the new one.
+    ensures applies { IfOk result (λ diff. applied diff.items old.now ≡ Some new.now) }
+    // Applied backwards to the new text, it makes the old one.
+    ensures reverses { IfOk result (λ diff. applied (reversed diff.items) new.now ≡ Some old.now) }
+{
+    let diff = diff_of(alloc, old, new)?;
     Ok(diff)
 }

@@ -1,10 +1,15 @@
 //! Formatting of one file.
 
+ghost use Rattle.std.specs.Prelude.{◌≡◌, IfOk, OnOk};
+ghost use Rattle.std.specs.Io.KnownBytes.{Appends};
+ghost use Rattle.nix_format.specs.Outcomes.{changed_name, input_text, writes, Prints, IsDiffOf, IsPrinted, IsReplaced, IsFinished, IsTextFormatted, IsFileFormatted};
+
 use crate::unified::unified_diff;
 use nix_cli::{Program, place_of, read_text, replace_text, replaceable, shown_name};
 use nix_diagnostics::diagnostics;
 use nix_formatting::{Formatting, formatted};
 use rnix::Root;
+use std::alloc::Global;
 use std::io::{self, Write};
 
 // The most errors of a file that are printed.
@@ -21,6 +26,18 @@ pub enum Task {
     Diff,
     /// Print it.
     Print,
+}
+
+impl Task {
+    // Whether the formatted text is written to the file.
+    fn writes(self) -> bool
+        ensures { result ≡ writes self }
+    {
+        match self {
+            Task::Write => true,
+            Task::Check | Task::Diff | Task::Print => false,
+        }
+    }
 }
 
 /// The result for a file.
@@ -64,47 +81,103 @@ fn write_errors(rt: &HostRuntime, program: &Program, name: &str, text: &str) -> 
 }
 
 // Reports an error of a file.
-fn fail(rt: &HostRuntime, program: &Program, name: &str, error: io::Error) -> io::Result<Outcome> {
+fn fail(rt: &HostRuntime, program: &Program, name: &str, error: io::Error) -> io::Result<Outcome>
+    ensures { IfOk result (λ outcome. outcome ≡ Outcome.Failed) }
+{
     eprintln!(rt; "{}: {name}: {error}", program.name)?;
     Ok(Outcome::Failed)
 }
 
-// Replaces a file. Reports what fails.
-fn replace(rt: &HostRuntime, program: &Program, change: Change<'_>) -> io::Result<Outcome> {
+// Replaces a file, but not standard input. Reports what fails.
+fn replace(rt: &HostRuntime, program: &Program, change: Change<'_>) -> io::Result<Outcome>
+    ensures { IfOk result (IsReplaced change.entry.name.now) }
+{
+    if change.name == "-" {
+        return Ok(Outcome::Changed);
+    }
     match replace_text(rt, change.name, change.new) {
         Ok(()) => Ok(Outcome::Changed),
         Err(error) => fail(rt, program, change.name, error),
     }
 }
 
-// Prints how the formatted text differs.
-fn write_diff(rt: &HostRuntime, change: Change<'_>) -> io::Result<()> {
-    let name = shown_name(change.name);
-    let diff = unified_diff(rt.alloc(), name, change.old, change.new)?;
-    rt.stdout().write_all(diff.as_bytes())
+// Prints the name of a file whose text differs.
+fn write_name<W: Write>(name: &str, is_same: bool, out: &mut W) -> io::Result<()>
+    ensures { OnOk result (Appends (W.contents out.old) (W.contents out.new) (changed_name is_same name.now)) }
+{
+    if is_same {
+        Ok(())
+    } else {
+        writeln!(out, "{}", shown_name(name))
+    }
 }
 
-// Does with the formatted text what the task asks for. Standard input has no file, so its formatted text is printed.
-fn finish(
+// Prints how a text differs.
+fn write_diff<W: Write>(
+    alloc: Global,
+    change: Change<'_>,
+    is_same: bool,
+    out: &mut W,
+) -> io::Result<()>
+    ensures { OnOk result (Prints (IsDiffOf is_same change.entry.old.now change.entry.new.now) (W.contents out.old) (W.contents out.new)) }
+{
+    if is_same {
+        return Ok(());
+    }
+    let diff = unified_diff(alloc, shown_name(change.name), change.old, change.new)?;
+    out.write_all(diff.as_bytes())
+}
+
+// Prints the formatted text of standard input, which has no file.
+fn write_input<W: Write>(name: &str, made: &str, out: &mut W) -> io::Result<()>
+    ensures { OnOk result (Appends (W.contents out.old) (W.contents out.new) (input_text name.now made.now)) }
+{
+    if name == "-" {
+        out.write_all(made.as_bytes())
+    } else {
+        Ok(())
+    }
+}
+
+// Prints the formatted text, or how it differs, as the task asks.
+fn write_change<W: Write>(
+    alloc: Global,
+    change: Change<'_>,
+    task: Task,
+    is_same: bool,
+    out: &mut W,
+) -> io::Result<()>
+    ensures { OnOk result (Prints (IsPrinted task is_same change.entry.name.now change.entry.old.now change.entry.new.now)
+        (W.contents out.old) (W.contents out.new)) }
+{
+    match task {
+        Task::Check => write_name(change.name, is_same, out),
+        Task::Diff => write_diff(alloc, change, is_same, out),
+        Task::Write => write_input(change.name, change.new, out),
+        Task::Print => out.write_all(change.new.as_bytes()),
+    }
+}
+
+// Does with the formatted text what the task asks for.
+fn finish<W: Write>(
     rt: &HostRuntime,
     program: &Program,
     change: Change<'_>,
     task: Task,
-) -> io::Result<Outcome> {
+    out: &mut W,
+) -> io::Result<Outcome>
+    ensures { IfOk result
+        (IsFinished task change.entry.name.now change.entry.old.now change.entry.new.now (W.contents out.old) (W.contents out.new)) }
+{
     let is_same = change.new == change.old;
-    match task {
-        Task::Check | Task::Diff if is_same => {}
-        Task::Check => println!(rt; "{}", shown_name(change.name))?,
-        Task::Diff => write_diff(rt, change)?,
-        Task::Write if change.name != "-" && !is_same => return replace(rt, program, change),
-        Task::Write if change.name != "-" => {}
-        Task::Write | Task::Print => rt.stdout().write_all(change.new.as_bytes())?,
+    write_change(rt.alloc(), change, task, is_same, out)?;
+    if is_same {
+        return Ok(Outcome::Same);
     }
-    Ok(if is_same {
-        Outcome::Same
-    } else {
-        Outcome::Changed
-    })
+    if task.writes() {
+        return replace(rt, program, change);
+    }
+    Ok(Outcome::Changed)
 }
 
 // Reports that a text is not formatted because of a bug.
@@ -117,13 +190,16 @@ fn write_refusal(rt: &HostRuntime, program: &Program, name: &str) -> io::Result<
 }
 
 // Formats a text.
-fn format_text(
+fn format_text<W: Write>(
     rt: &HostRuntime,
     program: &Program,
     name: &str,
     text: &str,
     task: Task,
-) -> io::Result<Outcome> {
+    out: &mut W,
+) -> io::Result<Outcome>
+    ensures { IfOk result (IsTextFormatted task name.now text.now (W.contents out.old) (W.contents out.new)) }
+{
     match formatted(rt.alloc(), text)? {
         Formatting::Formatted(made) => {
             let change = Change {
@@ -131,7 +207,7 @@ fn format_text(
                 old: text,
                 new: made.as_str(),
             };
-            finish(rt, program, change, task)
+            finish(rt, program, change, task, out)
         }
         Formatting::Faulty => {
             write_errors(rt, program, name, text)?;
@@ -144,20 +220,43 @@ fn format_text(
     }
 }
 
-/// Formats a file, or standard input for `-`. Reports what fails. A file that is to be written but cannot be replaced is not read.
-pub fn format_file(
+// Reads and formats a file. A file that cannot be read is reported.
+fn read_and_format<W: Write>(
     rt: &HostRuntime,
     program: &Program,
     name: &str,
     task: Task,
-) -> io::Result<Outcome> {
-    if task == Task::Write && name != "-" {
-        if let Err(error) = replaceable(rt, name) {
-            return fail(rt, program, name, error);
-        }
-    }
+    out: &mut W,
+) -> io::Result<Outcome>
+    ensures { IfOk result (IsFileFormatted task name.now (W.contents out.old) (W.contents out.new)) }
+{
     match read_text(rt, program, name)? {
-        Some(text) => format_text(rt, program, name, text.as_str(), task),
+        Some(text) => format_text(rt, program, name, text.as_str(), task, out),
         None => Ok(Outcome::Failed),
+    }
+}
+
+// Why a file that is to be written cannot be replaced, if it cannot.
+fn replacement_error(rt: &HostRuntime, name: &str, task: Task) -> Option<io::Error> {
+    if task.writes() && name != "-" {
+        replaceable(rt, name).err()
+    } else {
+        None
+    }
+}
+
+/// Formats a file, or standard input for `-`. Reports what fails. A file that is to be written but cannot be replaced is not read.
+pub fn format_file<W: Write>(
+    rt: &HostRuntime,
+    program: &Program,
+    name: &str,
+    task: Task,
+    out: &mut W,
+) -> io::Result<Outcome>
+    ensures { IfOk result (IsFileFormatted task name.now (W.contents out.old) (W.contents out.new)) }
+{
+    match replacement_error(rt, name, task) {
+        Some(error) => fail(rt, program, name, error),
+        None => read_and_format(rt, program, name, task, out),
     }
 }

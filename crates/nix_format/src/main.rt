@@ -3,12 +3,12 @@
 
 mod diff;
 mod file;
+mod report;
 mod unified;
 
-use file::{Outcome, Task, format_file};
-use nix_cli::{
-    Arguments, FAILED, FOUND, Program, Progress, Start, end, find_files, read_arguments, shown_name,
-};
+use file::Task;
+use nix_cli::{Arguments, Program, Start, end, find_files, read_arguments};
+use report::format_files;
 use std::io;
 use std::process::ExitCode;
 
@@ -37,25 +37,6 @@ Ends with 0; with 1 if a file would change and --check or --diff is given; with 
     most: usize::MAX,
 };
 
-// The numbers of files with each outcome.
-#[derive(Clone, Copy, Default)]
-struct Tally {
-    changed: usize,
-    same: usize,
-    failed: usize,
-}
-
-impl Tally {
-    // Counts one more file.
-    fn count(&mut self, outcome: Outcome) {
-        match outcome {
-            Outcome::Changed => self.changed = self.changed.saturating_add(1),
-            Outcome::Same => self.same = self.same.saturating_add(1),
-            Outcome::Failed => self.failed = self.failed.saturating_add(1),
-        }
-    }
-}
-
 // What the options ask for. `--diff` includes what `--check` reports.
 fn task_of(arguments: &Arguments) -> Task {
     if arguments.has("--diff") {
@@ -69,54 +50,10 @@ fn task_of(arguments: &Arguments) -> Task {
     }
 }
 
-// Formats the files in order.
-fn format_all(rt: &HostRuntime, names: &[String], task: Task) -> io::Result<Tally> {
-    let files = find_files(rt, &PROGRAM, names)?;
-    let progress = Progress::of(rt, files.names.len());
-    let has_headings = task == Task::Print && files.names.len() > 1;
-    let mut tally = Tally {
-        changed: 0,
-        same: 0,
-        failed: files.failed,
-    };
-    for (number, name) in files.names.iter().enumerate() {
-        progress.show(rt, number)?;
-        if has_headings {
-            println!(rt; "# {}:", shown_name(name.as_str()))?;
-        }
-        tally.count(format_file(rt, &PROGRAM, name.as_str(), task)?);
-    }
-    progress.clear(rt)?;
-    Ok(tally)
-}
-
-// Prints the numbers of files to standard error if there are several files.
-fn write_counts(rt: &HostRuntime, tally: Tally, task: Task) -> io::Result<()> {
-    let all = tally
-        .changed
-        .saturating_add(tally.same)
-        .saturating_add(tally.failed);
-    if all < 2 {
-        return Ok(());
-    }
-    let done = match task {
-        Task::Check | Task::Diff | Task::Print => "would change",
-        Task::Write => "changed",
-    };
-    let (changed, same, failed) = (tally.changed, tally.same, tally.failed);
-    eprintln!(rt; "{all} files: {changed} {done}, {same} stay as they are, {failed} failed")
-}
-
-// Formats what the command line names, and returns the status of the program.
+// Formats the files that the command line names, and returns the exit status.
 fn format_named(rt: &HostRuntime, arguments: &Arguments) -> io::Result<u8> {
-    let task = task_of(arguments);
-    let tally = format_all(rt, &arguments.words, task)?;
-    write_counts(rt, tally, task)?;
-    Ok(match (task, tally.changed, tally.failed) {
-        (_, _, 1..) => FAILED,
-        (Task::Check | Task::Diff, 1.., _) => FOUND,
-        _ => 0,
-    })
+    let files = find_files(rt, &PROGRAM, &arguments.words)?;
+    format_files(rt, &files, task_of(arguments), &mut rt.stdout())
 }
 
 // Does what the command line asks for.

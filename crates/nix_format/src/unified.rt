@@ -1,17 +1,15 @@
 //! A diff as text, in the unified format.
 
+ghost use Rattle.std.specs.Prelude.{◌≡◌, ◌++◌, ◌∷◌, ◌+◌, ◌^◌, ◌<◌, ◌≤◌, ℕ, length, take, drop, IfOk, OnOk, MatchOption, string_bytes, codes, decimal};
+ghost use Rattle.std.specs.List.{flat_map, prefix_len};
+ghost use Rattle.nix_format.specs.Hunks.{is_common, AreCommon, AreCounts, IsNextHunk, AreHunks};
+ghost use Rattle.nix_format.specs.Unified.{with_end, line_text, range_text, header_text, hunk_text, IsUnified};
+
 use crate::diff::{DiffLine, line_diff};
 use std::alloc::{AllocError, Global};
 
 // The number of common lines that are printed before and after each change.
 const CONTEXT: usize = 3;
-
-// Lines of a diff that are printed together, by their numbers in the diff.
-#[derive(Clone, Copy)]
-struct Hunk {
-    first: usize,
-    end: usize,
-}
 
 // Numbers of lines of the old text and of the new one.
 #[derive(Clone, Copy)]
@@ -20,53 +18,99 @@ struct Counts {
     news: usize,
 }
 
-impl Counts {
-    // The sum of two pairs of numbers.
-    fn plus(self, other: Counts) -> Counts {
-        Counts {
-            olds: self.olds.saturating_add(other.olds),
-            news: self.news.saturating_add(other.news),
-        }
-    }
+// Lines of a diff that are printed together.
+#[derive(Clone, Copy)]
+struct Hunk {
+    // The number of its first line in the diff, and of the line after its last one.
+    first: usize,
+    end: usize,
+    // How many lines of each text precede it, and how many it has.
+    before: Counts,
+    counts: Counts,
 }
 
 // How many lines of each text are among lines of a diff.
-fn counts_of(lines: &[DiffLine<'_>]) -> Counts {
-    let added = lines
-        .iter()
-        .filter(|line| matches!(line, DiffLine::Added(_)))
-        .count();
-    let removed = lines
-        .iter()
-        .filter(|line| matches!(line, DiffLine::Removed(_)))
-        .count();
+fn counts_of(lines: &[DiffLine<'_>]) -> Counts
+    ensures { AreCounts lines.now result }
+{
     Counts {
-        olds: lines.len().saturating_sub(added),
-        news: lines.len().saturating_sub(removed),
+        olds: lines.iter().filter(|line| line.is_old()).count(),
+        news: lines.iter().filter(|line| line.is_new()).count(),
     }
 }
 
-// Adds a change to the last hunk if there are no lines between their contexts, and otherwise to a new one.
-fn add_change(hunks: &mut Vec<Hunk>, number: usize, count: usize) -> Result<(), AllocError> {
-    let first = number.saturating_sub(CONTEXT);
-    let end = number.saturating_add(CONTEXT).saturating_add(1).min(count);
-    if let Some(last) = hunks.last_mut() {
-        if last.end >= first {
-            last.end = end;
-            return Ok(());
+// How many lines of a diff are common before the first other one.
+fn count_common(lines: &[DiffLine<'_>]) -> usize
+    ensures count { result ≡ prefix_len is_common lines.now }
+    ensures within { result ≤ length lines.now }
+{
+    lines.iter().take_while(|line| line.is_common()).count()
+}
+
+// How many lines of a diff, which begins with a change, there are up to the last change in the same hunk. Between two changes of a hunk there are at most
+// the common lines that are printed after the one and before the other.
+fn count_changed(lines: &[DiffLine<'_>]) -> usize
+    requires { 0 < length lines.now }
+    ensures some { 0 < result }
+    ensures within { result ≤ length lines.now }
+{
+    let mut end = 1usize;
+    for number in 0..lines.len() {
+        if !lines[number].is_common() {
+            end = number + 1;
+        } else if number.saturating_sub(end) >= 2 * CONTEXT {
+            break;
         }
     }
-    hunks.push(Hunk { first, end })?;
-    Ok(())
+    end
+}
+
+// The counts of lines of a diff, and of further ones.
+fn counts_with(before: Counts, more: Counts) -> Counts
+    requires olds { before.olds + more.olds < 2 ^ 64 }
+    requires news { before.news + more.news < 2 ^ 64 }
+    ensures olds { result.olds ≡ before.olds + more.olds }
+    ensures news { result.news ≡ before.news + more.news }
+{
+    Counts {
+        olds: before.olds + more.olds,
+        news: before.news + more.news,
+    }
+}
+
+// The first hunk from the line of a number on, before which there are so many lines of each text.
+fn next_hunk(diff: &[DiffLine<'_>], place: usize, before: Counts) -> Option<Hunk>
+    requires within { place ≤ length diff.now }
+    requires before { AreCounts (take place diff.now) before }
+    ensures { MatchOption result (AreCommon (drop place diff.now)) (IsNextHunk diff.now place) }
+{
+    let passed = count_common(&diff[place..]);
+    if place + passed == diff.len() {
+        return None;
+    }
+    let change = place + passed;
+    let first = change - passed.min(CONTEXT);
+    let last = change + count_changed(&diff[change..]);
+    let end = last.saturating_add(CONTEXT).min(diff.len());
+    Some(Hunk {
+        first,
+        end,
+        before: counts_with(before, counts_of(&diff[place..first])),
+        counts: counts_of(&diff[first..end]),
+    })
 }
 
 // The hunks of a diff.
-fn hunks_of(alloc: Global, diff: &[DiffLine<'_>]) -> Result<Vec<Hunk>, AllocError> {
+fn hunks_of(alloc: Global, diff: &[DiffLine<'_>]) -> Result<Vec<Hunk>, AllocError>
+    ensures { IfOk result (λ hunks. AreHunks diff.now 0 hunks.items) }
+{
     let mut hunks = Vec::new(alloc);
-    for (number, line) in diff.iter().enumerate() {
-        if !matches!(line, DiffLine::Common(_)) {
-            add_change(&mut hunks, number, diff.len())?;
-        }
+    let mut place = 0usize;
+    let mut before = Counts { olds: 0, news: 0 };
+    while let Some(hunk) = next_hunk(diff, place, before) {
+        hunks.push(hunk)?;
+        place = hunk.end;
+        before = counts_with(hunk.before, hunk.counts);
     }
     Ok(hunks)
 }
@@ -122,37 +166,49 @@ fn write_names(alloc: Global, name: &str, out: &mut String) -> Result<(), AllocE
     out.push_str(names.as_str())
 }
 
-// The range of lines in the header of a hunk: the number of its first line, and how many there are. For no lines, it is the number of the line before.
-fn range_text(alloc: Global, before: usize, count: usize) -> Result<String, AllocError> {
-    let first = before.saturating_add(1);
-    match count {
-        0 => format!(in alloc; "{before},0"),
-        1 => format!(in alloc; "{first}"),
-        _ => format!(in alloc; "{first},{count}"),
+// Two numbers with a comma between them.
+fn pair_text(alloc: Global, first: usize, second: usize) -> Result<String, AllocError>
+    ensures { IfOk result (λ text. string_bytes text ≡ decimal first ++ codes "," ++ decimal second) }
+{
+    let mut text = format!(in alloc; "{first}")?;
+    let number = format!(in alloc; "{second}")?;
+    text.push_str(",")?;
+    text.push_str(number.as_str())?;
+    Ok(text)
+}
+
+// Lines of one text in the header of a hunk, by how many precede them: the number of the first one, and how many there are. For no lines, it is the number
+// of the line before.
+fn range_text(alloc: Global, before: usize, count: usize) -> Result<String, AllocError>
+    requires { before + 1 < 2 ^ 64 }
+    ensures { IfOk result (λ text. string_bytes text ≡ range_text before count) }
+{
+    let first = before + 1;
+    if count == 0 {
+        format!(in alloc; "{before},0")
+    } else if count == 1 {
+        format!(in alloc; "{first}")
+    } else {
+        pair_text(alloc, first, count)
     }
 }
 
 // Writes the header of a hunk.
-fn write_header(
-    alloc: Global,
-    before: Counts,
-    counts: Counts,
-    out: &mut String,
-) -> Result<(), AllocError> {
-    let olds = range_text(alloc, before.olds, counts.olds)?;
-    let news = range_text(alloc, before.news, counts.news)?;
+fn write_header(alloc: Global, hunk: &Hunk, out: &mut String) -> Result<(), AllocError>
+    requires olds { hunk.now.before.olds + 1 < 2 ^ 64 }
+    requires news { hunk.now.before.news + 1 < 2 ^ 64 }
+    ensures { OnOk result (string_bytes out.new ≡ string_bytes out.old ++ header_text hunk.now) }
+{
+    let olds = range_text(alloc, hunk.before.olds, hunk.counts.olds)?;
+    let news = range_text(alloc, hunk.before.news, hunk.counts.news)?;
     let header = format!(in alloc; "@@ -{olds} +{news} @@\n")?;
     out.push_str(header.as_str())
 }
 
-// Writes a line of a hunk.
-fn write_line(line: &DiffLine<'_>, out: &mut String) -> Result<(), AllocError> {
-    let (sign, text) = match line {
-        DiffLine::Common(text) => (' ', text),
-        DiffLine::Removed(text) => ('-', text),
-        DiffLine::Added(text) => ('+', text),
-    };
-    out.push(sign)?;
+// Writes a line with its end.
+fn write_ended(text: &str, out: &mut String) -> Result<(), AllocError>
+    ensures { OnOk result (string_bytes out.new ≡ string_bytes out.old ++ with_end text.now) }
+{
     out.push_str(text)?;
     if text.ends_with('\n') {
         return Ok(());
@@ -160,41 +216,71 @@ fn write_line(line: &DiffLine<'_>, out: &mut String) -> Result<(), AllocError> {
     out.push_str("\n\\ No newline at end of file\n")
 }
 
+// Writes a line after a sign.
+fn write_signed(sign: char, text: &str, out: &mut String) -> Result<(), AllocError>
+    requires { sign < 128 }
+    ensures { OnOk result (string_bytes out.new ≡ string_bytes out.old ++ sign ∷ with_end text.now) }
+{
+    out.push(sign)?;
+    write_ended(text, out)
+}
+
+// Writes a line of a hunk.
+fn write_line(line: &DiffLine<'_>, out: &mut String) -> Result<(), AllocError>
+    ensures { OnOk result (string_bytes out.new ≡ string_bytes out.old ++ line_text line.now) }
+{
+    match line {
+        DiffLine::Common(text) => write_signed(' ', text, out),
+        DiffLine::Removed(text) => write_signed('-', text, out),
+        DiffLine::Added(text) => write_signed('+', text, out),
+    }
+}
+
 // Writes the lines of a hunk.
-fn write_lines(lines: &[DiffLine<'_>], out: &mut String) -> Result<(), AllocError> {
+fn write_lines(lines: &[DiffLine<'_>], out: &mut String) -> Result<(), AllocError>
+    ensures { OnOk result (string_bytes out.new ≡ string_bytes out.old ++ flat_map line_text lines.now) }
+{
     for line in lines {
         write_line(line, out)?;
     }
     Ok(())
 }
 
-// Writes hunks. All lines between them are common.
+// Writes a hunk.
+fn write_hunk(
+    alloc: Global,
+    diff: &[DiffLine<'_>],
+    hunk: &Hunk,
+    out: &mut String,
+) -> Result<(), AllocError>
+    requires { (place : ℕ) × IsNextHunk diff.now place hunk.now }
+    ensures { OnOk result (string_bytes out.new ≡ string_bytes out.old ++ hunk_text diff.now hunk.now) }
+{
+    let lines = &diff[hunk.first..hunk.end];
+    write_header(alloc, hunk, out)?;
+    write_lines(lines, out)
+}
+
+// Writes hunks.
 fn write_hunks(
     alloc: Global,
     diff: &[DiffLine<'_>],
     hunks: &[Hunk],
     out: &mut String,
-) -> Result<(), AllocError> {
-    let mut before = Counts { olds: 0, news: 0 };
-    let mut end = 0usize;
+) -> Result<(), AllocError>
+    requires { AreHunks diff.now 0 hunks.now }
+    ensures { OnOk result (string_bytes out.new ≡ string_bytes out.old ++ flat_map (hunk_text diff.now) hunks.now) }
+{
     for hunk in hunks {
-        let skipped = hunk.first.saturating_sub(end);
-        before = before.plus(Counts {
-            olds: skipped,
-            news: skipped,
-        });
-        let lines = diff.get(hunk.first..hunk.end).unwrap_or(&[]);
-        let counts = counts_of(lines);
-        write_header(alloc, before, counts, out)?;
-        write_lines(lines, out)?;
-        before = before.plus(counts);
-        end = hunk.end;
+        write_hunk(alloc, diff, hunk, out)?;
     }
     Ok(())
 }
 
 /// Returns the unified diff of two texts with three lines of context, as `diff` and `git` print it. It is empty if the texts are equal.
-pub fn unified_diff(alloc: Global, name: &str, old: &str, new: &str) -> Result<String, AllocError> {
+pub fn unified_diff(alloc: Global, name: &str, old: &str, new: &str) -> Result<String, AllocError>
+    ensures { IfOk result (λ text. IsUnified old.now new.now (string_bytes text)) }
+{
     let diff = line_diff(alloc, old, new)?;
     let hunks = hunks_of(alloc, &diff)?;
     let mut out = String::new(alloc);

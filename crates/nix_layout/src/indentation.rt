@@ -22,7 +22,7 @@ struct Scan {
 }
 
 impl Scan {
-    // The state after an interpolation, or a byte that is neither a space nor a line feed.
+    // The state after an interpolation, or a byte that is neither a space nor a line feed: a tab or a carriage return, or another one.
     fn with_text(self, is_tab: bool) -> Scan {
         match self.blanks {
             Some(blanks) => Scan {
@@ -35,30 +35,43 @@ impl Scan {
         }
     }
 
-    // The state after a byte.
-    fn with_byte(self, byte: u8) -> Scan {
-        match byte {
-            b'\n' => Scan {
-                blanks: Some(0),
-                is_broken: true,
-                ..self
-            },
-            b' ' => Scan {
-                blanks: self.blanks.map(|blanks| blanks.saturating_add(1)),
-                ..self
-            },
-            _ => self.with_text(byte == b'\t' || byte == b'\r'),
+    // The state after a line feed.
+    fn with_line_feed(self) -> Scan {
+        Scan {
+            blanks: Some(0),
+            is_broken: true,
+            ..self
+        }
+    }
+
+    // The state after a part of a line.
+    fn with_part(self, part: &str) -> Scan {
+        let Some(blanks) = self.blanks else {
+            return self;
+        };
+        let spaces = part.bytes().take_while(|byte| *byte == b' ').count();
+        let scan = Scan {
+            blanks: Some(blanks.saturating_add(spaces)),
+            ..self
+        };
+        match part.as_bytes().get(spaces) {
+            Some(byte) => scan.with_text(*byte == b'\t' || *byte == b'\r'),
+            None => scan,
         }
     }
 
     // The state after a text.
     fn with_content(self, text: &str) -> Scan {
+        let has_spaces = text.contains('\\') && has_spaces_after_escape(text);
         let mut scan = Scan {
-            can_move: self.can_move && !has_spaces_after_escape(text),
+            can_move: self.can_move && !has_spaces,
             ..self
         };
-        for byte in text.bytes() {
-            scan = scan.with_byte(byte);
+        for (number, part) in text.split('\n').enumerate() {
+            if number > 0 {
+                scan = scan.with_line_feed();
+            }
+            scan = scan.with_part(part);
         }
         scan
     }

@@ -32,6 +32,13 @@ pub struct Group {
     pub absorbs: bool,
 }
 
+impl Group {
+    /// Whether all pieces of a target are in the group.
+    pub fn has_part(&self, target: Target) -> bool {
+        self.first <= target.open && target.close < self.end
+    }
+}
+
 /// A text as pieces and groups, with the lines of strings that are moved. Groups are in the order of their first pieces, outer groups before inner ones.
 #[derive(Drop)]
 pub struct Layout {

@@ -12,8 +12,6 @@ mod line_ends;
 mod line_feed_escapes;
 mod lines;
 mod measuring;
-#[cfg(test)]
-mod model;
 mod piece;
 mod restyling;
 mod spacing;

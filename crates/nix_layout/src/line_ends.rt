@@ -54,13 +54,19 @@ impl<'a> Search<'a> {
 /// Returns the first line end of a text that is between tokens and does not end a comment with `#`, whose carriage return belongs to the comment. If
 /// there is none, it is the first one after such a comment, and otherwise a line feed.
 pub fn line_end_of(text: &str, pieces: &[Piece]) -> &'static str {
+    let Some(feed) = text.find('\n') else {
+        return FEED;
+    };
+    // Before the first line feed there is no line end.
+    let passed = pieces.partition_point(|piece| piece.end <= feed);
+    let (before, rest) = pieces.split_at(passed);
     let mut search = Search {
         text,
-        start: 0,
-        follows_comment: false,
+        start: before.last().map_or(0, |piece| piece.end),
+        follows_comment: before.last().is_some_and(|piece| piece.ends_line),
         comment_end: None,
     };
-    for piece in pieces {
+    for piece in rest {
         let found = search.end_before(piece.start);
         match found {
             Some(end) if !search.follows_comment => return end,

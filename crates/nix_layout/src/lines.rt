@@ -9,8 +9,8 @@ use std::alloc::{AllocError, Global};
 /// What a line of a string holds.
 #[derive(Clone, Copy, PartialEq, Eq)]
 pub enum Role {
-    /// Text, or code of an interpolation.
-    Text,
+    /// Text, or code of an interpolation, so many spaces to the right of the leftmost text of the outermost string.
+    Text(usize),
     /// Nothing but the spaces that all lines lose.
     Empty,
     /// The closing quotes alone.
@@ -34,54 +34,56 @@ impl Line {
         self.start.saturating_add(self.blanks)
     }
 
-    /// The number of spaces that are written, for the indentation of the code and the smallest indentation of a line with text.
-    pub fn indent(self, code: usize, least: usize) -> usize {
+    /// The number of spaces that are written, for the indentation of the code.
+    pub fn indent(self, code: usize) -> usize {
         match self.role {
-            Role::Text => code
-                .saturating_add(STEP)
-                .saturating_add(self.blanks)
-                .saturating_sub(least),
+            Role::Text(offset) => code.saturating_add(STEP).saturating_add(offset),
             Role::Empty => 0,
             Role::Closing => code,
         }
     }
 }
 
-// A string that can be moved, as all strings around it can.
+// A string that is moved, as all strings around it are.
 #[derive(Clone, Copy)]
-struct Movable {
-    // The smallest indentation of its lines.
+struct Moved {
+    // The smallest indentation of its lines, and of those of the outermost string.
     least: usize,
-    // Whether its lines are moved. Otherwise only its empty lines lose their spaces.
-    is_moved: bool,
+    outermost: usize,
+    // How far its leftmost text is to the right of that of the outermost string, after the move.
+    offset: usize,
+}
+
+impl Moved {
+    // A string inside this one, with the smallest indentation of its lines. It is not to the left of this one after the move. So it is at the same place
+    // after another move.
+    fn around(self, least: usize) -> Moved {
+        let inner = least.saturating_sub(self.least);
+        Moved {
+            least,
+            outermost: self.outermost,
+            offset: self.offset.saturating_add(inner),
+        }
+    }
+
+    // How far a line of the string is to the right of the leftmost text of the outermost one, after the move. Lines with code or with closing quotes may be
+    // to the left of the string's text.
+    fn offset_of(self, blanks: usize) -> usize {
+        match blanks.checked_sub(self.least) {
+            Some(more) => self.offset.saturating_add(more),
+            None => blanks.saturating_sub(self.outermost).min(self.offset),
+        }
+    }
 }
 
 // A walk over a string and what is inside it.
 #[derive(Drop)]
 struct LineWalk {
     lines: Vec<Line>,
-    // Each string around the current place, if it can be moved.
-    strings: Vec<Option<Movable>>,
+    // Each string around the current place, if it is moved.
+    strings: Vec<Option<Moved>>,
     // The current line, while it has nothing but spaces.
     current: Option<Line>,
-}
-
-// What is around the outermost string.
-const AROUND: Movable = Movable {
-    least: 0,
-    is_moved: true,
-};
-
-// A string inside another one, with the smallest indentation of its lines if it can be moved alone. Whether it can be moved is the same after another
-// move, so the same empty lines have no spaces then.
-fn inside(outer: Option<Movable>, least: Option<usize>) -> Option<Movable> {
-    match (outer, least) {
-        (Some(outer), Some(least)) => Some(Movable {
-            least,
-            is_moved: outer.is_moved && outer.least <= least,
-        }),
-        _ => None,
-    }
 }
 
 // The line that begins at an offset.
@@ -89,81 +91,102 @@ fn line_at(start: usize) -> Line {
     Line {
         start,
         blanks: 0,
-        role: Role::Text,
+        role: Role::Empty,
     }
 }
 
 impl LineWalk {
-    // The innermost string, if it can be moved.
-    fn innermost(&self) -> Option<Movable> {
+    // The innermost string, if it is moved.
+    fn innermost(&self) -> Option<Moved> {
         match self.strings.last() {
             Some(string) => *string,
             None => None,
         }
     }
 
-    // Whether lines are moved here.
-    fn is_moved(&self) -> bool {
-        self.innermost().is_some_and(|string| string.is_moved)
+    // A string inside the outermost one, with the smallest indentation of its lines if it can be moved alone. It is moved if all strings around it are.
+    fn inside(&self, least: Option<usize>) -> Option<Moved> {
+        let outer = self.innermost()?;
+        Some(outer.around(least?))
     }
 
-    // Adds the current line, if it has nothing but spaces so far, and other ones are written there.
-    fn end_blanks(&mut self, role: Role) -> Result<(), AllocError> {
-        if let Some(line) = self.current {
-            if role == Role::Empty || self.is_moved() {
-                self.lines.push(Line { role, ..line })?;
-            }
-        }
+    // Adds a line, and passes its spaces.
+    fn add_line(&mut self, line: Line, role: Role) -> Result<(), AllocError> {
+        self.lines.push(Line { role, ..line })?;
         self.current = None;
         Ok(())
     }
 
+    // Adds the current line before text or code, if it has nothing but spaces so far.
+    fn end_blanks(&mut self, string: Moved) -> Result<(), AllocError> {
+        match self.current {
+            Some(line) => self.add_line(line, Role::Text(string.offset_of(line.blanks))),
+            None => Ok(()),
+        }
+    }
+
     // Ends the current line at a line feed, and begins the next one.
-    fn end_line(&mut self, least: usize, next: usize) -> Result<(), AllocError> {
-        let role = match self.current {
-            Some(line) if line.blanks <= least => Role::Empty,
-            _ => Role::Text,
-        };
-        self.end_blanks(role)?;
+    fn end_line(&mut self, string: Moved, next: usize) -> Result<(), AllocError> {
+        match self.current {
+            Some(line) if line.blanks <= string.least => self.add_line(line, Role::Empty)?,
+            _ => self.end_blanks(string)?,
+        }
         self.current = Some(line_at(next));
         Ok(())
     }
 
-    // Adds a space to the current line, if it has nothing else.
-    fn add_space(&mut self) {
-        if let Some(line) = self.current {
-            self.current = Some(Line {
-                blanks: line.blanks.saturating_add(1),
-                ..line
-            });
+    // Adds a part of a line: its spaces to the current line, if that has nothing else, which ends before anything but a space.
+    fn add_part(&mut self, part: &str, string: Moved) -> Result<(), AllocError> {
+        let Some(line) = self.current else {
+            return Ok(());
+        };
+        let spaces = part.bytes().take_while(|byte| *byte == b' ').count();
+        self.current = Some(Line {
+            blanks: line.blanks.saturating_add(spaces),
+            ..line
+        });
+        if spaces < part.len() {
+            self.end_blanks(string)?;
         }
+        Ok(())
     }
 
     // Adds the lines of a string's contents.
-    fn add_content(&mut self, token: &SyntaxToken<'_>, least: usize) -> Result<(), AllocError> {
-        let mut end = token.text_range().start();
-        for byte in token.text().bytes() {
-            end = end.saturating_add(1);
-            match byte {
-                b'\n' => self.end_line(least, end)?,
-                b' ' => self.add_space(),
-                _ => self.end_blanks(Role::Text)?,
+    fn add_content(&mut self, token: &SyntaxToken<'_>, string: Moved) -> Result<(), AllocError> {
+        let mut start = token.text_range().start();
+        for (number, part) in token.text().split('\n').enumerate() {
+            if number > 0 {
+                self.end_line(string, start)?;
             }
+            self.add_part(part, string)?;
+            start = start.saturating_add(part.len()).saturating_add(1);
         }
         Ok(())
     }
 
     // Adds the line that begins in white space between tokens.
-    fn add_white_space(&mut self, token: &SyntaxToken<'_>) -> Result<(), AllocError> {
+    fn add_white_space(
+        &mut self,
+        token: &SyntaxToken<'_>,
+        string: Moved,
+    ) -> Result<(), AllocError> {
         if let Some((_, rest)) = token.text().rsplit_once('\n') {
             let blanks = rest.bytes().take_while(|byte| *byte == b' ').count();
             self.lines.push(Line {
                 start: token.text_range().end().saturating_sub(rest.len()),
                 blanks,
-                role: Role::Text,
+                role: Role::Text(string.offset_of(blanks)),
             })?;
         }
         Ok(())
+    }
+
+    // Adds the line with the closing quotes of a string, if it has nothing but spaces before them.
+    fn end_string(&mut self, string: Moved) -> Result<(), AllocError> {
+        match self.current {
+            Some(line) if self.strings.len() == 1 => self.add_line(line, Role::Closing),
+            _ => self.end_blanks(string),
+        }
     }
 
     // Passes a token. Lines move only if they begin in a string that is moved.
@@ -172,24 +195,21 @@ impl LineWalk {
             return Ok(());
         };
         match token.kind() {
-            SyntaxKind::TOKEN_STRING_CONTENT => self.add_content(token, string.least),
-            SyntaxKind::TOKEN_WHITESPACE if string.is_moved => self.add_white_space(token),
-            SyntaxKind::TOKEN_STRING_END if self.strings.len() == 1 => {
-                self.end_blanks(Role::Closing)
-            }
-            _ => self.end_blanks(Role::Text),
+            SyntaxKind::TOKEN_STRING_CONTENT => self.add_content(token, string),
+            SyntaxKind::TOKEN_WHITESPACE => self.add_white_space(token, string),
+            SyntaxKind::TOKEN_STRING_END => self.end_string(string),
+            _ => self.end_blanks(string),
         }
     }
 
-    // Enters a node. A string inside another one is moved with it if it can be moved, and so far.
+    // Enters a node.
     fn enter_node(&mut self, node: &SyntaxNode<'_>) -> Result<(), AllocError> {
-        self.end_blanks(Role::Text)?;
+        if let Some(string) = self.innermost() {
+            self.end_blanks(string)?;
+        }
         if node.kind() == SyntaxKind::NODE_STRING {
-            let outer = match self.strings.last() {
-                Some(string) => *string,
-                None => Some(AROUND),
-            };
-            self.strings.push(inside(outer, indentation_of(node)))?;
+            let string = self.inside(indentation_of(node));
+            self.strings.push(string)?;
         }
         Ok(())
     }
@@ -210,26 +230,33 @@ impl LineWalk {
     }
 }
 
-// The lines of a string that are moved, and of the strings inside it.
-fn lines_of(alloc: Global, string: &SyntaxNode<'_>) -> Result<Vec<Line>, AllocError> {
+// The lines of a string that is moved, with the smallest indentation of its lines, and of the strings inside it.
+fn lines_of(alloc: Global, string: &SyntaxNode<'_>, least: usize) -> Result<Vec<Line>, AllocError> {
     let mut walk = LineWalk {
         lines: Vec::new(alloc),
         strings: Vec::new(alloc),
         current: None,
     };
-    for event in string.preorder_with_tokens() {
+    walk.strings.push(Some(Moved {
+        least,
+        outermost: least,
+        offset: 0,
+    }))?;
+    let mut events = string.preorder_with_tokens();
+    let _entered = events.next();
+    for event in events {
         walk.pass(&event)?;
     }
     Ok(walk.lines)
 }
 
 // The number of characters of a string's last line, if that is the given line; it counts from the indentation of the code.
-fn last_width(piece: &Piece, text: &str, line: Line, least: usize) -> Option<usize> {
+fn last_width(piece: &Piece, text: &str, line: Line) -> Option<usize> {
     let rest = text.get(line.end_of_blanks().saturating_sub(piece.start)..)?;
     if rest.contains('\n') {
         return None;
     }
-    Some(line.indent(0, least).saturating_add(rest.chars().count()))
+    Some(line.indent(0).saturating_add(rest.chars().count()))
 }
 
 /// Returns the piece of a string with its lines, if they are moved, which are added to those of other strings.
@@ -242,11 +269,11 @@ pub fn with_lines(
     let Some(least) = indentation_of(string) else {
         return Ok(piece);
     };
-    let own = lines_of(alloc, string)?;
+    let own = lines_of(alloc, string, least)?;
     let first = lines.len();
     lines.extend_from_slice(&own)?;
     let last = match own.last() {
-        Some(line) => last_width(&piece, string.text(), *line, least),
+        Some(line) => last_width(&piece, string.text(), *line),
         None => None,
     };
     Ok(Piece {
@@ -254,7 +281,6 @@ pub fn with_lines(
         moves: Some(Moves {
             first,
             end: lines.len(),
-            least,
             has_last: last.is_some(),
         }),
         ..piece

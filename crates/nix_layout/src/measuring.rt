@@ -50,7 +50,7 @@ fn several_lines(piece: &Piece) -> usize {
 
 // The column at which each piece ends, and the number of line ends before it.
 fn sums_of(alloc: Global, pieces: &[Piece]) -> Result<Vec<Sum>, AllocError> {
-    let mut sums = Vec::new(alloc);
+    let mut sums = Vec::with_capacity(alloc, pieces.len().saturating_add(1))?;
     let mut end = 0usize;
     let mut breaks = 0usize;
     for piece in pieces {
@@ -68,7 +68,7 @@ fn sums_of(alloc: Global, pieces: &[Piece]) -> Result<Vec<Sum>, AllocError> {
 
 // The number of columns from each gap to the next place where the line may end, in reverse: first 0, for the end of the text.
 fn tails_of(alloc: Global, pieces: &[Piece]) -> Result<Vec<usize>, AllocError> {
-    let mut tails = Vec::new(alloc);
+    let mut tails = Vec::with_capacity(alloc, pieces.len().saturating_add(1))?;
     let mut tail = 0usize;
     tails.push(tail)?;
     for piece in pieces.iter().rev() {

@@ -35,8 +35,6 @@ pub struct Moves {
     pub first: usize,
     /// The number of the line after the last one.
     pub end: usize,
-    /// The smallest indentation of a line with text.
-    pub least: usize,
     /// Whether the last line of the string is one of them.
     pub has_last: bool,
 }

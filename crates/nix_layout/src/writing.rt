@@ -8,7 +8,7 @@ use std::alloc::{AllocError, Global};
 
 // The number of columns of a line.
 const LINE: usize = 100;
-// The most spaces at the start of a line.
+// The most spaces at the start of a line, and those that are written at once.
 const MOST_BLANKS: usize = 80;
 // The spaces at the start of a line.
 const BLANKS: &str =
@@ -124,10 +124,12 @@ impl<'a> Writer<'a> {
         if !gap.can_break || gap.is_hard || self.group_at(gap.group).mode == Mode::Broken {
             return self.measures.tail(group.end);
         }
-        self.measures
-            .tail(group.end.saturating_add(1))
-            .saturating_add(gap.blanks)
-            .saturating_add(next.width)
+        let rest = if next.last_width.is_some() {
+            0
+        } else {
+            self.measures.tail(group.end.saturating_add(1))
+        };
+        rest.saturating_add(gap.blanks).saturating_add(next.width)
     }
 
     // The mode of a group that does not fit on the line.
@@ -153,16 +155,14 @@ impl<'a> Writer<'a> {
             Some(outer) if around == Mode::Around => outer.target,
             _ => None,
         };
-        if outer.is_some_and(|target| target.open == group.first && group.target.is_none()) {
-            return Mode::Broken;
-        }
+        let is_part = outer.is_some_and(|target| group.has_part(target));
         let room = Room {
             column: self.column,
             indent: self.indent,
             tail: self.tail_of(group),
             limit: LINE,
         };
-        if self.measures.fits(&self.layout.pieces, group, room) {
+        if !is_part && self.measures.fits(&self.layout.pieces, group, room) {
             Mode::Flat
         } else {
             self.unfit_mode(group, room, outer.is_some() && outer == group.target)
@@ -197,10 +197,11 @@ impl<'a> Writer<'a> {
 
     // Writes spaces.
     fn write_blanks(&mut self, count: usize) -> Result<(), AllocError> {
-        for _ in 0..count {
-            self.made.push(' ')?;
+        for _ in 0..count / MOST_BLANKS {
+            self.made.push_str(BLANKS)?;
         }
-        Ok(())
+        self.made
+            .push_str(BLANKS.get(..count % MOST_BLANKS).unwrap_or(""))
     }
 
     // Copies a string with other spaces at the start of its lines.
@@ -209,7 +210,7 @@ impl<'a> Writer<'a> {
         for number in moves.first..moves.end {
             if let Some(line) = self.layout.lines.get(number).copied() {
                 self.copy(start, line.start)?;
-                self.write_blanks(line.indent(self.indent, moves.least))?;
+                self.write_blanks(line.indent(self.indent))?;
                 start = line.end_of_blanks();
             }
         }
@@ -258,12 +259,12 @@ pub fn written(alloc: Global, text: &str, layout: &Layout) -> Result<String, All
         text,
         layout,
         measures: Measures::of(alloc, layout)?,
-        made: String::new(alloc),
+        made: String::with_capacity(alloc, text.len())?,
         line_end: line_end_of(text, &layout.pieces),
         follows_comment: false,
         column: 0,
         indent: 0,
-        opened: Vec::new(alloc),
+        opened: Vec::with_capacity(alloc, layout.groups.len())?,
     };
     writer.write()
 }

@@ -1,6 +1,6 @@
 //! The lines of bindings and references, as text or JSON.
 
-use nix_cli::write_json_string;
+use nix_cli::{write_json_string, write_shown};
 use nix_scopes::{Binding, Reference, Resolution};
 use rnix::{SyntaxNode, TextRange};
 use rnix_text::LineIndex;
@@ -46,7 +46,7 @@ fn write_binding<W: Write>(
     is_json: bool,
     out: &mut W,
 ) -> io::Result<()> {
-    let name = binding.text;
+    let name = binding.text.as_str();
     if is_json {
         write_head(file, index, &binding.node, name, out)?;
         out.write_all(b",\"scope\":{")?;
@@ -54,7 +54,9 @@ fn write_binding<W: Write>(
         return out.write_all(b"}}\n");
     }
     let (line, column) = position(index, binding.node.text_range().start());
-    writeln!(out, "{file}:{line}:{column}: {name} is bound")
+    write!(out, "{file}:{line}:{column}: ")?;
+    write_shown(name, out)?;
+    out.write_all(b" is bound\n")
 }
 
 // Writes the object of a reference.
@@ -65,7 +67,8 @@ fn write_object<W: Write>(
     binding: Option<&Binding<'_>>,
     out: &mut W,
 ) -> io::Result<()> {
-    write_head(file, index, &reference.node, reference.text, out)?;
+    let name = reference.text.as_str();
+    write_head(file, index, &reference.node, name, out)?;
     match binding {
         Some(binding) => {
             out.write_all(b",\"binding\":{")?;
@@ -87,15 +90,15 @@ fn write_reference<W: Write>(
     out: &mut W,
 ) -> io::Result<()> {
     let (line, column) = position(index, reference.node.text_range().start());
-    let name = reference.text;
-    write!(out, "{file}:{line}:{column}: {name} ")?;
+    write!(out, "{file}:{line}:{column}: ")?;
+    write_shown(reference.text.as_str(), out)?;
     match binding {
         Some(binding) => {
             let (line, column) = position(index, binding.node.text_range().start());
-            writeln!(out, "refers to {line}:{column}")
+            writeln!(out, " refers to {line}:{column}")
         }
-        None if reference.is_open => writeln!(out, "is not bound, or comes from a with"),
-        None => writeln!(out, "is not bound"),
+        None if reference.is_open => writeln!(out, " is not bound, or comes from a with"),
+        None => writeln!(out, " is not bound"),
     }
 }
 

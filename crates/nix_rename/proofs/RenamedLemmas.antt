@@ -57,28 +57,27 @@ meant root name offset names binding found at_offset is_binding =
 -- what comes of giving the binding of a name another name is what comes of renaming the name
 module _ (text : List ℕ) (root : Located) (offset : ℕ) (new : List ℕ) (names : Resolution) (binding : Binding) where
   pub renamed_from : (result : Result Renaming AllocError) → IsName new → is_hidden_name new ≡ false → IsMeant root offset names (Some binding) →
-      IfOk result (IfRenamed (IsNamed text root names binding new)) → IfOk result (IfRenamed (IsRenamed text root offset new))
+      IfOk result (IfRenamed (IsNamed text names binding new)) → IfOk result (IfRenamed (IsRenamed text root offset new))
   renamed_from (Ok (renaming.Renamed made)) is_name is_written meant named =
       record { is_name = is_name; is_written = is_written; names = names; binding = binding; meant = meant; named = named }
   renamed_from (Ok (renaming.Refused refusal)) is_name is_written meant named = tt
   renamed_from (Err error) is_name is_written meant named = tt
 
-  hindered : (refusal : Refusal) → IsMeant root offset names (Some binding) → IsReason refusal text root names binding new →
+  hindered : (refusal : Refusal) → IsMeant root offset names (Some binding) → IsReason refusal text names binding new →
       IsHindered refusal text root offset new
   hindered refusal meant reason = record { names = names; binding = binding; meant = meant; reason = reason }
 
-  caused : (refusal : Refusal) → IsMeant root offset names (Some binding) → IsReason refusal text root names binding new → IsCause refusal text root offset new
+  caused : (refusal : Refusal) → IsMeant root offset names (Some binding) → IsReason refusal text names binding new → IsCause refusal text root offset new
   caused refusal.NotAName meant reason = absurd reason
   caused refusal.HiddenName meant reason = absurd reason
   caused refusal.NoName meant reason = absurd reason
   caused refusal.Unbound meant reason = absurd reason
   caused (refusal.Kept kept) meant reason = hindered (refusal.Kept kept) meant reason
-  caused refusal.Respelled meant reason = hindered refusal.Respelled meant reason
   caused refusal.OtherSpelling meant reason = hindered refusal.OtherSpelling meant reason
   caused refusal.OtherMeaning meant reason = hindered refusal.OtherMeaning meant reason
 
   pub refused_from : (result : Result Renaming AllocError) → IsMeant root offset names (Some binding) →
-      IfOk result (IfRefused (λ refusal. IsReason refusal text root names binding new)) →
+      IfOk result (IfRefused (λ refusal. IsReason refusal text names binding new)) →
       IfOk result (IfRefused (λ refusal. IsCause refusal text root offset new))
   refused_from (Ok (renaming.Renamed made)) meant reason = tt
   refused_from (Ok (renaming.Refused refusal)) meant reason = caused refusal meant reason

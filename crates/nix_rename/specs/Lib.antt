@@ -1,4 +1,3 @@
 pub mod Refused
-pub mod Spellings
 pub mod Changed
 pub mod Renamed

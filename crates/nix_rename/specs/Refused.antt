@@ -46,7 +46,6 @@ refusal_text refusal.HiddenName = codes "operators, paths in `<>` or the old `le
 refusal_text refusal.NoName = codes "there is no name here"
 refusal_text refusal.Unbound = codes "nothing in the text binds the name"
 refusal_text (refusal.Kept reason) = kept_text reason
-refusal_text refusal.Respelled = codes "an attribute writes the old or the new name with escapes or in lines"
 refusal_text refusal.OtherSpelling = codes "the name is written in another way at some place"
 refusal_text refusal.OtherMeaning = codes "with the new name, some name would refer to something else"
 

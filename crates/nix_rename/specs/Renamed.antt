@@ -1,5 +1,6 @@
 -- What a renaming writes, and why it writes nothing.
 use Rattle.std.specs.Prelude.{◌≡◌, ◌&&◌, ℕ, Bool, true, false, List, [], length, Option, Some, None, string_bytes}
+use Rattle.std.specs.Cow.{cow_str_bytes}
 use Rattle.std.specs.Str.{bytes_eq}
 use Rattle.rnix_kinds.specs.Lexical.Tokens.{tokens_of}
 use Rattle.rnix_kinds.specs.declared.kinds.SyntaxKind.TheVariants as k
@@ -18,7 +19,6 @@ use Rattle.nix_rename.specs.declared.refusal.Refusal.TheVariants as refusal
 use Rattle.nix_rename.specs.declared.rename.Renaming.{Renaming}
 use Rattle.nix_rename.specs.declared.rename.Renaming.TheVariants as renaming
 use Rattle.nix_rename.specs.Refused.{is_hidden_name, kept_name}
-use Rattle.nix_rename.specs.Spellings.{is_respelled}
 use Rattle.nix_rename.specs.Changed.{IsChanged, IsUnchangeable}
 
 -- the reading of a text
@@ -52,7 +52,7 @@ pub record IsNoName (text : List ℕ) : Type 0 where
 
 -- the bindings and references of a text are these, one for one, at the corresponding places, with a new name for the binding
 abbrev pub AreThese : Resolution → Binding → List ℕ → Resolution → Type 0
-AreThese names binding new others = AreAlike (rename_in names binding.first (length binding.text.now) new) names others
+AreThese names binding new others = AreAlike (rename_in names binding.first (length (cow_str_bytes binding.text)) new) names others
 
 -- a text is read without errors, and has the same bindings and references as these names
 pub record ResolvesLike (names : Resolution) (binding : Binding) (new text : List ℕ) : Type 0 where
@@ -72,25 +72,23 @@ pub record ResolvesUnlike (names : Resolution) (binding : Binding) (new text : L
   pub unlike : ¬ ((read.faults ≡ []) × AreThese names binding new others)
 
 -- the text in which a binding that may be renamed has a new name at exactly its occurrences, and which, read again, resolves as before
-pub record IsNamed (text : List ℕ) (root : Located) (names : Resolution) (binding : Binding) (new made : List ℕ) : Type 0 where
+pub record IsNamed (text : List ℕ) (names : Resolution) (binding : Binding) (new made : List ℕ) : Type 0 where
   pub free : kept_name binding.first names ≡ None
-  pub is_plain : is_respelled root binding.text.now new ≡ false
-  pub changed : IsChanged text (occurrences_of binding.first names) binding.text.now new made
+  pub changed : IsChanged text (occurrences_of binding.first names) (cow_str_bytes binding.text) new made
   pub alike : ResolvesLike names binding new made
 
 -- the text in which a binding has a new name has errors, or does not resolve as before
 pub record IsUnlike (text : List ℕ) (names : Resolution) (binding : Binding) (new : List ℕ) : Type 0 where
   pub made : List ℕ
-  pub changed : IsChanged text (occurrences_of binding.first names) binding.text.now new made
+  pub changed : IsChanged text (occurrences_of binding.first names) (cow_str_bytes binding.text) new made
   pub unlike : ResolvesUnlike names binding new made
 
 -- why a binding gets no new name
-abbrev pub IsReason : Refusal → List ℕ → Located → Resolution → Binding → List ℕ → Type 0
-IsReason (refusal.Kept kept) text root names binding new = kept_name binding.first names ≡ Some kept
-IsReason refusal.Respelled text root names binding new = is_respelled root binding.text.now new ≡ true
-IsReason refusal.OtherSpelling text root names binding new = IsUnchangeable text (occurrences_of binding.first names) binding.text.now
-IsReason refusal.OtherMeaning text root names binding new = IsUnlike text names binding new
-IsReason _ text root names binding new = ⊥
+abbrev pub IsReason : Refusal → List ℕ → Resolution → Binding → List ℕ → Type 0
+IsReason (refusal.Kept kept) text names binding new = kept_name binding.first names ≡ Some kept
+IsReason refusal.OtherSpelling text names binding new = IsUnchangeable text (occurrences_of binding.first names) (cow_str_bytes binding.text)
+IsReason refusal.OtherMeaning text names binding new = IsUnlike text names binding new
+IsReason _ text names binding new = ⊥
 
 -- what the name at an offset refers to is this binding, if there is one
 pub record IsMeant (root : Located) (offset : ℕ) (names : Resolution) (binding : Option Binding) : Type 0 where
@@ -106,14 +104,14 @@ pub record IsRenamed (text : List ℕ) (root : Located) (offset : ℕ) (new made
   pub names : Resolution
   pub binding : Binding
   pub meant : IsMeant root offset names (Some binding)
-  pub named : IsNamed text root names binding new made
+  pub named : IsNamed text names binding new made
 
 -- why the binding of the name at an offset gets no new name
 pub record IsHindered (refusal : Refusal) (text : List ℕ) (root : Located) (offset : ℕ) (new : List ℕ) : Type 0 where
   pub names : Resolution
   pub binding : Binding
   pub meant : IsMeant root offset names (Some binding)
-  pub reason : IsReason refusal text root names binding new
+  pub reason : IsReason refusal text names binding new
 
 -- why the name at an offset is not renamed
 abbrev pub IsCause : Refusal → List ℕ → Located → ℕ → List ℕ → Type 0
@@ -122,7 +120,6 @@ IsCause refusal.HiddenName text root offset new = is_hidden_name new ≡ true
 IsCause refusal.NoName text root offset new = IsNameAt root offset None
 IsCause refusal.Unbound text root offset new = (names : Resolution) × IsMeant root offset names None
 IsCause (refusal.Kept kept) text root offset new = IsHindered (refusal.Kept kept) text root offset new
-IsCause refusal.Respelled text root offset new = IsHindered refusal.Respelled text root offset new
 IsCause refusal.OtherSpelling text root offset new = IsHindered refusal.OtherSpelling text root offset new
 IsCause refusal.OtherMeaning text root offset new = IsHindered refusal.OtherMeaning text root offset new
 

@@ -4,7 +4,6 @@
 
 mod refusal;
 mod rename;
-mod spellings;
 
 use nix_cli::{
     Arguments, FAILED, FOUND, Program, Start, end, place_of, read_arguments, read_text, refuse,

@@ -41,8 +41,6 @@ pub enum Refusal {
     Unbound,
     /// The binding keeps its name.
     Kept(Kept),
-    /// An attribute writes the old or the new name with escapes or in lines.
-    Respelled,
     /// The text does not contain the old name at one of the places.
     OtherSpelling,
     /// With the new name, the text does not resolve as before.
@@ -91,9 +89,6 @@ impl Refusal {
             Refusal::NoName => "there is no name here",
             Refusal::Unbound => "nothing in the text binds the name",
             Refusal::Kept(kept) => kept.text(),
-            Refusal::Respelled => {
-                "an attribute writes the old or the new name with escapes or in lines"
-            }
             Refusal::OtherSpelling => "the name is written in another way at some place",
             Refusal::OtherMeaning => "with the new name, some name would refer to something else",
         }
@@ -124,9 +119,9 @@ fn kept_in(parent: SyntaxKind, part: &Binding<'_>) -> Option<Kept>
         Some(Kept::Attribute)
     } else if part.node.kind() != SyntaxKind::NODE_IDENT {
         Some(Kept::Quoted)
-    } else if scope == SyntaxKind::NODE_LEGACY_LET && part.text == "body" {
+    } else if scope == SyntaxKind::NODE_LEGACY_LET && part.text.as_str() == "body" {
         Some(Kept::Body)
-    } else if is_hidden_name(part.text) {
+    } else if is_hidden_name(part.text.as_str()) {
         Some(Kept::Hidden)
     } else {
         None

@@ -10,7 +10,6 @@ ghost use Rattle.nix_rename.specs.Renamed.{is_whole_name, is_name_whole, IsName,
 ghost use Rattle.nix_rename.specs.Renamed.{IsNamed, IsReason, IsRenamed, IsCause, IfRenamed, IfRefused};
 
 use crate::refusal::{Refusal, is_hidden_name, kept_name};
-use crate::spellings::is_respelled;
 use nix_scopes::{Binding, Resolution, name_at, resolve};
 use rnix::ast::AstNode;
 use rnix::{Root, SyntaxKind, SyntaxNode, TextRange};
@@ -115,22 +114,18 @@ fn resolves_like(
 fn named(
     alloc: Global,
     text: &str,
-    root: &SyntaxNode<'_>,
     names: &Resolution<'_>,
     binding: &Binding<'_>,
     new: &str,
 ) -> Result<Renaming, AllocError>
-    ensures named { IfOk result (IfRenamed (IsNamed text.now root.now names.now binding.now new.now)) }
-    ensures refused { IfOk result (IfRefused (λ refusal. IsReason refusal text.now root.now names.now binding.now new.now)) }
+    ensures named { IfOk result (IfRenamed (IsNamed text.now names.now binding.now new.now)) }
+    ensures refused { IfOk result (IfRefused (λ refusal. IsReason refusal text.now names.now binding.now new.now)) }
 {
     if let Some(kept) = kept_name(names, binding.first) {
         return Ok(Renaming::Refused(Refusal::Kept(kept)));
     }
-    if is_respelled(alloc, root, binding.text, new)? {
-        return Ok(Renaming::Refused(Refusal::Respelled));
-    }
     let places = names.occurrences(alloc, binding.first)?;
-    let Some(made) = changed(alloc, text, &places, binding.text, new)? else {
+    let Some(made) = changed(alloc, text, &places, binding.text.as_str(), new)? else {
         return Ok(Renaming::Refused(Refusal::OtherSpelling));
     };
     if resolves_like(alloc, names, binding, new, made.as_str())? {
@@ -166,5 +161,5 @@ pub fn rename(
     let Some(binding) = names.binding_at(&node) else {
         return Ok(Renaming::Refused(Refusal::Unbound));
     };
-    named(alloc, text, root, &names, binding, new)
+    named(alloc, text, &names, binding, new)
 }

@@ -1,6 +1,7 @@
 -- The binding and the reference of `let x=1;in x` (without spaces) in which x is named yy, by computation.
 use Rattle.{std.proofs.Common.{◌≡◌, List, ℕ, [], ◌∷◌, length, Option, Some, None, false, refl, ap, arith, codes}, rnix_green.specs.Forest.{Forest, empty, leaf}}
 use Rattle.{rnix_green.specs.{Forest.node, Tree.Tree}, nix_scopes.specs.{declared.resolution.{Binding.Binding, Reference.Reference}, Alike.{Rename, ended_by}}}
+use Rattle.std.specs.declared.borrow.CowStr.TheVariants.{Borrowed}
 use Rattle.nix_scopes.specs.{Alike.{IsBoundAlike, RefersAlike}, Occurrences.{written_number, referred_number}}
 use Rattle.rnix_kinds.specs.declared.kinds.SyntaxKind.TheVariants as k
 
@@ -23,7 +24,7 @@ let_in bound used =
 abbrev binding : List ℕ → List ℕ → Binding
 binding bound used =
     record {
-      text = record { ref_ptr = (0, 0); now = bound };
+      text = Borrowed record { ref_ptr = (0, 0); now = bound };
       node = record { tree = let_in bound used; number = 5 };
       scope = record { tree = let_in bound used; number = 1 };
       first = 0;
@@ -32,7 +33,7 @@ binding bound used =
 abbrev reference : List ℕ → List ℕ → Option ℕ → Reference
 reference bound used target =
     record {
-      text = record { ref_ptr = (0, 0); now = used };
+      text = Borrowed record { ref_ptr = (0, 0); now = used };
       node = record { tree = let_in bound used; number = 12 };
       is_inherited = false;
       binding = target;

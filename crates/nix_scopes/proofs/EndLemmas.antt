@@ -36,10 +36,10 @@ but_last ends end =
     let last : length (ends ++ end ∷ []) - 1 ≡ length ends = omega (arith, length_push ends end) in
     ap (λ k. take k (ends ++ end ∷ [])) last ∙ take-append_seam ends (end ∷ [])
 
--- of those that are left, it is told which are scopes
-pub told_left : (are_scopes fewer : List Bool) (e : Located) (es : List Located) → fewer ≡ take (length are_scopes - 1) are_scopes →
+-- which of the sets that are left are scopes
+pub scopes_left : (are_scopes fewer : List Bool) (e : Located) (es : List Located) → fewer ≡ take (length are_scopes - 1) are_scopes →
     are_scopes ≡ which_are_scopes (e ∷ es) → fewer ≡ which_are_scopes es
-told_left are_scopes fewer e es popped are = popped ∙ ap (λ bs. take (length bs - 1) bs) are ∙ but_last (which_are_scopes es) (is_scope e)
+scopes_left are_scopes fewer e es popped are = popped ∙ ap (λ bs. take (length bs - 1) bs) are ∙ but_last (which_are_scopes es) (is_scope e)
 
 -- the innermost is left, which has ended
 pub one_left : (root : Located) (left : ℕ) (P Q : List Located → Type 0) (ends popped : List ℕ) (nodes : List Located) → has_ended left ends ≡ true →

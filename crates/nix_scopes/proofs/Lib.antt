@@ -9,4 +9,4 @@ pub mod ResolvingLemmas
 pub mod ScopeExamples
 pub mod AlikeLemmas
 pub mod AlikeExamples
-pub mod ParenthesesLemmas
+pub mod PlainLemmas

@@ -3,10 +3,13 @@ use Rattle.std.proofs.Common.{◌≡◌, ℕ, zero, suc, ◌+◌, ◌<◌, List,
 use Rattle.std.proofs.{Common.{arith, ◌==◌}, lemmas.{List.Elements.{All-head, All-tail}, Bool.{cond-true, cond-false, and_left, false≢true, Decides.nat_tests}}}
 use Rattle.std.proofs.lemmas.{Option.none-some, Slice.Eq.bytes_eq-Decides}
 use Rattle.std.specs.{Prelude.{cond, ◌&&◌, ◌⊎◌, if◌then◌else◌, slice_get, is_some, IsSome}, List.{All, position_from}, Option.{option_or, unwrap_or}}
-use Rattle.std.{proofs.{Common.Bor, Math.Bool.and-false, lemmas.Map.Text.is_eq-slice_cmp}, specs.{Str.bytes_eq, Ordering.{is_eq, nat_cmp, ordering_then}}}
+use Rattle.std.{proofs.{Math.Bool.and-false, lemmas.Map.Text.is_eq-slice_cmp}, specs.{Str.bytes_eq, Ordering.{is_eq, nat_cmp, ordering_then}}}
 use Rattle.std.specs.{Cmp.{tied_then, unsigned_tied}, Cmp.Lexicographic.slice_cmp, declared.cmp.Ordering.Ordering}
 use Rattle.{rnix_green.{specs.Tree.Located, proofs.NumberTests.{is_same, is_above}}, nix_scopes.specs.Scopes.{Bound, binds, number_in}}
-use Rattle.nix_scopes.specs.Resolving.{Key, compare_key, mark_of}
+use Rattle.nix_scopes.specs.Resolving.{Key, IsKeyOf, Numbers, compare_key, mark_of, number_by}
+use Rattle.std.specs.BTreeMap.{get_by}
+use Rattle.nix_scopes.specs.NameTexts.{name_bytes}
+use Rattle.nix_scopes.specs.declared.name_text.NameText.TheVariants.{Part}
 
 -- nothing behind a number
 pub or_none : (o : Option ℕ) → option_or o None ≡ o
@@ -23,9 +26,13 @@ pub given_twice : (b : Bool) (first second old new once : Option ℕ) → new �
 given_twice true first second old new once is was = is
 given_twice false first second old new once is was = is ∙ was
 
+-- a key of a name
+abbrev pub key_with : List ℕ → Key
+key_with text = (mark_of text, Part record { ref_ptr = (0, 0); now = text })
+
 -- keys are the same where their names are
-same_key : (a b : List ℕ) (r : ℕ × ℕ) → is_eq (compare_key a (mark_of b, record { ref_ptr = r; now = b })) ≡ bytes_eq a b
-same_key a b r =
+same_key : (a b : List ℕ) → is_eq (compare_key a (key_with b)) ≡ bytes_eq a b
+same_key a b =
     sym (tied_then (nat_cmp (mark_of a) (mark_of b)) (slice_cmp nat_cmp a b))
     ∙ ap (λ e. is_eq (nat_cmp (mark_of a) (mark_of b)) && e) (is_eq-slice_cmp a b) ∙ chosen (bytes_eq a b) refl
   where
@@ -37,17 +44,24 @@ same_key a b r =
 
 -- how two keys are ordered
 abbrev compare_keys : Key → Key → Ordering
-compare_keys a b = ordering_then (nat_cmp a.0 b.0) (slice_cmp nat_cmp a.1.now b.1.now)
+compare_keys a b = ordering_then (nat_cmp a.0 b.0) (slice_cmp nat_cmp (name_bytes a.1) (name_bytes b.1))
 
 -- one name gets another number, or loses its own
-pub key_updated : (key : Key) (text : Bor (List ℕ)) (number : Option ℕ) (old new : Key → Option ℕ) → key ≡ (mark_of text.now, text) →
+pub key_updated : (key : Key) (text : List ℕ) (number : Option ℕ) (old new : Key → Option ℕ) → IsKeyOf text key →
     ((query : Key) → new query ≡ cond (is_eq (compare_keys key query)) number (old query)) → (other : List ℕ) →
-    new (mark_of other, record { ref_ptr = text.ref_ptr; now = other })
-    ≡ cond (bytes_eq text.now other) number (old (mark_of other, record { ref_ptr = text.ref_ptr; now = other }))
+    new (key_with other) ≡ cond (bytes_eq text other) number (old (key_with other))
 key_updated key text number old new is updates other =
-    let query : Key = (mark_of other, record { ref_ptr = text.ref_ptr; now = other }) in
-    updates query ∙ ap (λ (k : Key). cond (is_eq (compare_keys k query)) number (old query)) is
-    ∙ ap (λ e. cond e number (old query)) (same_key text.now other text.ref_ptr)
+    let was : Option ℕ = old (key_with other) in
+    updates (key_with other)
+    ∙ ap (λ mark. cond (is_eq (ordering_then (nat_cmp mark (mark_of other)) (slice_cmp nat_cmp (name_bytes key.1) other))) number was) is.0
+    ∙ ap (λ bytes. cond (is_eq (ordering_then (nat_cmp (mark_of text) (mark_of other)) (slice_cmp nat_cmp bytes other))) number was) is.1
+    ∙ ap (λ e. cond e number was) (same_key text other)
+
+-- the number at such a key is that of the name
+pub number_at : (numbers : Numbers) (key : Key) (text : List ℕ) → IsKeyOf text key → get_by (compare_keys key) numbers ≡ number_by numbers text
+number_at numbers key text is =
+    ap (λ mark. get_by (λ (k : Key). ordering_then (nat_cmp mark k.0) (slice_cmp nat_cmp (name_bytes key.1) (name_bytes k.1))) numbers) is.0
+    ∙ ap (λ bytes. get_by (λ (k : Key). ordering_then (nat_cmp (mark_of text) k.0) (slice_cmp nat_cmp bytes (name_bytes k.1))) numbers) is.1
 
 -- the first place in one list and then in another
 position-append : {X : Type 0} (p : X → Bool) (i j : ℕ) (xs ys : List X) → j ≡ i + length xs →

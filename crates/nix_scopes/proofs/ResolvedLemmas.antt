@@ -1,4 +1,4 @@
--- What the names refer to where a walk stands is what they refer to in the whole text.
+-- What the names refer to at the current node of a walk is what they refer to in the whole text.
 use Rattle.std.proofs.Common.{◌≡◌, ℕ, zero, suc, ◌+◌, ◌-◌, ◌≤◌, ◌<◌, List, [], ◌∷◌, ◌++◌, length, drop, map, get_or, Bool, true, false, None, refl, ap, sym, ◌∙◌, subst, arith, ◌==◌}
 use Rattle.std.{proofs.lemmas.{List.{length_push, Elements.{All-append, All-map, All-tail}}, Bool.cond-false}, specs.Prelude.{cond, filter, not, ◌||◌, ◌&&◌, is_some, flat_map}}
 use Rattle.{std.specs.{Prelude.if◌then◌else◌, List.{All, list_any}}, rnix_green.{proofs.NumberTests.is_above, specs.Tree.{Tree, Located, item, item_of}}}
@@ -61,15 +61,15 @@ or_false true = refl
 or_false false = refl
 
 -- the sets that are open tell whether the parent is a scope
-parent_told : (are_scopes : List Bool) (parent : Located) (outer : List Located) → are_scopes ≡ which_are_scopes (filter is_set (parent ∷ outer)) →
+parent_is_scope : (are_scopes : List Bool) (parent : Located) (outer : List Located) → are_scopes ≡ which_are_scopes (filter is_set (parent ∷ outer)) →
     is_scope_around are_scopes parent ≡ is_scope parent
-parent_told are_scopes parent outer are = ap (λ bs. is_scope_around bs parent) are ∙ chosen (is_set parent) refl
+parent_is_scope are_scopes parent outer are = ap (λ bs. is_scope_around bs parent) are ∙ chosen (is_set parent) refl
   where
-    told : Bool → List Bool → Bool
-    told b bs = if b then get_or bs (length bs - 1) false else is_binder (item_of parent).kind
+    flag : Bool → List Bool → Bool
+    flag b bs = if b then get_or bs (length bs - 1) false else is_binder (item_of parent).kind
 
     chosen : (b : Bool) → is_set parent ≡ b →
-        told b (which_are_scopes (cond b (parent ∷ filter is_set outer) (filter is_set outer))) ≡ is_scope parent
+        flag b (which_are_scopes (cond b (parent ∷ filter is_set outer) (filter is_set outer))) ≡ is_scope parent
     chosen true is = last_scope parent (filter is_set outer)
     chosen false is =
         sym (ap (λ b. is_binder (item_of parent).kind || (b && is_some (token_of (same_kind k.TOKEN_REC) parent))) is
@@ -105,7 +105,7 @@ module _ (bindings : List Binding) (more all : List Bound) (sight : Sight) (n : 
   found_inherited env [] below sets h = found_none (is_in_scope env (parent_of e)) h
   found_inherited env (parent ∷ outer) below sets h =
       ap (λ o. number_in_sight sight (is_in_scope env o) text) below
-      ∙ ap (λ b. number_in_sight sight b text) (parent_told env.set_scopes.items parent outer sets)
+      ∙ ap (λ b. number_in_sight sight b text) (parent_is_scope env.set_scopes.items parent outer sets)
       ∙ found_outside (is_scope parent) parent (filter is_scope outer) h
 
   -- so it is of each node that is a name or an `inherit`

@@ -1,6 +1,7 @@
 -- What the names of small texts refer to, by computation.
 use Rattle.{std.proofs.Common.{◌≡◌, ℕ, List, [], ◌∷◌, map, Bool, true, false, Option, Some, None, refl, codes}, rnix_green.specs.Forest.{Forest, empty, leaf}}
 use Rattle.{rnix_green.specs.{Forest.{node, join}, Tree.Located}, nix_scopes.specs.Scopes.resolved_in}
+use Rattle.rnix_base.specs.{Escapes.values, Value.fed}
 use Rattle.rnix_kinds.specs.declared.kinds.SyntaxKind.TheVariants as k
 
 -- a tree at whose root these trees stand
@@ -67,3 +68,16 @@ bound_first = refl
 
 open_last : open_names below_with ≡ false ∷ false ∷ true ∷ []
 open_last = refl
+
+-- an entry whose name is a string in `"`
+abbrev quoted_entry : List ℕ → Forest → Forest → Forest
+quoted_entry text value f = node k.NODE_ATTRPATH_VALUE
+    (node k.NODE_ATTRPATH (node k.NODE_STRING (leaf k.TOKEN_STRING_START (codes "\"") (leaf k.TOKEN_STRING_CONTENT text
+    (leaf k.TOKEN_STRING_END (codes "\"") empty))) empty) (leaf k.TOKEN_ASSIGN (codes "=") (join value (leaf k.TOKEN_SEMICOLON (codes ";") empty)))) f
+
+-- a: let "\a" = 1; in a
+escaped_name : referred (node k.NODE_LAMBDA (node k.NODE_IDENT_PARAM (ident 97 empty) (leaf k.TOKEN_COLON (codes ":")
+    (let_in (quoted_entry (codes "\\a") number empty) (ident 97 empty)))) empty)
+    ≡ Some 1 ∷ []
+unfolding values fed
+escaped_name = refl

@@ -2,7 +2,7 @@
 use Rattle.std.proofs.Common.{◌≡◌, ℕ, ◌+◌, ◌-◌, ◌<◌, ◌≤◌, List, [], ◌∷◌, ◌++◌, length, map, Option, Some, None, refl, ap, sym, ◌∙◌, subst, arith, inl, inr}
 use Rattle.std.proofs.{Common.append_assoc, lemmas.List.{length-map, map-append, map_more, map_push, length_push, Elements.{All-append, All-weaker, All-push}}}
 use Rattle.std.{proofs.lemmas.{List.{same_from_push, Elements.{All-cons, All-tail}}, Bool.{cond-true, cond-false, le-leb, lt-leb, false≢true}}, proofs.Common.get_or}
-use Rattle.std.specs.{Prelude.{nat_le, slice_get, option_map, take, is_some, IsSome, if◌then◌else◌}, List.All, Option.option_or, Str.bytes_eq}
+use Rattle.std.specs.{Cow.cow_str_bytes, Prelude.{nat_le, slice_get, option_map, take, is_some, IsSome, if◌then◌else◌}, List.All, Option.option_or, Str.bytes_eq}
 use Rattle.{std.proofs.lemmas.{Slice.Eq.bytes_eq-Decides}, rnix_green.specs.Tree.Located, nix_scopes.specs.declared.resolution.Binding.Binding}
 use Rattle.nix_scopes.specs.{declared.sight.{Scope.Scope, Sight.Sight}, Bound.{bound_of, IsFirstOf, AreFirst}, Scopes.{Bound, number_in, innermost}}
 use Rattle.nix_scopes.specs.Resolving.{number_by, hidden_by, outside_of, IsLonger, IsOpen, IsBinding, IsHidden, IsShownAgain, AreOpen, IsSeen, first_of, outer_by}
@@ -41,16 +41,16 @@ names_more outer bindings more old new hidden shown first number own was hid sco
 
 -- and each binding names the first of its name
 pub firsts_more : (bindings more : List Binding) (b : Binding) → more ≡ bindings ++ b ∷ [] →
-    number_in (map bound_of more) b.text.now b.scope ≡ Some b.first → AreFirst bindings → AreFirst more
+    number_in (map bound_of more) (cow_str_bytes b.text) b.scope ≡ Some b.first → AreFirst bindings → AreFirst more
 firsts_more bindings more b is found firsts =
     subst (All (IsFirstOf more)) (sym is)
     (All-push (IsFirstOf more) bindings b (All-weaker (IsFirstOf bindings) (IsFirstOf more) stays bindings firsts) found)
   where
     stays : (x : Binding) → IsFirstOf bindings x → IsFirstOf more x
     stays x first =
-        ap (λ bs. number_in (map bound_of bs) x.text.now x.scope) is
-        ∙ ap (λ bs. number_in bs x.text.now x.scope) (map-append bound_of bindings (b ∷ []))
-        ∙ number_stays (map bound_of bindings) (map bound_of (b ∷ [])) x.text.now x.scope x.first first
+        ap (λ bs. number_in (map bound_of bs) (cow_str_bytes x.text) x.scope) is
+        ∙ ap (λ bs. number_in bs (cow_str_bytes x.text) x.scope) (map-append bound_of bindings (b ∷ []))
+        ∙ number_stays (map bound_of bindings) (map bound_of (b ∷ [])) (cow_str_bytes x.text) x.scope x.first first
 
 -- nothing is in sight at the beginning
 pub seen_begun : (bindings : List Binding) (sight : Sight) (n : ℕ) → bindings ≡ [] → ((text : List ℕ) → number_by sight.numbers text ≡ None) →

@@ -1,6 +1,7 @@
 -- What a resolution finds in a text, and when another text resolves alike, in which one binding has a new name.
 use Rattle.std.specs.Prelude.{◌≡◌, ℕ, ◌+◌, ◌*◌, nat_eq, nat_le, List, length, map, if◌then◌else◌}
 use Rattle.std.specs.List.{AllZip, filter}
+use Rattle.std.specs.Cow.{cow_str_bytes}
 use Rattle.rnix_green.specs.Tree.{Located, extent_of}
 use Rattle.nix_scopes.specs.declared.resolution.Binding.{Binding}
 use Rattle.nix_scopes.specs.declared.resolution.Reference.{Reference}
@@ -53,14 +54,14 @@ IsNodeMoved rename from to = IsMoved rename (extent_of from).start (extent_of to
 
 -- the other binding is the same one in the other text, with the new name if its number is that of the new name
 pub record IsBoundAlike (rename : Rename) (binding other : Binding) : Type 0 where
-  pub text : other.text.now ≡ (if nat_eq binding.first rename.number then rename.name else binding.text.now)
+  pub text : cow_str_bytes other.text ≡ (if nat_eq binding.first rename.number then rename.name else cow_str_bytes binding.text)
   pub first : other.first ≡ binding.first
   pub node : IsNodeMoved rename binding.node other.node
   pub scope : IsNodeMoved rename binding.scope other.scope
 
 -- the other reference is the same one in the other text and refers to the same binding, by the new name if its number is that of the new name
 pub record RefersAlike (rename : Rename) (reference other : Reference) : Type 0 where
-  pub text : other.text.now ≡ (if is_number rename.number reference.binding then rename.name else reference.text.now)
+  pub text : cow_str_bytes other.text ≡ (if is_number rename.number reference.binding then rename.name else cow_str_bytes reference.text)
   pub binding : other.binding ≡ reference.binding
   pub is_inherited : other.is_inherited ≡ reference.is_inherited
   pub is_open : other.is_open ≡ reference.is_open

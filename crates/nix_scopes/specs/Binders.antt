@@ -1,5 +1,6 @@
 -- Which nodes bind names, and which names.
 use Rattle.std.specs.Prelude.{◌||◌, ◌&&◌, Bool, true, false, List, [], ◌∷◌, ◌++◌, Option, Some, None, is_some, flat_map, if◌then◌else◌}
+use Rattle.std.specs.Cow.{cow_str_bytes}
 use Rattle.rnix_kinds.specs.declared.kinds.SyntaxKind.{SyntaxKind}
 use Rattle.rnix_kinds.specs.declared.kinds.SyntaxKind.TheVariants as k
 use Rattle.rnix_green.specs.Equality.{same_kind}
@@ -7,22 +8,23 @@ use Rattle.rnix_green.specs.Tree.{Located, item_of, text_at}
 use Rattle.rnix_green.specs.Walk.{nodes_in, children_of}
 use Rattle.rnix_base.specs.Select.{nodes_of, child_of, token_of}
 use Rattle.rnix.specs.NodeKinds.{is_attr, is_param}
+use Rattle.rnix.specs.AttrName.{static_name}
 use Rattle.nix_scopes.specs.declared.names.Name.{Name}
-use Rattle.nix_scopes.specs.Names.{Named, named_if, attr_text, names_written}
+use Rattle.nix_scopes.specs.Names.{Named, named_if, names_written}
 
 -- a name of the program
 abbrev pub named : Name → Named
-named name = record { text = name.text.now; node = name.node }
+named name = record { text = cow_str_bytes name.text; node = name.node }
 
 -- the name that an identifier is, if there is one
 abbrev pub ident_name : Option Located → List Named
 ident_name None = []
 ident_name (Some e) = record { text = text_at e; node = e } ∷ []
 
--- the name that an attribute writes, if there is one that writes it out
+-- the name that an attribute is called, if there is one and the text alone says it
 abbrev pub written_name : Option Located → List Named
 written_name None = []
-written_name (Some e) = named_if e (attr_text e)
+written_name (Some e) = named_if e (static_name e)
 
 -- the first name of an attribute path, as `a` of `a.b`
 abbrev pub path_name : Option Located → List Named

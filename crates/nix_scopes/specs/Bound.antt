@@ -1,6 +1,7 @@
 -- What is bound and what refers to it, as a resolution lists it.
 use Rattle.std.specs.Prelude.{◌≡◌, List, map, Some}
 use Rattle.std.specs.List.{All}
+use Rattle.std.specs.Cow.{cow_str_bytes}
 use Rattle.nix_scopes.specs.declared.resolution.Binding.{Binding}
 use Rattle.nix_scopes.specs.declared.resolution.Reference.{Reference}
 use Rattle.nix_scopes.specs.declared.resolution.Resolution.{Resolution}
@@ -17,13 +18,13 @@ references_of r = r.references.items
 
 -- what a binding binds
 abbrev pub bound_of : Binding → Bound
-bound_of binding = record { text = binding.text.now; node = binding.node; scope = binding.scope }
+bound_of binding = record { text = cow_str_bytes binding.text; node = binding.node; scope = binding.scope }
 
 -- what a reference is found to be
 abbrev pub resolved_of : Reference → Resolved
 resolved_of reference =
     record {
-      text = reference.text.now;
+      text = cow_str_bytes reference.text;
       node = reference.node;
       is_inherited = reference.is_inherited;
       binding = reference.binding;
@@ -32,7 +33,7 @@ resolved_of reference =
 
 -- the first binding of a binding's name in its scope is the one that it names as the first
 abbrev pub IsFirstOf : List Binding → Binding → Type 0
-IsFirstOf bindings binding = number_in (map bound_of bindings) binding.text.now binding.scope ≡ Some binding.first
+IsFirstOf bindings binding = number_in (map bound_of bindings) (cow_str_bytes binding.text) binding.scope ≡ Some binding.first
 
 -- so it is of each of these
 abbrev pub AreFirst : List Binding → Type 0
@@ -40,7 +41,7 @@ AreFirst bindings = All (IsFirstOf bindings) bindings
 
 -- the name that a reference is
 abbrev pub name_of : Reference → Named
-name_of reference = record { text = reference.text.now; node = reference.node }
+name_of reference = record { text = cow_str_bytes reference.text; node = reference.node }
 
 -- the names of the references that were found
 abbrev pub listed : Resolution → List Named

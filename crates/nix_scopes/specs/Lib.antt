@@ -2,6 +2,7 @@ pub mod Names
 pub mod References
 pub mod Binders
 pub mod Scopes
+pub mod NameTexts
 pub mod Bound
 pub mod Occurrences
 pub mod Resolving

@@ -1,11 +1,10 @@
 -- What is kept while a text is resolved: the numbers of the names in sight, and what the open scopes hide.
 use Rattle.std.specs.Prelude.{◌≡◌, ℕ, ◌+◌, ◌<◌, ◌≤◌, ◌==◌, ◌⊎◌, nat_le, nat_lt, Bool, false, not, List, [], ◌∷◌, ◌++◌, map, length, get_or, slice_get}
-use Rattle.std.specs.Prelude.{Option, Some, None, IsSome, option_map, ◌-◌, ◌/◌, if◌then◌else◌}
+use Rattle.std.specs.Prelude.{Option, Some, None, IsSome, option_map, ◌-◌, ◌*◌, if◌then◌else◌}
 use Rattle.std.specs.List.{All}
 use Rattle.std.specs.Option.{option_or}
 use Rattle.std.specs.Str.{bytes_eq}
-use Rattle.std.specs.Borrow.{Bor}
-use Rattle.std.specs.Int.{w64, from_be_bytes}
+use Rattle.std.specs.Int.{w32, from_be_bytes}
 use Rattle.std.specs.BTreeMap.{BTreeMap, get_by}
 use Rattle.std.specs.Ordering.{nat_cmp, ordering_then}
 use Rattle.std.specs.declared.cmp.Ordering.{Ordering}
@@ -15,6 +14,8 @@ use Rattle.rnix_green.specs.Relatives.{parent_of}
 use Rattle.rnix_tree.specs.InsideCounts.{inside_count}
 use Rattle.rnix_kinds.specs.declared.kinds.SyntaxKind.TheVariants as k
 use Rattle.rnix_green.specs.Equality.{same_kind}
+use Rattle.nix_scopes.specs.declared.name_text.NameText.{NameText}
+use Rattle.nix_scopes.specs.NameTexts.{name_bytes}
 use Rattle.nix_scopes.specs.declared.sight.Scope.{Scope}
 use Rattle.nix_scopes.specs.declared.sight.Sight.{Sight}
 use Rattle.nix_scopes.specs.declared.environment.Environment.{Environment}
@@ -24,21 +25,31 @@ use Rattle.nix_scopes.specs.Binders.{is_scope, is_binder}
 use Rattle.nix_scopes.specs.Scopes.{Bound, Resolved, resolved, number_in, innermost}
 use Rattle.nix_scopes.specs.Bound.{bound_of, AreFirst}
 
--- the number that some bytes of a name make
-abbrev pub mark_of : List ℕ → ℕ
-mark_of text =
+-- the number that the first four bytes of a name make; 0 is in place of each that it does not have
+abbrev pub first_four : List ℕ → ℕ
+first_four text = from_be_bytes w32 (get_or text 0 0 ∷ get_or text 1 0 ∷ get_or text 2 0 ∷ get_or text 3 0 ∷ [])
+
+-- the number that the last four bytes of a name make; in a name that has fewer the first one is repeated
+abbrev pub last_four : List ℕ → ℕ
+last_four text =
     let end : ℕ = length text in
-    from_be_bytes w64
-    (get_or text (end - 1) 0 ∷ get_or text (end - 2) 0 ∷ get_or text (end - 3) 0 ∷ get_or text (end - 4) 0 ∷ get_or text (end / 2) 0
-    ∷ get_or text (end / 4) 0 ∷ get_or text 0 0 ∷ get_or text 1 0 ∷ [])
+    from_be_bytes w32 (get_or text (end - 4) 0 ∷ get_or text (end - 3) 0 ∷ get_or text (end - 2) 0 ∷ get_or text (end - 1) 0 ∷ [])
+
+-- the number that the last and the first four bytes of a name make
+abbrev pub mark_of : List ℕ → ℕ
+mark_of text = last_four text * 4294967296 + first_four text
 
 -- a name behind its number
 abbrev pub Key : Type 0
-Key = ℕ × Bor (List ℕ)
+Key = ℕ × NameText
 
--- how a name stands to a key
+-- a key is that of a name
+abbrev pub IsKeyOf : List ℕ → Key → Type 0
+IsKeyOf text key = (key.0 ≡ mark_of text) × (name_bytes key.1 ≡ text)
+
+-- the order of a name and a key
 abbrev pub compare_key : List ℕ → Key → Ordering
-compare_key text key = ordering_then (nat_cmp (mark_of text) key.0) (slice_cmp nat_cmp text key.1.now)
+compare_key text key = ordering_then (nat_cmp (mark_of text) key.0) (slice_cmp nat_cmp text (name_bytes key.1))
 
 -- numbers of names
 abbrev pub Numbers : Type 0
@@ -164,6 +175,13 @@ pub record Sees (root : Located) (bindings : List Binding) (around : Environment
   pub sees_bodies : around.body_ends.items ≡ counts_behind root bodies
   pub sees_sets : SeesSets root around.set_ends.items around.set_scopes.items sets
 
+-- after the scopes, bodies of `with` and attribute sets are left that end before an element, after which come so many more, what is known is of those
+-- that are still open
+abbrev pub LeavesEnded : ℕ → List Binding → Environment → Environment → Type 0
+LeavesEnded left bindings old new =
+    (root : Located) → (n : ℕ) → (scopes bodies sets : List Located) → Sees root bindings old n scopes bodies sets →
+    Sees root bindings new n (still_open root left scopes) (still_open root left bodies) (still_open root left sets)
+
 -- the number of the first binding of the last of these scopes
 abbrev pub first_of : List Scope → Option ℕ
 first_of owns = option_map (λ own. own.first) (slice_get owns (length owns - 1))
@@ -177,7 +195,7 @@ outer_by (Some first) number hidden = outside_of number first hidden
 abbrev pub outer_number : Sight → List ℕ → Option ℕ
 outer_number sight text = outer_by (first_of sight.scopes.items) (number_by sight.numbers text) sight.hidden.items
 
--- whether a node is a scope, where the last of these tells it of the innermost attribute set
+-- whether a node is a scope, where the last of these says whether the innermost attribute set is one
 abbrev pub is_scope_around : List Bool → Located → Bool
 is_scope_around are_scopes parent = if is_set parent then get_or are_scopes (length are_scopes - 1) false else is_binder (item_of parent).kind
 

@@ -5,7 +5,7 @@ ghost use Rattle.rnix_green.specs.Tree.{Located};
 ghost use Rattle.nix_scopes.specs.Binders.{is_scope};
 ghost use Rattle.nix_scopes.specs.Scopes.{is_with_body, bindings_at};
 ghost use Rattle.nix_scopes.specs.Bound.{bound_of};
-ghost use Rattle.nix_scopes.specs.Resolving.{number_by, last_in, counts_behind, has_ended, still_open, is_set, is_scope_around, SeesScopes, SeesSets, Sees};
+ghost use Rattle.nix_scopes.specs.Resolving.{number_by, last_in, counts_behind, has_ended, still_open, is_set, is_scope_around, SeesScopes, SeesSets, Sees, LeavesEnded};
 
 use crate::places::is_with_body;
 use crate::resolution::Binding;
@@ -36,7 +36,7 @@ fn has_ended(ends: &[usize], left: usize) -> bool
     }
 }
 
-// Enters a node, after which the walk has `left` more elements: if it is a scope, which `binds` tells, its names come into sight.
+// Enters a node, after which the walk has `left` more elements: if it is a scope, as `binds` says, its names come into sight.
 fn enter_scope<'t>(
     alloc: Global,
     node: &SyntaxNode<'t>,
@@ -72,7 +72,7 @@ fn enter_body(node: &SyntaxNode<'_>, left: usize, ends: &mut Vec<usize>) -> Resu
     Ok(())
 }
 
-// Enters a node, after which the walk has `left` more elements: it may be an attribute set, which is a scope if `binds` tells so.
+// Enters a node, after which the walk has `left` more elements: it may be an attribute set, which is a scope if `binds`.
 fn enter_set(
     node: &SyntaxNode<'_>,
     binds: bool,
@@ -98,14 +98,15 @@ fn leave_scopes<'t>(
     sight: &mut Sight<'t>,
     ends: &mut Vec<usize>,
     bindings: &[Binding<'t>],
-)
-    ensures { (root : Located) → (n : ℕ) → (scopes : List Located) → SeesScopes root bindings.now sight.old ends.old.items n scopes →
-        SeesScopes root bindings.now sight.new ends.new.items n (still_open root left scopes) }
+) -> Result<(), AllocError>
+    ensures { OnOk result ((root : Located) → (n : ℕ) → (scopes : List Located) → SeesScopes root bindings.now sight.old ends.old.items n scopes →
+        SeesScopes root bindings.now sight.new ends.new.items n (still_open root left scopes)) }
 {
     while has_ended(ends, left) {
         let _end = ends.pop();
-        sight.leave(bindings);
+        sight.leave(bindings)?;
     }
+    Ok(())
 }
 
 // Leaves the bodies of `with` that end before an element, after which the walk has `left` more.
@@ -179,13 +180,13 @@ impl<'t> Environment<'t> {
     }
 
     /// Leaves the scopes, the bodies of `with` and the attribute sets that end before an element, after which the walk has `left` more.
-    pub fn leave_ended(&mut self, left: usize, bindings: &[Binding<'t>])
-        ensures { (root : Located) → (n : ℕ) → (scopes bodies sets : List Located) → Sees root bindings.now self.old n scopes bodies sets →
-            Sees root bindings.now self.new n (still_open root left scopes) (still_open root left bodies) (still_open root left sets) }
+    pub fn leave_ended(&mut self, left: usize, bindings: &[Binding<'t>]) -> Result<(), AllocError>
+        ensures { OnOk result (LeavesEnded left bindings.now self.old self.new) }
     {
-        leave_scopes(left, &mut self.sight, &mut self.scope_ends, bindings);
+        leave_scopes(left, &mut self.sight, &mut self.scope_ends, bindings)?;
         leave_bodies(left, &mut self.body_ends);
         leave_sets(left, &mut self.set_ends, &mut self.set_scopes);
+        Ok(())
     }
 
     /// Whether a node is a scope, which is the parent of the current one.

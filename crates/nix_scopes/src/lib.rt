@@ -2,6 +2,7 @@
 #![tactic(auto)]
 
 mod environment;
+mod name_text;
 mod names;
 mod occurrences;
 mod places;
@@ -11,7 +12,6 @@ mod resolving;
 mod scopes;
 mod sight;
 
-pub use names::{attr_text, without_parens};
 pub use occurrences::name_at;
 pub use resolution::{Binding, Reference, Resolution};
 pub use resolving::resolve;

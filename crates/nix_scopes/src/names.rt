@@ -1,191 +1,156 @@
 //! The names that nodes bind.
 
-ghost use Rattle.std.specs.Prelude.{◌≡◌, ◌++◌, map, option_map, IfOk, OnOk, if◌then◌else◌};
+ghost use Rattle.std.specs.Prelude.{◌≡◌, ◌++◌, Some, map, option_map, IfOk, IfSome, OnOk};
+ghost use Rattle.std.specs.Cow.{cow_str_bytes};
+ghost use Rattle.std.specs.List.{list_any};
 ghost use Rattle.rnix_kinds.specs.declared.kinds.SyntaxKind.TheVariants as k;
 ghost use Rattle.rnix_green.specs.Equality.{same_kind};
 ghost use Rattle.rnix_base.specs.Select.{child_of};
-ghost use Rattle.rnix_green.specs.Tree.{item_of};
-ghost use Rattle.rnix.specs.NodeKinds.{is_param, is_expr};
-ghost use Rattle.nix_scopes.specs.Names.{has_escape, has_layout, string_text, value_by, inside_of, without_parens, inner_text, attr_text, named_if};
+ghost use Rattle.rnix.specs.AttrName.{static_name};
+ghost use Rattle.rnix.specs.NodeKinds.{is_param};
+ghost use Rattle.rnix.specs.Sums.{attr_node};
+ghost use Rattle.nix_scopes.specs.Names.{may_differ, quoted_content, named_if};
 ghost use Rattle.nix_scopes.specs.Binders.{named, ident_name, path_name, inherit_names, entry_names, entries_names};
 ghost use Rattle.nix_scopes.specs.Binders.{bind_name, pattern_names, param_names, lambda_names, names_bound};
 
 use rnix::ast::{
-    AstNode, AstToken, Attr, AttrpathValue, Dynamic, Expr, Ident, IdentParam, Inherit,
-    InterpolPart, Lambda, Pattern, Str,
+    AstNode, AstToken, Attr, AttrpathValue, Ident, IdentParam, Inherit, InterpolPart, Lambda,
+    Pattern, Str,
 };
 use rnix::{SyntaxKind, SyntaxNode};
-use rnix_base::{child_at, first_token, is_indented};
+use rnix_base::is_indented;
 use std::alloc::{AllocError, Global};
+use std::borrow::CowStr;
 
 /// A name, and the node that writes it: an identifier, a string or a `${}`.
 #[derive(Drop)]
 pub struct Name<'t> {
-    pub text: &'t str,
+    pub text: CowStr<'t>,
     pub node: SyntaxNode<'t>,
 }
 
-// Whether the value of a string in `"` may differ from its text, which has a backslash or a carriage return.
-fn has_escape(text: &str) -> bool
-    ensures { result ≡ has_escape text.now }
+// Whether the value of a byte of a string in `"` may be another byte, or none.
+fn may_differ(text: &str) -> bool
+    ensures { result ≡ list_any may_differ text.now }
 {
-    let bytes = text.as_bytes();
-    bytes.contains(&b'\\') || bytes.contains(&b'\r')
+    text.bytes().any(
+        |byte: u8| -> bool
+            ensures { result ≡ may_differ byte }
+        { byte == b'\\' || byte == b'"' || byte == b'\r' },
+    )
 }
 
-// Whether the value of a string in `''` may differ from its text, or be put together.
-fn has_layout(text: &str) -> bool
-    ensures { result ≡ has_layout text.now }
+// The content of a string in `"`, if it is the string's value.
+fn quoted_content<'t>(string: &Str<'t>) -> Option<&'t str>
+    ensures { option_map (λ text. text.now) result ≡ quoted_content string.now }
 {
-    let bytes = text.as_bytes();
-    bytes.contains(&b'\'')
-        || bytes.contains(&b'$')
-        || bytes.contains(&b'\n')
-        || bytes.contains(&b'\r')
-        || bytes.starts_with(b" ")
-}
-
-// Whether the value of a string may differ from the text of its only part.
-fn differs(is_indented: bool, text: &str) -> bool
-    ensures { result ≡ (if is_indented then has_layout else has_escape) text.now }
-{
-    if is_indented {
-        has_layout(text)
-    } else {
-        has_escape(text)
-    }
-}
-
-// The value of a string, if it is a part of the text as it is: the string has no escapes and no interpolations.
-fn string_text<'t>(string: &Str<'t>) -> Option<&'t str>
-    ensures { option_map (λ text. text.now) result ≡ string_text string.now }
-{
-    let is_indented = is_indented(string.syntax());
-    let mut parts = string.parts();
-    match (parts.next(), parts.next()) {
-        (None, None) => Some(""),
-        (Some(InterpolPart::Literal(token)), None) => {
-            let text = token.syntax().text();
-            if differs(is_indented, text) {
-                None
-            } else {
-                Some(text)
-            }
-        }
-        _ => None,
-    }
-}
-
-// The value of an expression, if it is a part of the text as it is: a string without escapes and interpolations, or a URI.
-fn value_text<'t>(expr: &SyntaxNode<'t>) -> Option<&'t str>
-    ensures { option_map (λ text. text.now) result ≡ value_by (item_of expr.now).kind expr.now }
-{
-    match expr.kind() {
-        SyntaxKind::NODE_STRING => string_text(&Str::cast(expr.clone())?),
-        SyntaxKind::NODE_LITERAL => Some(first_token(expr, SyntaxKind::TOKEN_URI)?.text()),
-        _ => None,
-    }
-}
-
-// The expression that is in parentheses, if a node is that.
-fn inside_of<'t>(node: &SyntaxNode<'t>) -> Option<SyntaxNode<'t>>
-    ensures { result ≡ inside_of node.now }
-{
-    if node.kind() != SyntaxKind::NODE_PAREN {
+    if is_indented(string.syntax()) {
         return None;
     }
-    Some(child_at::<Expr<'t>>(node, 0)?.syntax().clone())
-}
-
-/// An expression without the parentheses around it.
-pub fn without_parens<'t>(expr: &SyntaxNode<'t>) -> SyntaxNode<'t>
-    ensures { result ≡ without_parens expr.now }
-{
-    let mut inner = expr.clone();
-    let mut count = expr.inside_count();
-    while count > 0 {
-        match inside_of(&inner) {
-            Some(next) => inner = next,
-            None => return inner,
+    let mut parts = string.parts();
+    match (parts.next(), parts.next()) {
+        (Some(InterpolPart::Literal(token)), None) => {
+            let text = token.syntax().text();
+            if may_differ(text) { None } else { Some(text) }
         }
-        count -= 1;
+        _ => None,
     }
-    inner
 }
 
-// The name that an attribute writes in `${}`, if it is a part of the text as it is.
-fn dynamic_text<'t>(attr: &Dynamic<'t>) -> Option<&'t str>
-    ensures { option_map (λ text. text.now) result ≡ inner_text (child_of is_expr 0 attr.now) }
-{
-    value_text(&without_parens(attr.expr()?.syntax()))
-}
-
-/// The name that a node writes in a set, if it is a part of the text as it is: an identifier, a string without escapes and interpolations, or
-/// what is such a string or a URI in `${}`.
-pub fn attr_text<'t>(node: &SyntaxNode<'t>) -> Option<&'t str>
-    ensures { option_map (λ text. text.now) result ≡ attr_text node.now }
+// What an attribute is called, if that is a part of its text: an identifier, or the content of a string in `"`.
+fn written_text<'t>(node: &SyntaxNode<'t>) -> Option<&'t str>
+    ensures { IfSome result (λ text. static_name node.now ≡ Some text.now) }
 {
     match node.kind() {
         SyntaxKind::NODE_IDENT => Some(node.text()),
-        SyntaxKind::NODE_STRING => string_text(&Str::cast(node.clone())?),
-        SyntaxKind::NODE_DYNAMIC => dynamic_text(&Dynamic::cast(node.clone())?),
+        SyntaxKind::NODE_STRING => quoted_content(&Str::cast(node.clone())?),
         _ => None,
     }
 }
 
-// Adds the name that an attribute is, if it is written out.
-fn add_attr<'t>(attr: &SyntaxNode<'t>, names: &mut Vec<Name<'t>>) -> Result<(), AllocError>
-    ensures { OnOk result (map named names.new.items ≡ map named names.old.items ++ named_if attr.now (attr_text attr.now)) }
+/// What an attribute is called, if the text alone says so. Only a name that differs from its text takes memory.
+pub fn attr_name<'t>(alloc: Global, attr: &Attr<'t>) -> Result<Option<CowStr<'t>>, AllocError>
+    ensures { IfOk result (λ name. option_map cow_str_bytes name ≡ static_name (attr_node attr.now)) }
 {
-    if let Some(text) = attr_text(attr) {
-        let node = attr.clone();
+    if let Some(text) = written_text(attr.syntax()) {
+        return Ok(Some(CowStr::Borrowed(text)));
+    }
+    match attr.static_name(alloc)? {
+        Some(name) => Ok(Some(CowStr::Owned(name))),
+        None => Ok(None),
+    }
+}
+
+// Adds what an attribute is called, if the text alone says so.
+fn add_attr<'t>(alloc: Global, attr: &Attr<'t>, names: &mut Vec<Name<'t>>) -> Result<(), AllocError>
+    ensures { OnOk result (map named names.new.items
+        ≡ map named names.old.items ++ named_if (attr_node attr.now) (static_name (attr_node attr.now))) }
+{
+    if let Some(text) = attr_name(alloc, attr)? {
+        let node = attr.syntax().clone();
         names.push(Name { text, node })?;
     }
     Ok(())
 }
 
 // Adds the names that an `inherit` binds.
-fn add_inherit<'t>(inherit: &Inherit<'t>, names: &mut Vec<Name<'t>>) -> Result<(), AllocError>
+fn add_inherit<'t>(
+    alloc: Global,
+    inherit: &Inherit<'t>,
+    names: &mut Vec<Name<'t>>,
+) -> Result<(), AllocError>
     ensures { OnOk result (map named names.new.items ≡ map named names.old.items ++ inherit_names inherit.now) }
 {
     for attr in inherit.attrs() {
-        add_attr(attr.syntax(), names)?;
+        add_attr(alloc, &attr, names)?;
     }
     Ok(())
 }
 
 // Adds the first name of a path, which an entry with a value binds.
-fn add_path<'t>(value: &AttrpathValue<'t>, names: &mut Vec<Name<'t>>) -> Result<(), AllocError>
+fn add_path<'t>(
+    alloc: Global,
+    value: &AttrpathValue<'t>,
+    names: &mut Vec<Name<'t>>,
+) -> Result<(), AllocError>
     ensures { OnOk result (map named names.new.items ≡ map named names.old.items ++ path_name (child_of (same_kind k.NODE_ATTRPATH) 0 value.now)) }
 {
     let Some(path) = value.attrpath() else {
         return Ok(());
     };
     match path.attrs().next() {
-        Some(attr) => add_attr(attr.syntax(), names),
+        Some(attr) => add_attr(alloc, &attr, names),
         None => Ok(()),
     }
 }
 
 // Adds the names that a node binds that is an entry.
-fn add_entry<'t>(entry: SyntaxNode<'t>, names: &mut Vec<Name<'t>>) -> Result<(), AllocError>
+fn add_entry<'t>(
+    alloc: Global,
+    entry: SyntaxNode<'t>,
+    names: &mut Vec<Name<'t>>,
+) -> Result<(), AllocError>
     ensures { OnOk result (map named names.new.items ≡ map named names.old.items ++ entry_names entry.entry) }
 {
     if let Some(inherit) = Inherit::cast(entry.clone()) {
-        return add_inherit(&inherit, names);
+        return add_inherit(alloc, &inherit, names);
     }
     match AttrpathValue::cast(entry) {
-        Some(value) => add_path(&value, names),
+        Some(value) => add_path(alloc, &value, names),
         None => Ok(()),
     }
 }
 
 // Adds the names that the entries of a node bind.
-fn add_entries<'t>(scope: &SyntaxNode<'t>, names: &mut Vec<Name<'t>>) -> Result<(), AllocError>
+fn add_entries<'t>(
+    alloc: Global,
+    scope: &SyntaxNode<'t>,
+    names: &mut Vec<Name<'t>>,
+) -> Result<(), AllocError>
     ensures { OnOk result (map named names.new.items ≡ map named names.old.items ++ entries_names scope.now) }
 {
     for entry in scope.children() {
-        add_entry(entry, names)?;
+        add_entry(alloc, entry, names)?;
     }
     Ok(())
 }
@@ -196,7 +161,7 @@ fn add_ident<'t>(ident: Option<Ident<'t>>, names: &mut Vec<Name<'t>>) -> Result<
 {
     if let Some(ident) = ident {
         let node = ident.syntax().clone();
-        let text = node.text();
+        let text = CowStr::Borrowed(node.text());
         names.push(Name { text, node })?;
     }
     Ok(())
@@ -246,14 +211,18 @@ fn add_lambda<'t>(lambda: &Lambda<'t>, names: &mut Vec<Name<'t>>) -> Result<(), 
     }
 }
 
-/// The names that a scope binds, in order; the name of a whole pattern is the first.
-pub fn names_bound<'t>(alloc: Global, scope: &SyntaxNode<'t>) -> Result<Vec<Name<'t>>, AllocError>
-    ensures { IfOk result (λ names. map named names.items ≡ names_bound scope.now) }
+/// Replaces names by those that a scope binds, in order; the name of a whole pattern is the first.
+pub fn names_bound<'t>(
+    alloc: Global,
+    scope: &SyntaxNode<'t>,
+    names: &mut Vec<Name<'t>>,
+) -> Result<(), AllocError>
+    ensures { OnOk result (map named names.new.items ≡ names_bound scope.now) }
 {
-    let mut names = Vec::new(alloc);
+    names.clear();
     match Lambda::cast(scope.clone()) {
-        Some(lambda) => add_lambda(&lambda, &mut names)?,
-        None => add_entries(scope, &mut names)?,
+        Some(lambda) => add_lambda(&lambda, names)?,
+        None => add_entries(alloc, scope, names)?,
     }
-    Ok(names)
+    Ok(())
 }

@@ -67,9 +67,9 @@ impl NewName<'_> {
         let text = if binding.first == self.number {
             self.text
         } else {
-            binding.text
+            binding.text.as_str()
         };
-        other.text == text
+        other.text.as_str() == text
             && other.first == binding.first
             && self.moves_node(&binding.node, &other.node)
             && self.moves_node(&binding.scope, &other.scope)
@@ -83,9 +83,9 @@ impl NewName<'_> {
         let text = if reference.binding == Some(self.number) {
             self.text
         } else {
-            reference.text
+            reference.text.as_str()
         };
-        other.text == text
+        other.text.as_str() == text
             && other.binding == reference.binding
             && other.is_inherited == reference.is_inherited
             && other.is_open == reference.is_open

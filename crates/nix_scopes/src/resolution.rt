@@ -7,12 +7,13 @@ ghost use Rattle.rnix_green.specs.Tree.{extent_of};
 ghost use Rattle.nix_scopes.specs.Occurrences.{is_at, binding_at, number_at, written_number, referred_number};
 
 use rnix::{SyntaxNode, TextRange};
+use std::borrow::CowStr;
 
 /// A name that a scope binds: a `let`, a `rec` set or a lambda.
 #[derive(Drop)]
 pub struct Binding<'t> {
-    /// The name, without quotes and `${}`.
-    pub text: &'t str,
+    /// What the name is: without quotes and `${}`, and with escapes replaced.
+    pub text: CowStr<'t>,
     /// What writes the name: an identifier, a string or a `${}`.
     pub node: SyntaxNode<'t>,
     /// The node inside which the name is in sight.
@@ -24,8 +25,8 @@ pub struct Binding<'t> {
 /// A name whose value is used, or that is inherited from what is around its set or `let`.
 #[derive(Drop)]
 pub struct Reference<'t> {
-    /// The name, without quotes and `${}`.
-    pub text: &'t str,
+    /// What the name is: without quotes and `${}`, and with escapes replaced.
+    pub text: CowStr<'t>,
     /// What writes the name: an identifier, a string or a `${}`.
     pub node: SyntaxNode<'t>,
     /// Whether it is inherited.

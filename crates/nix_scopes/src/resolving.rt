@@ -3,20 +3,24 @@
 ghost use Rattle.std.specs.Prelude.{◌≡◌, ◌++◌, [], ◌∷◌, map, IfOk, OnOk, true};
 ghost use Rattle.rnix_green.specs.Relatives.{parent_of};
 ghost use Rattle.nix_scopes.specs.Bound.{bindings_of, references_of, listed, bound_of, resolved_of, AreFirst};
-ghost use Rattle.nix_scopes.specs.Names.{attr_text, named_if};
+ghost use Rattle.std.specs.Cow.{cow_str_bytes};
+ghost use Rattle.rnix.specs.AttrName.{static_name};
+ghost use Rattle.rnix.specs.Sums.{attr_node};
+ghost use Rattle.nix_scopes.specs.Names.{named_if};
 ghost use Rattle.nix_scopes.specs.Binders.{named};
 ghost use Rattle.nix_scopes.specs.References.{inherited_at, references_at, references_in};
 ghost use Rattle.nix_scopes.specs.Scopes.{bindings_in, resolved_in};
 ghost use Rattle.nix_scopes.specs.Resolving.{is_in_scope, number_in_sight, referring, resolve_name, resolve_at};
 
 use crate::environment::Environment;
-use crate::names::{Name, attr_text};
+use crate::names::{Name, attr_name};
 use crate::places::is_expression;
 use crate::resolution::{Reference, Resolution};
 use crate::sight::Sight;
-use rnix::ast::{AstNode, Inherit};
+use rnix::ast::{AstNode, Attr, Inherit};
 use rnix::{NodeOrToken, SyntaxNode};
 use std::alloc::{AllocError, Global};
+use std::borrow::CowStr;
 
 // Adds a name that refers to the binding of a number, or has none.
 fn add_reference<'t>(
@@ -39,20 +43,21 @@ fn add_reference<'t>(
     Ok(())
 }
 
-// Adds a name that is inherited, if it is written out; from outside of the innermost scope, if that is the set or the `let` of the `inherit`.
+// Adds a name that is inherited, if the text alone says it; from outside of the innermost scope, if that is the set or the `let` of the `inherit`.
 fn add_inherited<'t>(
+    alloc: Global,
     around: &Environment<'t>,
     in_scope: bool,
-    node: &SyntaxNode<'t>,
+    attr: &Attr<'t>,
     references: &mut Vec<Reference<'t>>,
 ) -> Result<(), AllocError>
     ensures { OnOk result (map resolved_of references.new.items ≡ map resolved_of references.old.items
-        ++ map (resolve_name around.now in_scope true) (named_if node.now (attr_text node.now))) }
+        ++ map (resolve_name around.now in_scope true) (named_if (attr_node attr.now) (static_name (attr_node attr.now)))) }
 {
-    match attr_text(node) {
+    match attr_name(alloc, attr)? {
         Some(text) => {
-            let binding = number_of(&around.sight, in_scope, text);
-            let node = node.clone();
+            let binding = number_of(&around.sight, in_scope, &text)?;
+            let node = attr.syntax().clone();
             add_reference(around, binding, true, Name { text, node }, references)
         }
         None => Ok(()),
@@ -60,13 +65,18 @@ fn add_inherited<'t>(
 }
 
 // The number of a name, outside of the innermost scope or in all scopes.
-fn number_of<'t>(sight: &Sight<'t>, is_outer: bool, text: &'t str) -> Option<usize>
-    ensures { result ≡ number_in_sight sight.now is_outer text.now }
+fn number_of<'t>(
+    sight: &Sight<'t>,
+    is_outer: bool,
+    text: &CowStr<'t>,
+) -> Result<Option<usize>, AllocError>
+    ensures { IfOk result (λ number. number ≡ number_in_sight sight.now is_outer (cow_str_bytes text.now)) }
 {
+    let number = sight.number_of(text)?;
     if is_outer {
-        sight.outer_number(text)
+        Ok(sight.outer_number(number))
     } else {
-        sight.number(text)
+        Ok(number)
     }
 }
 
@@ -82,6 +92,7 @@ fn is_in_scope(around: &Environment<'_>, node: &SyntaxNode<'_>) -> bool
 
 // Adds the names that are inherited from around the `let` or the set.
 fn add_all_inherited<'t>(
+    alloc: Global,
     around: &Environment<'t>,
     inherit: &Inherit<'t>,
     references: &mut Vec<Reference<'t>>,
@@ -94,13 +105,14 @@ fn add_all_inherited<'t>(
     }
     let in_scope = is_in_scope(around, inherit.syntax());
     for attr in inherit.attrs() {
-        add_inherited(around, in_scope, attr.syntax(), references)?;
+        add_inherited(alloc, around, in_scope, &attr, references)?;
     }
     Ok(())
 }
 
 // Adds the references that a node is or has.
 fn add_references<'t>(
+    alloc: Global,
     around: &Environment<'t>,
     node: SyntaxNode<'t>,
     references: &mut Vec<Reference<'t>>,
@@ -111,10 +123,11 @@ fn add_references<'t>(
     if is_expression(&node) {
         let text = node.text();
         let binding = around.sight.number(text);
+        let text = CowStr::Borrowed(text);
         return add_reference(around, binding, false, Name { text, node }, references);
     }
     match Inherit::cast(node) {
-        Some(inherit) => add_all_inherited(around, &inherit, references),
+        Some(inherit) => add_all_inherited(alloc, around, &inherit, references),
         None => Ok(()),
     }
 }
@@ -133,9 +146,9 @@ pub fn resolve<'t>(alloc: Global, root: &SyntaxNode<'t>) -> Result<Resolution<'t
     let mut left = root.inside_count();
     for element in root.descendants_with_tokens() {
         if let NodeOrToken::Node(node) = element {
-            around.leave_ended(left, &bindings);
+            around.leave_ended(left, &bindings)?;
             around.enter(alloc, &node, left, &mut bindings)?;
-            add_references(&around, node, &mut references)?;
+            add_references(alloc, &around, node, &mut references)?;
         }
         left = left.saturating_sub(1);
     }

@@ -2,22 +2,25 @@
 
 ghost use Rattle.std.specs.Prelude.{◌≡◌, ℕ, ◌<◌, ◌≤◌, ◌+◌, ◌++◌, [], ◌∷◌, List, Option, Some, None, length, map, get_or, slice_get};
 ghost use Rattle.std.specs.Prelude.{IsSome, IfOk, OnOk, if◌then◌else◌};
+ghost use Rattle.std.specs.Cow.{cow_str_bytes};
 ghost use Rattle.std.specs.Str.{bytes_eq};
 ghost use Rattle.rnix_green.specs.Tree.{Located};
 ghost use Rattle.nix_scopes.specs.Binders.{named, names_bound};
 ghost use Rattle.nix_scopes.specs.Scopes.{Bound, bound_in};
 ghost use Rattle.nix_scopes.specs.Bound.{bound_of, AreFirst};
-ghost use Rattle.nix_scopes.specs.Resolving.{number_by, hidden_by, outside_of, own_of, outer_number, mark_of};
+ghost use Rattle.nix_scopes.specs.Resolving.{IsKeyOf, number_by, hidden_by, outside_of, own_of, first_of, outer_by, first_four, last_four, mark_of};
 ghost use Rattle.nix_scopes.specs.Resolving.{IsBinding, IsLonger, IsHidden, IsShownAgain, IsSeen};
 
+use crate::name_text::NameText;
 use crate::names::{Name, names_bound};
 use crate::resolution::Binding;
 use rnix::SyntaxNode;
 use std::alloc::{AllocError, Global};
+use std::borrow::CowStr;
 use std::collections::BTreeMap;
 
-// A name behind the number that some of its bytes make: most names are told apart by these numbers alone.
-type Key<'t> = (u64, &'t str);
+// A name behind the number that some of its bytes make: most names differ in these numbers.
+type Key<'t> = (u64, NameText<'t>);
 
 /// The bindings of a scope, by their numbers: from the first to the end, exclusive.
 #[derive(Clone, Copy)]
@@ -35,6 +38,8 @@ pub struct Sight<'t> {
     pub hidden: Vec<Option<usize>>,
     /// The scopes around the place, the innermost last.
     pub scopes: Vec<Scope>,
+    // The names of the scope that was entered last: its room serves each scope.
+    names: Vec<Name<'t>>,
 }
 
 // The byte at a place, or 0 behind the end.
@@ -47,29 +52,73 @@ fn byte_at(bytes: &[u8], place: usize) -> u8
     }
 }
 
-// The number that some bytes of a name make: the last four, those of the middle, and the first two.
+// The number that the first four bytes of a name make; 0 is in place of each that it does not have.
+#[inline(always)]
+fn first_four(bytes: &[u8]) -> u32
+    ensures { result ≡ first_four bytes.now }
+{
+    u32::from_be_bytes([
+        byte_at(bytes, 0),
+        byte_at(bytes, 1),
+        byte_at(bytes, 2),
+        byte_at(bytes, 3),
+    ])
+}
+
+// The number that the last four bytes of a name make; in a name that has fewer the first one is repeated.
+#[inline(always)]
+fn last_four(bytes: &[u8]) -> u32
+    ensures { result ≡ last_four bytes.now }
+{
+    let end = bytes.len();
+    u32::from_be_bytes([
+        byte_at(bytes, end.saturating_sub(4)),
+        byte_at(bytes, end.saturating_sub(3)),
+        byte_at(bytes, end.saturating_sub(2)),
+        byte_at(bytes, end.saturating_sub(1)),
+    ])
+}
+
+// The number that the last and the first four bytes of a name make.
+#[inline(always)]
+fn mark_in(bytes: &[u8]) -> u64
+    ensures { result ≡ mark_of bytes.now }
+{
+    u64::from(last_four(bytes)) * 4_294_967_296 + u64::from(first_four(bytes))
+}
+
+// The number that some bytes of a short name make.
+#[inline(never)]
+fn mark_of_short(bytes: &[u8]) -> u64
+    ensures { result ≡ mark_of bytes.now }
+{
+    mark_in(bytes)
+}
+
+// The number that some bytes of a name make. Where there are four, LLVM reads them at once.
 fn mark_of(text: &str) -> u64
     ensures { result ≡ mark_of text.now }
 {
     let bytes = text.as_bytes();
-    let end = bytes.len();
-    u64::from_be_bytes([
-        byte_at(bytes, end.saturating_sub(1)),
-        byte_at(bytes, end.saturating_sub(2)),
-        byte_at(bytes, end.saturating_sub(3)),
-        byte_at(bytes, end.saturating_sub(4)),
-        byte_at(bytes, end / 2),
-        byte_at(bytes, end / 4),
-        byte_at(bytes, 0),
-        byte_at(bytes, 1),
-    ])
+    if bytes.len() < 4 {
+        return mark_of_short(bytes);
+    }
+    mark_in(bytes)
+}
+
+// The key of a name that is a part of the text.
+fn part_key<'t>(text: &'t str) -> Key<'t>
+    ensures { IsKeyOf text.now result }
+{
+    (mark_of(text), NameText::Part(text))
 }
 
 // The key of a name.
-fn key_of(text: &str) -> Key<'_>
-    ensures { result ≡ (mark_of text.now, text.entry) }
+fn key_of<'t>(text: &CowStr<'t>) -> Result<Key<'t>, AllocError>
+    ensures { IfOk result (IsKeyOf (cow_str_bytes text.now)) }
 {
-    (mark_of(text), text)
+    let mark = mark_of(text.as_str());
+    Ok((mark, NameText::of(text)?))
 }
 
 // The number that the name of a binding has outside of its scope.
@@ -92,23 +141,33 @@ fn outside(number: Option<usize>, first: usize, hidden: &[Option<usize>]) -> Opt
     }
 }
 
+// A copy of the text of a name. Only a text of its own takes memory.
+#[inline(always)]
+fn copied<'t>(text: &CowStr<'t>) -> Result<CowStr<'t>, AllocError>
+    ensures { IfOk result (λ copy. cow_str_bytes copy ≡ cow_str_bytes text.now) }
+{
+    match text {
+        CowStr::Borrowed(part) => Ok(CowStr::Borrowed(*part)),
+        CowStr::Owned(_) => Ok(text.clone()?),
+    }
+}
+
 // Gives a name a number, or the one that it has in its scope, whose numbers begin with `first`. Returns it with the one that it had before.
 fn give_number<'t>(
     numbers: &mut BTreeMap<Key<'t>, usize>,
-    text: &'t str,
+    text: &CowStr<'t>,
     first: usize,
     number: usize,
 ) -> Result<(usize, Option<usize>), AllocError>
     ensures numbers { IfOk result (λ own. (other : List ℕ) →
-        number_by numbers.new other ≡ (if bytes_eq text.now other then Some own.0 else number_by numbers.old other)) }
-    ensures own { IfOk result (λ own. own.0 ≡ own_of (number_by numbers.old text.now) first number) }
-    ensures old { IfOk result (λ own. own.1 ≡ number_by numbers.old text.now) }
+        number_by numbers.new other ≡ (if bytes_eq (cow_str_bytes text.now) other then Some own.0 else number_by numbers.old other)) }
+    ensures own { IfOk result (λ own. own.0 ≡ own_of (number_by numbers.old (cow_str_bytes text.now)) first number) }
+    ensures old { IfOk result (λ own. own.1 ≡ number_by numbers.old (cow_str_bytes text.now)) }
 {
-    let key = key_of(text);
-    let old = numbers.insert(key, number)?;
+    let old = numbers.insert(key_of(text)?, number)?;
     match old {
         Some(own) if own >= first => {
-            numbers.insert(key, own)?;
+            numbers.insert(key_of(text)?, own)?;
             Ok((own, old))
         }
         _ => Ok((number, old)),
@@ -133,11 +192,11 @@ fn bind<'t>(
         AreFirst bindings.old.items → AreFirst bindings.new.items) }
     ensures longer { OnOk result (IsLonger hidden.old.items hidden.new.items) }
 {
-    let (own, old) = give_number(numbers, name.text, first, bindings.len())?;
+    let (own, old) = give_number(numbers, &name.text, first, bindings.len())?;
     let outer = outside(old, first, hidden);
     hidden.push(outer)?;
     bindings.push(Binding {
-        text: name.text,
+        text: copied(&name.text)?,
         node: name.node.clone(),
         scope: scope.clone(),
         first: own,
@@ -147,14 +206,14 @@ fn bind<'t>(
 
 // Binds the names of a scope.
 fn bind_names<'t>(
-    alloc: Global,
+    names: &[Name<'t>],
     scope: &SyntaxNode<'t>,
     bindings: &mut Vec<Binding<'t>>,
     numbers: &mut BTreeMap<Key<'t>, usize>,
     hidden: &mut Vec<Option<usize>>,
 ) -> Result<(), AllocError>
     ensures bindings { OnOk result (map bound_of bindings.new.items ≡ map bound_of bindings.old.items
-        ++ map (bound_in scope.now) (names_bound scope.now)) }
+        ++ map (bound_in scope.now) (map named names.now)) }
     ensures binding { OnOk result ((outer : List ℕ → Option ℕ) →
         IsBinding outer (map bound_of bindings.old.items) numbers.old hidden.old.items (length bindings.old.items) scope.now →
         IsBinding outer (map bound_of bindings.new.items) numbers.new hidden.new.items (length bindings.old.items) scope.now) }
@@ -164,26 +223,33 @@ fn bind_names<'t>(
     ensures longer { OnOk result (IsLonger hidden.old.items hidden.new.items) }
 {
     let first = bindings.len();
-    for name in &names_bound(alloc, scope)? {
+    for name in names {
         bind(name, scope, first, bindings, numbers, hidden)?;
     }
     Ok(())
 }
 
 // Shows a name that a scope hid, or takes it out of sight where the scope hid none.
-fn show<'t>(numbers: &mut BTreeMap<Key<'t>, usize>, text: &'t str, hidden: Option<usize>)
-    ensures { (IsSome hidden → IsSome (number_by numbers.old text.now)) → (other : List ℕ) →
-        number_by numbers.new other ≡ (if bytes_eq text.now other then hidden else number_by numbers.old other) }
+fn show<'t>(
+    numbers: &mut BTreeMap<Key<'t>, usize>,
+    text: &CowStr<'t>,
+    hidden: Option<usize>,
+) -> Result<(), AllocError>
+    ensures { OnOk result ((IsSome hidden → IsSome (number_by numbers.old (cow_str_bytes text.now))) → (other : List ℕ) →
+        number_by numbers.new other ≡ (if bytes_eq (cow_str_bytes text.now) other then hidden else number_by numbers.old other)) }
 {
-    let key = key_of(text);
+    let key = key_of(text)?;
     match hidden {
-        Some(number) => {
-            if let Some(shown) = numbers.get_mut(&key) {
+        Some(number) => match numbers.get_mut(&key) {
+            Some(shown) => {
                 *shown = number;
+                Ok(())
             }
-        }
+            None => Ok(()),
+        },
         None => {
             let _shown = numbers.remove(&key);
+            Ok(())
         }
     }
 }
@@ -194,14 +260,16 @@ fn show_binding<'t>(
     bindings: &[Binding<'t>],
     hidden: &[Option<usize>],
     numbers: &mut BTreeMap<Key<'t>, usize>,
-)
-    ensures shown { (b : Bound) → slice_get (map bound_of bindings.now) number ≡ Some b →
+) -> Result<(), AllocError>
+    ensures shown { OnOk result ((b : Bound) → slice_get (map bound_of bindings.now) number ≡ Some b →
         (IsSome (hidden_by hidden.now number) → IsSome (number_by numbers.old b.text)) → (text : List ℕ) →
-        number_by numbers.new text ≡ (if bytes_eq b.text text then hidden_by hidden.now number else number_by numbers.old text) }
-    ensures same { slice_get (map bound_of bindings.now) number ≡ None → (text : List ℕ) → number_by numbers.new text ≡ number_by numbers.old text }
+        number_by numbers.new text ≡ (if bytes_eq b.text text then hidden_by hidden.now number else number_by numbers.old text)) }
+    ensures same { OnOk result (slice_get (map bound_of bindings.now) number ≡ None → (text : List ℕ) →
+        number_by numbers.new text ≡ number_by numbers.old text) }
 {
-    if let Some(binding) = bindings.get(number) {
-        show(numbers, binding.text, hidden_by(hidden, number));
+    match bindings.get(number) {
+        Some(binding) => show(numbers, &binding.text, hidden_by(hidden, number)),
+        None => Ok(()),
     }
 }
 
@@ -211,13 +279,14 @@ fn show_hidden<'t>(
     bindings: &[Binding<'t>],
     hidden: &[Option<usize>],
     numbers: &mut BTreeMap<Key<'t>, usize>,
-)
-    ensures { (outer : List ℕ → Option ℕ) → IsHidden outer (map bound_of bindings.now) numbers.old hidden.now scope → (text : List ℕ) →
-        IsShownAgain outer (map bound_of bindings.now) scope.first scope.end numbers.old numbers.new text }
+) -> Result<(), AllocError>
+    ensures { OnOk result ((outer : List ℕ → Option ℕ) → IsHidden outer (map bound_of bindings.now) numbers.old hidden.now scope → (text : List ℕ) →
+        IsShownAgain outer (map bound_of bindings.now) scope.first scope.end numbers.old numbers.new text) }
 {
     for number in scope.first..scope.end {
-        show_binding(number, bindings, hidden, numbers);
+        show_binding(number, bindings, hidden, numbers)?;
     }
+    Ok(())
 }
 
 impl<'t> Sight<'t> {
@@ -231,6 +300,7 @@ impl<'t> Sight<'t> {
             numbers: BTreeMap::new(alloc),
             hidden: Vec::new(alloc),
             scopes: Vec::new(alloc),
+            names: Vec::new(alloc),
         }
     }
 
@@ -247,34 +317,52 @@ impl<'t> Sight<'t> {
             ++ map (bound_in scope.now) (names_bound scope.now)) }
     {
         let first = bindings.len();
-        bind_names(alloc, scope, bindings, &mut self.numbers, &mut self.hidden)?;
+        names_bound(alloc, scope, &mut self.names)?;
+        bind_names(
+            &self.names,
+            scope,
+            bindings,
+            &mut self.numbers,
+            &mut self.hidden,
+        )?;
         let end = bindings.len();
         self.scopes.push(Scope { first, end })?;
         Ok(())
     }
 
     /// Leaves the innermost scope: what it hid comes into sight again.
-    pub fn leave(&mut self, bindings: &[Binding<'t>])
-        ensures { (n : ℕ) → (scope : Located) → (outer : List Located) →
-            IsSeen bindings.now self.old n (scope ∷ outer) → IsSeen bindings.now self.new n outer }
+    pub fn leave(&mut self, bindings: &[Binding<'t>]) -> Result<(), AllocError>
+        ensures { OnOk result ((n : ℕ) → (scope : Located) → (outer : List Located) →
+            IsSeen bindings.now self.old n (scope ∷ outer) → IsSeen bindings.now self.new n outer) }
     {
-        if let Some(scope) = self.scopes.pop() {
-            show_hidden(scope, bindings, &self.hidden, &mut self.numbers);
+        match self.scopes.pop() {
+            Some(scope) => {
+                show_hidden(scope, bindings, &self.hidden, &mut self.numbers)?;
+                Ok(())
+            }
+            None => Ok(()),
         }
     }
 
-    /// The number of the innermost binding of a name.
+    /// The number of the innermost binding of a name that is a part of the text.
     pub fn number(&self, text: &'t str) -> Option<usize>
         ensures { result ≡ number_by self.now.numbers text.now }
     {
-        self.numbers.get(&key_of(text)).copied()
+        self.numbers.get(&part_key(text)).copied()
     }
 
-    /// The number of the innermost binding of a name outside of the innermost scope.
-    pub fn outer_number(&self, text: &'t str) -> Option<usize>
-        ensures { result ≡ outer_number self.now text.now }
+    /// The number of the innermost binding of a name.
+    pub fn number_of(&self, text: &CowStr<'t>) -> Result<Option<usize>, AllocError>
+        ensures { IfOk result (λ number. number ≡ number_by self.now.numbers (cow_str_bytes text.now)) }
     {
-        let number = self.number(text);
+        let key = key_of(text)?;
+        Ok(self.numbers.get(&key).copied())
+    }
+
+    /// The number that a name has outside of the innermost scope, where it has this one inside.
+    pub fn outer_number(&self, number: Option<usize>) -> Option<usize>
+        ensures { result ≡ outer_by (first_of self.now.scopes.items) number self.now.hidden.items }
+    {
         match self.scopes.last() {
             Some(scope) => outside(number, scope.first, &self.hidden),
             None => number,

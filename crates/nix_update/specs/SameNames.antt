@@ -1,6 +1,7 @@
 -- When the names of a text mean the same in another one that lacks one of its entries.
 use Rattle.std.specs.Prelude.{◌≡◌, ℕ, ◌-◌, nat_lt, nat_le, ◌||◌, Bool, List, Option, Some, None, filter, slice_get, if◌then◌else◌}
 use Rattle.std.specs.List.{AllZip}
+use Rattle.std.specs.Cow.{cow_str_bytes}
 use Rattle.rnix_green.specs.Tree.{Located, item_of}
 use Rattle.nix_scopes.specs.declared.resolution.Binding.{Binding}
 use Rattle.nix_scopes.specs.declared.resolution.Reference.{Reference}
@@ -36,7 +37,7 @@ AreInOneScope change _ _ = ⊥
 
 -- a reference is the same one in the shorter text: its name is bound in the same scope, or by nothing in the text
 pub record RefersAlike (change : Change) (longer shorter : Resolution) (reference other : Reference) : Type 0 where
-  pub text : reference.text.now ≡ other.text.now
+  pub text : cow_str_bytes reference.text ≡ cow_str_bytes other.text
   pub is_inherited : reference.is_inherited ≡ other.is_inherited
   pub is_open : reference.is_open ≡ other.is_open
   pub scope : AreInOneScope change (binding_at longer reference.binding) (binding_at shorter other.binding)

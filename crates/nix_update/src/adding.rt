@@ -91,7 +91,6 @@ fn add_to(
         names: &path.names,
         ways,
         at: home.at,
-        written: names,
     };
     keep_added(alloc, site, update.is_forced, made)
 }

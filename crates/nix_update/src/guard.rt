@@ -24,11 +24,9 @@ pub struct Site<'s, 't> {
     pub ways: &'s [Way<'t>],
     /// The number of names that lead to the set.
     pub at: usize,
-    /// The names of the entry in the set, as they are written.
-    pub written: &'s str,
 }
 
-// Returns whether a name is one for which operators stand, or that sets with `rec` treat in their own way.
+// Returns whether operators refer to a name, or `rec` sets treat it specially.
 fn is_special(name: &str) -> bool {
     matches!(
         name,
@@ -42,11 +40,6 @@ fn is_special_at(names: &[String], at: usize) -> bool {
         Some(name) => is_special(name.as_str()),
         None => false,
     }
-}
-
-// Returns whether the first of some names is written so that the resolution of names does not know it: as `${"a"}`, or with an escape.
-fn is_hidden(written: &str) -> bool {
-    written.starts_with("${") || (written.starts_with('"') && written.contains('\\'))
 }
 
 // Returns whether a node is a set with `rec`.
@@ -125,9 +118,6 @@ fn barred(alloc: Global, site: Site<'_, '_>) -> Result<Option<Refused>, AllocErr
     let start = site.set.text_range().start();
     if is_special_at(site.names, site.at) {
         return Ok(Some(refuse_at(Reason::SpecialName, start)));
-    }
-    if is_hidden(site.written) {
-        return Ok(Some(refuse_at(Reason::HiddenName, start)));
     }
     Ok(None)
 }

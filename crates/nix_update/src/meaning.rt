@@ -88,7 +88,7 @@ fn refers_alike(
 ) -> bool
     ensures { Decides result (RefersAlike change longer.now shorter.now reference.now other.now) }
 {
-    reference.text == other.text
+    reference.text.as_str() == other.text.as_str()
         && reference.is_inherited == other.is_inherited
         && reference.is_open == other.is_open
         && are_in_one_scope(

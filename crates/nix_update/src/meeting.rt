@@ -15,11 +15,11 @@ use std::alloc::{AllocError, Global};
 pub enum Meeting {
     /// It binds something else.
     Apart,
-    /// Its names are the first ones of the rest, which goes on at this name of the path.
+    /// Its names are the first ones of the rest, which continues at this name of the path.
     Within(usize),
     /// Its names are the rest.
     Whole,
-    /// Its names go on after the rest: it makes a part of the attribute.
+    /// Its names continue after the rest: it makes a part of the attribute.
     Part,
     /// It inherits the first name of the rest.
     Inherited,

@@ -28,10 +28,8 @@ pub enum Reason {
     SeveralSets,
     /// With the change, a name would refer to something else.
     OtherMeaning,
-    /// An operator stands for the name, or the set treats it in its own way.
+    /// An operator refers to the name, or the set treats it specially.
     SpecialName,
-    /// In a `rec` set, the resolution of names does not know a name that is written so.
-    HiddenName,
     /// Other entries add to the `rec` set in which the attribute would be added or removed.
     SplitSet,
     /// The edit is refused.
@@ -112,9 +110,6 @@ impl Reason {
             }
             Reason::SpecialName => {
                 "in this set, the name has a meaning of its own for others: --force changes the text all the same"
-            }
-            Reason::HiddenName => {
-                "in this `rec` set, uses of a name that is written as ${\"a\"} or with an escape are not known: --force changes the text all the same"
             }
             Reason::SplitSet => {
                 "other entries add to this `rec` set, so names in them may change their meaning: --force changes the text all the same"

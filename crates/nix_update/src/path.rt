@@ -40,7 +40,7 @@ fn only_path<'t>(root: &Root<'t>) -> Option<Attrpath<'t>>
     }
 }
 
-// Returns the names of a path, and where each begins behind the first byte, or `None` if a name is computed.
+// Returns the names of a path, and the offset of each after the first byte, or `None` if a name is computed.
 fn path_in<'p>(
     alloc: Global,
     text: &'p str,

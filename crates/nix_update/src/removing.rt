@@ -10,7 +10,6 @@ use crate::place::start_of;
 use crate::request::Update;
 use crate::ways::Way;
 use rnix::SyntaxNode;
-use rnix::ast::{AstNode, AttrpathValue};
 use rnix_edit::{Edited, remove};
 use std::alloc::{AllocError, Global};
 
@@ -31,17 +30,6 @@ fn keep_removed(
     match hinders_removing(alloc, site, entry, made.as_str())? {
         Some(refused) => Ok(Attempt::Refused(refused)),
         None => Ok(Attempt::Made(made)),
-    }
-}
-
-// Returns the path of an entry, as it is written.
-fn written_path<'t>(entry: &SyntaxNode<'t>) -> &'t str {
-    match AttrpathValue::cast(entry.clone()) {
-        Some(entry) => match entry.attrpath() {
-            Some(path) => path.syntax().text(),
-            None => "",
-        },
-        None => "",
     }
 }
 
@@ -75,7 +63,6 @@ pub fn remove_entry(
         names,
         ways,
         at: maker.at,
-        written: written_path(entry),
     };
     keep_removed(alloc, site, update.is_forced, entry, made)
 }

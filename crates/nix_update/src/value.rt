@@ -67,7 +67,7 @@ fn expression(alloc: Global, text: &str) -> Result<Option<Value>, AllocError>
     }
 }
 
-/// Returns the value that a text stands for, or `None` if the form is `Raw` and the text is not an expression.
+/// Returns the value of a text in a form, or `None` if the form is `Raw` and the text is not an expression.
 pub fn value_of(alloc: Global, form: Form, text: &str) -> Result<Option<Value>, AllocError>
     ensures some { IfOk result (λ value. IfSome value (λ value. IsValueOf form text.now value.kind (string_bytes value.text))) }
     ensures none { IfOk result (λ value. IfNone value (IsNoValue form text.now)) }

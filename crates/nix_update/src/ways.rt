@@ -34,7 +34,7 @@ fn add_if<'t>(
     Ok(())
 }
 
-// Adds the value of an entry, if the path goes on in it.
+// Adds the value of an entry, if the path continues in it.
 fn add_value<'t>(
     alloc: Global,
     names: &[String],
@@ -51,7 +51,7 @@ fn add_value<'t>(
     }
 }
 
-// Adds the values of the entries of a node in which the path goes on.
+// Adds the values of the entries of a node in which the path continues.
 fn add_values<'t>(
     alloc: Global,
     names: &[String],

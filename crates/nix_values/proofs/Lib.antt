@@ -1,2 +1,9 @@
 pub mod SameLemmas
 pub mod JsonStringLemmas
+pub mod JsonContentLemmas
+pub mod JsonNumberLemmas
+pub mod JsonTokenLemmas
+pub mod JsonStateLemmas
+pub mod JsonReadingLemmas
+pub mod JsonReadLemmas
+pub mod JsonExamples

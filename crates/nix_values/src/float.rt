@@ -1,64 +1,98 @@
 //! Floats as both Nix and JSON write them.
 
-ghost use Rattle.std.specs.Prelude.{◌≡◌};
-ghost use Rattle.std.specs.Char.{is_ascii_digit};
-ghost use Rattle.std.specs.List.{prefix_len};
+ghost use Rattle.std.specs.Prelude.{◌≡◌, ◌++◌, ◌<◌, OnOk, IfOk, option_map, string_bytes};
+ghost use Rattle.nix_values.specs.Floats.{has_value, is_held, without_first, first_digits, after_digits, or_zero, fraction_text, unsigned_text, with_point, float_text};
 
+use crate::bytes::{byte_at, digits};
 use std::alloc::{AllocError, Global};
 
-/// Returns how many digits a text begins with.
-pub fn digits(text: &str) -> usize
-    ensures { result ≡ prefix_len is_ascii_digit text.now }
-{
-    let bytes = text.as_bytes();
-    bytes
-        .iter()
-        .take_while(|byte| byte.is_ascii_digit())
-        .count()
-}
+const ZERO: f64 = 0.0;
 
-// Whether a digit other than 0 stands before the exponent of a number.
-fn has_value(number: &str) -> bool {
-    for byte in number.bytes() {
-        match byte {
-            b'1'..=b'9' => return true,
-            b'e' | b'E' => return false,
-            _ => {}
+// Whether a digit other than 0 precedes the exponent of a number.
+fn has_value(number: &[u8]) -> bool
+    ensures { result ≡ has_value number.now }
+{
+    for index in 0..number.len() {
+        let byte = number[index];
+        if b'1' <= byte && byte <= b'9' {
+            return true;
+        }
+        if byte == b'e' || byte == b'E' {
+            return false;
         }
     }
     false
 }
 
 /// Returns whether Nix can hold a number: its nearest float is neither infinite nor so small that digits are lost.
-pub fn is_held(number: &str) -> bool {
+pub fn is_held(number: &str) -> bool
+    ensures { result ≡ is_held number.now }
+{
     match number.parse::<f64>() {
-        Ok(float) => float.is_normal() || (float == 0.0 && !has_value(number)),
+        Ok(float) => float.is_normal() || (float == ZERO && !has_value(number.as_bytes())),
         Err(_) => false,
     }
 }
 
+/// Returns a text without an ASCII byte that it may begin with.
+pub fn without_first(text: &str, byte: u8) -> &str
+    requires some { 0 < byte }
+    requires ascii { byte < 128 }
+    ensures { result.now ≡ without_first byte text.now }
+{
+    if byte_at(text.as_bytes(), 0) == byte {
+        text.split_at(1).1
+    } else {
+        text
+    }
+}
+
+// The digits that a text begins with, and what follows them.
+fn split_digits(text: &str) -> (&str, &str)
+    ensures front { result.0.now ≡ first_digits text.now }
+    ensures back { result.1.now ≡ after_digits text.now }
+{
+    text.split_at(digits(text.as_bytes()))
+}
+
+// Digits, or `0` if there are none.
+fn or_zero(digits: &str) -> &str
+    ensures { result.now ≡ or_zero digits.now }
+{
+    if digits.is_empty() { "0" } else { digits }
+}
+
+// Writes digits, or `0` if there are none, and what follows them.
+fn push_fraction(rest: &str, text: &mut String) -> Result<(), AllocError>
+    ensures { OnOk result (string_bytes text.new ≡ string_bytes text.old ++ fraction_text rest.now) }
+{
+    let (fraction, exponent) = split_digits(rest);
+    text.push_str(or_zero(fraction))?;
+    text.push_str(exponent)
+}
+
+// Writes a number without a sign with a point that has a digit before it and one after it.
+fn push_unsigned(number: &str, text: &mut String) -> Result<(), AllocError>
+    ensures { OnOk result (string_bytes text.new ≡ string_bytes text.old ++ unsigned_text number.now) }
+{
+    let (whole, rest) = split_digits(number);
+    text.push_str(or_zero(whole))?;
+    text.push('.')?;
+    push_fraction(without_first(rest, b'.'), text)
+}
+
 /// Returns a number with a point, with a digit before the point and one after it, or nothing if Nix cannot hold it. It is what a float of Nix
 /// or a number of JSON is written as.
-pub fn float_of(alloc: Global, number: &str) -> Result<Option<String>, AllocError> {
+pub fn float_of(alloc: Global, number: &str) -> Result<Option<String>, AllocError>
+    ensures { IfOk result (λ found. option_map string_bytes found ≡ float_text number.now) }
+{
     if !is_held(number) {
         return Ok(None);
     }
     let mut text = String::new(alloc);
-    let unsigned = match number.strip_prefix('-') {
-        Some(rest) => {
-            text.push('-')?;
-            rest
-        }
-        None => number,
-    };
-    let (whole, rest) = unsigned
-        .split_at_checked(digits(unsigned))
-        .unwrap_or(("", unsigned));
-    text.push_str(if whole.is_empty() { "0" } else { whole })?;
-    text.push('.')?;
-    let rest = rest.strip_prefix('.').unwrap_or(rest);
-    let (fraction, exponent) = rest.split_at_checked(digits(rest)).unwrap_or(("", rest));
-    text.push_str(if fraction.is_empty() { "0" } else { fraction })?;
-    text.push_str(exponent)?;
+    if byte_at(number.as_bytes(), 0) == b'-' {
+        text.push('-')?;
+    }
+    push_unsigned(without_first(number, b'-'), &mut text)?;
     Ok(Some(text))
 }

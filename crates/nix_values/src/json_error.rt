@@ -1,5 +1,8 @@
 //! Why a text is not JSON that Nix can hold.
 
+ghost use Rattle.std.specs.Prelude.{◌≡◌, None};
+ghost use Rattle.nix_values.specs.declared.json_error.JsonStop.TheVariants.{Memory, Refused};
+
 use std::alloc::{AllocError, AllocFailed};
 
 /// Why a text is refused.
@@ -70,7 +73,7 @@ pub struct JsonError {
     pub reason: JsonReason,
     /// Where, in bytes.
     pub offset: usize,
-    /// Where a repeated name stands first.
+    /// The offset of the first of two equal names, in bytes.
     pub first: Option<usize>,
 }
 
@@ -84,19 +87,25 @@ pub enum JsonStop {
 }
 
 impl From<AllocError> for JsonStop {
+    ghost from_gives = { λ error stop. stop ≡ Memory };
+
     fn from(_error: AllocError) -> JsonStop {
         JsonStop::Memory
     }
 }
 
 impl<T: Drop> From<AllocFailed<T>> for JsonStop {
+    ghost from_gives = { λ error stop. stop ≡ Memory };
+
     fn from(_error: AllocFailed<T>) -> JsonStop {
         JsonStop::Memory
     }
 }
 
 /// Refuses a text at an offset.
-pub fn refused(reason: JsonReason, offset: usize) -> JsonStop {
+pub fn refused(reason: JsonReason, offset: usize) -> JsonStop
+    ensures { result ≡ Refused (record { reason = reason; offset = offset; first = None }) }
+{
     JsonStop::Refused(JsonError {
         reason,
         offset,

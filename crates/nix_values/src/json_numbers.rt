@@ -1,73 +1,149 @@
 //! Numbers of JSON.
 
+ghost use Rattle.std.specs.Prelude.{◌≡◌, ◌<◌, ◌≤◌, true, length, Some, None, IfSome, IfOk, option_map};
+ghost use Rattle.std.specs.Str.Parse.{IsNumeral};
+ghost use Rattle.nix_values.specs.Contents.{plain_of};
+ghost use Rattle.nix_values.specs.Floats.{without_first};
+ghost use Rattle.nix_values.specs.JsonNumbers.{some_digits, whole_end, fraction_end, exponent_end, decimals_end, unsigned_start, number_end, integer_value, number_value, number_at};
+ghost use Rattle.nix_values.specs.JsonReading.{EndsAscii, Reads};
+
+use crate::bytes::{byte_at, digits};
 use crate::data::Value;
-use crate::float::{digits, float_of};
+use crate::float::{float_of, without_first};
 use crate::json_error::{JsonReason, JsonStop, refused};
 use std::alloc::Global;
 
-// A text without the digits that it begins with.
-fn after_digits(text: &str) -> &str {
-    text.get(digits(text)..).unwrap_or("")
+// Where the digits end that must be at a place.
+fn some_digits(text: &[u8], from: usize) -> Option<usize>
+    requires { from ≤ length text.now }
+    ensures end { result ≡ some_digits from text.now }
+    ensures ascii { IfSome result (EndsAscii text.now) }
+{
+    let end = from + digits(&text[from..]);
+    if end == from { None } else { Some(end) }
 }
 
-// A text without the digits that it begins with; nothing if there are none.
-fn after_some_digits(text: &str) -> Option<&str> {
-    let rest = after_digits(text);
-    if rest.len() < text.len() {
-        Some(rest)
+// Where the whole part ends.
+fn whole_end(text: &[u8], from: usize) -> Option<usize>
+    requires { from ≤ length text.now }
+    ensures end { result ≡ whole_end from text.now }
+    ensures ascii { IfSome result (EndsAscii text.now) }
+{
+    if byte_at(text, from) == b'0' {
+        Some(from + 1)
     } else {
-        None
+        some_digits(text, from)
     }
 }
 
-// A text without the whole number that it begins with.
-fn after_whole(text: &str) -> Option<&str> {
-    match text.strip_prefix('0') {
-        Some(rest) => Some(rest),
-        None => after_some_digits(text),
+// Where the fraction ends that may be at a place.
+fn fraction_end(text: &[u8], from: usize) -> Option<usize>
+    requires { EndsAscii text.now from }
+    ensures end { result ≡ fraction_end from text.now }
+    ensures ascii { IfSome result (EndsAscii text.now) }
+{
+    if byte_at(text, from) == b'.' {
+        some_digits(text, from + 1)
+    } else {
+        Some(from)
     }
 }
 
-// A text without the fraction that it may begin with.
-fn after_fraction(text: &str) -> Option<&str> {
-    match text.strip_prefix('.') {
-        Some(rest) => after_some_digits(rest),
-        None => Some(text),
+// Where the exponent ends that may be at a place.
+fn exponent_end(text: &[u8], from: usize) -> Option<usize>
+    requires { EndsAscii text.now from }
+    ensures end { result ≡ exponent_end from text.now }
+    ensures ascii { IfSome result (EndsAscii text.now) }
+{
+    if byte_at(text, from) == b'e' || byte_at(text, from) == b'E' {
+        if byte_at(text, from + 1) == b'+' || byte_at(text, from + 1) == b'-' {
+            some_digits(text, from + 2)
+        } else {
+            some_digits(text, from + 1)
+        }
+    } else {
+        Some(from)
     }
 }
 
-// A text without the exponent that it may begin with.
-fn after_exponent(text: &str) -> Option<&str> {
-    match text.strip_prefix(['e', 'E']) {
-        Some(rest) => after_some_digits(rest.strip_prefix(['+', '-']).unwrap_or(rest)),
-        None => Some(text),
+// Where the fraction and the exponent end that may be at a place.
+fn decimals_end(text: &[u8], from: usize) -> Option<usize>
+    requires { EndsAscii text.now from }
+    ensures end { result ≡ decimals_end from text.now }
+    ensures ascii { IfSome result (EndsAscii text.now) }
+{
+    match fraction_end(text, from) {
+        Some(end) => exponent_end(text, end),
+        None => None,
     }
 }
 
-// A text without the number that it begins with, and whether that is an integer.
-fn after_number(text: &str) -> Option<(&str, bool)> {
-    let whole = after_whole(text.strip_prefix('-').unwrap_or(text))?;
-    let rest = after_exponent(after_fraction(whole)?)?;
-    Some((rest, rest.len() == whole.len()))
+// Where the whole part begins.
+fn unsigned_start(text: &[u8]) -> usize
+    ensures start { result ≡ unsigned_start text.now }
+    ensures within { result ≤ length text.now }
+{
+    if byte_at(text, 0) == b'-' { 1 } else { 0 }
 }
 
-/// Reads the number at an offset, and returns where it ends.
-pub fn json_number(alloc: Global, text: &str, start: usize) -> Result<(Value, usize), JsonStop> {
-    let rest = text.get(start..).unwrap_or("");
-    let Some((behind, is_integer)) = after_number(rest) else {
-        return Err(refused(JsonReason::NoNumber, start));
+// Where a number ends, and whether it is an integer.
+fn number_end(text: &[u8]) -> Option<(usize, bool)>
+    ensures end { result ≡ number_end text.now }
+    ensures ascii { IfSome result (λ n. EndsAscii text.now n.0) }
+{
+    let whole = whole_end(text, unsigned_start(text))?;
+    let end = decimals_end(text, whole)?;
+    Some((end, end == whole))
+}
+
+// The value of an integer, if Nix can write it.
+fn integer_value(number: &str) -> Option<Value>
+    requires { IsNumeral 10 (without_first 45 number.now) }
+    ensures { option_map plain_of result ≡ integer_value number.now }
+{
+    let Ok(magnitude) = without_first(number, b'-').parse::<i64>() else {
+        return None;
     };
-    let len = rest.len().saturating_sub(behind.len());
-    let number = rest.get(..len).unwrap_or("");
-    let end = start.saturating_add(len);
+    if byte_at(number.as_bytes(), 0) == b'-' {
+        Some(Value::Integer(-magnitude))
+    } else {
+        Some(Value::Integer(magnitude))
+    }
+}
+
+// The value of a number, or why Nix cannot hold it.
+fn number_value(
+    alloc: Global,
+    is_integer: bool,
+    number: &str,
+    start: usize,
+) -> Result<Value, JsonStop>
+    requires { is_integer ≡ true → IsNumeral 10 (without_first 45 number.now) }
+    ensures { Reads result (λ value. number_value is_integer number.now ≡ Some (plain_of value)) (number_value is_integer number.now ≡ None) }
+{
     if is_integer {
-        return match number.parse::<i64>() {
-            Ok(integer) if integer > i64::MIN => Ok((Value::Integer(integer), end)),
-            _ => Err(refused(JsonReason::TooLarge, start)),
+        return match integer_value(number) {
+            Some(value) => Ok(value),
+            None => Err(refused(JsonReason::TooLarge, start)),
         };
     }
     match float_of(alloc, number)? {
-        Some(float) => Ok((Value::Float(float), end)),
+        Some(float) => Ok(Value::Float(float)),
         None => Err(refused(JsonReason::NoFloat, start)),
+    }
+}
+
+/// Reads the number that a text begins with, and returns its length. The text begins at an offset.
+pub fn json_number(alloc: Global, text: &str, start: usize) -> Result<(Value, usize), JsonStop>
+    ensures read { Reads result (λ found. number_at text.now ≡ Some (plain_of found.0, found.1)) (number_at text.now ≡ None) }
+    ensures within { IfOk result (λ found. (0 < found.1) × (found.1 ≤ length text.now)) }
+{
+    let Some((end, is_integer)) = number_end(text.as_bytes()) else {
+        return Err(refused(JsonReason::NoNumber, start));
+    };
+    let (number, _rest) = text.split_at(end);
+    match number_value(alloc, is_integer, number, start) {
+        Ok(value) => Ok((value, end)),
+        Err(stop) => Err(stop),
     }
 }

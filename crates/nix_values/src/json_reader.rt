@@ -1,8 +1,14 @@
 //! The data of a JSON text.
 
-use crate::builder::Builder;
-use crate::data::{Data, Value};
+ghost use Rattle.std.specs.Prelude.{◌≡◌, [], IfNone, IfSome, IfOk, OnOk, MatchResult, string_bytes};
+ghost use Rattle.nix_values.specs.Contents.{plain_of, contents};
+ghost use Rattle.nix_values.specs.Json.{opening, closing, comma, colon, string, scalar, IsJson};
+ghost use Rattle.nix_values.specs.JsonReading.{opened, opened_plain, IsNoJson, ReadsJson};
+
+use crate::attributes::Attributes;
+use crate::data::{Data, Item, Value};
 use crate::json_error::{JsonError, JsonReason, JsonStop, refused};
+use crate::json_found::{Found, Place};
 use crate::json_tokens::{Token, after_space, json_token};
 use std::alloc::{AllocError, Global};
 
@@ -24,6 +30,7 @@ enum State {
 // A list or a set that is open.
 #[derive(Clone, Copy)]
 struct Frame {
+    // The number of its value.
     node: usize,
     is_set: bool,
 }
@@ -32,28 +39,78 @@ struct Frame {
 #[derive(Drop)]
 struct Reading {
     alloc: Global,
-    builder: Builder,
-    // Where the name of each value stands, or the value where it has no name.
-    places: Vec<usize>,
+    found: Found,
+    attributes: Attributes,
     frames: Vec<Frame>,
-    // The name whose value comes next, and where it stands.
+    // The name whose value comes next, and its offset.
     name: Option<(String, usize)>,
     state: State,
 }
 
+// The value that begins with a bracket.
+fn opened_value(is_set: bool) -> Value
+    ensures { plain_of result ≡ opened_plain is_set }
+{
+    if is_set { Value::Set } else { Value::List }
+}
+
+// What may come next inside it.
+fn opened(is_set: bool) -> State
+    ensures { result ≡ opened is_set }
+{
+    if is_set {
+        State::NameOrClose
+    } else {
+        State::ValueOrClose
+    }
+}
+
 impl Reading {
-    // What comes behind a value.
-    fn after_value(&self) -> State {
-        if self.frames.is_empty() {
-            State::End
+    ghost use Rattle.nix_values.specs.JsonReading.{is_value_next, is_name_next, is_close_next, is_comma_next, is_colon_next, is_end, state_behind, IsInside, IsSound, IsAdded, TakesOrNot, TakesTokenOrNot, IsBegun};
+
+    // Nothing is read yet.
+    fn new(alloc: Global) -> Reading
+        ensures { IsBegun result }
+    {
+        Reading {
+            alloc,
+            found: Found::new(alloc),
+            attributes: Attributes::new(alloc),
+            frames: Vec::new(alloc),
+            name: None,
+            state: State::Value,
+        }
+    }
+
+    // The innermost list or set.
+    fn innermost(&self) -> Option<Frame>
+        ensures none { IfNone result (self.now.frames.items ≡ []) }
+        ensures some { IfSome result (λ frame. IsInside frame.is_set self.now.frames.items) }
+    {
+        let count = self.frames.len();
+        if count == 0 {
+            None
         } else {
-            State::CommaOrClose
+            Some(self.frames[count - 1])
+        }
+    }
+
+    // What comes after a value.
+    fn after_value(&self) -> State
+        ensures { result ≡ state_behind self.now.frames.items }
+    {
+        match self.innermost() {
+            Some(_) => State::CommaOrClose,
+            None => State::End,
         }
     }
 
     // Why a token does not fit.
     fn unexpected(&self, at: usize) -> JsonStop {
-        let is_set = self.frames.last().is_some_and(|frame| frame.is_set);
+        let is_set = match self.innermost() {
+            Some(frame) => frame.is_set,
+            None => false,
+        };
         let reason = match self.state {
             State::Value | State::ValueOrClose => JsonReason::NoValue,
             State::Name | State::NameOrClose => JsonReason::NoName,
@@ -66,61 +123,123 @@ impl Reading {
     }
 
     // Adds a value to the innermost list or set.
-    fn add(&mut self, value: Value, at: usize) -> Result<usize, JsonStop> {
-        let parent = self.frames.last().map(|frame| frame.node);
-        let (name, place) = match self.name.take() {
+    fn add(&mut self, value: Value, at: usize) -> Result<usize, AllocError>
+        ensures { OnOk result (IsAdded self.old (plain_of value) self.new) }
+    {
+        let number = self.found.items.len();
+        let depth = self.frames.len();
+        let (name, offset) = match self.name.take() {
             Some(named) => named,
             None => (String::new(self.alloc), at),
         };
-        self.places.push(place)?;
-        Ok(self.builder.add(self.alloc, parent, name, value)?)
+        let set = match self.innermost() {
+            Some(frame) if frame.is_set => Some(frame.node),
+            _ => None,
+        };
+        if let Some(set) = set {
+            let attribute = (set, name.as_str());
+            self.attributes
+                .insert(self.alloc, &self.found, attribute, number)?;
+        }
+        self.found.places.push(Place { offset, set })?;
+        self.found.items.push(Item { depth, name, value })?;
+        Ok(number)
     }
 
     // Whether a value may come next.
-    fn is_value_next(&self) -> bool {
+    fn is_value_next(&self) -> bool
+        ensures { result ≡ is_value_next self.now.state }
+    {
         matches!(self.state, State::Value | State::ValueOrClose)
     }
 
+    // Whether a name may come next.
+    fn is_name_next(&self) -> bool
+        ensures { result ≡ is_name_next self.now.state }
+    {
+        matches!(self.state, State::Name | State::NameOrClose)
+    }
+
+    // Whether the end of the innermost list or set may come next.
+    fn is_close_next(&self) -> bool
+        ensures { result ≡ is_close_next self.now.state }
+    {
+        matches!(
+            self.state,
+            State::ValueOrClose | State::NameOrClose | State::CommaOrClose
+        )
+    }
+
+    // Whether a comma may come next.
+    fn is_comma_next(&self) -> bool
+        ensures { result ≡ is_comma_next self.now.state }
+    {
+        matches!(self.state, State::CommaOrClose)
+    }
+
+    // Whether a colon may come next.
+    fn is_colon_next(&self) -> bool
+        ensures { result ≡ is_colon_next self.now.state }
+    {
+        matches!(self.state, State::Colon)
+    }
+
+    // Whether nothing may come next.
+    fn is_end(&self) -> bool
+        ensures { result ≡ is_end self.now.state }
+    {
+        matches!(self.state, State::End)
+    }
+
     // Takes a value that holds no values.
-    fn take_scalar(&mut self, value: Value, at: usize) -> Result<(), JsonStop> {
+    fn take_scalar(&mut self, value: Value, at: usize) -> Result<(), JsonStop>
+        requires { IsSound self.old }
+        ensures { TakesOrNot result self.old (scalar (plain_of value)) self.new }
+    {
         if !self.is_value_next() {
             return Err(self.unexpected(at));
         }
-        let _node = self.add(value, at)?;
+        let _number = self.add(value, at)?;
         self.state = self.after_value();
         Ok(())
     }
 
     // Takes the beginning of a list or a set.
-    fn take_open(&mut self, value: Value, at: usize) -> Result<(), JsonStop> {
+    fn take_open(&mut self, is_set: bool, at: usize) -> Result<(), JsonStop>
+        requires { IsSound self.old }
+        ensures { TakesOrNot result self.old (opening is_set) self.new }
+    {
         if !self.is_value_next() {
             return Err(self.unexpected(at));
         }
         if self.frames.len() >= MOST_DEPTH {
             return Err(refused(JsonReason::TooDeep, at));
         }
-        let is_set = matches!(&value, Value::Set);
-        let node = self.add(value, at)?;
+        let node = self.add(opened_value(is_set), at)?;
         self.frames.push(Frame { node, is_set })?;
-        self.state = if is_set {
-            State::NameOrClose
-        } else {
-            State::ValueOrClose
-        };
+        self.state = opened(is_set);
         Ok(())
     }
 
+    // The attribute of the innermost set that has a name.
+    fn attribute(&self, name: &str) -> Option<usize> {
+        let set = self.innermost()?.node;
+        self.attributes.get(&self.found, set, name)
+    }
+
     // Takes a string: a name or a value.
-    fn take_text(&mut self, text: String, at: usize) -> Result<(), JsonStop> {
-        if !matches!(self.state, State::Name | State::NameOrClose) {
+    fn take_text(&mut self, text: String, at: usize) -> Result<(), JsonStop>
+        requires { IsSound self.old }
+        ensures { TakesOrNot result self.old (string (string_bytes text)) self.new }
+    {
+        if !self.is_name_next() {
             return self.take_scalar(Value::Text(text), at);
         }
-        let set = self.frames.last().map_or(0, |frame| frame.node);
-        if let Some(found) = self.builder.attribute(set, text.as_str()) {
+        if let Some(number) = self.attribute(text.as_str()) {
             return Err(JsonStop::Refused(JsonError {
                 reason: JsonReason::Repeated,
                 offset: at,
-                first: self.places.get(found).copied(),
+                first: self.found.offset(number),
             }));
         }
         self.name = Some((text, at));
@@ -129,17 +248,17 @@ impl Reading {
     }
 
     // Takes the end of a list or a set.
-    fn take_close(&mut self, is_set: bool, at: usize) -> Result<(), JsonStop> {
-        let is_next = matches!(
-            self.state,
-            State::ValueOrClose | State::NameOrClose | State::CommaOrClose
-        );
-        if !is_next
-            || !self
-                .frames
-                .last()
-                .is_some_and(|frame| frame.is_set == is_set)
-        {
+    fn take_close(&mut self, is_set: bool, at: usize) -> Result<(), JsonStop>
+        requires { IsSound self.old }
+        ensures { TakesOrNot result self.old (closing is_set) self.new }
+    {
+        if !self.is_close_next() {
+            return Err(self.unexpected(at));
+        }
+        let Some(frame) = self.innermost() else {
+            return Err(self.unexpected(at));
+        };
+        if frame.is_set != is_set {
             return Err(self.unexpected(at));
         }
         let _closed = self.frames.pop();
@@ -148,18 +267,30 @@ impl Reading {
     }
 
     // Takes a comma.
-    fn take_comma(&mut self, at: usize) -> Result<(), JsonStop> {
-        if self.state != State::CommaOrClose {
+    fn take_comma(&mut self, at: usize) -> Result<(), JsonStop>
+        requires { IsSound self.old }
+        ensures { TakesOrNot result self.old comma self.new }
+    {
+        if !self.is_comma_next() {
             return Err(self.unexpected(at));
         }
-        let is_set = self.frames.last().is_some_and(|frame| frame.is_set);
-        self.state = if is_set { State::Name } else { State::Value };
+        let Some(frame) = self.innermost() else {
+            return Err(self.unexpected(at));
+        };
+        self.state = if frame.is_set {
+            State::Name
+        } else {
+            State::Value
+        };
         Ok(())
     }
 
     // Takes a colon.
-    fn take_colon(&mut self, at: usize) -> Result<(), JsonStop> {
-        if self.state != State::Colon {
+    fn take_colon(&mut self, at: usize) -> Result<(), JsonStop>
+        requires { IsSound self.old }
+        ensures { TakesOrNot result self.old colon self.new }
+    {
+        if !self.is_colon_next() {
             return Err(self.unexpected(at));
         }
         self.state = State::Value;
@@ -167,11 +298,14 @@ impl Reading {
     }
 
     // Takes a token.
-    fn take(&mut self, token: Token, at: usize) -> Result<(), JsonStop> {
+    fn take(&mut self, token: Token, at: usize) -> Result<(), JsonStop>
+        requires { IsSound self.old }
+        ensures { TakesTokenOrNot result self.old token self.new }
+    {
         match token {
             Token::Scalar(value) => self.take_scalar(value, at),
             Token::Text(text) => self.take_text(text, at),
-            Token::Open(value) => self.take_open(value, at),
+            Token::Open(is_set) => self.take_open(is_set, at),
             Token::Close(is_set) => self.take_close(is_set, at),
             Token::Comma => self.take_comma(at),
             Token::Colon => self.take_colon(at),
@@ -181,33 +315,34 @@ impl Reading {
 }
 
 // The data of a JSON text.
-fn read(alloc: Global, text: &str) -> Result<Data, JsonStop> {
-    let mut reading = Reading {
-        alloc,
-        builder: Builder::new(alloc),
-        places: Vec::new(alloc),
-        frames: Vec::new(alloc),
-        name: None,
-        state: State::Value,
-    };
-    let mut at = 0;
-    for _token in 0..=text.len() {
-        at = after_space(text, at);
-        if at >= text.len() {
-            break;
+fn read(alloc: Global, text: &str) -> Result<Data, JsonStop>
+    ensures { ReadsJson result text.now }
+{
+    let mut reading = Reading::new(alloc);
+    let mut at = after_space(text, 0);
+    while at < text.len() {
+        let cut = match json_token(alloc, text, at) {
+            Ok(cut) => cut,
+            Err(stop) => return Err(stop),
+        };
+        let end = cut.end;
+        match reading.take(cut.token, at) {
+            Ok(()) => at = after_space(text, end),
+            Err(stop) => return Err(stop),
         }
-        let cut = json_token(alloc, text, at)?;
-        reading.take(cut.token, at)?;
-        at = cut.end;
     }
-    if reading.state != State::End {
+    if !reading.is_end() {
         return Err(reading.unexpected(at));
     }
-    Ok(reading.builder.finish(alloc)?)
+    Ok(Data {
+        items: reading.found.items,
+    })
 }
 
 /// Returns the data of a JSON text, or why the text is refused.
-pub fn data_of_json(alloc: Global, text: &str) -> Result<Result<Data, JsonError>, AllocError> {
+pub fn data_of_json(alloc: Global, text: &str) -> Result<Result<Data, JsonError>, AllocError>
+    ensures { IfOk result (λ outcome. MatchResult outcome (λ found. IsJson text.now (contents found)) (λ error. IsNoJson error text.now)) }
+{
     match read(alloc, text) {
         Ok(found) => Ok(Ok(found)),
         Err(JsonStop::Refused(error)) => Ok(Err(error)),

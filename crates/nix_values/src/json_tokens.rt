@@ -1,16 +1,21 @@
 //! Tokens of JSON.
 
+ghost use Rattle.std.specs.Prelude.{◌≡◌, ◌+◌, ◌-◌, ◌<◌, ◌≤◌, true, false, length, drop, slice_index, IfOk};
+ghost use Rattle.nix_values.specs.Json.{is_space, word_at, string_at, scalar_at, token_at, tokens_behind};
+ghost use Rattle.nix_values.specs.JsonReading.{IsWord, IsCutOf, ReadsCut};
+
+use crate::bytes::{byte_at, bytes_from};
 use crate::data::Value;
-use crate::json_error::{JsonReason, JsonStop, refused};
+use crate::json_content::json_string;
+use crate::json_error::JsonStop;
 use crate::json_numbers::json_number;
-use crate::json_strings::json_string;
 use std::alloc::Global;
 
 /// A token.
 #[derive(Drop)]
 pub enum Token {
-    /// `[` or `{`: a list or a set begins.
-    Open(Value),
+    /// `[`, or `{` of a set.
+    Open(bool),
     /// `]`, or `}` of a set.
     Close(bool),
     /// `,`.
@@ -25,29 +30,34 @@ pub enum Token {
     Other,
 }
 
-/// A token with the offset behind it.
+/// A token with its end offset.
 #[derive(Drop)]
 pub struct Cut {
     /// The token.
     pub token: Token,
-    /// The offset behind it.
+    /// Its end offset, in bytes.
     pub end: usize,
 }
 
-// A token of some bytes.
-fn token_of(token: Token, start: usize, len: usize) -> Cut {
-    Cut {
-        token,
-        end: start.saturating_add(len),
-    }
+// Whether a byte is white space.
+#[inline(always)]
+fn is_space(byte: u8) -> bool
+    ensures { result ≡ is_space byte }
+{
+    byte == b' ' || byte == b'\t' || byte == b'\n' || byte == b'\r'
 }
 
-// Returns the offset of the next token behind white space.
+// Returns the offset of the next token after white space.
 #[inline(never)]
-fn after_more_space(text: &str, at: usize) -> usize {
-    let bytes = text.as_bytes();
+fn after_more_space(bytes: &[u8], at: usize) -> usize
+    requires { at ≤ length bytes.now }
+    ensures same { tokens_behind 0 (drop result bytes.now) ≡ tokens_behind 0 (drop at bytes.now) }
+    ensures onward { at ≤ result }
+    ensures within { result ≤ length bytes.now }
+    ensures stops { result < length bytes.now → is_space (slice_index bytes.now result) ≡ false }
+{
     for next in at..bytes.len() {
-        if !matches!(bytes[next], b' ' | b'\t' | b'\n' | b'\r') {
+        if !is_space(bytes[next]) {
             return next;
         }
     }
@@ -55,52 +65,96 @@ fn after_more_space(text: &str, at: usize) -> usize {
 }
 
 /// Returns the offset of the next token.
-pub fn after_space(text: &str, at: usize) -> usize {
-    match text.as_bytes().get(at) {
-        Some(b' ' | b'\t' | b'\n' | b'\r') => after_more_space(text, at),
-        Some(_) => at,
-        None => text.len(),
+#[inline]
+pub fn after_space(text: &str, at: usize) -> usize
+    requires { at ≤ length text.now }
+    ensures same { tokens_behind 0 (drop result text.now) ≡ tokens_behind 0 (drop at text.now) }
+    ensures onward { at ≤ result }
+    ensures within { result ≤ length text.now }
+    ensures stops { result < length text.now → is_space (slice_index text.now result) ≡ false }
+{
+    if is_space(byte_at(text.as_bytes(), at)) {
+        after_more_space(text.as_bytes(), at)
+    } else {
+        at
     }
 }
 
-// One of the three words at an offset.
-fn word(text: &str, at: usize) -> Cut {
-    let rest = text.get(at..).unwrap_or("");
-    if rest.starts_with("null") {
-        token_of(Token::Scalar(Value::Null), at, "null".len())
-    } else if rest.starts_with("true") {
-        token_of(Token::Scalar(Value::Bool(true)), at, "true".len())
-    } else if rest.starts_with("false") {
-        token_of(Token::Scalar(Value::Bool(false)), at, "false".len())
+// One of the three words that a text may begin with, and its length.
+fn word_at(bytes: &[u8]) -> (Token, usize)
+    ensures { IsWord bytes.now result.0 result.1 }
+{
+    if bytes.starts_with(b"null") {
+        (Token::Scalar(Value::Null), 4)
+    } else if bytes.starts_with(b"true") {
+        (Token::Scalar(Value::Bool(true)), 4)
+    } else if bytes.starts_with(b"false") {
+        (Token::Scalar(Value::Bool(false)), 5)
     } else {
-        token_of(Token::Other, at, 1)
+        (Token::Other, 1)
+    }
+}
+
+// The token that the word at an offset is.
+fn word(bytes: &[u8], at: usize) -> Cut
+    requires { at < length bytes.now }
+    ensures { IsCutOf (word_at (drop at bytes.now)) bytes.now at result }
+{
+    let (token, len) = word_at(bytes_from(bytes, at));
+    Cut {
+        token,
+        end: at + len,
+    }
+}
+
+// The string that begins at an offset.
+fn string_token(alloc: Global, text: &str, at: usize) -> Result<Cut, JsonStop>
+    requires within { at < length text.now }
+    requires quote { slice_index text.now at ≡ 34 }
+    ensures { ReadsCut result (string_at (drop (at + 1) text.now)) text.now at }
+{
+    let (_quote, behind) = text.split_at(at + 1);
+    match json_string(alloc, behind, at + 1) {
+        Ok((value, len)) => Ok(Cut {
+            token: Token::Text(value),
+            end: at + 1 + len,
+        }),
+        Err(stop) => Err(stop),
+    }
+}
+
+// The number that begins at an offset with a byte of ASCII.
+fn number_token(alloc: Global, text: &str, at: usize) -> Result<Cut, JsonStop>
+    requires within { at < length text.now }
+    requires ascii { slice_index text.now at < 128 }
+    ensures { ReadsCut result (scalar_at (drop at text.now)) text.now at }
+{
+    let (_front, behind) = text.split_at(at);
+    match json_number(alloc, behind, at) {
+        Ok((value, len)) => Ok(Cut {
+            token: Token::Scalar(value),
+            end: at + len,
+        }),
+        Err(stop) => Err(stop),
     }
 }
 
 /// Reads the token at an offset.
-pub fn json_token(alloc: Global, text: &str, at: usize) -> Result<Cut, JsonStop> {
-    match text.as_bytes().get(at) {
-        Some(b'[') => Ok(token_of(Token::Open(Value::List), at, 1)),
-        Some(b'{') => Ok(token_of(Token::Open(Value::Set), at, 1)),
-        Some(b']') => Ok(token_of(Token::Close(false), at, 1)),
-        Some(b'}') => Ok(token_of(Token::Close(true), at, 1)),
-        Some(b',') => Ok(token_of(Token::Comma, at, 1)),
-        Some(b':') => Ok(token_of(Token::Colon, at, 1)),
-        Some(b'"') => {
-            let read = json_string(alloc, text, at.saturating_add(1))?;
-            Ok(Cut {
-                token: Token::Text(read.value),
-                end: read.end,
-            })
-        }
-        Some(b'-' | b'0'..=b'9') => {
-            let (value, end) = json_number(alloc, text, at)?;
-            Ok(Cut {
-                token: Token::Scalar(value),
-                end,
-            })
-        }
-        Some(_) => Ok(word(text, at)),
-        None => Err(refused(JsonReason::NoValue, at)),
-    }
+#[tactic(auto, unfolding(crate::specs::Json::token_at))]
+pub fn json_token(alloc: Global, text: &str, at: usize) -> Result<Cut, JsonStop>
+    requires { at < length text.now }
+    ensures { ReadsCut result (token_at (slice_index text.now at) (drop (at + 1) text.now)) text.now at }
+{
+    let token = match byte_at(text.as_bytes(), at) {
+        b'[' => Token::Open(false),
+        b'{' => Token::Open(true),
+        b']' => Token::Close(false),
+        b'}' => Token::Close(true),
+        b',' => Token::Comma,
+        b':' => Token::Colon,
+        b'"' => return string_token(alloc, text, at),
+        b'-' | b'0'..=b'9' => return number_token(alloc, text, at),
+        _ => return Ok(word(text.as_bytes(), at)),
+    };
+    Ok(Cut { token, end: at + 1 })
 }

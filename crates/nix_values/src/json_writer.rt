@@ -1,5 +1,9 @@
 //! Data as JSON.
 
+ghost use Rattle.std.specs.Prelude.{IfOk, IfSome, string_bytes};
+ghost use Rattle.nix_values.specs.Contents.{contents};
+ghost use Rattle.nix_values.specs.Json.{IsJson};
+
 use crate::data::{Data, Item, Value};
 use crate::json_reader::data_of_json;
 use crate::json_strings::push_json_string;
@@ -92,15 +96,22 @@ fn written(alloc: Global, data: &Data) -> Result<String, AllocError> {
 struct Json;
 
 impl Notation for Json {
-    ghost reads = { λ text entries. Unit {0} };
+    ghost use Rattle.nix_values.specs.Json.{IsJson};
+
+    ghost reads = { IsJson };
 
     fn read(&self, alloc: Global, text: &str) -> Result<Option<Data>, AllocError> {
-        Ok(data_of_json(alloc, text)?.ok())
+        match data_of_json(alloc, text)? {
+            Ok(data) => Ok(Some(data)),
+            Err(_error) => Ok(None),
+        }
     }
 }
 
 /// Returns data as JSON, or nothing if the JSON does not read as the same data.
-pub fn json_of(alloc: Global, data: &Data) -> Result<Option<String>, AllocError> {
-    let text = written(alloc, data)?;
-    kept(alloc, &Json, text, data)
+pub fn json_of(alloc: Global, whole: &Data) -> Result<Option<String>, AllocError>
+    ensures { IfOk result (λ made. IfSome made (λ text. IsJson (string_bytes text) (contents whole.now))) }
+{
+    let text = written(alloc, whole)?;
+    kept(alloc, &Json, text, whole)
 }

@@ -3,9 +3,12 @@
 
 mod attributes;
 mod builder;
+mod bytes;
 mod data;
 mod float;
+mod json_content;
 mod json_error;
+mod json_found;
 mod json_numbers;
 mod json_reader;
 mod json_strings;
@@ -21,7 +24,7 @@ mod slots;
 
 pub use builder::Builder;
 pub use data::{Data, Item, Value};
-pub use float::float_of;
+pub use float::{float_of, is_held};
 pub use json_error::{JsonError, JsonReason};
 pub use json_reader::data_of_json;
 pub use json_writer::json_of;

@@ -12,7 +12,7 @@ pub struct PathName {
 }
 
 impl PathName {
-    /// Returns the place of the item of a list that the name stands for, if it is a number.
+    /// Returns the index of a list item if the name is a number.
     pub fn place(&self) -> Option<usize> {
         if self.is_quoted {
             None
@@ -77,7 +77,7 @@ impl Reading {
         Ok(())
     }
 
-    // Reads a character. Returns whether one may stand there: after a closing quote none may but a dot.
+    // Reads a character. Returns whether it is allowed here: after a closing quote only a dot is.
     fn read(&mut self, letter: char) -> Result<bool, AllocError> {
         match (self.state, letter) {
             (State::Start, '"') => {

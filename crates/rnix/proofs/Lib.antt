@@ -6,3 +6,4 @@ pub mod SameParts
 mod SameTree
 mod ChildKinds
 mod WholeLemmas
+mod ParenthesesLemmas

@@ -12,10 +12,10 @@ use crate::normalized_parts::opened;
 use crate::parts::InterpolPart;
 use std::alloc::{AllocError, Global};
 
-// The byte that stands for an escape, which is text where the indentation is counted.
+// The byte that represents an escape, which counts as text when the indentation is measured.
 const ESCAPE_MARK: u8 = b'\'';
 
-// Returns the byte at an index; 0 behind the end.
+// Returns the byte at an index, or 0 past the end.
 fn byte_at(bytes: &[u8], index: usize) -> u8
     ensures byte { result ≡ slice_index bytes.now index }
     ensures within { 0 < result → index < length bytes.now }
@@ -163,7 +163,7 @@ fn is_escape(letter: char, is_escaped: bool) -> bool
     letter == '\\' && !is_escaped
 }
 
-// Returns a text between `"` in which a carriage return, with a line feed behind it or without, is a line feed, unless a backslash precedes it.
+// Returns a text between `"` in which a carriage return, alone or before a line feed, becomes a line feed, unless a backslash precedes it.
 fn fed(alloc: Global, text: &str) -> Result<String, AllocError>
     ensures { IfOk result (λ made. string_bytes made ≡ fed false text.now) }
 {

@@ -1,5 +1,6 @@
 -- Bindings that are written.
 use Rattle.std.proofs.Common.{◌≡◌, ℕ, suc, ◌<◌, List, [], ◌∷◌, length, map, get_or, Some, refl, sym, ap, ◌∙◌, arith}
+use Rattle.std.specs.Cow.{cow_str_bytes}
 use Rattle.nix_scopes.specs.{Bound.{bound_of, AreFirst}, Scopes.{Bound, number_in}, declared.resolution.Binding.{Binding}}
 use Rattle.rnix_c.specs.{declared.names.RnixBinding.{RnixBinding}, Elements.{number_or_none}, NameCalls.{binding_of, binding_among}}
 
@@ -9,7 +10,7 @@ own_binding binding = binding_of binding.first (bound_of binding)
 
 -- each binding names the first of its name in its scope
 among : (all : List Bound) (bindings : List Binding) → ((k : ℕ) (d : Binding) → k < length bindings
-    → number_in all (get_or bindings k d).text.now (get_or bindings k d).scope ≡ Some (get_or bindings k d).first)
+    → number_in all (cow_str_bytes (get_or bindings k d).text) (get_or bindings k d).scope ≡ Some (get_or bindings k d).first)
     → map own_binding bindings ≡ map (binding_among all) (map bound_of bindings)
 among all [] known = refl
 among all (binding ∷ bindings) known =

@@ -1,4 +1,4 @@
-//! What all strings of a text stand for.
+//! The values of all strings of a text.
 
 ghost use Rattle.std.specs.Prelude.{◌≡◌, length, fold, IfOk, OnOk, string_bytes};
 ghost use Rattle.rnix_base.specs.Normal.{owned, with_text};

@@ -37,7 +37,7 @@ pub struct RnixLink {
     pub is_token: u16,
 }
 
-// A parent's number, or the one that stands for none.
+// A parent's number, or the largest `u32` if there is none.
 fn parent_or_none(parent: Option<usize>) -> u32
     requires { IfSome parent (λ number. number < 2 ^ 32) }
     ensures { result ≡ parent_or_none parent }

@@ -22,7 +22,7 @@ pub struct RnixElement {
     pub is_token: u32,
 }
 
-/// A number, or the one that stands for none.
+/// A number, or the largest `u64` if there is none.
 pub fn number_or_none(number: Option<usize>) -> u64
     ensures { result ≡ number_or_none number }
 {

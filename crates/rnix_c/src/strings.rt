@@ -1,4 +1,4 @@
-//! What strings stand for.
+//! The values of strings.
 
 ghost use Rattle.std.specs.Prelude.{◌≡◌, IfSome, IfNone, IfOk, option_map, slice_get, string_bytes};
 ghost use Rattle.std.specs.List.{flat_map};
@@ -61,7 +61,7 @@ fn parts_of<'t>(
     }
 }
 
-// The texts between the interpolations, one behind the other.
+// The texts between the interpolations, concatenated.
 fn text_of(alloc: Global, parts: &[InterpolPart<'_, String>]) -> Result<String, AllocError>
     ensures { IfOk result (λ text. string_bytes text ≡ flat_map literal_text (owned parts.now)) }
 {
@@ -74,7 +74,7 @@ fn text_of(alloc: Global, parts: &[InterpolPart<'_, String>]) -> Result<String, 
     Ok(text)
 }
 
-// Where the string's text ends behind a part, of which so many bytes stand before it.
+// The length of the string's text up to the end of a part, which `before` bytes precede.
 fn end_after(part: &InterpolPart<'_, String>, before: usize) -> usize
     ensures { result ≡ end_after before (with_text string_bytes part.now) }
 {
@@ -84,7 +84,7 @@ fn end_after(part: &InterpolPart<'_, String>, before: usize) -> usize
     }
 }
 
-// A part, where so many bytes of the string's text stand before it.
+// A part that `before` bytes of the string's text precede.
 fn part_at(part: &InterpolPart<'_, String>, before: usize) -> RnixPart
     ensures { result ≡ part_at before (with_text string_bytes part.now) }
 {
@@ -125,7 +125,7 @@ fn write_parts(parts: &[InterpolPart<'_, String>], room: &mut [RnixPart]) -> i64
     parts.len() as i64
 }
 
-/// What a string stands for, without its interpolations: how many bytes these are.
+/// Writes the value of a string without its interpolations, and returns its length in bytes.
 #[unsafe(no_mangle)]
 pub extern "C" fn rnix_string_text(
     alloc: Global,

@@ -15,7 +15,7 @@ use rnix::SyntaxNode;
 // The number of steps from a closing bracket to the end of its node: the bracket, and leaving the node.
 const CLOSING_STEPS: usize = 2;
 
-/// Returns whether a node is at a place of a tree, and the tree around it is that around the place of another tree.
+/// Returns whether `other` has a node at `new`, and the trees around `old` in `root` and around `new` in `other` are the same.
 pub fn is_around(root: &SyntaxNode<'_>, old: Place, other: &SyntaxNode<'_>, new: Place) -> bool
     ensures { Decides result (IsAround root.now old other.now new) }
 {
@@ -28,7 +28,7 @@ pub fn is_around(root: &SyntaxNode<'_>, old: Place, other: &SyntaxNode<'_>, new:
     skip_node(&mut others, new) && are_same_walks(others, events)
 }
 
-/// Returns whether a tree is another one without the node at a place and this number of comments after it.
+/// Returns whether `other` is `root` without the node at `old` and the next `comments` comments.
 pub fn is_without(
     root: &SyntaxNode<'_>,
     old: Place,
@@ -46,7 +46,7 @@ pub fn is_without(
     takes_comments(&mut rest, comments) && are_same_walks(events, rest)
 }
 
-// If `other` without the node at a place in it is `root`: returns how many steps are before that node.
+// Returns the number of steps before the node at `new` in `other`, if `other` without this node is `root`.
 fn steps_before_new(root: &SyntaxNode<'_>, other: &SyntaxNode<'_>, new: Place) -> Option<usize>
     ensures { MatchOption result (¬ IsWith root.now other.now new)
         (λ count. IsWith root.now other.now new × (count ≡ length (steps_before new other.now))) }
@@ -60,8 +60,8 @@ fn steps_before_new(root: &SyntaxNode<'_>, other: &SyntaxNode<'_>, new: Place) -
     None
 }
 
-/// Returns whether a node is at a place of `other`, without which that is `root`, after the node at a place of `root` and this number of comments.
-// Without the new node both have the same steps, so it is where it should be if as many of them come before it.
+/// Returns whether `other` is `root` plus one node at `new`, directly after the node at `old` and its next `comments` comments.
+// Apart from the new node both trees have the same steps, so its position is right if the number of steps before it is.
 pub fn is_after(
     root: &SyntaxNode<'_>,
     old: Place,
@@ -82,8 +82,8 @@ pub fn is_after(
     }
 }
 
-/// Returns whether a node is at a place of `other`, without which that is `root`, before the last token of the node at a place of `root`.
-// As above, the number of steps before the new node tells where it is.
+/// Returns whether `other` is `root` plus one node at `new`, directly before the last token of the node at `old`.
+// As above, the number of steps before the new node determines its position.
 pub fn is_inside(root: &SyntaxNode<'_>, old: Place, other: &SyntaxNode<'_>, new: Place) -> bool
     ensures { Decides result (IsLastIn root.now old other.now new) }
 {

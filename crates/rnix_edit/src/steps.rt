@@ -13,10 +13,10 @@ use rnix::{
     NodeOrToken, PreorderWithTokens, SyntaxElement, SyntaxKind, SyntaxNode, SyntaxToken, WalkEvent,
 };
 
-// How often walks may have nothing to skip before no more siblings are compared by their elements first, so that the time stays linear.
+// The number of failed skips after which walks are compared step by step, so that the time stays linear.
 const MOST_MISSES: u8 = 2;
 
-/// A node is entered or left, and then has no text, or a token is passed.
+/// A step of a walk: entering or leaving a node, which has no text, or passing a token.
 #[derive(Clone, Copy)]
 pub struct Step<'t> {
     pub enters: bool,
@@ -173,7 +173,8 @@ fn are_done(mut events: PreorderWithTokens<'_>) -> bool
     }
 }
 
-// Skips what both walks pass alike up to where each leaves its innermost open node, unless they could not too often. Returns how often they could not.
+// Skips the siblings that are alike in both walks, up to the end of each innermost open node, unless this failed too often. Returns the number of
+// failed attempts.
 fn skip_alike<'t>(a: &mut PreorderWithTokens<'t>, b: &mut PreorderWithTokens<'t>, misses: u8) -> u8
     ensures alike { GoOnAlike (steps_of a.old) (steps_of b.old) (steps_of a.new) (steps_of b.new) }
     ensures skipped { misses < MOST_MISSES → result ≡ misses → a.new ≡ from_leaving 0 a.old }
@@ -189,7 +190,7 @@ fn skip_alike<'t>(a: &mut PreorderWithTokens<'t>, b: &mut PreorderWithTokens<'t>
     misses + 1
 }
 
-/// Returns whether the rests of two walks have the same steps.
+/// Returns whether the remaining steps of two walks are the same.
 // Siblings that are alike are skipped together, which saves entering and leaving each of them in both walks.
 pub fn are_same_walks<'t>(mut a: PreorderWithTokens<'t>, mut b: PreorderWithTokens<'t>) -> bool
     ensures { Decides result (steps_of a.entry ≡ steps_of b.entry) }
@@ -207,7 +208,7 @@ pub fn are_same_walks<'t>(mut a: PreorderWithTokens<'t>, mut b: PreorderWithToke
     are_done(b)
 }
 
-/// Returns whether two walks have the same steps before the nodes at two places. If so, both are behind where they enter these nodes, or at their
+/// Returns whether two walks have the same steps before the nodes at two places. If so, both walks have then entered these nodes, or are at their
 /// ends.
 pub fn are_same_before(
     events: &mut PreorderWithTokens<'_>,
@@ -245,8 +246,8 @@ pub fn steps_through(events: &mut PreorderWithTokens<'_>, place: Place) -> usize
     count
 }
 
-/// Takes the steps of `wanted` before the node at a place from `events`, if these go on with them, and returns their number. `wanted` has then entered
-/// the node, or is at its end.
+/// Takes the steps of `wanted` before the node at a place from both walks, if `events` begins with them, and returns their number. `wanted` has then
+/// entered the node, or is at its end.
 pub fn takes_before(
     events: &mut PreorderWithTokens<'_>,
     wanted: &mut PreorderWithTokens<'_>,
@@ -266,7 +267,7 @@ pub fn takes_before(
     Some(count)
 }
 
-/// Takes so many steps from a walk, if they pass comments.
+/// Takes `count` steps from a walk, if all of them pass comments.
 pub fn takes_comments(events: &mut PreorderWithTokens<'_>, count: usize) -> bool
     ensures { AreCommentsTaken result count (steps_of events.old) (steps_of events.new) }
 {

@@ -14,7 +14,7 @@ use crate::position::Position;
 use crate::slot_table::{BIN_OP_END, HAS_ATTR, SELECT, Slot, slot_at};
 use rnix_kinds::SyntaxKind;
 
-/// One step of the reader. The last position is where the row goes on after it.
+/// One step of the reader. The last position is where the row is resumed after it.
 #[derive(Clone, Copy)]
 pub enum Action {
     /// The node is complete.
@@ -41,21 +41,21 @@ pub enum Action {
     Run(ExpectedSet, u8),
     /// The next token is a node of its own.
     Leaf(SyntaxKind, u8),
-    /// The next token begins a node, which goes on at the first position.
+    /// The next token begins a node, which continues at the first position.
     Open(SyntaxKind, u8, u8),
-    /// A node begins before anything of it is read.
+    /// A node begins before any of its tokens is read.
     Begin(SyntaxKind, u8, u8),
     /// A name begins an entry of a pattern.
     Entry(u8),
     /// The next token begins a second name of a pattern.
     DoubleBind(u8),
-    /// An operand of a level, which the limit of nesting counts or not.
+    /// Starts an operand of a level; the flag says whether it adds one to the nesting depth.
     Read(u8, bool, u8),
-    /// The next token makes a node with the operand before it, which goes on at the position; what follows the node is of at most the level.
+    /// The next token and the operand before it become a node, which continues at the position; at most operators of the level follow the node.
     Wrap(SyntaxKind, Position, u8),
-    /// An argument makes a node with the operand before it.
+    /// An argument and the operand before it become a node.
     Apply,
-    /// `or` makes a node with the operand before it.
+    /// `or` and the operand before it become a node.
     ApplyOr,
 }
 
@@ -71,7 +71,7 @@ fn close_action(kind: SyntaxKind) -> Action
     }
 }
 
-/// Returns what the reader does with a token that goes on with an operand.
+/// Returns what the reader does with a token that continues an operand.
 #[inline(always)]
 pub fn follow(kind: SyntaxKind) -> Action
     ensures { result ≡ follow kind }
@@ -104,7 +104,7 @@ pub fn follow(kind: SyntaxKind) -> Action
     }
 }
 
-/// Returns whether a token goes on with an operand, which operators of the levels from the first to the second continue.
+/// Returns whether a token continues an operand after which operators of the levels from `min_bp` to `max_bp` may follow.
 #[inline(always)]
 pub fn goes_on(min_bp: u8, max_bp: u8, kind: SyntaxKind) -> bool
     ensures { result ≡ goes_on min_bp max_bp kind }
@@ -113,7 +113,7 @@ pub fn goes_on(min_bp: u8, max_bp: u8, kind: SyntaxKind) -> bool
     level != NO_LEVEL && min_bp <= level && level <= max_bp
 }
 
-// What is done after an operand, which operators of the levels from the first to the second continue.
+// The step after an operand after which operators of the levels from `min_bp` to `max_bp` may follow.
 fn more_action(min_bp: u8, max_bp: u8, next: Option<SyntaxKind>) -> Action
     ensures { result ≡ more_action min_bp max_bp next }
 {

@@ -101,7 +101,7 @@ fn begin_keyword(kind: SyntaxKind, second: Option<SyntaxKind>) -> Begin
     }
 }
 
-// What a keyword begins, where any expression may stand.
+// What a keyword begins where any expression is allowed.
 #[inline(always)]
 fn begin_scope(level: u8, kind: SyntaxKind, second: Option<SyntaxKind>) -> Begin
     ensures { result ≡ begin_scope level kind second }

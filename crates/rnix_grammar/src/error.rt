@@ -129,7 +129,7 @@ pub fn same_errors(a: &ParseError, b: &ParseError) -> bool
     a == b
 }
 
-// Each further kind of a list, behind a comma.
+// Each further kind of a list, after a comma.
 fn write_more_kinds<W: fmt::Write>(kinds: &[SyntaxKind], f: &mut fmt::Formatter<W>) -> fmt::Result
     ensures { DisplaysOnOk W.write_str_gives f.old result (Some (more_kinds_text kinds.now)) f.new }
 {
@@ -152,7 +152,7 @@ fn write_kinds<W: fmt::Write>(kinds: &[SyntaxKind], f: &mut fmt::Formatter<W>) -
     f.write_str("]")
 }
 
-// What was wanted in place of what stands there.
+// Which kinds were wanted instead.
 fn write_wanted<W: fmt::Write>(kinds: &[SyntaxKind], f: &mut fmt::Formatter<W>) -> fmt::Result
     ensures { DisplaysOnOk W.write_str_gives f.old result (Some (wanted_text kinds.now)) f.new }
 {
@@ -168,7 +168,7 @@ fn write_place<W: fmt::Write>(range: TextRange, f: &mut fmt::Formatter<W>) -> fm
     write!(f, "{start}..{end}")
 }
 
-// What is said of a range.
+// A word and a range.
 fn write_range<W: fmt::Write>(
     what: &str,
     range: TextRange,
@@ -196,7 +196,7 @@ fn write_unwanted<W: fmt::Write>(
     write_wanted(wanted, f)
 }
 
-// Where a name stands again.
+// The range of a repeated name.
 fn write_again<W: fmt::Write>(range: TextRange, f: &mut fmt::Formatter<W>) -> fmt::Result
     ensures { DisplaysOnOk W.write_str_gives f.old result (Some (again_text (bounds_of range))) f.new }
 {

@@ -19,11 +19,11 @@ pub enum ExpectedSet {
     InterpolEnd,
     StringEnd,
     Ident,
-    /// What may stand in a string.
+    /// What a string may contain.
     Piece,
     /// What begins a name in an attribute path.
     Attr,
-    /// What may stand in a pattern.
+    /// What a pattern may contain.
     Entry,
     /// The end of the text alone.
     End,

@@ -5,10 +5,10 @@ ghost use Rattle.rnix_grammar.specs.Levels.{concatenation_level, operator, plain
 
 use rnix_kinds::SyntaxKind;
 
-/// Any expression may stand at this level.
+/// Any expression is allowed at this level.
 pub const EXPRESSION_LEVEL: u8 = 0;
 
-/// No operator has this level: it is the power of tokens that end an expression, and bounds what follows one that reaches as far as it can.
+/// The level of no operator: tokens that end an expression bind with it, and it is the upper bound after an expression that extends as far as possible.
 pub const NO_LEVEL: u8 = 0;
 
 /// The prefix `!`.
@@ -29,7 +29,7 @@ pub const APPLICATION_LEVEL: u8 = 15;
 /// A selection with `.`, and atoms.
 pub const SELECTION_LEVEL: u8 = 16;
 
-/// Which way operators of one level group. With `Neither`, one is an operand of another only in parentheses.
+/// How operators of one level group. With `Neither`, one is an operand of another only in parentheses.
 #[derive(Clone, Copy)]
 pub enum Associativity {
     Left,
@@ -37,7 +37,7 @@ pub enum Associativity {
     Neither,
 }
 
-/// Returns the level of a binary operator, and which way it groups.
+/// Returns the level of a binary operator, and how it groups.
 #[inline(always)]
 pub fn operator(kind: SyntaxKind) -> Option<(u8, Associativity)>
     ensures table { result ≡ operator kind }
@@ -62,7 +62,7 @@ pub fn operator(kind: SyntaxKind) -> Option<(u8, Associativity)>
     }
 }
 
-// How tightly a token that is no binary operator binds what stands before it.
+// How tightly a token other than a binary operator binds the operand before it.
 #[inline(always)]
 fn plain_binding_power(kind: SyntaxKind) -> u8
     ensures { result ≡ plain_binding_power kind }
@@ -80,7 +80,7 @@ fn plain_binding_power(kind: SyntaxKind) -> u8
     }
 }
 
-/// Returns how tightly a token binds what stands before it: its level, and no level for one that ends an expression.
+/// Returns how tightly a token binds the operand before it: its level, or `NO_LEVEL` if it ends an expression.
 #[inline(always)]
 pub fn binding_power(kind: SyntaxKind) -> u8
     ensures { result ≡ binding_power kind }

@@ -290,7 +290,7 @@ fn end_action(next: Option<SyntaxKind>) -> Action
     }
 }
 
-// A child that is there whenever its node is; no open node is before one.
+// A child that its node always has; no open node is before it.
 fn child_action(after: u8, next: Option<SyntaxKind>) -> Action
     ensures { result ≡ child_action after next }
 {

@@ -11,16 +11,16 @@ use rnix_kinds::SyntaxKind;
 /// A part of a row: one child, or any number of them.
 #[derive(Clone, Copy)]
 pub enum Part {
-    /// A child of the kind, which is there whenever the node is.
+    /// A child of the kind, which the node always has.
     Child(SyntaxKind),
-    /// So an atom, or an operand of a level, that the node goes on with.
+    /// The operand that the node wraps, which is read before the node begins: an atom, or an operand of a level.
     Atom,
     First(u8),
-    /// After it a token, an operator of two operands and the second of them, or an argument.
+    /// After that operand: a token, a binary operator with its right operand, or an argument.
     Suffix(SyntaxKind),
     Binary,
     Argument,
-    /// An operand of a level, which the limit of nesting counts or not.
+    /// An operand of a level; the flag says whether it adds one to the nesting depth.
     Operand(u8, bool),
     /// Any number of operands of a level, or of bindings, up to a token.
     Many(u8, SyntaxKind),
@@ -31,7 +31,7 @@ pub enum Part {
     Attrpath,
     /// Any number of `.` and a part of an attribute path.
     MoreAttrs,
-    /// Any number of inherited names; of pieces of a string; of pieces of a path, each of which touches what is before it.
+    /// Any number of inherited names; of pieces of a string; of pieces of a path, each without white space before it.
     Names,
     Pieces,
     PathPieces,
@@ -41,9 +41,9 @@ pub enum Part {
     Comma,
     /// A child of the kind, or not.
     Optional(SyntaxKind),
-    /// The end of the row, or a child of the kind and what is after it.
+    /// The end of the row, or a child of the kind and the rest of the row.
     EndOr(SyntaxKind),
-    /// The end of a pattern that has a name before it: no row goes on with a second one.
+    /// The end of a pattern with a name before its braces: a second name after them is an error.
     BoundAlready,
     /// The end of the text.
     TextEnd,

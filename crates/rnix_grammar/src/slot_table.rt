@@ -56,10 +56,10 @@ macro_rules! slots {
     };
 }
 
-/// What is left of a row is the part at its index, and what is left from the next index on.
+/// The rest of a row is the part at its index, followed by the rest at the next index.
 pub static SLOTS: [Slot; 169] = grammar!(slots);
 
-// Where the rows begin, or go on after the children that a node is opened with: so many slots after another of these.
+// Where rows begin, or continue after the children that a node is opened with, each as an offset in slots from another.
 pub const ROOT: u8 = 0;
 
 pub const PATH_ABS: u8 = ROOT + 16;

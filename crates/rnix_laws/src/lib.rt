@@ -2,6 +2,7 @@
 #![tactic(auto)]
 
 mod prefix;
+mod step_count;
 
 pub use prefix::correct_prefix;
 pub use rnix::laws::{
@@ -11,4 +12,4 @@ pub use rnix::laws::{
 pub use rnix_proof_locality::locality;
 pub use rnix_proof_lookahead::lookahead;
 pub use rnix_proof_separation::separation;
-pub use rnix_proof_steps::steps;
+pub use step_count::steps;

@@ -50,8 +50,8 @@ pub fn all_follows(text: &str)
     let _len = text.len();
 }
 
-/// What each error node of a reading holds, and in which nodes it stands; names stand where they may; at most 512 counted positions are inside one
-/// another, error nodes aside, and what is nested too deep is inside exactly 512.
+/// What each error node of a reading contains, and in which nodes it may be; names are only where they are allowed; at most 512 counted positions are
+/// inside one another, not counting error nodes, and an operand that is nested too deep is inside exactly 512.
 pub fn error_forms()
     ensures nodes { OfReadings (λ annotated faults. AreErrorNodes NODE_ROOT annotated) }
     ensures named { OfReadings (λ annotated faults. AreNamed (row NODE_ROOT) annotated) }

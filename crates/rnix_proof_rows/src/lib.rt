@@ -1,2 +1,2 @@
-//! What follows of a row of children that stands.
+//! Facts about the children of a node that were read by a row.
 #![tactic(auto)]

@@ -1,6 +1,2 @@
 //! The steps of the reader on a text: at most fifteen for two items, and one more.
 #![tactic(auto)]
-
-mod law;
-
-pub use law::steps;

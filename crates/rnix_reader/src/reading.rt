@@ -157,7 +157,7 @@ fn operand<'t>(
     Ok(())
 }
 
-// Begins an operand that binds at least as tightly as `level`. `counted` tells whether it adds one to the nesting depth.
+// Begins an operand that binds at least as tightly as `level`. `counted` is whether it adds one to the nesting depth.
 #[inline(always)]
 fn read<'t>(
     p: &mut Parser<'t>,
@@ -328,7 +328,7 @@ fn action_in_row(p: &Parser<'_>, left: u8) -> Action
 }
 
 /// Reads until the root is complete.
-// The position is matched first: that saves a test at each step, and after an operand and behind an operator the tables of positions and of actions.
+// The position is matched first: this saves a test at each step, and two table look-ups after an operand or an operator.
 pub(crate) fn read_all<'t>(p: &mut Parser<'t>, names: &mut Names<'t>) -> Result<(), AllocError>
     requires state { state p.old ≡ erase (begins (state p.old).rest) }
     requires order { AreInOrder 0 (state p.old).rest }

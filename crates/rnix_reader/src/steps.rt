@@ -20,7 +20,7 @@ use rnix_kinds::SyntaxKind;
 use std::alloc::AllocError;
 
 impl<'t> Parser<'t> {
-    /// Continues what the mark stands for at another position.
+    /// Continues the node or operand of the mark at another position.
     #[inline(always)]
     pub(crate) fn go_on(&mut self, mark: Mark, after: Position) -> Result<(), AllocError>
         ensures state { OnOk result (state self.new ≡ moved_to after mark (state self.old)) }

@@ -1,16 +1,13 @@
 //! The names that scopes bind, by the typed nodes.
 
-use nix_scopes::attr_text;
-use rnix::ast::{
-    AstNode, AttrSet, AttrpathValue, Ident, IdentParam, Inherit, Lambda, Param, Pattern,
-};
+use rnix::ast::{AstNode, Attr, AttrSet, AttrpathValue, Ident, Inherit, Lambda, Param, Pattern};
 use rnix::{SyntaxKind, SyntaxNode};
 use std::alloc::{AllocError, Global};
 
 /// A name, and the node that writes it.
 #[derive(Drop)]
 pub struct Name<'t> {
-    pub text: &'t str,
+    pub text: String,
     pub node: SyntaxNode<'t>,
 }
 
@@ -25,39 +22,57 @@ pub fn is_scope(node: &SyntaxNode<'_>) -> bool {
     }
 }
 
-// Adds the name that an attribute is, if it is written out.
-fn add_attr<'t>(node: &SyntaxNode<'t>, names: &mut Vec<Name<'t>>) -> Result<(), AllocError> {
-    if let Some(text) = attr_text(node) {
-        let node = node.clone();
+// Adds what an attribute is called, if the text alone says so.
+fn add_attr<'t>(
+    alloc: Global,
+    attr: &Attr<'t>,
+    names: &mut Vec<Name<'t>>,
+) -> Result<(), AllocError> {
+    if let Some(text) = attr.static_name(alloc)? {
+        let node = attr.syntax().clone();
         names.push(Name { text, node })?;
     }
     Ok(())
 }
 
 // Adds the name that an identifier is.
-fn add_ident<'t>(ident: Option<Ident<'t>>, names: &mut Vec<Name<'t>>) -> Result<(), AllocError> {
-    match ident {
-        Some(ident) => add_attr(ident.syntax(), names),
-        None => Ok(()),
+fn add_ident<'t>(
+    alloc: Global,
+    ident: Option<Ident<'t>>,
+    names: &mut Vec<Name<'t>>,
+) -> Result<(), AllocError> {
+    if let Some(ident) = ident {
+        let node = ident.syntax().clone();
+        let text = String::from_str(alloc, node.text())?;
+        names.push(Name { text, node })?;
     }
+    Ok(())
 }
 
 // Adds the names of a pattern, that of the whole first.
-fn add_pattern<'t>(pattern: &Pattern<'t>, names: &mut Vec<Name<'t>>) -> Result<(), AllocError> {
+fn add_pattern<'t>(
+    alloc: Global,
+    pattern: &Pattern<'t>,
+    names: &mut Vec<Name<'t>>,
+) -> Result<(), AllocError> {
     if let Some(bind) = pattern.pat_bind() {
-        add_ident(bind.ident(), names)?;
+        add_ident(alloc, bind.ident(), names)?;
     }
     for entry in pattern.pat_entries() {
-        add_ident(entry.ident(), names)?;
+        add_ident(alloc, entry.ident(), names)?;
     }
     Ok(())
 }
 
 // Adds the names of an entry.
-fn add_entry<'t>(entry: SyntaxNode<'t>, names: &mut Vec<Name<'t>>) -> Result<(), AllocError> {
+fn add_entry<'t>(
+    alloc: Global,
+    entry: SyntaxNode<'t>,
+    names: &mut Vec<Name<'t>>,
+) -> Result<(), AllocError> {
     if let Some(inherit) = Inherit::cast(entry.clone()) {
         for attr in inherit.attrs() {
-            add_attr(attr.syntax(), names)?;
+            add_attr(alloc, &attr, names)?;
         }
         return Ok(());
     }
@@ -65,7 +80,7 @@ fn add_entry<'t>(entry: SyntaxNode<'t>, names: &mut Vec<Name<'t>>) -> Result<(),
         .and_then(|value| value.attrpath())
         .and_then(|path| path.attrs().next());
     match first {
-        Some(attr) => add_attr(attr.syntax(), names),
+        Some(attr) => add_attr(alloc, &attr, names),
         None => Ok(()),
     }
 }
@@ -75,14 +90,14 @@ pub fn names_bound<'t>(alloc: Global, scope: &SyntaxNode<'t>) -> Result<Vec<Name
     let mut names = Vec::new(alloc);
     if let Some(lambda) = Lambda::cast(scope.clone()) {
         match lambda.param() {
-            Some(Param::Pattern(pattern)) => add_pattern(&pattern, &mut names)?,
-            Some(Param::IdentParam(param)) => add_ident(param.ident(), &mut names)?,
+            Some(Param::Pattern(pattern)) => add_pattern(alloc, &pattern, &mut names)?,
+            Some(Param::IdentParam(param)) => add_ident(alloc, param.ident(), &mut names)?,
             None => {}
         }
         return Ok(names);
     }
     for entry in scope.children() {
-        add_entry(entry, &mut names)?;
+        add_entry(alloc, entry, &mut names)?;
     }
     Ok(names)
 }

@@ -13,14 +13,14 @@ fn is_same_node(node: &SyntaxNode<'_>, other: &SyntaxNode<'_>) -> bool {
 }
 
 fn is_same_binding(binding: &Binding<'_>, other: &Binding<'_>) -> bool {
-    binding.text == other.text
+    binding.text.as_str() == other.text.as_str()
         && is_same_node(&binding.node, &other.node)
         && is_same_node(&binding.scope, &other.scope)
         && binding.first == other.first
 }
 
 fn is_same_reference(reference: &Reference<'_>, other: &Reference<'_>) -> bool {
-    reference.text == other.text
+    reference.text.as_str() == other.text.as_str()
         && is_same_node(&reference.node, &other.node)
         && reference.is_inherited == other.is_inherited
         && reference.binding == other.binding
@@ -68,7 +68,7 @@ fn unlike_node(alloc: Global, text: &str) -> Result<Option<usize>, AllocError> {
 
 // Scopes in scopes and behind them, some of which end at one place, bodies of `with`, what is inherited, names that are bound in parts or
 // twice, and texts with errors.
-const TEXTS: [&str; 22] = [
+const TEXTS: [&str; 28] = [
     "",
     "let x = 1; in let x = 2; y = x; in x + y",
     "let x = 1; in [ (let x = 2; in x) x (x: x) x ({ x }: x) x rec { x = x; } x ]",
@@ -91,6 +91,12 @@ const TEXTS: [&str; 22] = [
     "with a; b: with c; { inherit a b",
     "rec { a = { b }: rec { c = b; } d; } a )",
     "{ a, b ? a, ... }@c }: with a; b c",
+    "a: let \"\\a\" = 1; in a",
+    "a: let \"\\a\" = a; a.b = 2; \"\\x\\y\" = xy; in { inherit \"\\x\\y\" \"\\a\" a; }",
+    "let \"a\nb\" = 1; in { inherit \"a\nb\"; inherit \"a\\nb\" \"a\r\nb\" ${''\n  a\n  b''}; }",
+    "a: rec { ${\"\\a\"} = 1; b = a; c = rec { inherit \"\\a\"; d = a; }; }",
+    "a: let ${''\n  a''} = 1; ${('' b'')} = a; in [ a b ]",
+    "a: let ''a'' = 1; ${''a$a''} = 2; \"\\a${a}\" = 3; in a",
 ];
 
 #[test]
@@ -130,21 +136,47 @@ fn attributes_bind_what_they_name(rt: HostRuntime) -> Result<(), Fail> {
         ("rec { ${\"a\" + \"b\"} = 1; }", None),
         ("rec { ${a} = 1; }", None),
         ("rec { \"a${\"b\"}\" = 1; }", None),
-        ("let \"\\a\" = 1; in 2", None),
-        ("let \"a\r\nb\" = 1; in 2", None),
-        ("let ${'' a''} = 1; in 2", None),
-        ("let ${''a\nb''} = 1; in 2", None),
+        ("let \"\\a\" = 1; in 2", Some("a")),
+        ("let \"\\\"\\n\\${\" = 1; in 2", Some("\"\n${")),
+        ("let \"a\r\nb\" = 1; in 2", Some("a\nb")),
+        ("let ${'' a''} = 1; in 2", Some("a")),
+        ("let ${''a\nb''} = 1; in 2", Some("a\nb")),
+        ("let ${((\"\\a\"))} = 1; in 2", Some("a")),
+        ("let ''a'' = 1; in 2", None),
         ("let ${''a'''b''} = 1; in 2", None),
-        ("let ${''a$b''} = 1; in 2", None),
+        ("let ${''a$b''} = 1; in 2", Some("a$b")),
+        ("let ${''a$''} = 1; in 2", None),
     ];
     for (text, wanted) in rows {
         let read = Root::parse(rt.alloc(), text)?;
         let names = resolve(rt.alloc(), &read.syntax())?;
-        let first = match names.bindings().first() {
-            Some(binding) => Some(binding.text),
-            None => None,
+        let is_wanted = match names.bindings().first() {
+            Some(binding) => wanted == Some(binding.text.as_str()),
+            None => wanted.is_none(),
         };
-        assert!(rt; first == wanted, "in {text}");
+        assert!(rt; is_wanted, "in {text}");
+    }
+    Ok(())
+}
+
+// The numbers are those of the bindings from which Nix takes the values.
+#[test]
+fn names_with_escapes_are_bound_as_in_nix(rt: HostRuntime) -> Result<(), Fail> {
+    let rows = [
+        ("a: let \"\\a\" = 1; in a", Some(1)),
+        ("a: let \"\\\\a\" = 1; in a", Some(0)),
+        ("a: let ${(''\n  a'')} = 1; in a", Some(1)),
+        ("a'b: let ${''a'b''} = 1; in a'b", Some(1)),
+        ("a: rec { ${\"\\a\"} = 1; b = a; }", Some(1)),
+        ("a: rec { \"a${\"\"}\" = 1; b = a; }", Some(0)),
+        ("let \"a\\nb\" = 1; in { inherit \"a\nb\"; }", Some(0)),
+        ("a: let inherit \"\\a\"; in a", Some(1)),
+    ];
+    for (text, wanted) in rows {
+        let read = Root::parse(rt.alloc(), text)?;
+        let names = resolve(rt.alloc(), &read.syntax())?;
+        let last = names.references().last().and_then(|name| name.binding);
+        assert!(rt; last == wanted, "in {text}");
     }
     Ok(())
 }

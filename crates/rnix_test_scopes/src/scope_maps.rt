@@ -1,10 +1,11 @@
 //! What names refer to, found with a map for each scope, which is looked up from the innermost on.
 
 use crate::bound_names::{Name, is_scope, names_bound};
-use nix_scopes::{Binding, Reference, attr_text};
+use nix_scopes::{Binding, Reference};
 use rnix::ast::{AstNode, Inherit};
 use rnix::{Direction, SyntaxKind, SyntaxNode, WalkEvent};
 use std::alloc::{AllocError, Global};
+use std::borrow::CowStr;
 use std::collections::HashMap;
 
 /// The bindings and references of a text, in the order in which `resolve` lists them.
@@ -44,20 +45,20 @@ fn is_expression(node: &SyntaxNode<'_>) -> bool {
 // What is around a place: of each scope, the innermost last, the numbers of its bindings by their names; and the bodies of `with`.
 #[derive(Drop)]
 struct Environment<'t> {
-    scopes: Vec<HashMap<&'t str, usize>>,
+    scopes: Vec<HashMap<String, usize>>,
     with_bodies: Vec<SyntaxNode<'t>>,
 }
 
 // The number of a name: the one that it has, or else this one, which it then has.
-fn number_or<'t>(
-    numbers: &mut HashMap<&'t str, usize>,
-    text: &'t str,
+fn number_or(
+    numbers: &mut HashMap<String, usize>,
+    text: &String,
     number: usize,
 ) -> Result<usize, AllocError> {
-    if let Some(first) = numbers.get(&text) {
+    if let Some(first) = numbers.get(text) {
         return Ok(*first);
     }
-    numbers.insert(text, number)?;
+    numbers.insert(text.clone()?, number)?;
     Ok(number)
 }
 
@@ -66,11 +67,11 @@ fn bind<'t>(
     name: &Name<'t>,
     scope: &SyntaxNode<'t>,
     bindings: &mut Vec<Binding<'t>>,
-    numbers: &mut HashMap<&'t str, usize>,
+    numbers: &mut HashMap<String, usize>,
 ) -> Result<(), AllocError> {
-    let first = number_or(numbers, name.text, bindings.len())?;
+    let first = number_or(numbers, &name.text, bindings.len())?;
     bindings.push(Binding {
-        text: name.text,
+        text: CowStr::Owned(name.text.clone()?),
         node: name.node.clone(),
         scope: scope.clone(),
         first,
@@ -83,7 +84,7 @@ fn bind_names<'t>(
     alloc: Global,
     scope: &SyntaxNode<'t>,
     bindings: &mut Vec<Binding<'t>>,
-) -> Result<HashMap<&'t str, usize>, AllocError> {
+) -> Result<HashMap<String, usize>, AllocError> {
     let mut numbers = HashMap::new(alloc);
     for name in &names_bound(alloc, scope)? {
         bind(name, scope, bindings, &mut numbers)?;
@@ -92,9 +93,9 @@ fn bind_names<'t>(
 }
 
 // The number of a name in the innermost of these scopes that binds it.
-fn innermost<'t>(scopes: &[HashMap<&'t str, usize>], text: &'t str) -> Option<usize> {
+fn innermost(scopes: &[HashMap<String, usize>], text: &String) -> Option<usize> {
     for numbers in scopes.iter().rev() {
-        if let Some(number) = numbers.get(&text) {
+        if let Some(number) = numbers.get(text) {
             return Some(*number);
         }
     }
@@ -139,9 +140,9 @@ fn add_reference<'t>(
     references: &mut Vec<Reference<'t>>,
 ) -> Result<(), AllocError> {
     let scopes = around.scopes.get(..depth).unwrap_or(&[]);
-    let binding = innermost(scopes, name.text);
+    let binding = innermost(scopes, &name.text);
     references.push(Reference {
-        text: name.text,
+        text: CowStr::Owned(name.text),
         node: name.node,
         is_inherited,
         binding,
@@ -161,6 +162,7 @@ fn outer_depth(around: &Environment<'_>, inherit: &SyntaxNode<'_>) -> usize {
 
 // Adds the names that are inherited from around the `let` or the set.
 fn add_all_inherited<'t>(
+    alloc: Global,
     around: &Environment<'t>,
     inherit: &Inherit<'t>,
     references: &mut Vec<Reference<'t>>,
@@ -170,8 +172,8 @@ fn add_all_inherited<'t>(
     }
     let depth = outer_depth(around, inherit.syntax());
     for attr in inherit.attrs() {
-        let node = attr.syntax().clone();
-        if let Some(text) = attr_text(&node) {
+        if let Some(text) = attr.static_name(alloc)? {
+            let node = attr.syntax().clone();
             add_reference(around, depth, true, Name { text, node }, references)?;
         }
     }
@@ -180,17 +182,18 @@ fn add_all_inherited<'t>(
 
 // Adds the references that a node is or has.
 fn add_references<'t>(
+    alloc: Global,
     around: &Environment<'t>,
     node: SyntaxNode<'t>,
     references: &mut Vec<Reference<'t>>,
 ) -> Result<(), AllocError> {
     if is_expression(&node) {
-        let text = node.text();
+        let text = String::from_str(alloc, node.text())?;
         let depth = around.scopes.len();
         return add_reference(around, depth, false, Name { text, node }, references);
     }
     match Inherit::cast(node) {
-        Some(inherit) => add_all_inherited(around, &inherit, references),
+        Some(inherit) => add_all_inherited(alloc, around, &inherit, references),
         None => Ok(()),
     }
 }
@@ -207,7 +210,7 @@ pub fn resolve_by_maps<'t>(alloc: Global, root: &SyntaxNode<'t>) -> Result<Found
         match event {
             WalkEvent::Enter(node) => {
                 around.enter(alloc, &node, &mut bindings)?;
-                add_references(&around, node, &mut references)?;
+                add_references(alloc, &around, node, &mut references)?;
             }
             WalkEvent::Leave(node) => around.leave(&node),
         }

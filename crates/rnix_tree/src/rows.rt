@@ -8,21 +8,21 @@ ghost use Rattle.rnix_tree.specs.AlikeRows.{same_item, alike_parents, alike_at, 
 
 use rnix_green::{Element, GreenNode};
 
-// Siblings from one on, with all that is inside them, and their parent.
+// Siblings from `first` on, with everything inside them, and their parent.
 #[derive(Clone, Copy)]
 struct Row {
     first: usize,
     parent: usize,
 }
 
-// Returns whether two elements have the same kind and as many elements inside.
+// Returns whether two elements have the same kind and the same number of elements inside.
 fn is_same_item(a: &Element, b: &Element) -> bool
     ensures { result ≡ same_item (item_from a.now) (item_from b.now) }
 {
     a.kind == b.kind && a.is_node == b.is_node && a.below == b.below
 }
 
-// Returns whether the parents of two elements are the parents of the rows, or as far behind the first elements of the rows.
+// Returns whether both parents are the parents of the rows, or have the same position relative to the first elements of the rows.
 fn are_parents_alike(a: Option<usize>, row: Row, b: Option<usize>, other: Row) -> bool
     ensures { result ≡ alike_parents row.first row.parent other.first other.parent a b }
 {
@@ -35,7 +35,7 @@ fn are_parents_alike(a: Option<usize>, row: Row, b: Option<usize>, other: Row) -
     }
 }
 
-// Returns whether the elements so many places behind the first ones are alike.
+// Returns whether the elements `place` positions after the first ones are alike.
 fn is_alike_at(
     green: &GreenNode,
     row: Row,
@@ -56,7 +56,7 @@ fn is_alike_at(
         && (element.is_node || green.text_at(number) == other_green.text_at(other_number))
 }
 
-// Returns whether so many elements are alike.
+// Returns whether the first `count` elements are alike.
 fn are_alike(green: &GreenNode, row: Row, other_green: &GreenNode, other: Row, count: usize) -> bool
     requires fits { row.first + count < 2 ^ 63 }
     requires there { row.first + count ≤ length (items_of green.now) }

@@ -1,7 +1,7 @@
 //! What is known of a text: its tree, its errors, and its names.
 
 use crate::protocol::{Code, Failure};
-use rnix::ast::{Dynamic, Expr};
+use rnix::ast::{Dynamic, Expr, InterpolPart, Str};
 use rnix::scopes::{resolve, Binding, Reference, Resolution};
 use rnix::syntax::ast::AstNode as _;
 use rnix::{Parse, Root, SyntaxKind, SyntaxNode, SyntaxToken, TextRange, TextSize};
@@ -112,14 +112,8 @@ impl Analysis {
     }
 }
 
-// The text of a string without its quotes.
-fn unquoted(text: &str) -> &str {
-    let inside = |quote| text.strip_prefix(quote).and_then(|text| text.strip_suffix(quote));
-    inside("\"").or_else(|| inside("''")).unwrap_or(text)
-}
-
-/// Returns an expression without the parentheses around it.
-pub fn without_parens(mut expr: Expr) -> Expr {
+// Returns an expression without the parentheses around it.
+fn without_parens(mut expr: Expr) -> Expr {
     while let Expr::Paren(paren) = &expr {
         match paren.expr() {
             Some(inner) => expr = inner,
@@ -129,12 +123,16 @@ pub fn without_parens(mut expr: Expr) -> Expr {
     expr
 }
 
-/// Returns the text of a name, without quotes and `${}`.
+/// Returns what a name is: without quotes and `${}`, and with escapes replaced.
 pub fn name_text(node: &SyntaxNode) -> String {
-    let inner = Dynamic::cast(node.clone()).and_then(|name| name.expr());
-    let text = match inner {
-        Some(expr) => without_parens(expr).to_string(),
-        None => node.to_string(),
+    let inner = match Dynamic::cast(node.clone()).and_then(|name| name.expr()) {
+        Some(expr) => without_parens(expr).syntax().clone(),
+        None => node.clone(),
     };
-    unquoted(&text).to_owned()
+    let parts = Str::cast(inner.clone()).map(|string| string.normalized_parts());
+    match parts.as_deref() {
+        Some([]) => String::new(),
+        Some([InterpolPart::Literal(text)]) => text.clone(),
+        _ => inner.to_string(),
+    }
 }

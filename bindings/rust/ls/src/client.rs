@@ -1,6 +1,6 @@
 //! What the client has said that it can do, and what the server says.
 
-use crate::features::tokens;
+use crate::features::classes;
 use crate::json::{array, object, Value};
 use crate::text::Encoding;
 
@@ -17,6 +17,8 @@ pub struct Client {
     pub takes_actions: bool,
     /// Whether it shows Markdown when the pointer hovers over a name.
     pub takes_markdown: bool,
+    /// Whether it asks for what has changed in the semantic tokens since it got some.
+    pub takes_token_edits: bool,
 }
 
 // Whether an array of the parameters has a string.
@@ -47,6 +49,7 @@ impl Client {
             takes_nested_symbols: can(&["textDocument", "documentSymbol", "hierarchicalDocumentSymbolSupport"]),
             takes_actions: params.at(&literals).is_some(),
             takes_markdown: lists(params, &formats, "markdown"),
+            takes_token_edits: can(&["textDocument", "semanticTokens", "requests", "full", "delta"]),
         }
     }
 
@@ -73,7 +76,7 @@ impl Client {
             ("documentRangeFormattingProvider", true.into()),
             ("foldingRangeProvider", true.into()),
             ("selectionRangeProvider", true.into()),
-            ("semanticTokensProvider", tokens::provider()),
+            ("semanticTokensProvider", classes::provider()),
         ]);
         let version = env!("CARGO_PKG_VERSION");
         let server = object([("name", "rnix-ls".into()), ("version", version.into())]);

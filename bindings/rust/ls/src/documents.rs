@@ -1,10 +1,11 @@
 //! The documents that the client has open.
 
 use crate::analysis::Analysis;
+use crate::features::delta::Sent;
 use crate::json::Value;
 use crate::protocol::{positions_of, uri_of, Failure};
 use crate::text::{Encoding, Text};
-use std::cell::OnceCell;
+use std::cell::{OnceCell, RefCell};
 use std::collections::HashMap;
 
 /// An open document.
@@ -15,6 +16,8 @@ pub struct Document {
     pub version: Option<Value>,
     /// Its text.
     pub text: Text,
+    /// The semantic tokens that the client has, maybe those of an earlier version.
+    pub sent: RefCell<Option<Sent>>,
     // Whether the text has changed since its diagnostics were sent.
     is_new: bool,
     analysis: OnceCell<Result<Analysis, Failure>>,
@@ -64,6 +67,7 @@ impl Documents {
             uri: uri.clone(),
             version: params.at(&["textDocument", "version"]).cloned(),
             text: Text::new(text.to_owned(), encoding),
+            sent: RefCell::default(),
             is_new: true,
             analysis: OnceCell::new(),
         };
@@ -114,4 +118,75 @@ impl Documents {
 
 fn not_open() -> Failure {
     Failure::params("the document is not open")
+}
+
+#[cfg(test)]
+mod tests {
+    use super::*;
+    use crate::json::{array, object};
+    use crate::random::Numbers;
+    use crate::text::Position;
+
+    fn is_line_end(unit: u16) -> bool {
+        unit == 10 || unit == 13
+    }
+
+    // The offset of a position in UTF-16 units, by the words of the protocol.
+    fn offset_of(units: &[u16], position: Position) -> usize {
+        let end_from = |start: usize| (start..units.len()).find(|at| is_line_end(units[*at]));
+        let mut start = 0;
+        for _ in 0..position.line {
+            let Some(end) = end_from(start) else {
+                return units.len();
+            };
+            let is_pair = units[end] == 13 && units.get(end + 1) == Some(&10);
+            start = end + 1 + usize::from(is_pair);
+        }
+        let end = end_from(start).unwrap_or(units.len());
+        let offset = end.min(start + position.column);
+        let is_in_pair = offset < end && (0xdc00..0xe000).contains(&units[offset]);
+        offset - usize::from(is_in_pair)
+    }
+
+    fn edit(units: &mut Vec<u16>, from: Position, to: Position, new: &str) {
+        let (one, other) = (offset_of(units, from), offset_of(units, to));
+        units.splice(one.min(other)..one.max(other), new.encode_utf16());
+    }
+
+    fn place(numbers: &mut Numbers) -> Position {
+        Position {
+            line: numbers.below(40),
+            column: numbers.below(30),
+        }
+    }
+
+    // The parameters that name the document, with another member.
+    fn params(name: &'static str, value: Value, text: &str) -> Value {
+        let document = object([("uri", "a".into()), ("text", text.into())]);
+        object([("textDocument", document), (name, value)])
+    }
+
+    #[test]
+    fn after_random_edits_a_document_is_what_they_give() {
+        let mut numbers = Numbers(3);
+        let text = numbers.text(1000);
+        let mut units: Vec<u16> = text.encode_utf16().collect();
+        let mut documents = Documents::default();
+        documents
+            .open(&params("a", Value::Null, &text), Encoding::Utf16)
+            .unwrap();
+        for _ in 0..1000 {
+            let mut changes = Vec::new();
+            for _ in 0..=numbers.below(3) {
+                let (from, to, new) = (place(&mut numbers), place(&mut numbers), numbers.text(60));
+                edit(&mut units, from, to, &new);
+                let range = Value::read(&Value::Range(from, to).written()).unwrap();
+                changes.push(object([("range", range), ("text", new.as_str().into())]));
+            }
+            let changes = params("contentChanges", array(changes), "");
+            documents.change(&changes, Encoding::Utf16).unwrap();
+            let document = documents.get(&changes).unwrap();
+            assert_eq!(document.text.content(), String::from_utf16(&units).unwrap());
+        }
+    }
 }

@@ -1,7 +1,9 @@
 //! JSON values: a reader that refuses what is not JSON, and a writer.
 
 mod reader;
+mod writer;
 
+use crate::text::Position;
 pub use reader::JsonError;
 use reader::Reader;
 use std::borrow::Cow;
@@ -26,6 +28,8 @@ pub enum Value {
     Object(Vec<(Cow<'static, str>, Value)>),
     /// An array of small numbers. Only the writer knows it.
     Numbers(Vec<u32>),
+    /// A range from a position to another, as the protocol writes it. Only the writer knows it.
+    Range(Position, Position),
 }
 
 /// Creates an object.
@@ -135,74 +139,8 @@ impl Value {
     /// Returns the value as JSON.
     pub fn written(&self) -> String {
         let mut out = String::new();
-        self.write(&mut out);
+        writer::write(self, &mut out);
         out
-    }
-
-    fn write(&self, out: &mut String) {
-        match self {
-            Value::Null => out.push_str("null"),
-            Value::Bool(value) => out.push_str(if *value { "true" } else { "false" }),
-            Value::Number(number) => write_number(*number, out),
-            Value::String(text) => write_string(text, out),
-            Value::Array(items) => write_list(out, '[', ']', items, |item, out| item.write(out)),
-            Value::Object(members) => write_list(out, '{', '}', members, |(name, value), out| {
-                write_string(name, out);
-                out.push(':');
-                value.write(out);
-            }),
-            Value::Numbers(numbers) => write_list(out, '[', ']', numbers, |number, out| {
-                out.push_str(&number.to_string());
-            }),
-        }
-    }
-}
-
-// Writes items between brackets, with commas.
-fn write_list<T>(out: &mut String, open: char, close: char, items: &[T], write: impl Fn(&T, &mut String)) {
-    out.push(open);
-    for (index, item) in items.iter().enumerate() {
-        if index > 0 {
-            out.push(',');
-        }
-        write(item, out);
-    }
-    out.push(close);
-}
-
-// Writes a number; JSON has none for infinities and NaN.
-fn write_number(number: f64, out: &mut String) {
-    if !number.is_finite() {
-        out.push_str("null");
-    } else if number.fract() == 0.0 && number.abs() <= MOST_EXACT {
-        out.push_str(&(number as i64).to_string());
-    } else {
-        out.push_str(&number.to_string());
-    }
-}
-
-// Writes a string with its quotes.
-fn write_string(text: &str, out: &mut String) {
-    out.push('"');
-    let mut rest = text;
-    while let Some(at) = rest.find(|c: char| c < ' ' || c == '"' || c == '\\') {
-        out.push_str(&rest[..at]);
-        write_escape(rest.as_bytes()[at], out);
-        rest = &rest[at + 1..];
-    }
-    out.push_str(rest);
-    out.push('"');
-}
-
-// Writes the escape of a byte.
-fn write_escape(byte: u8, out: &mut String) {
-    match byte {
-        b'"' => out.push_str("\\\""),
-        b'\\' => out.push_str("\\\\"),
-        b'\n' => out.push_str("\\n"),
-        b'\r' => out.push_str("\\r"),
-        b'\t' => out.push_str("\\t"),
-        _ => out.push_str(&format!("\\u{byte:04x}")),
     }
 }
 
@@ -228,7 +166,15 @@ mod tests {
             assert_eq!(Value::read(text).unwrap().written(), text);
         }
         assert_eq!(Value::read(" { \"a\" : 1e2 } ").unwrap().written(), "{\"a\":100}");
-        assert_eq!(Value::Numbers(vec![1, 2]).written(), "[1,2]");
+        assert_eq!(
+            Value::Numbers(vec![0, 9, 10, 4_294_967_295]).written(),
+            "[0,9,10,4294967295]"
+        );
+        assert_eq!(Value::from(usize::MAX >> 11).written(), "9007199254740991");
+        let range = Value::Range(Position { line: 0, column: 12 }, Position { line: 34, column: 5 });
+        let wanted = "{\"start\":{\"line\":0,\"character\":12},\"end\":{\"line\":34,\"character\":5}}";
+        assert_eq!(range.written(), wanted);
+        assert_eq!(Value::read(wanted).unwrap().written(), wanted);
     }
 
     #[test]

@@ -7,6 +7,8 @@ mod features;
 mod json;
 mod protocol;
 mod queue;
+#[cfg(test)]
+mod random;
 mod request;
 mod server;
 mod text;

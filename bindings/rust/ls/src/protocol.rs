@@ -21,6 +21,8 @@ pub enum Code {
     ServerNotInitialized = -32002,
     /// The client has cancelled the request.
     RequestCancelled = -32800,
+    /// The client has changed the document since the request.
+    ContentModified = -32801,
     /// The request is valid, and cannot be done.
     RequestFailed = -32803,
 }
@@ -122,15 +124,10 @@ pub fn size(offset: usize) -> TextSize {
     TextSize::try_from(offset).unwrap_or_default()
 }
 
-/// Returns a position as JSON.
-pub fn position(position: Position) -> Value {
-    object([("line", position.line.into()), ("character", position.column.into())])
-}
-
 /// Returns a range of a text as JSON.
 pub fn range(text: &Text, range: TextRange) -> Value {
-    let at = |offset: TextSize| position(text.position(offset.into()));
-    object([("start", at(range.start())), ("end", at(range.end()))])
+    let at = |offset: TextSize| text.position(offset.into());
+    Value::Range(at(range.start()), at(range.end()))
 }
 
 /// Returns a range of a document as JSON.

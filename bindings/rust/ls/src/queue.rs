@@ -1,16 +1,18 @@
 //! The messages of the client, read by a thread of its own.
 //!
-//! Messages that have arrived wait here, so that a request can still be cancelled, and diagnostics are computed only once no message waits.
+//! Messages that have arrived wait here, so that a request can still be cancelled, or be answered without an effort if the client has changed the
+//! document since, and diagnostics are computed only once no message waits.
 
 use crate::json::Value;
-use crate::protocol::{Code, Failure};
+use crate::protocol::{uri_of, Code, Failure};
 use crate::transport::{self, Frame};
 use std::collections::VecDeque;
 use std::io::{BufReader, Read};
-use std::sync::mpsc::{sync_channel, Receiver, SyncSender};
+use std::panic::{catch_unwind, AssertUnwindSafe};
+use std::sync::{Arc, Condvar, Mutex, MutexGuard, PoisonError};
 use std::thread;
 
-/// No more messages are taken from the reader while those that wait have this many bytes, or are this many.
+/// No more messages are taken from the client while those that wait have this many bytes, or are this many.
 const MOST_BYTES: usize = 1 << 24;
 const MOST_WAITING: usize = 1000;
 
@@ -21,17 +23,31 @@ pub enum Incoming {
     Message(Value),
     /// A request that the client has cancelled.
     Cancelled(Value),
+    /// A request about a document that the client has changed since.
+    Stale(Value),
     /// What is no message.
     Bad(Failure),
     /// The client is gone.
     End,
 }
 
+/// The messages that wait, each with its bytes.
+#[derive(Default)]
+struct Waiting {
+    messages: VecDeque<(Incoming, usize)>,
+    bytes: usize,
+}
+
+/// The messages that wait, and a signal when some have been added or taken.
+#[derive(Default)]
+struct Shared {
+    waiting: Mutex<Waiting>,
+    signal: Condvar,
+}
+
 /// The messages that wait.
 pub struct Queue {
-    receiver: Receiver<(Incoming, usize)>,
-    waiting: VecDeque<(Incoming, usize)>,
-    bytes: usize,
+    shared: Arc<Shared>,
 }
 
 // A body as a message.
@@ -48,21 +64,17 @@ fn message(body: &[u8]) -> Incoming {
     }
 }
 
-// Reads messages until the input ends or nobody takes them.
-fn read_all(input: impl Read, sender: &SyncSender<(Incoming, usize)>) {
+// Reads messages until the input ends.
+fn read_all(input: impl Read, shared: &Shared) {
     let mut input = BufReader::new(input);
     loop {
-        let (incoming, bytes) = match transport::read(&mut input) {
-            Ok(Frame::Body(body)) => (message(&body), body.len()),
+        match transport::read(&mut input) {
+            Ok(Frame::Body(body)) => shared.add(message(&body), body.len()),
             Ok(Frame::BadHeader) => {
                 let reason = "a header has no Content-Length, or one that is no number or too large";
-                (Incoming::Bad(Failure::new(Code::ParseError, reason)), 0)
+                shared.add(Incoming::Bad(Failure::new(Code::ParseError, reason)), 0);
             }
-            Ok(Frame::End) | Err(_) => (Incoming::End, 0),
-        };
-        let is_end = matches!(incoming, Incoming::End);
-        if sender.send((incoming, bytes)).is_err() || is_end {
-            return;
+            Ok(Frame::End) | Err(_) => return,
         }
     }
 }
@@ -85,46 +97,158 @@ fn is_request(message: &Incoming, id: &Value) -> bool {
     }
 }
 
-impl Queue {
-    /// Starts to read an input.
-    pub fn new(input: impl Read + Send + 'static) -> Queue {
-        let (sender, receiver) = sync_channel(1);
-        thread::spawn(move || read_all(input, &sender));
-        Queue {
-            receiver,
-            waiting: VecDeque::new(),
-            bytes: 0,
+// The URI of the document that a message changes.
+fn changed(message: &Incoming) -> Option<&str> {
+    match message {
+        Incoming::Message(value) if value.get("method")?.as_str() == Some("textDocument/didChange") => {
+            uri_of(value.get("params")?).ok()
         }
+        _ => None,
+    }
+}
+
+// The id of a message that asks about a document, and whose answer is of no use after a change of it. Clients use names that complete a word while
+// more of it is typed.
+fn passing(message: &Incoming, uri: &str) -> Option<Value> {
+    let Incoming::Message(value) = message else {
+        return None;
+    };
+    let method = value.get("method")?.as_str()?.strip_prefix("textDocument/")?;
+    let is_passing = method != "completion" && uri_of(value.get("params")?) == Ok(uri);
+    value.get("id").filter(|_| is_passing).cloned()
+}
+
+impl Waiting {
+    fn is_full(&self) -> bool {
+        self.bytes >= MOST_BYTES || self.messages.len() >= MOST_WAITING
     }
 
-    fn add(&mut self, (incoming, bytes): (Incoming, usize)) {
+    fn add(&mut self, incoming: Incoming, bytes: usize) {
         if let Some(id) = cancelled(&incoming) {
-            let waiting = self.waiting.iter_mut().find(|(message, _)| is_request(message, &id));
-            if let Some((message, _)) = waiting {
+            let mut messages = self.messages.iter_mut();
+            if let Some((message, _)) = messages.find(|(message, _)| is_request(message, &id)) {
                 *message = Incoming::Cancelled(id);
             }
             return;
         }
+        if let Some(uri) = changed(&incoming) {
+            self.pass(uri);
+        }
         self.bytes += bytes;
-        self.waiting.push_back((incoming, bytes));
+        self.messages.push_back((incoming, bytes));
+    }
+
+    // Marks the requests about a document that changes now. Those before its last change have been marked.
+    fn pass(&mut self, uri: &str) {
+        for (message, _) in self.messages.iter_mut().rev() {
+            if changed(message) == Some(uri) {
+                return;
+            }
+            if let Some(id) = passing(message, uri) {
+                *message = Incoming::Stale(id);
+            }
+        }
+    }
+
+    fn take(&mut self) -> Option<Incoming> {
+        let (incoming, bytes) = self.messages.pop_front()?;
+        self.bytes -= bytes;
+        Some(incoming)
+    }
+}
+
+impl Shared {
+    fn lock(&self) -> MutexGuard<'_, Waiting> {
+        self.waiting.lock().unwrap_or_else(PoisonError::into_inner)
+    }
+
+    // Waits while the messages pass a test.
+    fn wait_while(&self, test: impl Fn(&Waiting) -> bool) -> MutexGuard<'_, Waiting> {
+        let waiting = self.signal.wait_while(self.lock(), |waiting| test(waiting));
+        waiting.unwrap_or_else(PoisonError::into_inner)
+    }
+
+    // Adds a message once there is room.
+    fn add(&self, incoming: Incoming, bytes: usize) {
+        self.wait_while(Waiting::is_full).add(incoming, bytes);
+        self.signal.notify_one();
+    }
+}
+
+impl Queue {
+    /// Starts to read an input.
+    pub fn new(input: impl Read + Send + 'static) -> Queue {
+        let shared = Arc::new(Shared::default());
+        let reader = Arc::clone(&shared);
+        thread::spawn(move || {
+            // A fault in the reader ends the server, as the end of the input does.
+            let _ = catch_unwind(AssertUnwindSafe(|| read_all(input, &reader)));
+            reader.add(Incoming::End, 0);
+        });
+        Queue { shared }
     }
 
     /// Returns the next message that has arrived, or `None` if there is none now.
     pub fn next_now(&mut self) -> Option<Incoming> {
-        while self.bytes < MOST_BYTES && self.waiting.len() < MOST_WAITING {
-            match self.receiver.try_recv() {
-                Ok(incoming) => self.add(incoming),
-                Err(_) => break,
-            }
-        }
-        let (incoming, bytes) = self.waiting.pop_front()?;
-        self.bytes -= bytes;
-        Some(incoming)
+        let incoming = self.shared.lock().take();
+        self.shared.signal.notify_one();
+        incoming
     }
 
     /// Waits until a message arrives.
     pub fn wait(&mut self) {
-        let incoming = self.receiver.recv().unwrap_or((Incoming::End, 0));
-        self.add(incoming);
+        drop(self.shared.wait_while(|waiting| waiting.messages.is_empty()));
+    }
+}
+
+#[cfg(test)]
+mod tests {
+    use super::*;
+
+    // What becomes of messages, one letter for each: a message, stale or cancelled.
+    fn kept(messages: &[&str]) -> String {
+        let mut waiting = Waiting::default();
+        for text in messages {
+            waiting.add(message(text.as_bytes()), text.len());
+        }
+        let mut letters = String::new();
+        while let Some(incoming) = waiting.take() {
+            letters.push(match incoming {
+                Incoming::Message(_) => 'm',
+                Incoming::Stale(_) => 's',
+                Incoming::Cancelled(_) => 'c',
+                Incoming::Bad(_) | Incoming::End => 'b',
+            });
+        }
+        assert_eq!(waiting.bytes, 0);
+        letters
+    }
+
+    fn about(method: &str, id: &str, uri: &str) -> String {
+        format!("{{{id}\"method\":\"textDocument/{method}\",\"params\":{{\"textDocument\":{{\"uri\":\"{uri}\"}}}}}}")
+    }
+
+    #[test]
+    fn a_request_is_stale_after_a_change_of_its_document() {
+        let (hover, change) = (about("hover", "\"id\":1,", "a"), about("didChange", "", "a"));
+        let tokens = about("semanticTokens/full/delta", "\"id\":\"x\",", "a");
+        assert_eq!(kept(&[&change, &hover, &tokens]), "mmm");
+        assert_eq!(kept(&[&hover, &change, &hover, &change, &tokens]), "smsmm");
+        let (other, open) = (about("didChange", "", "b"), about("didOpen", "", "a"));
+        assert_eq!(kept(&[&open, &hover, &other, &hover, &change, &other]), "msmsmm");
+    }
+
+    #[test]
+    fn completion_is_never_stale() {
+        let (names, change) = (about("completion", "\"id\":1,", "a"), about("didChange", "", "a"));
+        assert_eq!(kept(&[&names, &change]), "mm");
+    }
+
+    #[test]
+    fn a_request_is_cancelled_by_its_id() {
+        let (one, two) = (about("hover", "\"id\":1,", "a"), about("hover", "\"id\":\"1\",", "a"));
+        let cancel = |id: &str| format!("{{\"method\":\"$/cancelRequest\",\"params\":{{\"id\":{id}}}}}");
+        assert_eq!(kept(&[&one, &two, &cancel("\"1\""), &cancel("7")]), "mc");
+        assert_eq!(kept(&[&one, &about("didChange", "", "a"), &cancel("1")]), "sm");
     }
 }

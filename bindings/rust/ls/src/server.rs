@@ -52,6 +52,7 @@ fn feature(method: &str) -> Option<fn(&Request) -> Outcome> {
         "rename" => rename::rename,
         "selectionRange" => selection::selections,
         "semanticTokens/full" => tokens::full,
+        "semanticTokens/full/delta" => tokens::delta,
         "semanticTokens/range" => tokens::in_range,
         _ => return None,
     })
@@ -167,17 +168,20 @@ impl<W: Write> Server<W> {
         Ok(Next::Continue)
     }
 
+    // Responds to a request that is not computed.
+    fn refuse(&mut self, id: Value, code: Code, reason: &str) -> io::Result<Next> {
+        self.send(&response(id, Err(Failure::new(code, reason))))?;
+        Ok(Next::Continue)
+    }
+
     fn take(&mut self, incoming: Incoming) -> io::Result<Next> {
         match incoming {
-            Incoming::Message(message) => return self.message(&message),
-            Incoming::Cancelled(id) => {
-                let failure = Failure::new(Code::RequestCancelled, "the request was cancelled");
-                self.send(&response(id, Err(failure)))?;
-            }
-            Incoming::Bad(failure) => self.send(&response(Value::Null, Err(failure)))?,
-            Incoming::End => return Ok(Next::End(u8::from(self.stage != Stage::ShutDown))),
+            Incoming::Message(message) => self.message(&message),
+            Incoming::Cancelled(id) => self.refuse(id, Code::RequestCancelled, "the request was cancelled"),
+            Incoming::Stale(id) => self.refuse(id, Code::ContentModified, "the document has changed since"),
+            Incoming::Bad(failure) => self.refuse(Value::Null, failure.code, &failure.message),
+            Incoming::End => Ok(Next::End(u8::from(self.stage != Stage::ShutDown))),
         }
-        Ok(Next::Continue)
     }
 
     fn serve(&mut self, queue: &mut Queue) -> io::Result<u8> {

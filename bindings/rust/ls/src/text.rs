@@ -3,11 +3,16 @@
 //! Lines end with `\n`, `\r\n` or `\r`. Columns count UTF-16 units or bytes. A position after the end of its line means the end of the line, and
 //! one after the last line the end of the text.
 
+mod cursor;
+mod units;
+
+pub use cursor::Cursor;
 use std::cell::OnceCell;
 use std::ops::Range;
+use units::Units;
 
-/// The distance in bytes between two places whose UTF-16 offset is kept.
-const STEP: usize = 1024;
+/// In a part of so many bytes, units are counted, so that those of the whole text need not be.
+const SHORT: usize = 256;
 
 /// What columns count.
 #[derive(Clone, Copy, Debug, PartialEq, Eq)]
@@ -33,17 +38,17 @@ pub struct Text {
     content: String,
     starts: Vec<usize>,
     encoding: Encoding,
-    // The UTF-16 units before each multiple of `STEP`, or nothing if these are the bytes.
-    units: OnceCell<Vec<usize>>,
+    units: OnceCell<Units>,
 }
 
-// Adds the starts of the lines that follow a line end in a range. The range does not end between `\r` and `\n`.
+// Adds the starts of the lines that come after a line end which has its last byte in a range.
 fn add_starts(content: &str, range: Range<usize>, starts: &mut Vec<usize>) {
     let bytes = content.as_bytes();
-    for at in range {
-        let is_end = bytes[at] == b'\n' || (bytes[at] == b'\r' && bytes.get(at + 1) != Some(&b'\n'));
+    for (index, byte) in bytes[range.clone()].iter().enumerate() {
+        let next = range.start + index + 1;
+        let is_end = *byte == b'\n' || (*byte == b'\r' && bytes.get(next) != Some(&b'\n'));
         if is_end {
-            starts.push(at + 1);
+            starts.push(next);
         }
     }
 }
@@ -55,25 +60,6 @@ fn floor(content: &str, offset: usize) -> usize {
         offset -= 1;
     }
     offset
-}
-
-fn count_units(text: &str) -> usize {
-    text.chars().map(char::len_utf16).sum()
-}
-
-// The UTF-16 units before each multiple of `STEP`.
-fn units_of(content: &str) -> Vec<usize> {
-    if content.is_ascii() {
-        return Vec::new();
-    }
-    let (mut units, mut count, mut start) = (Vec::new(), 0, 0);
-    for step in (0..=content.len()).step_by(STEP) {
-        let end = floor(content, step);
-        count += count_units(&content[start..end]);
-        units.push(count);
-        start = end;
-    }
-    units
 }
 
 impl Text {
@@ -114,28 +100,15 @@ impl Text {
         range.start + text.strip_suffix('\r').unwrap_or(text).len()
     }
 
-    // The UTF-16 units before an offset.
-    fn units_before(&self, offset: usize) -> usize {
-        let units = self.units.get_or_init(|| units_of(&self.content));
-        match units.get(offset / STEP) {
-            Some(count) => {
-                let start = floor(&self.content, offset / STEP * STEP);
-                count + count_units(&self.content[start..offset])
-            }
-            None => offset,
-        }
-    }
-
     /// Returns the position of an offset. An offset in a character, or after the end of the text, counts as the one before it.
     pub fn position(&self, offset: usize) -> Position {
         let offset = floor(&self.content, offset);
         let line = self.line_at(offset);
         let start = self.starts[line];
-        let column = match self.encoding {
-            Encoding::Utf8 => offset - start,
-            Encoding::Utf16 => self.units_before(offset) - self.units_before(start),
-        };
-        Position { line, column }
+        Position {
+            line,
+            column: self.width(start..offset),
+        }
     }
 
     /// Returns the offset of a position.
@@ -144,24 +117,28 @@ impl Text {
             return self.content.len();
         }
         let (start, end) = (self.starts[position.line], self.line_end(position.line));
-        if self.encoding == Encoding::Utf8 {
-            return floor(&self.content, start.saturating_add(position.column).min(end));
+        match self.encoding {
+            Encoding::Utf8 => floor(&self.content, start.saturating_add(position.column).min(end)),
+            Encoding::Utf16 => start + units::offset_of(&self.content[start..end], position.column),
         }
-        let mut column = 0;
-        for (at, c) in self.content[start..end].char_indices() {
-            column += c.len_utf16();
-            if column > position.column {
-                return start + at;
-            }
-        }
-        end
     }
 
-    /// Returns the width of a part of the text, as columns count it.
+    // Whether columns count the bytes of a part of the text.
+    fn is_plain(&self, range: Range<usize>) -> bool {
+        self.encoding == Encoding::Utf8 || self.content.as_bytes()[range].is_ascii()
+    }
+
+    /// Returns the width of a part of the text, as columns count it. It does not begin or end inside a character.
     pub fn width(&self, range: Range<usize>) -> usize {
         match self.encoding {
             Encoding::Utf8 => range.len(),
-            Encoding::Utf16 => self.units_before(range.end) - self.units_before(range.start),
+            Encoding::Utf16 if range.len() <= SHORT && self.units.get().is_none() => {
+                units::count(&self.content.as_bytes()[range])
+            }
+            Encoding::Utf16 => {
+                let units = self.units.get_or_init(|| Units::new(&self.content));
+                units.between(self.content.as_bytes(), range.start, range.end)
+            }
         }
     }
 
@@ -169,16 +146,12 @@ impl Text {
     pub fn replace(&mut self, from: Position, to: Position, new: &str) {
         let (one, other) = (self.offset(from), self.offset(to));
         let (start, end) = (one.min(other), one.max(other));
-        // A line that starts before the changed part stays, and so does one that starts after it.
+        self.content.replace_range(start..end, new);
+        // A line that begins before the changed part stays, and so does one that begins after it. Those between are found again.
         let kept = self.starts.partition_point(|line| *line < start).max(1);
         let after = self.starts.partition_point(|line| *line <= end);
-        self.content.replace_range(start..end, new);
-        let moved = |line: usize| line - end + start + new.len();
-        let next = self.starts.get(after).map_or(self.content.len(), |line| moved(*line));
         let mut starts = Vec::new();
-        add_starts(&self.content, self.starts[kept - 1]..next, &mut starts);
-        // The line that starts at `next` is found again.
-        let after = (after + 1).min(self.starts.len());
+        add_starts(&self.content, start.saturating_sub(1)..start + new.len(), &mut starts);
         for line in &mut self.starts[after..] {
             *line = *line - end + start + new.len();
         }
@@ -190,30 +163,11 @@ impl Text {
 #[cfg(test)]
 mod tests {
     use super::*;
+    use crate::random::Numbers;
     use rnix::{ColumnUnit, LineIndex};
 
     fn at(line: usize, column: usize) -> Position {
         Position { line, column }
-    }
-
-    // Random numbers, always the same.
-    struct Numbers(u64);
-
-    impl Numbers {
-        fn below(&mut self, limit: usize) -> usize {
-            self.0 = self
-                .0
-                .wrapping_mul(6_364_136_223_846_793_005)
-                .wrapping_add(1_442_695_040_888_963_407);
-            (self.0 >> 33) as usize % limit
-        }
-
-        fn text(&mut self, most: usize) -> String {
-            let pieces = ["a", "\n", "\r", "\r\n", "ä", "😀", "xyz", " "];
-            (0..self.below(most + 1))
-                .map(|_| pieces[self.below(pieces.len())])
-                .collect()
-        }
     }
 
     #[test]
@@ -249,6 +203,30 @@ mod tests {
             let position = index.position(offset).unwrap();
             assert_eq!(text.position(offset), at(position.line, position.column));
             assert_eq!(text.offset(text.position(offset)), offset);
+        }
+    }
+
+    #[test]
+    fn a_cursor_finds_the_positions_of_the_text() {
+        let mut numbers = Numbers(2);
+        for encoding in [Encoding::Utf8, Encoding::Utf16] {
+            for most in [0, 1, 5, 40, 400] {
+                let text = Text::new(numbers.text(most), encoding);
+                let content = text.content();
+                let offsets: Vec<usize> = (0..=content.len()).filter(|it| content.is_char_boundary(*it)).collect();
+                for step in [1, 2, 9] {
+                    let first = numbers.below(offsets.len());
+                    let mut cursor = Cursor::new(&text, offsets[first]);
+                    for offset in offsets[first..].iter().step_by(step) {
+                        assert_eq!(cursor.position(*offset), text.position(*offset), "{content:?} {offset}");
+                        let line = text.line(text.line_at(*offset));
+                        assert_eq!(cursor.next_line(), line.end);
+                        let end = content[line.clone()].trim_end_matches(['\n', '\r']).len();
+                        assert_eq!(cursor.line_end(), line.start + end);
+                    }
+                    assert_eq!(cursor.position(offsets[first]), text.position(offsets[first]));
+                }
+            }
         }
     }
 

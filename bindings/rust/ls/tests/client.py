@@ -1,5 +1,6 @@
 """A client that drives rnix-ls over pipes. RNIX_LS names the program."""
 
+import glob
 import json
 import os
 import select
@@ -15,6 +16,7 @@ CAPABILITIES = {
         "hover": {"contentFormat": ["markdown", "plaintext"]},
         "documentSymbol": {"hierarchicalDocumentSymbolSupport": True},
         "codeAction": {"codeActionLiteralSupport": {"codeActionKind": {"valueSet": ["quickfix"]}}},
+        "semanticTokens": {"requests": {"range": True, "full": {"delta": True}}},
     },
 }
 
@@ -28,8 +30,9 @@ def frame(message):
 class Client:
     """A server with its pipes."""
 
-    def __init__(self, capabilities=None, is_initialized=True):
-        self.process = subprocess.Popen([PROGRAM, "--stdio"], stdin=subprocess.PIPE, stdout=subprocess.PIPE, bufsize=0)
+    def __init__(self, capabilities=None, is_initialized=True, below=()):
+        """Starts a server, `below` the command of a tool such as valgrind."""
+        self.process = subprocess.Popen([*below, PROGRAM, "--stdio"], stdin=subprocess.PIPE, stdout=subprocess.PIPE, bufsize=0)
         self.arrived = bytearray()
         self.count = 0
         self.notifications = []
@@ -136,6 +139,14 @@ class Client:
             params["position"] = place(position)
         return self.ask(f"textDocument/{method}", params)
 
+    def processor_time(self):
+        """Returns how long processors have worked for the server, in seconds."""
+        times = 0
+        for name in glob.glob(f"/proc/{self.process.pid}/task/*/schedstat"):
+            with open(name, encoding="ascii") as file:
+                times += int(file.read().split()[0])
+        return times / 1e9
+
     def memory(self):
         """Returns the resident memory in bytes."""
         with open(f"/proc/{self.process.pid}/statm", encoding="ascii") as file:
@@ -153,6 +164,16 @@ def change_of(change):
         return {"text": change}
     start, end, text = change
     return {"range": {"start": place(start), "end": place(end)}, "text": text}
+
+
+def patched(tokens, answer):
+    """Returns the numbers of semantic tokens after an answer to a request for their edits."""
+    if "data" in answer:
+        return answer["data"]
+    tokens = list(tokens)
+    for edit in sorted(answer["edits"], key=lambda it: -it["start"]):
+        tokens[edit["start"] : edit["start"] + edit["deleteCount"]] = edit.get("data", [])
+    return tokens
 
 
 def span(thing):

@@ -1,6 +1,7 @@
 """Prints how fast rnix-ls starts and answers, and how much memory it takes: RNIX_LS=PROGRAM python3 measure.py [TURNS]
 
-Times are from the sending of a message to the answer, in milliseconds: the least of TURNS (15) and the median.
+Times are from the sending of a message to the answer, in milliseconds: the least of TURNS (15) and the median. That of a key press is how long
+processors worked for the server: for a change of one letter, the diagnostics, and the edits of the semantic tokens.
 """
 
 import os
@@ -45,6 +46,19 @@ def change(client, turn):
     client.diagnostics()
 
 
+def press(client):
+    """Returns the least and the median processor time of key presses in the first comment."""
+    name = client.at("semanticTokens/full")["resultId"]
+    times = []
+    for turn in range(TURNS):
+        start = client.processor_time()
+        client.change(((2, 6), (2, 6), "abc"[turn % 3]))
+        name = client.at("semanticTokens/full/delta", previousResultId=name)["resultId"]
+        client.diagnostics()
+        times.append(1000 * (client.processor_time() - start))
+    return f"{min(times):.1f} ({statistics.median(times):.1f})"
+
+
 def size_of(shape, size):
     """Prints the figures for a size."""
     text = text_of(shape, size)
@@ -55,6 +69,7 @@ def size_of(shape, size):
         figures = [timed(lambda turn: change(client, turn), TURNS if size < 5_000_000 else 5)]
         for method in ("hover", "completion", "documentSymbol", "semanticTokens/full", "foldingRange"):
             figures.append(timed(lambda _: client.at(method, middle)))
+        figures.append(press(client))
         figures.append(f"{client.memory() / 1e6:.1f} MB")
         print(f"| {shape}, {size // 1000} KB | {' | '.join(figures)} |", flush=True)
 
@@ -87,7 +102,7 @@ def burst():
 
 
 print(f"start: {timed(start, 2 * TURNS)} ms; without a text {Client().memory() / 1e6:.1f} MB", flush=True)
-print("| text | change | hover | completion | symbols | semantic tokens | folding | memory |")
+print("| text | change | hover | completion | symbols | semantic tokens | folding | key press, processor | memory |")
 for shape_, size_ in [("packages", 10_000), ("packages", 100_000), ("modules", 100_000), ("packages", 1_000_000), ("packages", 10_000_000)]:
     size_of(shape_, size_)
 burst()

@@ -10,7 +10,7 @@ from client import URI, Client, frame, place
 
 METHODS = [
     "codeAction", "completion", "definition", "documentHighlight", "documentSymbol", "foldingRange", "formatting", "hover", "prepareRename",
-    "rangeFormatting", "references", "rename", "selectionRange", "semanticTokens/full", "semanticTokens/range",
+    "rangeFormatting", "references", "rename", "selectionRange", "semanticTokens/full", "semanticTokens/full/delta", "semanticTokens/range",
 ]
 
 
@@ -170,10 +170,10 @@ class Hostile(unittest.TestCase):
                 text = model(text, start, end, new)
                 changes.append((start, end, new))
             self.client.change(*changes)
-            found = self.client.diagnostics(), self.client.at("semanticTokens/full"), self.client.at("documentSymbol")
+            found = self.client.diagnostics(), self.client.at("semanticTokens/full")["data"], self.client.at("documentSymbol")
             self.client.open(text, "file:///whole.nix")
             whole = "file:///whole.nix"
-            wanted = self.client.diagnostics(), self.client.at("semanticTokens/full", uri=whole), self.client.at("documentSymbol", uri=whole)
+            wanted = self.client.diagnostics(), self.client.at("semanticTokens/full", uri=whole)["data"], self.client.at("documentSymbol", uri=whole)
             self.assertEqual(found, wanted, repr(text))
 
     def test_a_text_of_10_megabytes_is_served(self):
@@ -192,7 +192,7 @@ class Hostile(unittest.TestCase):
             self.client.open(text)
             self.client.diagnostics()
             for method in METHODS:
-                others = {"positions": [place((0, len(text) // 2))], "newName": "z", "context": {"diagnostics": []}}
+                others = {"positions": [place((0, len(text) // 2))], "newName": "z", "context": {"diagnostics": []}, "previousResultId": "0"}
                 others["range"] = {"start": place((0, 0)), "end": place((0, len(text)))}
                 self.client.at(method, (0, len(text) // 2), **others)
 

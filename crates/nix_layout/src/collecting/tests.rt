@@ -1,13 +1,13 @@
-//! Compares the layouts of many texts with those of the model, and of walks that leave each element.
+//! Compares the layouts of many texts with those of walks that leave each element, and the texts that are written with stored digests.
 
 use super::{Collector, layout_of};
 use crate::grouping::{child_of, is_atom};
 use crate::layout::Layout;
 use crate::measuring::tests::check_measures;
-use crate::model;
 use crate::piece::Piece;
 use crate::spacing::Child;
 use crate::writing::written;
+use digests::{OUTER_DIGESTS, PRIME, START};
 use rnix::{NodeOrToken, Root, SyntaxElement, SyntaxKind, SyntaxNode, SyntaxToken, WalkEvent};
 use std::alloc::{AllocError, Global};
 use std::process::Abort;
@@ -238,67 +238,87 @@ fn check_element(rt: &impl Abort, element: &SyntaxElement<'_>) {
     }
 }
 
-// Compares a layout and its text with those of the model. The layouts of a text with errors may differ.
-fn check_model(
-    rt: &(impl Abort + AllocGlobal),
-    text: &str,
-    root: &SyntaxNode<'_>,
-    new: &Layout,
-    has_errors: bool,
-) -> Result<(), AllocError> {
-    let old = model::layout_of(rt.alloc(), root)?;
-    if has_errors && !are_same(&old, new) {
-        return Ok(());
+// Adds a text to a digest (FNV-1a of the bytes of all texts, each with a byte 0 after it).
+fn with_text(digest: u64, text: &str) -> u64 {
+    let mut digest = digest;
+    for byte in text.bytes() {
+        digest = (digest ^ u64::from(byte)).wrapping_mul(PRIME);
     }
-    assert!(rt; are_same(&old, new), "{text}");
-    let old_text = model::written(rt.alloc(), text, &old)?;
-    let new_text = written(rt.alloc(), text, new)?;
-    assert!(rt; old_text.as_str() == new_text.as_str(), "{text}");
-    Ok(())
+    digest.wrapping_mul(PRIME)
 }
 
-// Compares the layouts of a text.
-fn check(rt: &(impl Abort + AllocGlobal), text: &str) -> Result<(), AllocError> {
+// Returns the formatted text, which has to stay the same when it is formatted again.
+fn formatted(
+    rt: &(impl Abort + AllocGlobal),
+    text: &str,
+    layout: &Layout,
+) -> Result<String, AllocError> {
+    let made = written(rt.alloc(), text, layout)?;
+    let parse = Root::parse(rt.alloc(), made.as_str())?;
+    let next = layout_of(rt.alloc(), &parse.syntax())?;
+    let again = written(rt.alloc(), made.as_str(), &next)?;
+    assert!(rt; again.as_str() == made.as_str(), "{text}");
+    Ok(made)
+}
+
+// Compares the layouts of a text, and adds the formatted text to a digest. A text with errors has no layout: parts of strings may be outside strings.
+fn check(rt: &(impl Abort + AllocGlobal), text: &str, digest: u64) -> Result<u64, AllocError> {
     let parse = Root::parse(rt.alloc(), text)?;
     let root = parse.syntax();
     for element in root.descendants_with_tokens() {
         check_element(rt, &element);
     }
-    let old = layout_by_events(rt.alloc(), &root)?;
     let new = layout_of(rt.alloc(), &root)?;
-    assert!(rt; old.pieces.as_slice() == new.pieces.as_slice());
-    assert!(rt; old.groups.as_slice() == new.groups.as_slice());
-    assert!(rt; old.lines.as_slice() == new.lines.as_slice());
-    check_model(rt, text, &root, &new, !parse.errors().is_empty())?;
-    // Parts of strings stand outside strings in a text with errors alone, which has no layout.
-    if parse.errors().is_empty() {
-        assert!(rt;
-            are_same(&layout_by_nodes(rt.alloc(), &root)?, &new),
-            "{text}"
-        );
+    assert!(rt;
+        are_same(&layout_by_events(rt.alloc(), &root)?, &new),
+        "{text}"
+    );
+    check_measures(rt, &new)?;
+    if !parse.errors().is_empty() {
+        return Ok(digest);
     }
-    check_measures(rt, &new)
+    assert!(rt;
+        are_same(&layout_by_nodes(rt.alloc(), &root)?, &new),
+        "{text}"
+    );
+    let made = formatted(rt, text, &new)?;
+    Ok(with_text(digest, made.as_str()))
 }
 
+// Compares the layouts of the expressions of a kind, with each kind of expression in their places, and inside these one of the last kind.
+fn check_outer(
+    rt: &(impl Abort + AllocGlobal),
+    outer: &str,
+    next_inner: &mut usize,
+) -> Result<u64, AllocError> {
+    let mut digest = START;
+    for middle in OUTER {
+        let inner = match INNER.get(*next_inner) {
+            Some(inner) => {
+                *next_inner = next_inner.saturating_add(1);
+                *inner
+            }
+            None => {
+                *next_inner = 0;
+                "a"
+            }
+        };
+        let inside = filled(rt.alloc(), middle, inner)?;
+        let text = filled(rt.alloc(), outer, inside.as_str())?;
+        digest = check(rt, text.as_str(), digest)?;
+    }
+    Ok(digest)
+}
+
+mod digests;
 mod edges;
 
 #[test]
 fn layouts_are_the_same(rt: HostRuntime) -> Result<(), Fail> {
-    check(&rt, "")?;
-    let mut inners = INNER.iter();
-    for outer in OUTER {
-        for middle in OUTER {
-            let inner = match inners.next() {
-                Some(inner) => *inner,
-                None => {
-                    inners = INNER.iter();
-                    "a"
-                }
-            };
-            let inside = filled(rt.alloc(), middle, inner)?;
-            let text = filled(rt.alloc(), outer, inside.as_str())?;
-            check(&rt, text.as_str())?;
-        }
+    let mut next_inner = 0;
+    for (outer, stored) in OUTER.iter().zip(&OUTER_DIGESTS) {
+        let digest = check_outer(&rt, outer, &mut next_inner)?;
+        assert!(rt; digest == *stored, "{outer}: {digest}");
     }
     Ok(())
 }

@@ -1,33 +1,60 @@
 //! What an attribute is called.
 
 ghost use Rattle.std.specs.Prelude.{◌≡◌, if◌then◌else◌, None, option_map, IfOk, string_bytes};
-ghost use Rattle.std.specs.List.{list_any};
 ghost use Rattle.rnix_green.specs.Tree.{item_of};
 ghost use Rattle.rnix_base.specs.Parts.{is_indented};
 ghost use Rattle.rnix_base.specs.Select.{child_of};
 ghost use Rattle.rnix.specs.NodeKinds.{is_expr};
 ghost use Rattle.rnix.specs.StringParts.{string_parts, plain_value};
-ghost use Rattle.rnix.specs.AttrName.{may_cut, is_one_piece, constant_string, constant_by, constant_of, static_name};
+ghost use Rattle.rnix.specs.AttrName.{state_behind, is_run, is_lone, is_one_piece, constant_string, constant_by};
+ghost use Rattle.rnix.specs.AttrName.{inside_of, without_parens, constant_of, static_name};
 ghost use Rattle.rnix.specs.Sums.{attr_node};
 
 use crate::ast::attributes::Attr;
+use crate::ast::expression::Expr;
 use crate::ast::names::Dynamic;
 use crate::ast::string_parts::InterpolPart;
 use crate::ast::strings::Str;
-use rnix_base::{AstNode, AstToken, first_token, is_indented};
+use rnix_base::{AstNode, AstToken, child_at, first_token, is_indented};
 use rnix_kinds::SyntaxKind;
 use rnix_tree::SyntaxNode;
 use std::alloc::{AllocError, Global};
 
-// Whether Nix may cut a text in `''` at one of its bytes.
-fn may_be_cut(text: &str) -> bool
-    ensures { result ≡ list_any may_cut text.now }
+// The state of Nix's tokenizer after one more byte of a text in `''`: at 0 its token may continue, at 1 it has ended.
+fn state_behind(state: u8, byte: u8) -> u8
+    ensures { result ≡ state_behind state byte }
 {
-    text.bytes().any(
-        |byte: u8| -> bool
-            ensures { result ≡ may_cut byte }
-        { byte == b'\'' || byte == b'$' },
-    )
+    let (is_dollar, is_quote) = (byte == b'$', byte == b'\'');
+    if state == 0 {
+        if is_dollar || is_quote { byte } else { 0 }
+    } else if state == b'$' {
+        if byte == b'{' || is_quote { 1 } else { 0 }
+    } else if state == b'\'' {
+        if is_quote || is_dollar { 1 } else { 0 }
+    } else {
+        1
+    }
+}
+
+// Whether a text in `''` is one token that any more text could continue.
+fn is_run(text: &str) -> bool
+    ensures { result ≡ is_run text.now }
+{
+    let mut state = 0;
+    for byte in text.as_bytes() {
+        state = state_behind(state, *byte);
+    }
+    state == 0
+}
+
+// Whether a text in `''` is one of the other tokens: a `$`, or an escape.
+fn is_lone(text: &str) -> bool
+    ensures { result ≡ is_lone text.now }
+{
+    text == "$"
+        || text == "'''"
+        || text == "''$"
+        || (text.len() == 4 && text.as_bytes().starts_with(b"''\\"))
 }
 
 // Whether Nix reads the content of a string in `''` as one piece.
@@ -37,7 +64,10 @@ fn is_one_piece(string: &Str<'_>) -> bool
     let mut parts = string.parts();
     match (parts.next(), parts.next()) {
         (None, _) => true,
-        (Some(InterpolPart::Literal(token)), None) => !may_be_cut(token.syntax().text()),
+        (Some(InterpolPart::Literal(token)), None) => {
+            let text = token.syntax().text();
+            is_run(text) || is_lone(text)
+        }
         _ => false,
     }
 }
@@ -66,12 +96,38 @@ fn constant(alloc: Global, node: &SyntaxNode<'_>) -> Result<Option<String>, Allo
     }
 }
 
-// Returns the same of the expression in `${` and `}`, if there is one.
+// Returns the expression that is in parentheses, if a node is that.
+fn inside_of<'t>(node: &SyntaxNode<'t>) -> Option<SyntaxNode<'t>>
+    ensures { result ≡ inside_of node.now }
+{
+    if node.kind() != SyntaxKind::NODE_PAREN {
+        return None;
+    }
+    Some(child_at::<Expr<'t>>(node, 0)?.syntax().clone())
+}
+
+// Returns an expression without the parentheses around it.
+fn without_parens<'t>(expr: &SyntaxNode<'t>) -> SyntaxNode<'t>
+    ensures { result ≡ without_parens expr.now }
+{
+    let mut inner = expr.clone();
+    let mut count = expr.inside_count();
+    while count > 0 {
+        match inside_of(&inner) {
+            Some(next) => inner = next,
+            None => return inner,
+        }
+        count -= 1;
+    }
+    inner
+}
+
+// Returns the same of the expression in `${` and `}`, perhaps in parentheses, if there is one.
 fn constant_of(alloc: Global, dynamic: &Dynamic<'_>) -> Result<Option<String>, AllocError>
     ensures { IfOk result (λ value. option_map string_bytes value ≡ constant_of (child_of is_expr 0 dynamic.now)) }
 {
     match dynamic.expr() {
-        Some(expr) => constant(alloc, expr.syntax()),
+        Some(expr) => constant(alloc, &without_parens(expr.syntax())),
         None => Ok(None),
     }
 }
@@ -99,8 +155,8 @@ fn name_of(alloc: Global, node: &SyntaxNode<'_>) -> Result<Option<String>, Alloc
 }
 
 impl<'t> Attr<'t> {
-    /// Returns what the attribute is called if the text alone says so: `a`, `"a"` and `${"a"}` are called `a`. `None` stands for a name that must be
-    /// evaluated, and for a string in `''`, which Nix refuses in this place. As in Nix 2.8.
+    /// Returns what the attribute is called if the text alone says so: `a`, `"a"`, `${"a"}` and `${("a")}` are called `a`. Returns `None` for a name that
+    /// must be evaluated, and for a string in `''`, which Nix refuses as a name. As in Nix 2.8.
     pub fn static_name(&self, alloc: Global) -> Result<Option<String>, AllocError>
         ensures { IfOk result (λ name. option_map string_bytes name ≡ static_name (attr_node self.now)) }
     {

@@ -30,7 +30,7 @@ fn symbol(text: &str) -> Cut
     }
 }
 
-// Whether a path or a URI may go on with this byte behind a name.
+// Whether a path or a URI may continue with this byte after a name.
 #[inline]
 fn goes_past_name(b: u8) -> bool
     ensures { result ≡ goes_past_name b }
@@ -38,7 +38,7 @@ fn goes_past_name(b: u8) -> bool
     matches!(b, b'.' | b'+' | b'/' | b':')
 }
 
-// What begins with a letter or `_`.
+// A token that begins with a letter or `_`.
 #[inline(always)]
 fn named(text: &str, ahead: &mut Ahead) -> Cut
     requires first { begins_word (slice_index text.now 0) ≡ true }
@@ -62,7 +62,7 @@ fn named(text: &str, ahead: &mut Ahead) -> Cut
     word(text, end)
 }
 
-// What begins with a digit, `.`, `+` or `-`. A path goes on with a path character.
+// A token that begins with a digit, `.`, `+` or `-`. A path continues with a path character.
 #[inline(always)]
 fn stepped(text: &str, ahead: &mut Ahead) -> Cut
     requires some { 0 < length text.now }

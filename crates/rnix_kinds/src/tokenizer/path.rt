@@ -109,7 +109,7 @@ pub fn relative(text: &str, step: usize) -> Option<Cut>
     requires { step ≡ prefix_len (class_test Class.Step) text.now }
     ensures { result ≡ relative text.now }
 {
-    // The test of the byte saves a call behind most names.
+    // Testing the byte first saves a call after most names.
     if step > 0 && byte_at(text, step) == b'/' && goes_on_as_path(text, step) {
         Some(first_segment(text, PathStart::Relative, 0))
     } else {

@@ -8,7 +8,7 @@ use crate::request::Request;
 use rnix::ast::Inherit;
 use rnix::scopes::Binding;
 use rnix::syntax::ast::AstNode as _;
-use rnix::{NodeOrToken, SyntaxKind, SyntaxNode, SyntaxToken, TextRange, TextSize};
+use rnix::{SyntaxKind, SyntaxNode, SyntaxToken, TextRange, TextSize};
 use std::collections::HashSet;
 
 /// An answer has this many names at most.
@@ -150,9 +150,9 @@ fn is_in_sight(scope: &SyntaxNode, place: &Place) -> bool {
     if inherits.as_ref() == Some(scope) || place.after <= range.start() {
         return false;
     }
-    let mut tokens = scope.children_with_tokens().filter_map(NodeOrToken::into_token);
-    let is_closed = tokens.any(|token| token.kind() == SyntaxKind::TOKEN_R_BRACE);
-    place.after < range.end() || (place.after == range.end() && !is_closed)
+    let mut children = scope.element_ref().children();
+    let mut is_closed = || children.any(|child| child.kind() == SyntaxKind::TOKEN_R_BRACE);
+    place.after < range.end() || (place.after == range.end() && !is_closed())
 }
 
 // Whether a name needs no quotes.

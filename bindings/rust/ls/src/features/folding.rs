@@ -33,18 +33,17 @@ fn lines(request: &Request, range: TextRange, has_bracket: bool) -> (usize, usiz
     )
 }
 
-// The lines of a node, if it is folded.
-fn fold_of(request: &Request, node: ElementRef<'_>) -> Option<Fold> {
-    let kind = node.kind();
+// The range of a node that is folded, and whether its last line stays in sight.
+fn folded(node: ElementRef<'_>) -> Option<(TextRange, bool)> {
     let range = node.text_range();
-    if kind == SyntaxKind::NODE_LET_IN {
-        let end = node.children().find(|child| child.kind() == SyntaxKind::TOKEN_IN)?;
-        let (start, end) = lines(request, TextRange::new(range.start(), end.text_range().start()), true);
-        return Some((start, end, false));
+    match node.kind() {
+        SyntaxKind::NODE_LET_IN => {
+            let end = node.children().find(|child| child.kind() == SyntaxKind::TOKEN_IN)?;
+            Some((TextRange::new(range.start(), end.text_range().start()), true))
+        }
+        SyntaxKind::NODE_INHERIT => Some((range, false)),
+        kind => is_bracketed(kind).then_some((range, true)),
     }
-    let is_folded = is_bracketed(kind) || kind == SyntaxKind::NODE_INHERIT;
-    let (start, end) = lines(request, range, is_bracketed(kind));
-    is_folded.then_some((start, end, false))
 }
 
 // Whether nothing but white space comes before a token in its line.
@@ -81,7 +80,10 @@ pub fn folds(request: &Request) -> Outcome {
         if element.kind() == SyntaxKind::TOKEN_COMMENT {
             add_comment(request, element, &mut comments);
         } else if !element.is_token() {
-            nodes.extend(fold_of(request, element));
+            nodes.extend(folded(element).map(|(range, has_bracket)| {
+                let (start, end) = lines(request, range, has_bracket);
+                (start, end, false)
+            }));
         }
     }
     nodes.append(&mut comments);

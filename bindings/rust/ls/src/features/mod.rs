@@ -1,8 +1,10 @@
 //! What the server can do with a document, one file for each feature.
 
 pub mod actions;
+pub mod classes;
 pub mod comments;
 pub mod completion;
+pub mod delta;
 pub mod diagnostics;
 pub mod folding;
 pub mod formatting;

@@ -3,11 +3,11 @@
 //! It is refused where others see the name, and where a name would then refer to something else.
 
 use super::comments::has_comment;
-use crate::analysis::{name_text, without_parens, Analysis, Name};
+use crate::analysis::{name_text, Analysis, Name};
 use crate::json::{object, Value};
 use crate::protocol::{Failure, Outcome};
 use crate::request::Request;
-use rnix::ast::{Attr, Dynamic, Expr, Inherit, InterpolPart, Str};
+use rnix::ast::{Attr, Expr, Inherit};
 use rnix::scopes::{resolve, Binding, Resolution};
 use rnix::syntax::ast::AstNode as _;
 use rnix::{Edits, Root, SyntaxKind, SyntaxNode, TextRange, TextSize};
@@ -129,27 +129,6 @@ pub fn keeps_meaning(analysis: &Analysis, edits: &[Edit]) -> bool {
     }
 }
 
-// The value of an attribute that writes it with escapes or in several lines.
-fn respelled(node: SyntaxNode) -> Option<String> {
-    let parent = node.parent()?.kind();
-    let is_attr = matches!(parent, SyntaxKind::NODE_ATTRPATH | SyntaxKind::NODE_INHERIT);
-    let inner = match Dynamic::cast(node.clone()) {
-        Some(dynamic) => without_parens(dynamic.expr()?).syntax().clone(),
-        None => node.clone(),
-    };
-    let parts = Str::cast(inner).filter(|_| is_attr)?.normalized_parts();
-    match parts.as_slice() {
-        [InterpolPart::Literal(text)] if *text != name_text(&node) => Some(text.clone()),
-        _ => None,
-    }
-}
-
-// Whether some attribute writes one of two names with escapes or in several lines.
-fn is_respelled(analysis: &Analysis, old: &str, new: &str) -> bool {
-    let mut names = analysis.root().descendants().filter_map(respelled);
-    names.any(|name| name == old || name == new)
-}
-
 // The edits that give what a name is bound to a new name.
 fn rename_to(analysis: &Analysis, name: Option<&Name>, new: &str) -> Result<Vec<Edit>, Failure> {
     let number = renamed(analysis, name)?;
@@ -158,10 +137,6 @@ fn rename_to(analysis: &Analysis, name: Option<&Name>, new: &str) -> Result<Vec<
     }
     if is_hidden(new) {
         return Err(Failure::refused(format!("operators, paths in `<>` or the old `let` refer to `{new}`")));
-    }
-    let old = analysis.binding(number).map(|binding| name_text(&binding.name));
-    if is_respelled(analysis, &old.unwrap_or_default(), new) {
-        return Err(Failure::refused("an attribute writes the old or the new name with escapes or in lines"));
     }
     match edits(analysis, number, new) {
         Some(edits) if keeps_meaning(analysis, &edits) => Ok(edits),
@@ -280,8 +255,11 @@ mod tests {
         let refused = |text, new| renamed_text(text, new).unwrap_err();
         assert_eq!(refused("|b: let ${\"a\"} = 1; in b", "a"), ELSE);
         assert_eq!(refused("|b: let ${(''a'')} = 1; in b", "a"), ELSE);
-        assert!(refused("|b: let \"\\a\" = 1; in b", "a").contains("escapes"));
-        assert!(refused("|a: let ${''\n  a''} = 1; in a", "b").contains("escapes"));
+        assert_eq!(refused("|b: let \"\\a\" = 1; in b", "a"), ELSE);
+        assert_eq!(refused("|b: let ${''\n  a''} = 1; in b", "a"), ELSE);
+        let renamed = |text| renamed_text(text, "b").unwrap();
+        assert_eq!(renamed("|a: let \"\\a\" = 1; in a"), "b: let \"\\a\" = 1; in a");
+        assert_eq!(renamed("|a: { inherit \"\\a\"; }"), "b: { \"\\a\" = b; }");
     }
 
     #[test]

@@ -43,7 +43,7 @@ fn kind_of(value: Option<Expr>) -> usize {
         },
         Some(Expr::List(_)) => ARRAY,
         Some(Expr::AttrSet(_)) => OBJECT,
-        Some(Expr::Ident(name)) => match name.to_string().as_str() {
+        Some(Expr::Ident(name)) => match name.syntax().element_ref().text() {
             "true" | "false" => BOOLEAN,
             "null" => NULL,
             _ => VARIABLE,
@@ -54,14 +54,13 @@ fn kind_of(value: Option<Expr>) -> usize {
 
 // The text of a name in one line. It is not empty.
 fn shown(name: &SyntaxNode) -> String {
-    let text = name.to_string();
-    let shown: String = text
-        .split_whitespace()
-        .collect::<Vec<_>>()
-        .join(" ")
-        .chars()
-        .take(MOST_CHARACTERS)
-        .collect();
+    let text = name.element_ref().text();
+    let is_plain = |byte: u8| byte.is_ascii_graphic();
+    if text.len() <= MOST_CHARACTERS && !text.is_empty() && text.bytes().all(is_plain) {
+        return text.to_owned();
+    }
+    let line = text.split_whitespace().collect::<Vec<_>>().join(" ");
+    let shown: String = line.chars().take(MOST_CHARACTERS).collect();
     if shown.is_empty() {
         "?".to_owned()
     } else {

@@ -3,6 +3,7 @@ use Rattle.rnix_green.specs.Walk.{nodes_in, children_of}
 use Rattle.nix_values.specs.Contents.{plain_of, entry_of}
 use Rattle.nix_data.specs.Meaning.{unwrapped, IsHead, MeansFirst}
 use Rattle.nix_data.proofs.MeaningLemmas.{used_more, means_alone, means_used}
+use Rattle.nix_data.proofs.DifferentNames.{names_more, names_all}
 use Rattle.nix_data.proofs.meaning.+items_after.Goals as goal
 
 pub returns-then-not-has_parts : goal.returns-then-not-has_parts
@@ -32,6 +33,9 @@ loop-child-preserved t c =
           (entry_of c.in-Some.head.now) (map entry_of c.args.items.now) (map entry_of c.loop-child.rest.now) (map entry_of c.in-Some-3.left.now)
           c.in-Some-child.ensures.steps part
           means c.loop-child.invariant.used;
+      names = names_more (plain_of c.in-Some.head.now.value) (nodes_in (children_of (unwrapped c.args.expr.now))) c.loop-child.child-iterator
+          c.next.new.self c.in-Some-child.child c.in-Some-2.part.node (string_bytes c.in-Some-2.part.name) c.loop-child.names c.is_new.new.names
+          c.in-Some-child.ensures.steps part (search rules) c.loop-child.invariant.names;
     }
 
 pub returns : goal.returns
@@ -43,3 +47,5 @@ returns t c =
     means_used c.args.levels c.args.depth c.args.name.now c.args.expr.now (entry_of c.in-Some.head.now) c.loop-child.child-iterator
     (map entry_of c.args.items.now) (map entry_of c.loop-child.rest.now) some is (sym c.has_parts.ensures ∙ c.if-not-has_parts.false)
     c.in-None.ensures.steps.0 c.loop-child.invariant.used
+    (names_all (plain_of c.in-Some.head.now.value) (nodes_in (children_of (unwrapped c.args.expr.now))) c.loop-child.child-iterator c.loop-child.names
+    c.in-None.ensures.steps.0 c.loop-child.invariant.names)

@@ -7,11 +7,12 @@ returns-in_ok-push c =
     record {
       before = c.pop.new.self.items;
       d = d;
-      next = record { range = d.range; message = d.message; first_error = d.first_error; end_error = c.args.number + 1; notes = d.notes };
+      next = record { code = d.code; range = d.range; message = d.message; first_error = d.first_error; end_error = c.args.number + 1; notes = d.notes };
       was = c.in-Some.ensures.items;
       is = c.in_ok-push.ensures.items;
       range = refl;
       message = refl;
+      code = refl;
       first = refl;
       end = refl;
     }

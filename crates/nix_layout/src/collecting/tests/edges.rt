@@ -1,5 +1,8 @@
 //! Texts whose groups just fit on their lines, or just do not, and texts of few items.
 
+use super::digests::{
+    NAMED_DIGESTS, NESTED_DIGESTS, PARENTHESES_DIGESTS, QUOTED_DIGESTS, START, TEXTS_DIGEST,
+};
 use super::{check, filled};
 use std::alloc::{AllocError, Global};
 use std::process::Abort;
@@ -9,7 +12,7 @@ use std::test::Fail;
 const LEVELS: usize = 37;
 
 // Expressions in which `%` stands for a name of some letters.
-const NAMED: [&str; 22] = [
+const NAMED: [&str; 23] = [
     "{ a = %; }",
     "{ % = a; }",
     "[ a % b ]",
@@ -32,16 +35,18 @@ const NAMED: [&str; 22] = [
     "{ a.${%}.b = a.b or %; }",
     "{ a = (with %; { b = c; }); }",
     "x: y: % [ a\nb ] c",
+    "{ a = { % = b; } ''\n  c\n''; }",
 ];
 
 // Expressions with parentheses of about 40 columns in which `%` stands for a name of some letters, and too wide for a line.
-const PARENTHESES: [&str; 6] = [
+const PARENTHESES: [&str; 7] = [
     "f (a %) bbbbbbbbbbbbbbbbbbbbbbbbbbbbbbbbbbbbbbbbbbbbbbbbbbbbbbbbbbbbbb",
     "f (a: %) bbbbbbbbbbbbbbbbbbbbbbbbbbbbbbbbbbbbbbbbbbbbbbbbbbbbbbbbbbbbbb { b = c; }",
     "{ a = f (%) bbbbbbbbbbbbbbbbbbbbbbbbbbbbbbbbbbbbbbbbbbbbbbbbbbbbbbbbbbbbbb (b c); }",
     "{ a = f (b: c %) d bbbbbbbbbbbbbbbbbbbbbbbbbbbbbbbbbbbbbbbbbbbbbbbbbbbbbbbbbbbbbb; }",
     "f a (b + %) bbbbbbbbbbbbbbbbbbbbbbbbbbbbbbbbbbbbbbbbbbbbbbbbbbbbbbbbbbbbbb b",
     "f (\"€\" + %) (c: d) bbbbbbbbbbbbbbbbbbbbbbbbbbbbbbbbbbbbbbbbbbbbbbbbbbbbbbbbbbbbbb",
+    "{ a = (c: { d = %; }) { bbbbbbbbbbbbbbbbbbbbbbbbbbbbbbbbbbbbbbbbbbbbbbbbbbbbbbbbbbbbbb = e; }.f; }",
 ];
 
 // Expressions in which `%` stands for some letters of a string or a comment.
@@ -139,18 +144,23 @@ fn repeated(alloc: Global, letter: char, count: usize) -> Result<String, AllocEr
     Ok(text)
 }
 
-// Compares the layouts of an expression with words of some letters, 20 lengths from the given one on.
+// Compares the layouts of expressions with words of some letters, 20 lengths from the given one on, and the digest of the texts of each with a stored one.
 fn check_widths(
     rt: &(impl Abort + AllocGlobal),
-    outer: &str,
+    outers: &[&str],
     letter: char,
     least: usize,
+    stored: &[u64],
 ) -> Result<(), AllocError> {
-    for more in 0usize..20 {
-        let count = least.saturating_add(more);
-        let word = repeated(rt.alloc(), letter, count)?;
-        let text = filled(rt.alloc(), outer, word.as_str())?;
-        check(rt, text.as_str())?;
+    for (outer, stored) in outers.iter().zip(stored) {
+        let mut digest = START;
+        for more in 0usize..20 {
+            let count = least.saturating_add(more);
+            let word = repeated(rt.alloc(), letter, count)?;
+            let text = filled(rt.alloc(), outer, word.as_str())?;
+            digest = check(rt, text.as_str(), digest)?;
+        }
+        assert!(rt; digest == *stored, "{outer}: {digest}");
     }
     Ok(())
 }
@@ -164,52 +174,50 @@ fn nested(alloc: Global, outer: &str, inner: &str, levels: usize) -> Result<Stri
     Ok(text)
 }
 
-// Compares the layouts of an expression that is nested, at five numbers of levels.
-fn check_levels(rt: &(impl Abort + AllocGlobal), outer: &str) -> Result<(), AllocError> {
+// Compares the layouts of an expression that is nested, at five numbers of levels. Returns the digest of the texts.
+fn check_levels(rt: &(impl Abort + AllocGlobal), outer: &str) -> Result<u64, AllocError> {
     let mut text = nested(
         rt.alloc(),
         outer,
         "f ''\n  a\n   b\n'' [ c (d: e) ]",
         LEVELS,
     )?;
+    let mut digest = START;
     for _ in 0..5 {
         text = filled(rt.alloc(), outer, text.as_str())?;
-        check(rt, text.as_str())?;
+        digest = check(rt, text.as_str(), digest)?;
     }
-    Ok(())
+    Ok(digest)
 }
 
 #[test]
 fn widths_are_the_same(rt: HostRuntime) -> Result<(), Fail> {
-    for outer in NAMED {
-        check_widths(&rt, outer, 'a', 82)?;
-    }
-    for outer in QUOTED {
-        check_widths(&rt, outer, 'ä', 82)?;
-    }
+    check_widths(&rt, &NAMED, 'a', 82, &NAMED_DIGESTS)?;
+    check_widths(&rt, &QUOTED, 'ä', 82, &QUOTED_DIGESTS)?;
     Ok(())
 }
 
 #[test]
 fn parentheses_are_the_same(rt: HostRuntime) -> Result<(), Fail> {
-    for outer in PARENTHESES {
-        check_widths(&rt, outer, 'a', 25)?;
-    }
+    check_widths(&rt, &PARENTHESES, 'a', 25, &PARENTHESES_DIGESTS)?;
     Ok(())
 }
 
 #[test]
 fn levels_are_the_same(rt: HostRuntime) -> Result<(), Fail> {
-    for outer in NESTED {
-        check_levels(&rt, outer)?;
+    for (outer, stored) in NESTED.iter().zip(&NESTED_DIGESTS) {
+        let digest = check_levels(&rt, outer)?;
+        assert!(rt; digest == *stored, "{outer}: {digest}");
     }
     Ok(())
 }
 
 #[test]
 fn texts_are_the_same(rt: HostRuntime) -> Result<(), Fail> {
+    let mut digest = START;
     for text in TEXTS {
-        check(&rt, text)?;
+        digest = check(&rt, text, digest)?;
     }
+    assert!(rt; digest == TEXTS_DIGEST, "{digest}");
     Ok(())
 }

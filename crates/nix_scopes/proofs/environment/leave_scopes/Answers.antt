@@ -7,7 +7,7 @@ loop-ends-preserved c = λ root n scopes h.
     let popped : c.pop-end.new.self.items ≡ take (length c.loop-ends.ends.items - 1) c.loop-ends.ends.items = search rules in
     one_left root c.args.left (IsSeen c.args.bindings.now c.loop-ends.sight n) (IsSeen c.args.bindings.now c.leave.new.self n) c.loop-ends.ends.items
     c.pop-end.new.self.items scopes
-    (ap (has_ended c.args.left) (sym c.deref.ensures.value) ∙ sym c.has_ended.ensures ∙ c.loop-ends-test.true) popped (c.leave.ensures n)
+    (ap (has_ended c.args.left) (sym c.deref.ensures.value) ∙ sym c.has_ended.ensures ∙ c.loop-ends-test.true) popped (c.in_ok-leave.ensures n)
     (c.loop-ends.invariant root n scopes h)
 
 pub returns : goal.returns

@@ -1,5 +1,5 @@
-use Rattle.{std.proofs.Common.{◌≡◌, ◌++◌, ◌∙◌, map, true, None, ap, sym, rules}, rnix_base.specs.Select.those_of, rnix.specs.NodeKinds.is_attr}
-use Rattle.{rnix.specs.Sums.attr_node, nix_scopes.specs.{Names.{named_if, attr_text, names_written}, Bound.resolved_of, References.inherited_at}}
+use Rattle.{std.proofs.Common.{◌≡◌, ◌++◌, ◌∙◌, map, true, None, ap, sym, refl, rules}, rnix_base.specs.Select.those_of, rnix.specs.NodeKinds.is_attr}
+use Rattle.{rnix.specs.{AttrName.static_name, Sums.attr_node}, nix_scopes.specs.{Names.{named_if, names_written}, Bound.resolved_of, References.inherited_at}}
 use Rattle.nix_scopes.{specs.{References.inherited_from, Resolving.{is_in_scope, resolve_name}}, proofs.ResolvingLemmas.mapped_next}
 use Rattle.rnix_green.specs.Relatives.{parent_of}
 use Rattle.nix_scopes.proofs.resolving.add_all_inherited.Goals as goal
@@ -24,11 +24,11 @@ pub loop-attr-preserved : goal.loop-attr-preserved
 loop-attr-preserved c = record {
   next = tt;
   ends = tt;
-  listing = mapped_next (λ e. named_if e (attr_text e)) (resolve_name c.args.around.now c.is_in_scope-in_scope.result true)
+  listing = mapped_next (λ e. named_if e (static_name e)) (resolve_name c.args.around.now c.is_in_scope-in_scope.result true)
       (map resolved_of c.loop-attr.references.items)
       (map resolved_of c.add_inherited.new.references.items)
       (map resolved_of c.args.references.now.items ++ map (resolve_name c.args.around.now (is_in_scope c.args.around.now (parent_of c.args.inherit.now)) true)
       (inherited_at c.args.inherit.now))
-      (those_of is_attr c.loop-attr.attr-iterator) (those_of is_attr c.next.new.self) (attr_node c.in-Some.attr) c.syntax-in-loop-attr.result.now
-      c.loop-attr.invariant.listing c.in-Some.ensures.steps c.syntax-in-loop-attr.ensures.node c.in_ok-add_inherited.ensures;
+      (those_of is_attr c.loop-attr.attr-iterator) (those_of is_attr c.next.new.self) (attr_node c.in-Some.attr) (attr_node c.in-Some.attr)
+      c.loop-attr.invariant.listing c.in-Some.ensures.steps refl c.in_ok-add_inherited.ensures;
 }

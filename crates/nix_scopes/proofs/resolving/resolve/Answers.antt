@@ -1,6 +1,6 @@
 use Rattle.{std.proofs.Common.{rules, ◌≡◌, ◌∷◌, ◌∙◌, ap, subst}, rnix_tree.specs.Spots.spot_of}
 use Rattle.nix_scopes.proofs.ResolvingLemmas.{found_begun, found_token, found_node, found_same, names_resolved}
-use Rattle.nix_scopes.proofs.resolving.resolve.Goals.{in-Node+in_ok-enter+in_ok-add_references, in_default}
+use Rattle.nix_scopes.proofs.resolving.resolve.Goals.{in-Node+in_ok-leave_ended+in_ok-enter+in_ok-add_references, in_default}
 use Rattle.nix_scopes.proofs.resolving.resolve.Goals as goal
 
 pub loop-element-init : goal.loop-element-init
@@ -19,7 +19,7 @@ loop-element-preserved c = record {
   next = tt;
   ends = tt;
   found = elim c.match-element.branch [
-    | in-Node+in_ok-enter+in_ok-add_references w ↦
+    | in-Node+in_ok-leave_ended+in_ok-enter+in_ok-add_references w ↦
         found_same c.args.root.now w.enter.new.bindings.items c.match-element.bindings.items w.add_references.new.references.items
         c.match-element.references.items w.enter.new.self c.match-element.around c.saturating_sub-left.result c.next.new.self
         (ap (λ v. v.items) w.bindings-is) (ap (λ v. v.items) w.references-is) w.around-is
@@ -28,7 +28,7 @@ loop-element-preserved c = record {
         c.saturating_sub-left.result c.loop-element.element-iterator c.next.new.self w.in-Node.node c.loop-element.invariant.found
         (subst (λ e. c.loop-element.element-iterator ≡ spot_of e ∷ c.next.new.self) w.in-Node.is c.in-Some.ensures.steps)
         c.saturating_sub-left.ensures
-        (search rules) w.leave_ended.ensures w.in_ok-enter.ensures.sees w.in_ok-enter.ensures.bindings w.in_ok-add_references.ensures)
+        (search rules) w.in_ok-leave_ended.ensures w.in_ok-enter.ensures.sees w.in_ok-enter.ensures.bindings w.in_ok-add_references.ensures)
     | in_default w ↦
         found_same c.args.root.now c.loop-element.bindings.items c.match-element.bindings.items c.loop-element.references.items
         c.match-element.references.items c.loop-element.around c.match-element.around c.saturating_sub-left.result c.next.new.self

@@ -13,7 +13,7 @@ loop-name-init c = record {
 
 pub loop-name-preserved : goal.loop-name-preserved
 loop-name-preserved c = record {
-  bindings = mapped_more named (bound_in c.args.scope.now) c.deref-name-items.result.now c.loop-name.name-index c.name-item.result
+  bindings = mapped_more named (bound_in c.args.scope.now) c.args.names.now c.loop-name.name-index c.name-item.result
       (map bound_of c.args.bindings.now.items) (map bound_of c.loop-name.bindings.items) (map bound_of c.bind.new.bindings.items)
       c.loop-name-test.true c.name-item.is c.loop-name.invariant.bindings c.in_ok-bind.ensures.bindings;
   binding = λ outer h. c.in_ok-bind.ensures.binding outer (c.loop-name.invariant.binding outer h);

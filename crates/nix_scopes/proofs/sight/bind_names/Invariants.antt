@@ -4,7 +4,7 @@ use Rattle.nix_scopes.proofs.sight.bind_names.Given as goal
 
 abbrev pub invariant-loop-name : goal.invariant-loop-name
 invariant-loop-name l = record {
-  bindings : map bound_of l.bindings.items ≡ map bound_of l.fn.bindings.items ++ map (bound_in l.scope) (map named (take l.name-index l.name-items));
+  bindings : map bound_of l.bindings.items ≡ map bound_of l.fn.bindings.items ++ map (bound_in l.scope) (map named (take l.name-index l.names));
   binding : (outer : List ℕ → Option ℕ) → IsBinding outer (map bound_of l.fn.bindings.items) l.fn.numbers l.fn.hidden.items l.first l.scope →
       IsBinding outer (map bound_of l.bindings.items) l.numbers l.hidden.items l.first l.scope;
   firsts : (outer : List ℕ → Option ℕ) → IsBinding outer (map bound_of l.fn.bindings.items) l.fn.numbers l.fn.hidden.items l.first l.scope →

@@ -9,7 +9,7 @@ pub loop-number-preserved : goal.loop-number-preserved
 loop-number-preserved c = λ outer h.
     shown_more outer (map bound_of c.args.bindings.now) c.args.numbers.now c.loop-number.numbers c.show_binding.new.numbers c.args.hidden.now c.args.scope
     c.loop-number.number (c.loop-number.invariant outer h) h (omega (arith, c.loop-number.auto.number)) (omega (arith, c.loop-number-test.true))
-    c.show_binding.ensures.shown c.show_binding.ensures.same
+    c.in_ok-show_binding.ensures.shown c.in_ok-show_binding.ensures.same
 
 pub returns : goal.returns
 returns c = λ outer h text.

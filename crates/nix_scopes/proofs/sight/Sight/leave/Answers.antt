@@ -3,15 +3,15 @@ use Rattle.nix_scopes.specs.{Bound.bound_of, Resolving.{IsHidden, IsShownAgain}}
 use Rattle.nix_scopes.proofs.ScopeLemmas.{scope_left, none_left}
 use Rattle.nix_scopes.proofs.sight.Sight.leave.Goals as goal
 
-pub returns-in-Some : goal.returns-in-Some
-returns-in-Some c = λ n scope outer.
+pub returns-in_ok-show_hidden-in-Some : goal.returns-in_ok-show_hidden-in-Some
+returns-in_ok-show_hidden-in-Some c = λ n scope outer.
     scope_left c.args.bindings.now c.args.self.now
-    record { numbers = c.show_hidden.new.numbers; hidden = c.args.self.now.hidden; scopes = c.pop.new.self } c.in-Some.scope n scope outer
-    (search rules) refl
+    record { numbers = c.show_hidden.new.numbers; hidden = c.args.self.now.hidden; scopes = c.pop.new.self; names = c.args.self.now.names }
+    c.in-Some.scope n scope outer (search rules) refl
     (subst
     (λ hidden. (out : List ℕ → Option ℕ) → IsHidden out (map bound_of c.args.bindings.now) c.args.self.now.numbers hidden c.in-Some.scope → (text : List ℕ) →
     IsShownAgain out (map bound_of c.args.bindings.now) c.in-Some.scope.first c.in-Some.scope.end c.args.self.now.numbers c.show_hidden.new.numbers text)
-    (search rules) c.show_hidden.ensures)
+    (search rules) c.in_ok-show_hidden-in-Some.ensures)
 
-pub returns-in_default : goal.returns-in_default
-returns-in_default c = λ n scope outer h. none_left c.args.bindings.now c.args.self.now _ n scope outer (search rules) h
+pub returns-in-None : goal.returns-in-None
+returns-in-None c = λ n scope outer h. none_left c.args.bindings.now c.args.self.now _ n scope outer (search rules) h

@@ -1,0 +1,101 @@
+-- How many diagnostics a text has.
+use Rattle.std.proofs.Common.{◌≡◌, ◌∙◌, ℕ, ◌+◌, ◌<◌, Bool, true, false, List, [], ◌∷◌, ◌++◌, length, map, sym, ap, arith, refl}
+use Rattle.std.proofs.lemmas.List.{length_push, length-map}
+use Rattle.std.proofs.Common.{length-append}
+use Rattle.rnix_kinds.specs.Lexical.Tokens.{tokens_of}
+use Rattle.rnix_green.specs.Tree.{Tree, Located}
+use Rattle.rnix_grammar.specs.{Fault.Fault, Parsed.IsParsed}
+use Rattle.nix_diagnostics.specs.declared.diagnostic.Diagnostic.{Diagnostic}
+use Rattle.nix_diagnostics.specs.Shown.{Shows, CoverRuns, none, shown, ShowsEach, none_each, one_each}
+use Rattle.nix_lints.specs.Repeated.{repeated_in}
+use Rattle.nix_check.specs.Lints.{finding_of, finding_at, repeated_findings}
+use Rattle.nix_check.specs.FoundDiagnostics.{AreErrors, AreFound, AreCounted}
+
+-- where no diagnostics show errors, there are none
+none_shown : (root : Located) (all faults : List Fault) (ds : List Diagnostic) → Shows root all faults ds → length ds ≡ 0 → faults ≡ []
+none_shown root all _ _ none is = refl
+none_shown root all _ _ (shown faults more ds fault d are first follow at worded code from end) is = absurd (omega (arith, length_push ds d, is))
+
+-- where there are none, no diagnostics show them
+shows_none : (root : Located) (all faults : List Fault) (ds : List Diagnostic) → Shows root all faults ds → faults ≡ [] → length ds ≡ 0
+shows_none root all _ _ none is = refl
+shows_none root all _ _ (shown faults more ds fault d are first follow at worded code from end) is =
+    absurd (omega (arith, length-append faults (fault ∷ more), ap length is))
+
+-- the same of diagnostics that show one error each
+none_each_shown : (root : Located) (faults : List Fault) (ds : List Diagnostic) → ShowsEach root faults ds → length ds ≡ 0 → faults ≡ []
+none_each_shown root _ _ none_each is = refl
+none_each_shown root _ _ (one_each faults ds fault d are single) is = absurd (omega (arith, length_push ds d, is))
+
+shows_none_each : (root : Located) (faults : List Fault) (ds : List Diagnostic) → ShowsEach root faults ds → faults ≡ [] → length ds ≡ 0
+shows_none_each root _ _ none_each is = refl
+shows_none_each root _ _ (one_each faults ds fault d are single) is = absurd (omega (arith, length_push faults fault, ap length is))
+
+-- a tree without diagnostics has no errors
+pub none_found : (is_each : Bool) (root : Located) (faults : List Fault) (ds : List Diagnostic) → AreErrors is_each root faults ds → length ds ≡ 0 → faults ≡ []
+none_found true root faults ds are is = none_each_shown root faults ds (are.each refl) is
+none_found false root faults ds are is = none_shown root faults faults ds (are.shown refl) is
+
+-- one without errors has no diagnostics
+pub finds_none : (is_each : Bool) (root : Located) (faults : List Fault) (ds : List Diagnostic) → AreErrors is_each root faults ds → faults ≡ [] → length ds ≡ 0
+finds_none true root faults ds are is = shows_none_each root faults ds (are.each refl) is
+finds_none false root faults ds are is = shows_none root faults faults ds (are.shown refl) is
+
+-- where nothing is listed on one side, nothing is on the other
+map_nil : {A B C : Type 0} (f : A → C) (g : B → C) (xs : List A) (ys : List B) → map f xs ≡ map g ys → length xs ≡ 0 → ys ≡ []
+map_nil f g xs [] is no_item = refl
+map_nil f g xs (y ∷ ys) is no_item = absurd (omega (arith, no_item, length-map xs f, ap length is))
+
+-- a tree without diagnostics has no errors, and defines no attribute again
+clean_tree : (is_each : Bool) (root : Located) (faults : List Fault) (ds : List Diagnostic) → AreFound is_each root faults ds → length ds ≡ 0 →
+    (faults ≡ []) × (repeated_in root ≡ [])
+clean_tree is_each root [] ds are no_item = (refl, map_nil finding_of finding_at ds (repeated_in root) (are.repeated refl) no_item)
+clean_tree is_each root (f ∷ faults) ds are no_item =
+    absurd (omega (arith, ap length (none_found is_each root (f ∷ faults) ds (are.errors (λ never. omega (arith, ap length never))) no_item)))
+
+-- one without errors that defines no attribute again has no diagnostics
+clean_found : (is_each : Bool) (root : Located) (faults : List Fault) (ds : List Diagnostic) → AreFound is_each root faults ds →
+    (faults ≡ []) × (repeated_in root ≡ []) → length ds ≡ 0
+clean_found is_each root faults ds are clean =
+    sym (length-map ds finding_of) ∙ ap length (are.repeated clean.0) ∙ ap (λ rs. length (map finding_at rs)) clean.1
+
+-- the diagnostics of a text are counted
+pub found_counted : (is_each : Bool) (text : List ℕ) (tree : Tree) (faults : List Fault) (found : List Diagnostic) (count : ℕ) →
+    IsParsed (tokens_of text) tree faults → AreFound is_each record { tree = tree; number = 0 } faults found → count ≡ length found →
+    AreCounted is_each text found count
+found_counted is_each text tree faults found count read are is = record {
+  tree = tree;
+  faults = faults;
+  read = read;
+  shows = are;
+  counted = is;
+  faultless = (
+    λ zero_count. clean_tree is_each record { tree = tree; number = 0 } faults found are (sym is ∙ zero_count),
+    λ clean. is ∙ clean_found is_each record { tree = tree; number = 0 } faults found are clean,
+  );
+}
+
+-- the diagnostics of errors, if there are some
+pub errors_found : (is_each : Bool) (root : Located) (faults : List Fault) (ds : List Diagnostic) → AreErrors is_each root faults ds →
+    (length ds ≡ 0 → ⊥) → AreFound is_each root faults ds
+errors_found is_each root faults ds are some = record {
+  errors = λ _. are;
+  repeated = λ no_fault. absurd (some (finds_none is_each root faults ds are no_fault));
+}
+
+-- the attributes that are defined again, if there are no errors
+pub repeated_found : (is_each : Bool) (root : Located) (faults : List Fault) (errors ds : List Diagnostic) → AreErrors is_each root faults errors →
+    length errors ≡ 0 → map finding_of ds ≡ repeated_findings root → AreFound is_each root faults ds
+repeated_found is_each root faults errors ds are no_error is = record {
+  errors = λ some. absurd (some (none_found is_each root faults errors are no_error));
+  repeated = λ _. is;
+}
+
+-- if each error has its diagnostic
+pub each_found : (root : Located) (faults : List Fault) (found : List Diagnostic) → ShowsEach root faults found → AreErrors true root faults found
+each_found root faults found each = record { each = λ _. each; shown = λ never. cc; runs = λ never. cc }
+
+-- if each mistake has its diagnostic
+pub runs_found : (root : Located) (faults : List Fault) (found : List Diagnostic) → Shows root faults faults found → CoverRuns root faults found →
+    AreErrors false root faults found
+runs_found root faults found are cover = record { each = λ never. cc; shown = λ _. are; runs = λ _. cover }

@@ -1,0 +1,8 @@
+pub mod ListedPieces
+pub mod CountedDiagnostics
+pub mod PrintedDiagnostics
+pub mod NotesAsText
+pub mod CheckedFiles
+pub mod PrintedExamples
+pub mod AppendedPieces
+pub mod RepeatedFindings

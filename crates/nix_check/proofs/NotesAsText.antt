@@ -1,0 +1,55 @@
+-- What is printed of notes as text.
+use Rattle.std.proofs.Common.{◌≡◌, ◌∙◌, ℕ, Bool, List, ◌++◌, Option, sym, ap, subst, refl}
+use Rattle.std.proofs.KnownBytes.{Appends-trans}
+use Rattle.std.specs.{Prelude.{Some, None, string_bytes, codes}, Io.KnownBytes.Appends}
+use Rattle.rnix_green.specs.declared.range.TextRange.{TextRange}
+use Rattle.nix_cli.specs.MessagePlaces.{place_text}
+use Rattle.nix_diagnostics.specs.declared.diagnostic.Diagnostic.{Diagnostic}
+use Rattle.nix_diagnostics.specs.declared.notes.Note.{Note}
+use Rattle.nix_check.proofs.AppendedPieces.{three}
+use Rattle.nix_check.specs.{Listed.Prints, AsText.{message_text, help_text, IsPlacedText, IsNoteText, HasPlace, AreNoteTexts, IsText}}
+
+-- a message at a place is printed, with an excerpt
+pub placed_printed : (is_colored : Bool) (name text message : List ℕ) (start from : ℕ) (old first second new : Option (List ℕ)) → from ≡ start →
+    Appends old first (place_text name text from) → Appends first second (message_text is_colored (codes "36") (codes "note:") message) →
+    ((excerpt : List ℕ) × Appends second new excerpt) → Prints (IsPlacedText is_colored name text start message) old new
+placed_printed is_colored name text message start from old first second new at place words excerpt =
+    let note = message_text is_colored (codes "36") (codes "note:") message in (
+      place_text name text from ++ note ++ excerpt.0,
+      (excerpt.0, ap (λ n. place_text name text n ++ note ++ excerpt.0) at),
+      three old first second new (place_text name text from) note excerpt.0 place words excerpt.1,
+    )
+
+-- a note with a place is printed
+pub placed_note : (is_colored : Bool) (name text : List ℕ) (note : Note) (range : TextRange) (old new : Option (List ℕ)) → note.range ≡ Some range →
+    Prints (IsPlacedText is_colored name text range.start note.message.now) old new → Prints (IsNoteText is_colored name text note) old new
+placed_note is_colored name text note range old new is printed =
+    (printed.0, subst (λ (r : Option TextRange). HasPlace is_colored name text note.message.now r printed.0) (sym is) printed.1, printed.2)
+
+-- a note without a place is printed
+pub unplaced_note : (is_colored : Bool) (name text : List ℕ) (note : Note) (old new : Option (List ℕ)) → note.range ≡ None →
+    Appends old new (help_text is_colored note.message.now) → Prints (IsNoteText is_colored name text note) old new
+unplaced_note is_colored name text note old new is written =
+    let bytes = help_text is_colored note.message.now in
+    (bytes, subst (λ (r : Option TextRange). HasPlace is_colored name text note.message.now r bytes) (sym is) refl, written)
+
+-- a diagnostic is printed as text
+pub text_printed : (is_colored : Bool) (name text : List ℕ) (d : Diagnostic) (message : List ℕ) (start : ℕ)
+    (old first second third new : Option (List ℕ)) → message ≡ string_bytes d.message → start ≡ d.range.start →
+    Appends old first (place_text name text start) → Appends first second (message_text is_colored (codes "31") (codes "error:") message) →
+    ((excerpt : List ℕ) × Appends second third excerpt) → Prints (AreNoteTexts is_colored name text d.notes.items) third new →
+    Prints (IsText is_colored name text d) old new
+text_printed is_colored name text d message start old first second third new is at place words excerpt notes =
+    let error = message_text is_colored (codes "31") (codes "error:") message in (
+      place_text name text start ++ error ++ excerpt.0 ++ notes.0,
+      record {
+        excerpt = excerpt.0;
+        notes = notes.0;
+        are_notes = notes.1;
+        whole =
+            ap (λ n. place_text name text n ++ error ++ excerpt.0 ++ notes.0) at
+            ∙ ap (λ m. place_text name text d.range.start ++ message_text is_colored (codes "31") (codes "error:") m ++ excerpt.0 ++ notes.0) is;
+      },
+      Appends-trans old third new (place_text name text start ++ error ++ excerpt.0) notes.0
+          (three old first second third (place_text name text start) error excerpt.0 place words excerpt.1) notes.2,
+    )

@@ -1,0 +1,43 @@
+-- What the definitions say of some examples.
+use Rattle.std.proofs.Common.{◌≡◌, [], ◌∷◌, refl}
+use Rattle.std.specs.Prelude.{codes, true, false}
+use Rattle.nix_check.specs.{Listed.comma_joined, AsText.message_text, AsSarif.{uri, sarif_tail}, Printed.more_line, ErrorReport.{count_line, status_of}}
+
+-- a message without colors
+plain_message : message_text false (codes "31") (codes "error:") (codes "expected a value") ≡ codes "error: expected a value\n"
+plain_message = refl
+
+-- commas are between texts
+two_joined : comma_joined (codes "a" ∷ codes "b" ∷ []) ≡ codes "a,b"
+two_joined = refl
+
+-- spaces and percent signs in names are escaped
+spaced_uri : uri (codes "a b/50%.nix") ≡ codes "\"a%20b/50%25.nix\""
+spaced_uri = refl
+
+-- one file was not read
+incomplete_tail : sarif_tail false ≡ codes "\n],\"invocations\":[{\"executionSuccessful\":false}]}]}\n"
+incomplete_tail = refl
+
+-- diagnostics that are not printed
+one_more_line : more_line (codes "a.nix") 1 ≡ codes "a.nix: 1 more error (shown with --all)\n"
+one_more_line = refl
+
+-- the counts and the status without errors, with errors, and where a file was not read
+clean_line : count_line record { errors = 0; unread = 0 } ≡ codes "no errors\n"
+clean_line = refl
+
+clean_status : status_of record { errors = 0; unread = 0 } ≡ 0
+clean_status = refl
+
+found_status : status_of record { errors = 2; unread = 0 } ≡ 1
+found_status = refl
+
+unread_line : count_line record { errors = 0; unread = 1 } ≡ []
+unread_line = refl
+
+unread_status : status_of record { errors = 0; unread = 1 } ≡ 2
+unread_status = refl
+
+both_status : status_of record { errors = 2; unread = 1 } ≡ 2
+both_status = refl

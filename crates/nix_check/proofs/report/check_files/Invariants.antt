@@ -1,0 +1,9 @@
+use Rattle.std.{proofs.Common.{map, take}, specs.Prelude.string_bytes}
+use Rattle.nix_check.specs.ErrorReport.{AreChecked}
+use Rattle.nix_check.proofs.report.check_files.Given as goal
+
+-- the files so far are checked
+abbrev pub invariant-loop-number : goal.invariant-loop-number
+invariant-loop-number g l =
+    AreChecked l.style l.inputs.files.failed (g.W.Write.contents l.fn.out) (map string_bytes (take l.number l.inputs.files.names.items))
+    (g.W.Write.contents l.out) l.tally

@@ -1,0 +1,34 @@
+-- A diagnostic as a line of JSON. A text is the list of its bytes.
+use Rattle.std.specs.Prelude.{ℕ, ◌-◌, List, ◌++◌, codes, decimal, map, string_bytes, unwrap_or}
+use Rattle.rnix_green.specs.declared.range.TextRange.{TextRange}
+use Rattle.nix_cli.specs.{JsonString.json_string, MessagePlaces.line_and_column}
+use Rattle.nix_diagnostics.specs.Codes.{code_name}
+use Rattle.nix_diagnostics.specs.declared.code.Code.{Code}
+use Rattle.nix_diagnostics.specs.declared.diagnostic.Diagnostic.{Diagnostic}
+use Rattle.nix_diagnostics.specs.declared.notes.Note.{Note}
+use Rattle.nix_check.specs.Listed.{comma_joined}
+
+-- a place: its line and its column, and the offsets of its start and its end
+abbrev pub place_members : ℕ × ℕ → ℕ → ℕ → List ℕ
+place_members place start end =
+    codes "\"line\":" ++ decimal place.0 ++ codes ",\"column\":" ++ decimal place.1 ++ codes ",\"start\":" ++ decimal start ++ codes ",\"end\":" ++ decimal end
+
+-- a place in a text and a message
+abbrev pub message_members : List ℕ → TextRange → List ℕ → List ℕ
+message_members text range message =
+    place_members (line_and_column text range.start) range.start range.end ++ codes ",\"message\":" ++ json_string message
+
+-- a note: its place, or that of its diagnostic, and its message
+abbrev pub note_object : List ℕ → TextRange → Note → List ℕ
+note_object text range note = codes "{" ++ message_members text (unwrap_or note.range range) note.message.now ++ codes "}"
+
+-- what a diagnostic reports, and the number of errors that it covers, before its notes
+abbrev pub errors_member : Code → ℕ → List ℕ
+errors_member code errors =
+    codes ",\"severity\":\"error\",\"code\":\"" ++ (code_name code ++ (codes "\",\"errors\":" ++ (decimal errors ++ codes ",\"notes\":[")))
+
+-- a diagnostic: the file, the place, the message, what it reports, the number of errors that it covers, and the notes
+abbrev pub json_line : List ℕ → List ℕ → Diagnostic → List ℕ
+json_line name text d =
+    codes "{\"file\":" ++ json_string name ++ codes "," ++ message_members text d.range (string_bytes d.message)
+    ++ errors_member d.code (d.end_error - d.first_error) ++ comma_joined (map (note_object text d.range) d.notes.items) ++ codes "]}\n"

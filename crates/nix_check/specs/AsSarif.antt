@@ -1,0 +1,84 @@
+-- Diagnostics in SARIF 2.1.0. A text is the list of its bytes.
+use Rattle.std.specs.Prelude.{ℕ, ◌+◌, ◌/◌, ◌%◌, ◌==◌, ◌&&◌, ◌||◌, nat_lt, nat_le, Bool, List, [], ◌∷◌, ◌++◌, codes, decimal, map, string_bytes, unwrap_or, if◌then◌else◌}
+use Rattle.std.specs.{List.flat_map, Char.is_ascii_alphanumeric}
+use Rattle.rnix_green.specs.declared.range.TextRange.{TextRange}
+use Rattle.nix_cli.specs.{JsonString.json_string, MessagePlaces.line_and_column}
+use Rattle.nix_diagnostics.specs.Codes.{code_name}
+use Rattle.nix_diagnostics.specs.declared.code.Code.{Code}
+use Rattle.nix_diagnostics.specs.declared.diagnostic.Diagnostic.{Diagnostic}
+use Rattle.nix_diagnostics.specs.declared.notes.Note.{Note}
+use Rattle.nix_check.specs.Listed.{comma_joined}
+
+-- the rules, one for each code
+abbrev pub sarif_rules : List ℕ
+sarif_rules =
+    codes ",\"rules\":[{\"id\":\"syntax-error\",\"shortDescription\":{\"text\":\"A syntax error\"}},"
+    ++ codes "{\"id\":\"nested-too-deep\",\"shortDescription\":{\"text\":\"Expressions that are nested too deep\"}},"
+    ++ codes "{\"id\":\"repeated-attribute\",\"shortDescription\":{\"text\":\"An attribute that is defined again\"}}]"
+
+-- what precedes the first result: the version of the format, and the program with its version and its rules
+abbrev pub sarif_head : List ℕ → List ℕ → List ℕ
+sarif_head program version =
+    codes "{\"$schema\":\"https://json.schemastore.org/sarif-2.1.0.json\",\"version\":\"2.1.0\",\"runs\":[{\"tool\":{\"driver\":{\"name\":"
+    ++ json_string program ++ codes ",\"version\":" ++ json_string version
+    ++ sarif_rules ++ codes "}},\"columnKind\":\"unicodeCodePoints\",\"results\":["
+
+-- true or false
+abbrev pub truth_text : Bool → List ℕ
+truth_text is_true = if is_true then codes "true" else codes "false"
+
+-- what follows the last result: whether all files were read
+abbrev pub sarif_tail : Bool → List ℕ
+sarif_tail is_complete = codes "\n],\"invocations\":[{\"executionSuccessful\":" ++ truth_text is_complete ++ codes "}]}]}\n"
+
+-- whether a byte needs no escape in a URI: an ASCII letter, a digit or one of `/.-_~`
+abbrev pub is_unreserved : ℕ → Bool
+is_unreserved b = is_ascii_alphanumeric b || (b == 47 || (b == 46 || (b == 45 || (b == 95 || b == 126))))
+
+-- a hexadecimal digit
+abbrev pub upper_digit : ℕ → ℕ
+upper_digit n = if nat_lt n 10 then 48 + n else 55 + n
+
+-- a byte as a URI has it: itself, or its number after `%`
+abbrev pub uri_byte : ℕ → List ℕ
+uri_byte b = if is_unreserved b then b ∷ [] else 37 ∷ upper_digit (b / 16) ∷ upper_digit (b % 16) ∷ []
+
+-- the name of a file as a URI
+abbrev pub uri : List ℕ → List ℕ
+uri name = codes "\"" ++ flat_map uri_byte name ++ codes "\""
+
+-- the lines and columns of a region
+abbrev pub region : ℕ × ℕ → ℕ × ℕ → List ℕ
+region start end =
+    codes "\"startLine\":" ++ (decimal start.0 ++ (codes ",\"startColumn\":" ++ (decimal start.1
+    ++ (codes ",\"endLine\":" ++ (decimal end.0 ++ (codes ",\"endColumn\":" ++ (decimal end.1 ++ codes "}}")))))))
+
+-- a range of a file
+abbrev pub location : List ℕ → List ℕ → TextRange → List ℕ
+location name text range =
+    codes "\"physicalLocation\":{\"artifactLocation\":{\"uri\":" ++ uri name ++ codes "},\"region\":{"
+    ++ region (line_and_column text range.start) (line_and_column text range.end)
+
+-- a message
+abbrev pub message_object : List ℕ → List ℕ
+message_object message = codes "\"message\":{\"text\":" ++ json_string message ++ codes "}"
+
+-- a note: its place, or that of its diagnostic, and its message
+abbrev pub related_location : List ℕ → List ℕ → TextRange → Note → List ℕ
+related_location name text range note =
+    codes "{" ++ location name text (unwrap_or note.range range) ++ codes "," ++ message_object note.message.now ++ codes "}"
+
+-- what a result reports
+abbrev pub rule_members : Code → List ℕ
+rule_members code = codes "{\"ruleId\":\"" ++ code_name code ++ codes "\",\"level\":\"error\","
+
+-- a diagnostic as a result, with its notes as related locations
+abbrev pub sarif_result : List ℕ → List ℕ → Diagnostic → List ℕ
+sarif_result name text d =
+    rule_members d.code ++ message_object (string_bytes d.message)
+    ++ codes ",\"locations\":[{" ++ location name text d.range
+    ++ codes "}],\"relatedLocations\":[" ++ comma_joined (map (related_location name text d.range) d.notes.items) ++ codes "]}"
+
+-- what separates a result from what precedes it
+abbrev pub separator : Bool → List ℕ
+separator is_first = if is_first then codes "\n" else codes ",\n"

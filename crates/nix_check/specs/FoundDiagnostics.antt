@@ -1,0 +1,29 @@
+-- The diagnostics of a text, and how many there are.
+use Rattle.std.specs.Prelude.{◌≡◌, ◌↔◌, ℕ, Bool, true, false, List, [], length, map}
+use Rattle.rnix_kinds.specs.Lexical.Tokens.{tokens_of}
+use Rattle.rnix_green.specs.Tree.{Tree, Located}
+use Rattle.rnix_grammar.specs.{Fault.Fault, Parsed.IsParsed}
+use Rattle.nix_diagnostics.specs.declared.diagnostic.Diagnostic.{Diagnostic}
+use Rattle.nix_diagnostics.specs.Shown.{ShowsEach, AreShown, CoverRuns}
+use Rattle.nix_lints.specs.Repeated.{repeated_in}
+use Rattle.nix_check.specs.Lints.{finding_of, repeated_findings}
+
+-- the diagnostics of the errors of a tree: if each error has its own, one for each; otherwise one for each error that follows from no earlier one
+pub record AreErrors (is_each : Bool) (root : Located) (faults : List Fault) (found : List Diagnostic) : Type 0 where
+  pub each : is_each ≡ true → ShowsEach root faults found
+  pub shown : is_each ≡ false → AreShown root faults found
+  pub runs : is_each ≡ false → CoverRuns root faults found
+
+-- the diagnostics of a tree: of its errors, or if it has none, of the attributes that are defined again
+pub record AreFound (is_each : Bool) (root : Located) (faults : List Fault) (found : List Diagnostic) : Type 0 where
+  pub errors : ¬ (faults ≡ []) → AreErrors is_each root faults found
+  pub repeated : faults ≡ [] → map finding_of found ≡ repeated_findings root
+
+-- the diagnostics of a text, and their number, which is 0 exactly if the text has no errors and defines no attribute again
+pub record AreCounted (is_each : Bool) (text : List ℕ) (found : List Diagnostic) (count : ℕ) : Type 0 where
+  pub tree : Tree
+  pub faults : List Fault
+  pub read : IsParsed (tokens_of text) tree faults
+  pub shows : AreFound is_each record { tree = tree; number = 0 } faults found
+  pub counted : count ≡ length found
+  pub faultless : (count ≡ 0) ↔ ((faults ≡ []) × (repeated_in record { tree = tree; number = 0 } ≡ []))

@@ -1,0 +1,190 @@
+//! The report on files: their errors, the counts, and the exit status.
+
+ghost use Rattle.std.specs.Prelude.{◌≡◌, map, string_bytes, IfOk, OnOk};
+ghost use Rattle.std.specs.Io.KnownBytes.{Appends};
+ghost use Rattle.nix_check.specs.ErrorReport.{with_errors, with_unread, count_line, report_head, report_tail, status_of, IsTextCounted, IsFileCounted, AreChecked, IsReport};
+
+use crate::PROGRAM;
+use crate::check::check_text;
+use crate::sarif::{write_head, write_tail};
+use crate::style::{Format, Style};
+use nix_cli::{FAILED, FOUND, Inputs, Progress, shown_name};
+use std::alloc::Global;
+use std::io::{self, Write};
+
+// The counts over all files.
+#[derive(Clone, Copy)]
+struct Tally {
+    // Errors that were found.
+    errors: usize,
+    // Files and folders that could not be read.
+    unread: usize,
+}
+
+impl Tally {
+    // The counts with more errors.
+    fn with_errors(self, count: usize) -> Tally
+        ensures { result ≡ with_errors self count }
+    {
+        Tally {
+            errors: self.errors.saturating_add(count),
+            unread: self.unread,
+        }
+    }
+
+    // The counts with a file that is not read.
+    fn with_unread(self) -> Tally
+        ensures { result ≡ with_unread self }
+    {
+        Tally {
+            errors: self.errors,
+            unread: self.unread.saturating_add(1),
+        }
+    }
+
+    // The exit status.
+    fn status(self) -> u8
+        ensures { result ≡ status_of self }
+    {
+        if self.unread == 0 {
+            if self.errors == 0 { 0 } else { FOUND }
+        } else {
+            FAILED
+        }
+    }
+}
+
+// Checks a text, and returns the counts with its errors.
+fn count_text<W: Write>(
+    alloc: Global,
+    name: &str,
+    text: &str,
+    style: Style,
+    tally: Tally,
+    out: &mut W,
+) -> io::Result<Tally>
+    ensures { IfOk result (IsTextCounted style name.now text.now tally (W.contents out.old) (W.contents out.new)) }
+{
+    let found = check_text(alloc, name, text, style, tally.errors, out)?;
+    Ok(tally.with_errors(found))
+}
+
+// Checks a file, and returns the counts with its errors, or with the file if it cannot be read.
+fn check_file<W: Write>(
+    rt: &HostRuntime,
+    inputs: &Inputs,
+    name: &str,
+    style: Style,
+    tally: Tally,
+    out: &mut W,
+) -> io::Result<Tally>
+    ensures { IfOk result (IsFileCounted style name.now tally (W.contents out.old) (W.contents out.new)) }
+{
+    match inputs.read_text(rt, &PROGRAM, name, out)? {
+        Some(text) => count_text(
+            rt.alloc(),
+            shown_name(name),
+            text.as_str(),
+            style,
+            tally,
+            out,
+        ),
+        None => Ok(tally.with_unread()),
+    }
+}
+
+// Checks a file as `check_file` does. Errors are visible at once.
+fn check_next<W: Write>(
+    rt: &HostRuntime,
+    inputs: &Inputs,
+    progress: Progress,
+    name: &str,
+    style: Style,
+    tally: Tally,
+    out: &mut W,
+) -> io::Result<Tally>
+    ensures { IfOk result (IsFileCounted style name.now tally (W.contents out.old) (W.contents out.new)) }
+{
+    let next = check_file(rt, inputs, name, style, tally, out)?;
+    if next.errors == tally.errors {
+        return Ok(next);
+    }
+    progress.clear(rt)?;
+    out.flush()?;
+    Ok(next)
+}
+
+// Checks the files in order.
+fn check_files<W: Write>(
+    rt: &HostRuntime,
+    inputs: &Inputs,
+    style: Style,
+    out: &mut W,
+) -> io::Result<Tally>
+    ensures { IfOk result (AreChecked style inputs.now.files.failed (W.contents out.old) (map string_bytes inputs.now.files.names.items)
+        (W.contents out.new)) }
+{
+    let progress = Progress::of(rt, inputs.files.names.len());
+    let mut tally = Tally {
+        errors: 0,
+        unread: inputs.files.failed,
+    };
+    for number in 0..inputs.files.names.len() {
+        progress.show(rt, number)?;
+        let name = inputs.files.names[number].as_str();
+        tally = check_next(rt, inputs, progress, name, style, tally, out)?;
+    }
+    progress.clear(rt)?;
+    Ok(tally)
+}
+
+// Writes what precedes the errors of the first file.
+fn write_begin<W: Write>(format: Format, out: &mut W) -> io::Result<()>
+    ensures { OnOk result (Appends (W.contents out.old) (W.contents out.new) (report_head format)) }
+{
+    match format {
+        Format::Text | Format::Json => Ok(()),
+        Format::Sarif => write_head("nix-check", out),
+    }
+}
+
+// Writes the last line, the number of errors. Without errors there is none if some files could not be read.
+fn write_count<W: Write>(tally: Tally, out: &mut W) -> io::Result<()>
+    ensures { OnOk result (Appends (W.contents out.old) (W.contents out.new) (count_line tally)) }
+{
+    let Tally { errors, unread } = tally;
+    if errors == 0 {
+        out.write_all(if unread == 0 { b"no errors\n" } else { b"" })
+    } else if errors == 1 {
+        out.write_all(b"1 error\n")
+    } else {
+        writeln!(out, "{errors} errors")
+    }
+}
+
+// Writes what follows the errors of the last file.
+fn write_end<W: Write>(format: Format, tally: Tally, out: &mut W) -> io::Result<()>
+    ensures { OnOk result (Appends (W.contents out.old) (W.contents out.new) (report_tail format tally)) }
+{
+    match format {
+        Format::Text => write_count(tally, out),
+        Format::Json => Ok(()),
+        Format::Sarif => write_tail(tally.unread == 0, out),
+    }
+}
+
+/// Writes the errors of the files, and returns the exit status.
+pub fn report_files<W: Write>(
+    rt: &HostRuntime,
+    inputs: &Inputs,
+    style: Style,
+    out: &mut W,
+) -> io::Result<u8>
+    ensures { IfOk result (IsReport style inputs.now.files.failed (map string_bytes inputs.now.files.names.items)
+        (W.contents out.old) (W.contents out.new)) }
+{
+    write_begin(style.format, out)?;
+    let tally = check_files(rt, inputs, style, out)?;
+    write_end(style.format, tally, out)?;
+    Ok(tally.status())
+}

@@ -1,0 +1,113 @@
+//! Diagnostics as text for people.
+
+ghost use Rattle.std.specs.Prelude.{OnOk};
+ghost use Rattle.std.specs.Io.KnownBytes.{Appends};
+ghost use Rattle.nix_cli.specs.MessagePlaces.{IsIndexed};
+ghost use Rattle.nix_check.specs.AsText.{word_text, message_text, help_text, IsPlacedText, IsNoteText, AreNoteTexts, IsText};
+ghost use Rattle.nix_check.specs.Listed.{Prints};
+
+use nix_cli::{Source, write_excerpt, write_place};
+use nix_diagnostics::{Diagnostic, Note};
+use rnix::TextRange;
+use std::io::{self, Write};
+
+// Writes a word, in bold and a color if the text is colored.
+fn write_word<W: Write>(word: &str, color: &str, is_colored: bool, out: &mut W) -> io::Result<()>
+    ensures { OnOk result (Appends (W.contents out.old) (W.contents out.new) (word_text is_colored color.now word.now)) }
+{
+    if is_colored {
+        write!(out, "\x1b[1;{color}m{word}\x1b[0m")
+    } else {
+        out.write_all(word.as_bytes())
+    }
+}
+
+// Writes a kind of message, and the message.
+fn write_message<W: Write>(
+    kind: &str,
+    color: &str,
+    message: &str,
+    is_colored: bool,
+    out: &mut W,
+) -> io::Result<()>
+    ensures { OnOk result (Appends (W.contents out.old) (W.contents out.new) (message_text is_colored color.now kind.now message.now)) }
+{
+    write_word(kind, color, is_colored, out)?;
+    writeln!(out, " {message}")
+}
+
+// Writes a note without a place.
+fn write_help<W: Write>(message: &str, is_colored: bool, out: &mut W) -> io::Result<()>
+    ensures { OnOk result (Appends (W.contents out.old) (W.contents out.new) (help_text is_colored message.now)) }
+{
+    out.write_all(b"  ")?;
+    write_message("help:", "36", message, is_colored, out)
+}
+
+// Writes a note with a place: the place, the message, the line and carets.
+fn write_placed<W: Write>(
+    source: &Source<'_>,
+    range: TextRange,
+    message: &str,
+    is_colored: bool,
+    out: &mut W,
+) -> io::Result<()>
+    requires { IsIndexed source.now }
+    ensures { OnOk result (Prints (IsPlacedText is_colored source.now.name.now source.now.text.now range.start message.now)
+        (W.contents out.old) (W.contents out.new)) }
+{
+    write_place(source, range.start(), out)?;
+    write_message("note:", "36", message, is_colored, out)?;
+    write_excerpt(source.text, range.start()..range.end(), out)
+}
+
+// Writes a note.
+fn write_note<W: Write>(
+    source: &Source<'_>,
+    note: Note,
+    is_colored: bool,
+    out: &mut W,
+) -> io::Result<()>
+    requires { IsIndexed source.now }
+    ensures { OnOk result (Prints (IsNoteText is_colored source.now.name.now source.now.text.now note) (W.contents out.old) (W.contents out.new)) }
+{
+    match note.range {
+        None => write_help(note.message, is_colored, out),
+        Some(range) => write_placed(source, range, note.message, is_colored, out),
+    }
+}
+
+// Writes notes.
+fn write_notes<W: Write>(
+    source: &Source<'_>,
+    notes: &[Note],
+    is_colored: bool,
+    out: &mut W,
+) -> io::Result<()>
+    requires { IsIndexed source.now }
+    ensures { OnOk result
+        (Prints (AreNoteTexts is_colored source.now.name.now source.now.text.now notes.now) (W.contents out.old) (W.contents out.new)) }
+{
+    for note in notes {
+        write_note(source, *note, is_colored, out)?;
+    }
+    Ok(())
+}
+
+/// Writes a diagnostic: its place, message, line with carets, and notes.
+pub fn write_text<W: Write>(
+    source: &Source<'_>,
+    diagnostic: &Diagnostic,
+    is_colored: bool,
+    out: &mut W,
+) -> io::Result<()>
+    requires { IsIndexed source.now }
+    ensures { OnOk result
+        (Prints (IsText is_colored source.now.name.now source.now.text.now diagnostic.now) (W.contents out.old) (W.contents out.new)) }
+{
+    let (start, end) = (diagnostic.range.start(), diagnostic.range.end());
+    write_place(source, start, out)?;
+    write_message("error:", "31", diagnostic.message.as_str(), is_colored, out)?;
+    write_excerpt(source.text, start..end, out)?;
+    write_notes(source, &diagnostic.notes, is_colored, out)
+}

@@ -1,0 +1,16 @@
+-- The exit status of a program that does the same with each of its files.
+use Rattle.std.specs.Prelude.{ℕ, ◌==◌, List, [], ◌∷◌, ◌++◌, max, Option, if◌then◌else◌}
+
+-- the status before any file is read, by the number of folders that could not be read
+abbrev pub first_status : ℕ → ℕ
+first_status failed = if failed == 0 then 0 else 2
+
+-- what is done with a file: its name, the bytes that the output has before and after it, and its status
+abbrev pub Deed : Type 1
+Deed = List ℕ → Option (List ℕ) → Option (List ℕ) → ℕ → Type 0
+
+-- the deed is done with each of some files, one after the other; the status is the highest of theirs and the first one
+pub data AreDone (Does : Deed) (first : ℕ) (old : Option (List ℕ)) : List (List ℕ) → Option (List ℕ) → ℕ → Type 0 where
+  none_done : AreDone Does first old [] old first
+  one_done : (files : List (List ℕ)) (mid new : Option (List ℕ)) (status own : ℕ) (file : List ℕ) → AreDone Does first old files mid status →
+      Does file mid new own → AreDone Does first old (files ++ file ∷ []) new (max status own)

@@ -1,0 +1,41 @@
+//! A text for messages on places in it.
+
+ghost use Rattle.std.specs.Prelude.{◌≡◌, OnOk};
+ghost use Rattle.std.specs.Io.KnownBytes.{Appends};
+ghost use Rattle.nix_cli.specs.MessagePlaces.{line_and_column, place_text, IsIndexed};
+
+use rnix_text::LineIndex;
+use std::io::{self, Write};
+
+/// A text with its name in messages and its lines.
+#[derive(Clone, Copy)]
+pub struct Source<'a> {
+    /// The name of the text.
+    pub name: &'a str,
+    /// The text.
+    pub text: &'a str,
+    /// The lines of the text, with columns that count characters.
+    pub index: &'a LineIndex<'a>,
+}
+
+impl<'a> Source<'a> {
+    /// Returns the line and the column of a byte offset, both from 1. An offset inside a character or beyond the text has those of the start.
+    pub fn position(&self, offset: usize) -> (usize, usize)
+        requires { IsIndexed self.now }
+        ensures { result ≡ line_and_column self.now.text.now offset }
+    {
+        match self.index.position(offset) {
+            Some(place) => (place.line + 1, place.column + 1),
+            None => (1, 1),
+        }
+    }
+}
+
+/// Writes how a message on a byte offset begins: the name of the text, the line and the column, as in `a.nix:1:1: `.
+pub fn write_place<W: Write>(source: &Source<'_>, offset: usize, out: &mut W) -> io::Result<()>
+    requires { IsIndexed source.now }
+    ensures { OnOk result (Appends (W.contents out.old) (W.contents out.new) (place_text source.now.name.now source.now.text.now offset)) }
+{
+    let (line, column) = source.position(offset);
+    write!(out, "{}:{line}:{column}: ", source.name)
+}

@@ -1,0 +1,57 @@
+-- What is reported of texts: a line for each name that is never used, and the exit status. A text is the list of its bytes.
+use Rattle.std.specs.Prelude.{◌≡◌, ◌⊎◌, ℕ, Bool, List, [], ◌∷◌, ◌++◌, codes, decimal, map, Option, if◌then◌else◌}
+use Rattle.std.specs.List.{flat_map, Sorted.{IsNonDecreasingBy, IsPermutation}}
+use Rattle.std.specs.Cow.{cow_str_bytes}
+use Rattle.std.specs.Io.KnownBytes.{Appends, Keeps}
+use Rattle.rnix_kinds.specs.Lexical.Tokens.{tokens_of}
+use Rattle.rnix_green.specs.Tree.{Tree, Located}
+use Rattle.rnix_grammar.specs.Fault.{Fault}
+use Rattle.rnix_grammar.specs.Parsed.{IsParsed}
+use Rattle.nix_cli.specs.JsonString.{json_string, shown_text}
+use Rattle.nix_cli.specs.MessagePlaces.{shown_name, line_and_column, place_text}
+use Rattle.nix_dead.specs.Dead.{Listed, listed_name, dead_in}
+use Rattle.nix_dead.specs.declared.dead.Name.{Name}
+
+-- the line of a name in a file
+abbrev pub name_line : List ℕ → List ℕ → Name → List ℕ
+name_line file text name = place_text file text name.start ++ (shown_text (cow_str_bytes name.text) ++ codes " is never used\n")
+
+-- the members of a JSON object that say where a name is: its line, its column and its offset
+abbrev pub place_members : ℕ × ℕ → ℕ → List ℕ
+place_members place start =
+    codes ",\"line\":" ++ decimal place.0 ++ codes ",\"column\":" ++ decimal place.1 ++ codes ",\"start\":" ++ decimal start ++ codes ",\"name\":"
+
+-- the line of a name in a file, as a JSON object
+abbrev pub name_object : List ℕ → List ℕ → Name → List ℕ
+name_object file text name =
+    codes "{\"file\":" ++ json_string file ++ place_members (line_and_column text name.start) name.start ++ json_string (cow_str_bytes name.text) ++ codes "}\n"
+
+-- the same as text or as JSON
+unfoldable pub name_output : Bool → List ℕ → List ℕ → Name → List ℕ
+name_output is_json file text name = if is_json then name_object file text name else name_line file text name
+
+-- the exit status by the names that are never used: 1 if there are some
+abbrev pub status_of : List Listed → ℕ
+status_of [] = 0
+status_of (name ∷ names) = 1
+
+-- a tree is reported: a line is written for each of its dead names, in the order of the text
+pub record AreReported (is_json : Bool) (file text : List ℕ) (root : Located) (old new : Option (List ℕ)) (status : ℕ) : Type 0 where
+  pub names : List Name
+  pub exactly : IsPermutation (dead_in root) (map listed_name names)
+  pub order : IsNonDecreasingBy (λ (name : Name). name.start) names
+  pub written : Appends old new (flat_map (name_output is_json file text) names)
+  pub status_is : status ≡ status_of (dead_in root)
+
+-- a text is reported: if it has errors, nothing is written, and the status is 2; otherwise its tree is reported
+pub record IsReported (is_json : Bool) (file text : List ℕ) (old new : Option (List ℕ)) (status : ℕ) : Type 0 where
+  pub tree : Tree
+  pub faults : List Fault
+  pub read : IsParsed (tokens_of text) tree faults
+  pub faulty : ¬ (faults ≡ []) → (status ≡ 2) × Keeps old new
+  pub faultless : faults ≡ [] → AreReported is_json file text record { tree = tree; number = 0 } old new status
+
+-- a file is reported: nothing is written of one that is not read, and its status is 2; otherwise it has a text, which is reported
+abbrev pub IsFileReported : Bool → List ℕ → Option (List ℕ) → Option (List ℕ) → ℕ → Type 0
+IsFileReported is_json file old new status =
+    (Keeps old new × (status ≡ 2)) ⊎ ((text : List ℕ) × IsReported is_json (shown_name file) text old new status)

@@ -1,0 +1,175 @@
+//! The report on files: their unused names.
+
+ghost use Rattle.std.specs.Prelude.{◌≡◌, [], IfOk, OnOk, map, string_bytes};
+ghost use Rattle.std.specs.List.{flat_map};
+ghost use Rattle.std.specs.Io.KnownBytes.{Appends, Keeps};
+ghost use Rattle.nix_cli.specs.MessagePlaces.{IsIndexed};
+ghost use Rattle.nix_cli.specs.Statuses.{first_status, AreDone};
+ghost use Rattle.nix_dead.specs.Report.{name_line, name_object, name_output, AreReported, IsReported, IsFileReported};
+
+use crate::PROGRAM;
+use crate::dead::{Name, dead_names};
+use nix_cli::{
+    FAILED, FOUND, Inputs, Source, place_of, refuse_after_output, shown_name, write_json_string,
+    write_place, write_shown,
+};
+use rnix::{Parse, Root, SyntaxNode};
+use rnix_text::{ColumnUnit, LineIndex};
+use std::alloc::Global;
+use std::io::{self, Write};
+
+// Writes the line of a name.
+fn write_line<W: Write>(source: &Source<'_>, name: &Name<'_>, out: &mut W) -> io::Result<()>
+    requires { IsIndexed source.now }
+    ensures { OnOk result (Appends (W.contents out.old) (W.contents out.new) (name_line source.now.name.now source.now.text.now name.now)) }
+{
+    write_place(source, name.start, out)?;
+    write_shown(name.text.as_str(), out)?;
+    out.write_all(b" is never used\n")
+}
+
+// Writes the line of a name as JSON.
+fn write_object<W: Write>(source: &Source<'_>, name: &Name<'_>, out: &mut W) -> io::Result<()>
+    requires { IsIndexed source.now }
+    ensures { OnOk result (Appends (W.contents out.old) (W.contents out.new) (name_object source.now.name.now source.now.text.now name.now)) }
+{
+    let (line, column) = source.position(name.start);
+    out.write_all(b"{\"file\":")?;
+    write_json_string(source.name, out)?;
+    write!(
+        out,
+        ",\"line\":{line},\"column\":{column},\"start\":{},\"name\":",
+        name.start
+    )?;
+    write_json_string(name.text.as_str(), out)?;
+    out.write_all(b"}\n")
+}
+
+// Writes the line of a name, as text or JSON.
+#[tactic(auto, unfolding(crate::specs::Report::name_output))]
+fn write_name<W: Write>(
+    source: &Source<'_>,
+    name: &Name<'_>,
+    is_json: bool,
+    out: &mut W,
+) -> io::Result<()>
+    requires { IsIndexed source.now }
+    ensures { OnOk result
+        (Appends (W.contents out.old) (W.contents out.new) (name_output is_json source.now.name.now source.now.text.now name.now)) }
+{
+    if is_json {
+        write_object(source, name, out)
+    } else {
+        write_line(source, name, out)
+    }
+}
+
+// Writes a line for each name.
+fn write_names<W: Write>(
+    source: &Source<'_>,
+    names: &[Name<'_>],
+    is_json: bool,
+    out: &mut W,
+) -> io::Result<()>
+    requires { IsIndexed source.now }
+    ensures { OnOk result
+        (Appends (W.contents out.old) (W.contents out.new) (flat_map (name_output is_json source.now.name.now source.now.text.now) names.now)) }
+{
+    for name in names {
+        write_name(source, name, is_json, out)?;
+    }
+    Ok(())
+}
+
+// Reports the first syntax error of a text.
+fn refuse_text<W: Write>(
+    rt: &HostRuntime,
+    file: &str,
+    text: &str,
+    read: &Parse,
+    out: &mut W,
+) -> io::Result<()>
+    ensures { Keeps (W.contents out.old) (W.contents out.new) }
+{
+    let range = read.errors().first().and_then(|error| error.range());
+    let place = place_of(text, range.map_or(text.len(), |range| range.start()));
+    refuse_after_output(rt, &PROGRAM, file, place, "this is not Nix", out)
+}
+
+// Writes the unused names of a tree, and returns the exit status.
+fn report_names<W: Write>(
+    alloc: Global,
+    file: &str,
+    text: &str,
+    root: &SyntaxNode<'_>,
+    is_json: bool,
+    out: &mut W,
+) -> io::Result<u8>
+    ensures { IfOk result (AreReported is_json file.now text.now root.now (W.contents out.old) (W.contents out.new)) }
+{
+    let names = dead_names(alloc, root)?;
+    if names.is_empty() {
+        return Ok(0);
+    }
+    let index = LineIndex::new(alloc, text, ColumnUnit::Chars)?;
+    let source = Source {
+        name: file,
+        text,
+        index: &index,
+    };
+    write_names(&source, &names, is_json, out)?;
+    Ok(FOUND)
+}
+
+// Writes the unused names of a text, and returns the exit status. A text with syntax errors is refused.
+fn report<W: Write>(
+    rt: &HostRuntime,
+    file: &str,
+    text: &str,
+    is_json: bool,
+    out: &mut W,
+) -> io::Result<u8>
+    ensures { IfOk result (IsReported is_json file.now text.now (W.contents out.old) (W.contents out.new)) }
+{
+    let read = Root::parse(rt.alloc(), text)?;
+    if !read.errors().is_empty() {
+        refuse_text(rt, file, text, &read, out)?;
+        return Ok(FAILED);
+    }
+    report_names(rt.alloc(), file, text, &read.syntax(), is_json, out)
+}
+
+// Writes the unused names of a file, and returns the exit status. A file that cannot be read is reported.
+fn report_file<W: Write>(
+    rt: &HostRuntime,
+    inputs: &Inputs,
+    file: &str,
+    is_json: bool,
+    out: &mut W,
+) -> io::Result<u8>
+    ensures { IfOk result (IsFileReported is_json file.now (W.contents out.old) (W.contents out.new)) }
+{
+    match inputs.read_text(rt, &PROGRAM, file, out)? {
+        Some(text) => report(rt, shown_name(file), text.as_str(), is_json, out),
+        None => Ok(FAILED),
+    }
+}
+
+/// Writes the unused names of the files, and returns the highest exit status.
+pub fn report_files<W: Write>(
+    rt: &HostRuntime,
+    inputs: &Inputs,
+    is_json: bool,
+    out: &mut W,
+) -> io::Result<u8>
+    ensures { IfOk result (λ status. AreDone (IsFileReported is_json) (first_status inputs.now.files.failed) (W.contents out.old)
+        (map string_bytes inputs.now.files.names.items) (W.contents out.new) status) }
+{
+    let mut status = inputs.files.status();
+    for number in 0..inputs.files.names.len() {
+        let file = inputs.files.names[number].as_str();
+        let own = report_file(rt, inputs, file, is_json, out)?;
+        status = status.max(own);
+    }
+    Ok(status)
+}

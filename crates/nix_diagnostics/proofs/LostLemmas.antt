@@ -1,0 +1,85 @@
+-- One error more, and whether the parser has lost its way, and whether brackets were skipped.
+use Rattle.std.proofs.Common.{◌≡◌, ◌∙◌, Bool, true, false, List, [], ◌∷◌, ◌++◌, ap, sym, refl}
+use Rattle.std.specs.Prelude.{not, ◌&&◌, ◌||◌}
+use Rattle.std.specs.List.{list_any}
+use Rattle.std.proofs.lemmas.List.{append_assoc, append-nil}
+use Rattle.std.proofs.lemmas.List.Folds.{list_any-append}
+use Rattle.rnix_green.specs.Tree.{Located}
+use Rattle.rnix_grammar.specs.Fault.{Fault}
+use Rattle.nix_diagnostics.specs.Slips.{is_slip}
+use Rattle.nix_diagnostics.specs.Apart.{is_apart}
+use Rattle.nix_diagnostics.specs.Following.{loses, loses_at, skips, is_back, none_back, is_lost_in, is_lost, has_skipped}
+
+-- one of two tests, of which the second fails
+pub or_false : (b : Bool) → (b || false) ≡ b
+or_false true = refl
+or_false false = refl
+
+-- both of two tests, of which the second passes
+pub and_true : (b : Bool) → (b && true) ≡ b
+and_true true = refl
+and_true false = refl
+
+-- both of three tests
+and_and : (a b c : Bool) → (a && (b && c)) ≡ ((a && b) && c)
+and_and true b c = refl
+and_and false b c = refl
+
+-- a test of two that both are followed by a third one
+shared_last : (l n r s x : Bool) → ((l && (n && s)) || ((r && s) || x)) ≡ ((((l && n) || r) && s) || x)
+shared_last false n r s x = refl
+shared_last true false r s x = refl
+shared_last true true r true x = refl
+shared_last true true true false x = refl
+shared_last true true false false x = refl
+
+-- the parser is back on its way at none of some errors and one more
+none_back_push : (root : Located) (before faults : List Fault) (fault : Fault) →
+    none_back root before (faults ++ fault ∷ []) ≡ (none_back root before faults && not (is_back root (before ++ faults) fault))
+none_back_push root before [] fault =
+    and_true (not (is_back root before fault)) ∙ ap (λ b. not (is_back root b fault)) (sym (append-nil before))
+none_back_push root before (f ∷ faults) fault =
+    ap (λ b. not (is_back root before f) && b) (none_back_push root (before ++ f ∷ []) faults fault)
+    ∙ and_and (not (is_back root before f)) (none_back root (before ++ f ∷ []) faults) (not (is_back root ((before ++ f ∷ []) ++ faults) fault))
+    ∙ ap (λ b. (not (is_back root before f) && none_back root (before ++ f ∷ []) faults) && not (is_back root b fault))
+    (append_assoc before (f ∷ []) faults)
+
+-- the parser loses its way at one of some errors and one more
+lost_in_push : (root : Located) (all before faults : List Fault) (fault : Fault) →
+    is_lost_in root all before (faults ++ fault ∷ [])
+    ≡ ((is_lost_in root all before faults && not (is_back root (before ++ faults) fault)) || loses root all fault)
+lost_in_push root all before [] fault = or_false (loses root all fault && true) ∙ and_true (loses root all fault)
+lost_in_push root all before (f ∷ faults) fault =
+    let more = before ++ f ∷ [] in
+    let still = not (is_back root (more ++ faults) fault) in
+    let back = none_back_push root more faults fault in
+    let rest = lost_in_push root all more faults fault in
+    (λ k. (loses root all f && back k) || rest k)
+    ∙ shared_last (loses root all f) (none_back root more faults) (is_lost_in root all more faults) still (loses root all fault)
+    ∙ ap (λ b. (is_lost_in root all before (f ∷ faults) && not (is_back root b fault)) || loses root all fault) (append_assoc before (f ∷ []) faults)
+
+-- the parser has lost its way after one error more
+pub lost_push : (root : Located) (all before : List Fault) (fault : Fault) →
+    is_lost root all (before ++ fault ∷ []) ≡ ((is_lost root all before && not (is_back root before fault)) || loses root all fault)
+lost_push root all before fault = lost_in_push root all [] before fault
+
+-- after an error that is not about an unexpected or a missing token it has, if it had before
+pub lost_other : (root : Located) (all before : List Fault) (fault : Fault) → is_slip fault ≡ false →
+    is_lost root all (before ++ fault ∷ []) ≡ is_lost root all before
+lost_other root all before fault other =
+    lost_push root all before fault
+    ∙ (λ k. (is_lost root all before && not (other k && is_apart root before fault)) || (other k && loses_at root all fault))
+    ∙ or_false (is_lost root all before && true)
+    ∙ and_true (is_lost root all before)
+
+-- brackets were skipped at some errors and one more
+pub skipped_push : (root : Located) (before : List Fault) (fault : Fault) →
+    has_skipped root (before ++ fault ∷ []) ≡ (has_skipped root before || (is_slip fault && skips root fault))
+skipped_push root before fault =
+    list_any-append (λ f. is_slip f && skips root f) before (fault ∷ []) ∙ ap (λ b. has_skipped root before || b) (or_false (is_slip fault && skips root fault))
+
+-- after an error that is not about an unexpected or a missing token they were, if they were before
+pub skipped_other : (root : Located) (before : List Fault) (fault : Fault) → is_slip fault ≡ false →
+    has_skipped root (before ++ fault ∷ []) ≡ has_skipped root before
+skipped_other root before fault other =
+    skipped_push root before fault ∙ (λ k. has_skipped root before || (other k && skips root fault)) ∙ or_false (has_skipped root before)

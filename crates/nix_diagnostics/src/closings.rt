@@ -1,0 +1,142 @@
+//! The replacements that close what is open.
+
+use crate::brackets::Opening;
+use crate::near::{first_part, indentation, line_start, text_before};
+use crate::replacement::Replacement;
+use crate::unwanted::Unwanted;
+use SyntaxKind::*;
+use rnix::{SyntaxKind, TextRange};
+
+// The closing bracket for an opening one, after white space where that is usual.
+fn closing_bracket(opener: SyntaxKind, is_spaced: bool) -> Option<&'static str> {
+    match (opener, is_spaced) {
+        (TOKEN_L_BRACE, false) => Some("}"),
+        (TOKEN_L_BRACE, true) => Some(" }"),
+        (TOKEN_L_BRACK, false) => Some("]"),
+        (TOKEN_L_BRACK, true) => Some(" ]"),
+        (TOKEN_L_PAREN, _) => Some(")"),
+        (TOKEN_INTERPOL_START, _) => Some("}"),
+        _ => None,
+    }
+}
+
+// The keyword that follows what another one opens, before an expression.
+fn next_keyword(opener: SyntaxKind) -> Option<&'static str> {
+    match opener {
+        TOKEN_LET => Some("in "),
+        TOKEN_IF => Some("then "),
+        TOKEN_THEN => Some("else "),
+        _ => None,
+    }
+}
+
+// The closing bracket at the end of a text.
+fn last_bracket(opener: SyntaxKind) -> Option<&'static str> {
+    match opener {
+        TOKEN_L_BRACE => Some("\n}"),
+        TOKEN_L_BRACK => Some("\n]"),
+        _ => closing_bracket(opener, false),
+    }
+}
+
+// Closes what is open before an unexpected token, or in its place if it is a closing bracket that matches none.
+fn closing_before(
+    opener: SyntaxKind,
+    unwanted: &Unwanted<'_>,
+    extra: Option<TextRange>,
+) -> Option<Replacement> {
+    let range = unwanted.token.text_range();
+    if let Some(keyword) = next_keyword(opener) {
+        return Some(Replacement::insertion(range.start(), keyword));
+    }
+    let is_bracket = matches!(
+        unwanted.token.kind(),
+        TOKEN_R_BRACE | TOKEN_R_BRACK | TOKEN_R_PAREN
+    );
+    if is_bracket && extra == Some(range) {
+        return Some(Replacement::new(range, closing_bracket(opener, false)?));
+    }
+    let before = unwanted.before.as_ref()?;
+    let closing = closing_bracket(opener, true)?;
+    Some(Replacement::insertion(before.text_range().end(), closing))
+}
+
+// Ends a string in `"` on its first line, before a `;` at the end of that line.
+fn closing_quote(opening: Opening, text: &str) -> Option<Replacement> {
+    let (start, end) = (opening.range.start(), opening.range.end());
+    let line = text_before(text, end, '\n')?.trim_end();
+    let content = line.strip_suffix(';').unwrap_or(line);
+    if content.is_empty() {
+        return opening_quote(start, text.get(line_start(text, start)?..start)?);
+    }
+    let end = end.checked_add(content.len())?;
+    Some(Replacement::insertion(end, "\""))
+}
+
+// For a quote at the end of a line that is meant to end a string: closes the interpolation before it, or opens the string before its last word.
+fn opening_quote(quote: usize, line: &str) -> Option<Replacement> {
+    if line.contains("${") {
+        return Some(Replacement::insertion(quote, "}"));
+    }
+    let (_, word) = line.rsplit_once(' ')?;
+    Some(Replacement::insertion(quote.saturating_sub(word.len()), "\""))
+}
+
+// Closes braces that contain the rest of the text by mistake: after the lines that follow and are indented more than the line of the braces.
+fn closing_braces(opening: Opening, text: &str) -> Option<Replacement> {
+    let first = line_start(text, opening.range.start())?;
+    let own = indentation(text.get(first..)?);
+    let mut start = opening.range.end();
+    let mut end = None;
+    let rest = first_part(text.get(start..)?);
+    for (number, line) in rest.split_inclusive('\n').enumerate() {
+        let indent = indentation(line);
+        let content = line.trim();
+        if number > 0 && !content.is_empty() && indent <= own {
+            return end_entry(end?, start, indent, content);
+        }
+        if number > 0 && !content.is_empty() {
+            end = Some(start.saturating_add(line.trim_end().len()));
+        }
+        start = start.saturating_add(line.len());
+    }
+    None
+}
+
+// Ends an entry at an offset, indented as the next line, which starts at another one and closes nothing.
+fn end_entry(end: usize, next: usize, indent: usize, content: &str) -> Option<Replacement> {
+    if content.starts_with(['}', ']', ')']) {
+        return None;
+    }
+    Some(Replacement {
+        range: TextRange::empty(end),
+        before: "\n",
+        kept: TextRange::empty(next).cover_offset(next.saturating_add(indent)),
+        after: "};",
+    })
+}
+
+// Closes what is open at the end of a text.
+fn closing_at_end(opening: Opening, end: usize, text: &str) -> Option<Replacement> {
+    match (opening.kind, opening.is_suspect) {
+        (TOKEN_L_BRACE, true) => closing_braces(opening, text),
+        (kind, _) => Some(Replacement::insertion(end, last_bracket(kind)?)),
+    }
+}
+
+/// Returns what closes an opening at an error: before its unexpected token, or at the place where it is shown, the end of the text.
+pub fn closing(
+    opening: Opening,
+    unwanted: Option<&Unwanted<'_>>,
+    place: TextRange,
+    extra: Option<TextRange>,
+    text: &str,
+) -> Option<Replacement> {
+    if opening.kind == TOKEN_STRING_START {
+        return closing_quote(opening, text).filter(|_| opening.range.len() == 1);
+    }
+    match unwanted {
+        Some(unwanted) => closing_before(opening.kind, unwanted, extra),
+        None => closing_at_end(opening, place.end(), text),
+    }
+}

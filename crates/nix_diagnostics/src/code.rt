@@ -1,0 +1,41 @@
+//! What diagnostics report, by names for tools.
+
+ghost use Rattle.std.specs.Prelude.{◌≡◌};
+ghost use Rattle.rnix_grammar.specs.Fault.{fault_of};
+ghost use Rattle.nix_diagnostics.specs.Codes.{code_of, code_name};
+
+use rnix::ParseError;
+
+/// What a diagnostic reports.
+#[derive(Clone, Copy, Debug, PartialEq, Eq)]
+pub enum Code {
+    /// A syntax error.
+    SyntaxError,
+    /// Expressions that are nested deeper than the parser reads.
+    NestedTooDeep,
+    /// An attribute that is defined again, which Nix refuses. It is no error of a parse, so no call of this crate returns it.
+    RepeatedAttribute,
+}
+
+impl Code {
+    /// Returns the code of an error.
+    pub fn of(error: &ParseError) -> Self
+        ensures { result ≡ code_of (fault_of error.now) }
+    {
+        match error {
+            ParseError::RecursionLimitExceeded => Code::NestedTooDeep,
+            _ => Code::SyntaxError,
+        }
+    }
+
+    /// Returns the code's name, such as `syntax-error`. It does not change from version to version.
+    pub fn name(self) -> &'static str
+        ensures { result.now ≡ code_name self }
+    {
+        match self {
+            Code::SyntaxError => "syntax-error",
+            Code::NestedTooDeep => "nested-too-deep",
+            Code::RepeatedAttribute => "repeated-attribute",
+        }
+    }
+}

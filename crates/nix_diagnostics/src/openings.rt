@@ -1,0 +1,158 @@
+//! The first token of a text that closes nothing.
+
+ghost use Rattle.std.specs.Prelude.{◌≡◌, ◌||◌, reverse, List, [], ◌∷◌, OnOk, false};
+ghost use Rattle.rnix_green.specs.Equality.{same_kind};
+ghost use Rattle.rnix_green.specs.Tree.{item_of};
+ghost use Rattle.rnix_green.specs.Walk.{Spot};
+ghost use Rattle.nix_diagnostics.specs.Brackets.{opens, closes};
+ghost use Rattle.nix_diagnostics.specs.Unmatched.{opener_of, is_open, open_around, closes_none, after_closing, unmatched_in, unmatched_after};
+
+use SyntaxKind::*;
+use rnix::{SyntaxKind, SyntaxToken, TextRange};
+use std::alloc::{AllocError, Global};
+
+/// Whether a token opens something.
+// This and the next three are asked of each token: as calls they took 4 million instructions of `keys 1 10`.
+#[inline(always)]
+pub fn opens(kind: SyntaxKind) -> bool
+    ensures { result ≡ opens kind }
+{
+    matches!(
+        kind,
+        TOKEN_L_BRACE
+            | TOKEN_L_BRACK
+            | TOKEN_L_PAREN
+            | TOKEN_INTERPOL_START
+            | TOKEN_STRING_START
+            | TOKEN_LET
+            | TOKEN_IF
+            | TOKEN_THEN
+    )
+}
+
+/// Whether a token closes something.
+#[inline(always)]
+pub fn closes(kind: SyntaxKind) -> bool
+    ensures { result ≡ closes kind }
+{
+    matches!(
+        kind,
+        TOKEN_R_BRACE
+            | TOKEN_R_BRACK
+            | TOKEN_R_PAREN
+            | TOKEN_INTERPOL_END
+            | TOKEN_STRING_END
+            | TOKEN_IN
+            | TOKEN_THEN
+            | TOKEN_ELSE
+    )
+}
+
+/// Whether a token opens or closes something.
+#[inline(always)]
+pub fn is_bracket(kind: SyntaxKind) -> bool
+    ensures { result ≡ (opens kind || closes kind) }
+{
+    opens(kind) || closes(kind)
+}
+
+/// The kind of the token that a token closes, if it closes one.
+#[inline(always)]
+pub fn opener_of(closing: SyntaxKind) -> Option<SyntaxKind>
+    ensures { result ≡ opener_of closing }
+{
+    match closing {
+        TOKEN_R_BRACE => Some(TOKEN_L_BRACE),
+        TOKEN_R_BRACK => Some(TOKEN_L_BRACK),
+        TOKEN_R_PAREN => Some(TOKEN_L_PAREN),
+        TOKEN_INTERPOL_END => Some(TOKEN_INTERPOL_START),
+        TOKEN_STRING_END => Some(TOKEN_STRING_START),
+        TOKEN_IN => Some(TOKEN_LET),
+        TOKEN_THEN => Some(TOKEN_IF),
+        TOKEN_ELSE => Some(TOKEN_THEN),
+        _ => None,
+    }
+}
+
+/// What is open after some tokens of a text, up to the first that closes nothing.
+#[derive(Drop)]
+pub struct Openings {
+    // The kinds of the tokens that opened it, the innermost last.
+    opened: Vec<SyntaxKind>,
+    /// The first token that closes nothing. None is read after it.
+    pub extra: Option<TextRange>,
+}
+
+// Whether two kinds are the same.
+fn same_kind(a: SyntaxKind, b: SyntaxKind) -> bool
+    ensures { result ≡ same_kind a b }
+{
+    a == b
+}
+
+// Closes the innermost opening of a kind, and all inside it. Returns whether there is one.
+fn close(opened: &mut Vec<SyntaxKind>, kind: SyntaxKind) -> bool
+    ensures closes { result ≡ is_open kind (reverse opened.old.items) }
+    ensures around { reverse opened.new.items ≡ open_around kind (reverse opened.old.items) }
+{
+    while let Some(innermost) = opened.pop() {
+        if same_kind(innermost, kind) {
+            return true;
+        }
+    }
+    false
+}
+
+// Closes what a token of the kind closes. Returns whether it closes one of a kind of which none is open.
+fn closes_none(opened: &mut Vec<SyntaxKind>, kind: SyntaxKind) -> bool
+    ensures none { result ≡ closes_none (opener_of kind) (reverse opened.old.items) }
+    ensures left { reverse opened.new.items ≡ after_closing (opener_of kind) (reverse opened.old.items) }
+{
+    match opener_of(kind) {
+        Some(opener) => !close(opened, opener),
+        None => false,
+    }
+}
+
+impl Openings {
+    /// What is open before the first token.
+    pub fn new(alloc: Global) -> Openings
+        ensures { (spots : List Spot) → unmatched_after result spots ≡ unmatched_in [] spots }
+    {
+        Openings {
+            opened: Vec::new(alloc),
+            extra: None,
+        }
+    }
+
+    // Reads the next token, of the given kind, which opens or closes something.
+    fn read_bracket(&mut self, token: &SyntaxToken<'_>, kind: SyntaxKind) -> Result<(), AllocError>
+        requires { kind ≡ (item_of token.now).kind }
+        ensures { OnOk result ((spots : List Spot) → unmatched_after self.old ((false, token.now) ∷ spots) ≡ unmatched_after self.new spots) }
+    {
+        if self.extra.is_some() {
+            return Ok(());
+        }
+        if closes_none(&mut self.opened, kind) {
+            self.extra = Some(token.text_range());
+            return Ok(());
+        }
+        if opens(kind) {
+            self.opened.push(kind)?;
+            return Ok(());
+        }
+        Ok(())
+    }
+
+    /// Reads the next token, of the given kind.
+    #[inline(always)]
+    pub fn read(&mut self, token: &SyntaxToken<'_>, kind: SyntaxKind) -> Result<(), AllocError>
+        requires { kind ≡ (item_of token.now).kind }
+        ensures { OnOk result ((spots : List Spot) → unmatched_after self.old ((false, token.now) ∷ spots) ≡ unmatched_after self.new spots) }
+    {
+        if is_bracket(kind) {
+            return self.read_bracket(token, kind);
+        }
+        Ok(())
+    }
+}

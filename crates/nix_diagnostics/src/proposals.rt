@@ -1,0 +1,176 @@
+//! The replacements that hints propose.
+
+use crate::hints::Hint;
+use crate::near::text_before;
+use crate::replacement::Replacement;
+use crate::unwanted::Unwanted;
+use SyntaxKind::*;
+use rnix::ast::{AstNode, AttrpathValue, BinOp, BinOpKind};
+use rnix::{SyntaxKind, SyntaxNode, SyntaxToken, TextRange};
+
+// In how many nodes the comparison before another operator is searched for.
+const MOST_AROUND: usize = 64;
+
+// Writes a text for a token.
+fn instead(token: &SyntaxToken<'_>, text: &'static str) -> Option<Replacement> {
+    Some(Replacement::new(token.text_range(), text))
+}
+
+// Writes `=` for `==` or `:`, after a space if none precedes it.
+fn binding(unwanted: &Unwanted<'_>) -> Option<Replacement> {
+    let range = unwanted.token.text_range();
+    let before = unwanted.before.as_ref()?;
+    let touches = before.text_range().end() == range.start();
+    Some(Replacement::new(range, if touches { " =" } else { "=" }))
+}
+
+// Removes a token, or makes it a space if the next item follows at once.
+fn removal(unwanted: &Unwanted<'_>) -> Replacement {
+    let is_apart = unwanted.kind_after() == Some(TOKEN_WHITESPACE);
+    let text = if is_apart { "" } else { " " };
+    Replacement::new(unwanted.token.text_range(), text)
+}
+
+// Writes `?` for the `=` of a default. If the parser found an entry, the unexpected token is the one after its value.
+fn default_value(unwanted: &Unwanted<'_>) -> Option<Replacement> {
+    if unwanted.token.kind() == TOKEN_ASSIGN {
+        return instead(&unwanted.token, "?");
+    }
+    let entry = AttrpathValue::cast(unwanted.parent.clone())?;
+    let sign = entry.assign_token()?;
+    instead(&sign, "?")
+}
+
+// Writes `,` for `;`, or after the previous name.
+fn comma(unwanted: &Unwanted<'_>) -> Option<Replacement> {
+    if unwanted.token.kind() == TOKEN_SEMICOLON {
+        return instead(&unwanted.token, ",");
+    }
+    let before = unwanted.before.as_ref()?;
+    Some(Replacement::insertion(before.text_range().end(), ","))
+}
+
+// Writes `=` for the `=>` that binds a name, and `:` for that of a function.
+fn arrow(unwanted: &Unwanted<'_>) -> Option<Replacement> {
+    let range = unwanted.token.text_range();
+    if unwanted.token.kind() == TOKEN_MORE {
+        return Some(Replacement::new(range, ""));
+    }
+    let rest = unwanted.token.next_token()?;
+    Some(Replacement::new(range.cover(rest.text_range()), ":"))
+}
+
+// Writes `${` and `}` around a name after `$`.
+fn interpolation(unwanted: &Unwanted<'_>) -> Option<Replacement> {
+    let name = unwanted.token.next_token()?;
+    if name.kind() != TOKEN_IDENT {
+        return None;
+    }
+    Some(Replacement {
+        range: unwanted.token.text_range().cover(name.text_range()),
+        before: "${",
+        kept: name.text_range(),
+        after: "}",
+    })
+}
+
+// Whether a node compares two values.
+fn is_comparison(node: &SyntaxNode<'_>) -> bool {
+    let operator = BinOp::cast(node.clone()).and_then(|operation| operation.operator());
+    matches!(
+        operator,
+        Some(
+            BinOpKind::Equal
+                | BinOpKind::NotEqual
+                | BinOpKind::Less
+                | BinOpKind::LessOrEq
+                | BinOpKind::More
+                | BinOpKind::MoreOrEq
+        )
+    )
+}
+
+// Writes parentheses around the comparison before another operator.
+fn parentheses(unwanted: &Unwanted<'_>) -> Option<Replacement> {
+    let before = unwanted.before.as_ref()?;
+    let end = before.text_range().end();
+    for node in before.parent_ancestors().take(MOST_AROUND) {
+        let range = node.text_range();
+        if range.end() == end && is_comparison(&node) {
+            return Some(Replacement {
+                range,
+                before: "(",
+                kept: range,
+                after: ")",
+            });
+        }
+    }
+    None
+}
+
+// The quote that closes what another one opens.
+fn closing_quote(quote: char) -> char {
+    match quote {
+        '\u{2018}' => '\u{2019}',
+        '\u{201c}' => '\u{201d}',
+        '\u{ab}' => '\u{bb}',
+        _ => quote,
+    }
+}
+
+// Whether a text means itself in a string.
+fn is_plain(text: &str) -> bool {
+    !text.contains('\n') && !text.contains('"') && !text.contains('\\') && !text.contains('$')
+}
+
+// Writes `"` for the quotes around a text on one line.
+fn quotes(token: &SyntaxToken<'_>, text: &str) -> Option<Replacement> {
+    let (quote, range) = (token.text().chars().next()?, token.text_range());
+    let start = range.start().checked_add(quote.len_utf8())?;
+    let closing = closing_quote(quote);
+    let content = text_before(text, start, closing).filter(|content| is_plain(content))?;
+    let kept = TextRange::empty(start).cover_offset(start.checked_add(content.len())?);
+    let end = kept.end().checked_add(closing.len_utf8())?;
+    Some(Replacement {
+        range: range.cover_offset(end),
+        before: "\"",
+        kept,
+        after: "\"",
+    })
+}
+
+// Writes a space for one that does not break the line, and nothing for other invisible characters.
+fn visible(token: &SyntaxToken<'_>) -> Replacement {
+    let is_space = token.text().starts_with('\u{a0}');
+    Replacement::new(token.text_range(), if is_space { " " } else { "" })
+}
+
+/// Returns what a hint about an unexpected token proposes to write.
+pub fn proposal(hint: Hint, unwanted: &Unwanted<'_>, text: &str) -> Option<Replacement> {
+    let token = &unwanted.token;
+    match hint {
+        Hint::List => Some(removal(unwanted)),
+        // After a call the `=` may as well be that of the next entry.
+        Hint::Comparison if unwanted.call_in_value().is_some() => None,
+        Hint::Comparison => instead(token, "=="),
+        Hint::Binding => binding(unwanted),
+        Hint::DefaultValue => default_value(unwanted),
+        Hint::Commas => comma(unwanted),
+        Hint::Semicolons => instead(token, ";"),
+        Hint::Arrow => arrow(unwanted),
+        Hint::Comment => instead(token, "#"),
+        Hint::KeywordName => Some(Replacement {
+            range: token.text_range(),
+            before: "\"",
+            kept: token.text_range(),
+            after: "\"",
+        }),
+        Hint::Quotes => quotes(token, text),
+        Hint::And => instead(token, "&&"),
+        Hint::Or => instead(token, "||"),
+        Hint::Interpolation => interpolation(unwanted),
+        Hint::Invisible => Some(visible(token)),
+        Hint::Chain => parentheses(unwanted),
+        Hint::Entry | Hint::Ellipsis | Hint::ElseBranch | Hint::KeywordArgument => { None }
+    }
+}

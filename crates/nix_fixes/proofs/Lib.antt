@@ -1,0 +1,3 @@
+pub mod ErrorCounts
+pub mod FixLemmas
+mod FixExamples

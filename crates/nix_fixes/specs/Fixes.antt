@@ -1,0 +1,66 @@
+-- Replacements of bytes of a text, and those with which it has fewer errors.
+use Rattle.std.specs.Prelude.{◌≡◌, ℕ, ◌+◌, ◌-◌, ◌<◌, ◌≤◌, List, ◌++◌, length, take, drop, string_bytes}
+use Rattle.std.specs.Str.{IsCharBoundary, IsUtf8}
+use Rattle.rnix_kinds.specs.Lexical.Tokens.{tokens_of}
+use Rattle.rnix_green.specs.declared.range.TextRange.{TextRange}
+use Rattle.rnix_grammar.specs.Parsed.{IsParsed}
+use Rattle.rnix.specs.ParseResult.{Reading}
+use Rattle.nix_diagnostics.specs.declared.replacement.Replacement.{Replacement}
+use Rattle.nix_fixes.specs.declared.fix.Fix.{Fix}
+
+-- the bytes of a text from start up to end
+abbrev pub bytes_between : ℕ → ℕ → List ℕ → List ℕ
+bytes_between start end text = take (end - start) (drop start text)
+
+-- the text with new bytes in place of those from start up to end
+abbrev pub spliced : List ℕ → ℕ → ℕ → List ℕ → List ℕ
+spliced text start end new = take start text ++ (new ++ drop end text)
+
+-- the new text of a replacement: its first part, a copy of the bytes that it keeps, and its last part
+abbrev pub new_text : List ℕ → Replacement → List ℕ
+new_text text r = r.before.now ++ (bytes_between r.kept.start r.kept.end text ++ r.after.now)
+
+-- the text with a fix
+abbrev pub text_with : List ℕ → Fix → List ℕ
+text_with text fix = spliced text fix.range.start fix.range.end (string_bytes fix.text)
+
+-- a range begins and ends between characters of a text
+abbrev pub IsOfCharacters : List ℕ → TextRange → Type 0
+IsOfCharacters text range = IsCharBoundary text range.start × IsCharBoundary text range.end
+
+-- a text is read with so many errors
+pub record IsReadWith (text : List ℕ) (errors : ℕ) : Type 0 where
+  pub read : Reading
+  pub is_read : IsParsed (tokens_of text) read.tree read.faults
+  pub count : length read.faults ≡ errors
+
+-- a text is read with fewer errors than a number
+pub record HasFewer (text : List ℕ) (errors : ℕ) : Type 0 where
+  pub read : Reading
+  pub is_read : IsParsed (tokens_of text) read.tree read.faults
+  pub fewer : length read.faults < errors
+
+-- a text is read with that number of errors, or more
+pub record HasNoFewer (text : List ℕ) (errors : ℕ) : Type 0 where
+  pub read : Reading
+  pub is_read : IsParsed (tokens_of text) read.tree read.faults
+  pub more : errors ≤ length read.faults
+
+-- a fix replaces characters of a text; the text with it is UTF-8, and has fewer errors than a number
+pub record IsFix (text : List ℕ) (errors : ℕ) (fix : Fix) : Type 0 where
+  pub characters : IsOfCharacters text fix.range
+  pub utf8 : IsUtf8 (text_with text fix)
+  pub fewer : HasFewer (text_with text fix) errors
+
+-- a text becomes another one by one fix, after which it has fewer errors
+pub record IsFixedOnce (old new : List ℕ) : Type 0 where
+  pub errors : ℕ
+  pub is_read : IsReadWith old errors
+  pub fix : Fix
+  pub fixes : IsFix old errors fix
+  pub is : new ≡ text_with old fix
+
+-- a text becomes another one by so many fixes, one after the other
+pub data IsFixed (text : List ℕ) : ℕ → List ℕ → Type 0 where
+  unchanged : IsFixed text 0 text
+  once_more : (count : ℕ) (old new : List ℕ) → IsFixed text count old → IsFixedOnce old new → IsFixed text (count + 1) new

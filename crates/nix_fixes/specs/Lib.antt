@@ -1,0 +1,3 @@
+pub mod Fixes
+pub mod Tries
+pub mod Rounds

@@ -1,0 +1,34 @@
+//! The fix of a diagnostic.
+
+ghost use Rattle.std.specs.Prelude.{length, IfOk, IfSome};
+ghost use Rattle.nix_fixes.specs.Fixes.{IsFix};
+
+use crate::tried::{error_count, try_notes};
+use nix_diagnostics::Diagnostic;
+use rnix::{Parse, TextRange};
+use std::alloc::{AllocError, Global};
+
+/// A range of a text, and what to write instead.
+#[derive(Drop)]
+pub struct Fix {
+    /// The bytes that are replaced: none where something is inserted.
+    pub range: TextRange,
+    /// The new text.
+    pub text: String,
+}
+
+/// Returns a fix of a text that was read with this diagnostic: the first replacement of its notes with which the text has fewer errors.
+/// Parses the text with each replacement, up to that one; a diagnostic of `nix_diagnostics` has at most three.
+pub fn fix_of(
+    alloc: Global,
+    read: &Parse,
+    text: &str,
+    diagnostic: &Diagnostic,
+) -> Result<Option<Fix>, AllocError>
+    ensures { IfOk result (λ found. IfSome found (IsFix text.now (length read.now.faults))) }
+{
+    match try_notes(alloc, text, error_count(read), &diagnostic.notes)? {
+        Some(tried) => Ok(Some(tried.fix)),
+        None => Ok(None),
+    }
+}

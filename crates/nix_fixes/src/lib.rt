@@ -1,0 +1,10 @@
+//! Fixes of syntax errors: what a diagnostic proposes, tried by parsing the new text, which must have fewer errors.
+#![tactic(auto)]
+
+mod all_fixes;
+mod changed_text;
+mod fix;
+mod tried;
+
+pub use all_fixes::{FixedText, fixed};
+pub use fix::{Fix, fix_of};

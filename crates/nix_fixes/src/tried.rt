@@ -1,0 +1,94 @@
+//! Trying replacements.
+
+ghost use Rattle.std.specs.Prelude.{◌≡◌, length, IfOk, IfSome};
+ghost use Rattle.nix_fixes.specs.Tries.{IsTried};
+
+use crate::changed_text::{new_text, spliced};
+use crate::fix::Fix;
+use nix_diagnostics::{Note, Replacement};
+use rnix::{Parse, Root, TextRange};
+use std::alloc::{AllocError, Global};
+
+/// A fix, with the new text and its tree.
+#[derive(Drop)]
+pub struct Tried {
+    pub fix: Fix,
+    pub made: String,
+    pub read: Parse,
+}
+
+/// Returns the number of errors of a text.
+#[tactic(auto, using(crate::proofs::ErrorCounts::same_count))]
+pub fn error_count(read: &Parse) -> usize
+    ensures { result ≡ length read.now.faults }
+{
+    read.errors().len()
+}
+
+// Returns the text with new bytes in place of those of a range, if it has fewer errors than this number.
+fn try_new(
+    alloc: Global,
+    text: &str,
+    errors: usize,
+    range: TextRange,
+    new: String,
+) -> Result<Option<Tried>, AllocError>
+    ensures { IfOk result (λ found. IfSome found (IsTried text.now errors)) }
+{
+    let Some(made) = spliced(alloc, text, range, new.as_str())? else {
+        return Ok(None);
+    };
+    let read = Root::parse(alloc, made.as_str())?;
+    if error_count(&read) < errors {
+        let fix = Fix { range, text: new };
+        return Ok(Some(Tried { fix, made, read }));
+    }
+    Ok(None)
+}
+
+// Returns the text with a replacement, if it has fewer errors than this number.
+fn try_replacement(
+    alloc: Global,
+    text: &str,
+    errors: usize,
+    replacement: &Replacement,
+) -> Result<Option<Tried>, AllocError>
+    ensures { IfOk result (λ found. IfSome found (IsTried text.now errors)) }
+{
+    match new_text(alloc, text, replacement)? {
+        Some(new) => try_new(alloc, text, errors, replacement.range, new),
+        None => Ok(None),
+    }
+}
+
+// Returns the text with the replacement of a note, if it has fewer errors than this number.
+fn try_note(
+    alloc: Global,
+    text: &str,
+    errors: usize,
+    note: &Note,
+) -> Result<Option<Tried>, AllocError>
+    ensures { IfOk result (λ found. IfSome found (IsTried text.now errors)) }
+{
+    match &note.replacement {
+        Some(replacement) => try_replacement(alloc, text, errors, replacement),
+        None => Ok(None),
+    }
+}
+
+/// Returns the text with the first replacement of some notes with which it has fewer errors than this number.
+pub fn try_notes(
+    alloc: Global,
+    text: &str,
+    errors: usize,
+    notes: &[Note],
+) -> Result<Option<Tried>, AllocError>
+    ensures { IfOk result (λ found. IfSome found (IsTried text.now errors)) }
+{
+    for note in notes {
+        if let Some(tried) = try_note(alloc, text, errors, note)? {
+            return Ok(Some(tried));
+        }
+    }
+    Ok(None)
+}

@@ -1,0 +1,16 @@
+{
+  less = ''
+                 x ${''
+        y
+
+          ''}z
+  '';
+  code = ''
+        a ${
+    b} c
+  '';
+  wide = f ''
+                 x ${''
+        y
+          ''}zzzzzzzzzzzzzzzzzzzzzzzzzzzzzzzzzzzzzzzzzzzzzzzzzzzzzzzzzzzzzzzzzzzzzzzzzzzzzzzzzzzz'' b;
+}

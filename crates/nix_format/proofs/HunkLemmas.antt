@@ -1,0 +1,100 @@
+-- Common lines of a diff, and how many lines of each text are among its lines.
+use Rattle.std.proofs.Common.{◌≡◌, ℕ, zero, suc, ◌+◌, ◌-◌, ◌<◌, ◌≤◌, List, [], ◌∷◌, ◌++◌, length, take, drop, get_or, true, refl, ap, sym, subst, ◌∙◌, arith, append_assoc}
+use Rattle.std.proofs.Math.Seq.{take-add}
+use Rattle.std.proofs.lemmas.{List.{take_all, length-take, length-drop}, List.Recursion.{is_count_by}, List.Sums.{count_by-le-length, sum_by-append}}
+use Rattle.std.specs.{Prelude.{Bool, cond, count_by}, List.{prefix_len}}
+use Rattle.nix_format.specs.declared.diff.DiffLine.{DiffLine, TheVariants.{Common, Removed, Added}}
+use Rattle.nix_format.specs.declared.unified.{Counts.Counts, Hunk.Hunk}
+use Rattle.nix_format.specs.Diff.{old_lines, new_lines}
+use Rattle.nix_format.specs.Hunks.{is_common, is_old, is_new, AreCommon, lines_between, AreCounts, IsNextHunk, AreHunks}
+
+-- one line more among the old lines, and among the new ones
+old_step : (line : DiffLine) (diff : List DiffLine)
+    → length (old_lines (line ∷ diff)) ≡ cond (is_old line) (1 + length (old_lines diff)) (length (old_lines diff))
+old_step (Common line) diff = omega arith
+old_step (Removed line) diff = omega arith
+old_step (Added line) diff = refl
+
+new_step : (line : DiffLine) (diff : List DiffLine)
+    → length (new_lines (line ∷ diff)) ≡ cond (is_new line) (1 + length (new_lines diff)) (length (new_lines diff))
+new_step (Common line) diff = omega arith
+new_step (Removed line) diff = refl
+new_step (Added line) diff = omega arith
+
+-- how many old lines there are, and how many new ones
+pub olds_counted : (diff : List DiffLine) → length (old_lines diff) ≡ count_by is_old diff
+olds_counted diff = is_count_by (λ d. length (old_lines d)) is_old refl old_step diff
+
+pub news_counted : (diff : List DiffLine) → length (new_lines diff) ≡ count_by is_new diff
+news_counted diff = is_count_by (λ d. length (new_lines d)) is_new refl new_step diff
+
+-- the lines up to a number, and those from it up to another one
+pub lines_split : (diff : List DiffLine) (first end : ℕ) → first ≤ end → take end diff ≡ take first diff ++ lines_between first end diff
+lines_split diff first end h = ap (λ n. take n diff) {x = end} {y = first + (end - first)} (omega arith) ∙ take-add first (end - first) diff
+
+-- how many of them pass a test
+pub passes_split : (p : DiffLine → Bool) (diff : List DiffLine) (first end : ℕ) → first ≤ end
+    → count_by p (take end diff) ≡ count_by p (take first diff) + count_by p (lines_between first end diff)
+passes_split p diff first end h =
+    ap (count_by p) (lines_split diff first end h) ∙ sum_by-append (λ x. cond (p x) 1 0) (take first diff) (lines_between first end diff)
+
+-- the counts of lines, and of those after them, are those of all
+pub counts_summed : (diff : List DiffLine) (first end : ℕ) (before more sum : Counts) → first ≤ end → AreCounts (take first diff) before
+    → AreCounts (lines_between first end diff) more → sum.olds ≡ before.olds + more.olds → sum.news ≡ before.news + more.news
+    → AreCounts (take end diff) sum
+counts_summed diff first end before more sum h a b olds news = record {
+  olds = omega (arith, olds, a.olds, b.olds, passes_split is_old diff first end h);
+  news = omega (arith, news, a.news, b.news, passes_split is_new diff first end h);
+}
+
+-- counts of the first lines are at most the number of these lines
+pub counts_within : (diff : List DiffLine) (end : ℕ) (counts : Counts) → AreCounts (take end diff) counts → (counts.olds ≤ end) × (counts.news ≤ end)
+counts_within diff end counts h = (
+  omega (arith, h.olds, count_by-le-length is_old (take end diff), length-take end diff),
+  omega (arith, h.news, count_by-le-length is_new (take end diff), length-take end diff),
+)
+
+-- so are sums of counts
+pub counts_fit : (diff : List DiffLine) (first end : ℕ) (before more : Counts) → first ≤ end → AreCounts (take first diff) before
+    → AreCounts (lines_between first end diff) more → (before.olds + more.olds ≤ end) × (before.news + more.news ≤ end)
+counts_fit diff first end before more h a b =
+    let sum : Counts = record { olds = before.olds + more.olds; news = before.news + more.news } in
+    counts_within diff end sum (counts_summed diff first end before more sum h a b refl refl)
+
+-- the first lines are common as far as the common lines at the front go
+pub front_common : (count : ℕ) (lines : List DiffLine) → count ≤ prefix_len is_common lines → AreCommon (take count lines)
+front_common zero lines h = refl
+front_common (suc count) [] h = refl
+front_common (suc count) (Common line ∷ lines) h = front_common count lines (omega (arith, h))
+front_common (suc count) (Removed line ∷ lines) h = absurd (omega (arith, h))
+front_common (suc count) (Added line ∷ lines) h = absurd (omega (arith, h))
+
+-- all lines are common if the common lines at the front are all of them
+pub all_common : (lines : List DiffLine) → length lines ≤ prefix_len is_common lines → AreCommon lines
+all_common lines h = subst AreCommon (take_all (length lines) lines (omega arith)) (front_common (length lines) lines h)
+
+-- a hunk around the first change after a line
+pub hunk_found : (diff : List DiffLine) (place passed : ℕ) (before more : Counts) (hunk : Hunk) → AreCounts (take place diff) before
+    → passed ≡ prefix_len is_common (drop place diff) → place ≤ hunk.first → hunk.first ≤ place + passed → hunk.first < hunk.end → hunk.end ≤ length diff
+    → AreCounts (lines_between place hunk.first diff) more → hunk.before.olds ≡ before.olds + more.olds → hunk.before.news ≡ before.news + more.news
+    → AreCounts (lines_between hunk.first hunk.end diff) hunk.counts → IsNextHunk diff place hunk
+hunk_found diff place passed before more hunk a is starts near filled within b olds news counts = record {
+  starts = starts;
+  filled = filled;
+  within = within;
+  passed = front_common (hunk.first - place) (drop place diff) (omega (arith, is));
+  before = counts_summed diff place hunk.first before more hunk.before starts a b olds news;
+  counts = counts;
+}
+
+-- no hunk follows a line if all lines after it are common
+pub none_found : (diff : List DiffLine) (place passed : ℕ) → passed ≡ prefix_len is_common (drop place diff) → place + passed ≡ length diff
+    → AreCommon (drop place diff)
+none_found diff place passed is all = all_common (drop place diff) (omega (arith, is, length-drop place diff))
+
+-- each of the hunks of a diff is the next one after some line
+pub one_hunk : (diff : List DiffLine) (place : ℕ) (hunks : List Hunk) (i : ℕ) (d : Hunk) → AreHunks diff place hunks → i < length hunks
+    → (from : ℕ) × IsNextHunk diff from (get_or hunks i d)
+one_hunk diff place [] i d h less = absurd (omega (arith, less))
+one_hunk diff place (hunk ∷ hunks) zero d h less = (place, h.0)
+one_hunk diff place (hunk ∷ hunks) (suc i) d h less = one_hunk diff hunk.end hunks i d h.1 (omega (arith, less))

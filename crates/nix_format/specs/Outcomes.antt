@@ -1,0 +1,128 @@
+-- What becomes of files: what is printed of each, its outcome, the counts over all files, and the exit status. A text is the list of its bytes.
+use Rattle.std.specs.Prelude.{◌≡◌, ℕ, ◌+◌, ◌-◌, ◌^◌, ◌==◌, nat_lt, min, length, Bool, true, false, List, [], ◌∷◌, ◌++◌, codes, Option, if◌then◌else◌}
+use Rattle.std.specs.{Str.bytes_eq, Io.KnownBytes.{Appends, Keeps}}
+use Rattle.nix_cli.specs.MessagePlaces.{shown_name}
+use Rattle.nix_formatting.specs.{Formatted.{IsFaulty, IsFaultless}, Reindented.IsReformatted}
+use Rattle.nix_format.specs.declared.file.Task.{Task}
+use Rattle.nix_format.specs.declared.file.Task.TheVariants.{Write, Check, Diff, Print}
+use Rattle.nix_format.specs.declared.file.Outcome.{Outcome}
+use Rattle.nix_format.specs.declared.file.Outcome.TheVariants.{Changed, Same, Failed}
+use Rattle.nix_format.specs.declared.report.Tally.{Tally}
+use Rattle.nix_format.specs.Unified.{IsUnified}
+
+-- whether a name is that of standard input
+abbrev pub is_input : List ℕ → Bool
+is_input name = bytes_eq name (codes "-")
+
+-- bytes of which a statement holds are appended
+abbrev pub Prints : (List ℕ → Type 0) → Option (List ℕ) → Option (List ℕ) → Type 0
+Prints Holds old new = (bytes : List ℕ) × Holds bytes × Appends old new bytes
+
+-- the name of a file whose text differs
+abbrev pub changed_name : Bool → List ℕ → List ℕ
+changed_name is_same name = if is_same then [] else shown_name name ++ codes "\n"
+
+-- a diff of texts that differ
+abbrev pub IsDiffOf : Bool → List ℕ → List ℕ → List ℕ → Type 0
+IsDiffOf true text made bytes = bytes ≡ []
+IsDiffOf false text made bytes = IsUnified text made bytes
+
+-- the formatted text of standard input
+abbrev pub input_text : List ℕ → List ℕ → List ℕ
+input_text name made = if is_input name then made else []
+
+-- what is printed of a text and its formatted text, by task
+abbrev pub IsPrinted : Task → Bool → List ℕ → List ℕ → List ℕ → List ℕ → Type 0
+IsPrinted Check is_same name text made bytes = bytes ≡ changed_name is_same name
+IsPrinted Diff is_same name text made bytes = IsDiffOf is_same text made bytes
+IsPrinted Write is_same name text made bytes = bytes ≡ input_text name made
+IsPrinted Print is_same name text made bytes = bytes ≡ made
+
+-- whether formatted texts are to be written to the files
+abbrev pub writes : Task → Bool
+writes Write = true
+writes Check = false
+writes Diff = false
+writes Print = false
+
+-- the outcome for a file that is replaced: this fails or not, and nothing fails for standard input
+pub data IsReplaced (name : List ℕ) : Outcome → Type 0 where
+  replaced : IsReplaced name Changed
+  failed : is_input name ≡ false → IsReplaced name Failed
+
+-- the outcome for a formatted text
+pub data IsFinished (task : Task) (name text made : List ℕ) (old new : Option (List ℕ)) : Outcome → Type 0 where
+  -- it is the text
+  same : bytes_eq made text ≡ true → Prints (IsPrinted task true name text made) old new → IsFinished task name text made old new Same
+  -- it differs, and nothing is to be written
+  changed : bytes_eq made text ≡ false → writes task ≡ false → Prints (IsPrinted task false name text made) old new →
+      IsFinished task name text made old new Changed
+  -- it differs, and is to be written
+  written : (outcome : Outcome) → bytes_eq made text ≡ false → writes task ≡ true → IsReplaced name outcome →
+      Prints (IsPrinted task false name text made) old new → IsFinished task name text made old new outcome
+
+-- the outcome for a text
+pub data IsTextFormatted (task : Task) (name text : List ℕ) (old new : Option (List ℕ)) : Outcome → Type 0 where
+  -- it has errors
+  faulty : IsFaulty text → Keeps old new → IsTextFormatted task name text old new Failed
+  -- its new text would differ in more than white space
+  refused : IsFaultless text → Keeps old new → IsTextFormatted task name text old new Failed
+  -- it has a formatted text
+  formatted : (made : List ℕ) (outcome : Outcome) → IsReformatted text made → IsFinished task name text made old new outcome →
+      IsTextFormatted task name text old new outcome
+
+-- the outcome for a file
+pub data IsFileFormatted (task : Task) (name : List ℕ) (old new : Option (List ℕ)) : Outcome → Type 0 where
+  -- it is not read, or could not be replaced
+  unread : Keeps old new → IsFileFormatted task name old new Failed
+  -- it has a text
+  read : (text : List ℕ) (outcome : Outcome) → IsTextFormatted task name text old new outcome → IsFileFormatted task name old new outcome
+
+-- a sum of 64 bits, which stops at the largest number
+abbrev pub plus : ℕ → ℕ → ℕ
+plus a b = min (a + b) (2 ^ 64 - 1)
+
+-- the counts with one more file
+abbrev pub counted : Outcome → Tally → Tally
+counted Changed tally = record { changed = plus tally.changed 1; same = tally.same; failed = tally.failed }
+counted Same tally = record { changed = tally.changed; same = plus tally.same 1; failed = tally.failed }
+counted Failed tally = record { changed = tally.changed; same = tally.same; failed = plus tally.failed 1 }
+
+-- the line in front of a text, if it has one
+abbrev pub heading : Bool → List ℕ → List ℕ
+heading has_headings name = if has_headings then codes "# " ++ shown_name name ++ codes ":\n" else []
+
+-- files are formatted one after the other. Before the first one only the folders count that could not be read
+pub data AreFormatted (task : Task) (has_headings : Bool) (failed : ℕ) (old : Option (List ℕ)) : List (List ℕ) → Option (List ℕ) → Tally → Type 0 where
+  none_formatted : AreFormatted task has_headings failed old [] old record { changed = 0; same = 0; failed = failed }
+  one_formatted : (files : List (List ℕ)) (mid begun new : Option (List ℕ)) (tally : Tally) (outcome : Outcome) (file : List ℕ) →
+      AreFormatted task has_headings failed old files mid tally → Appends mid begun (heading has_headings file) →
+      IsFileFormatted task file begun new outcome → AreFormatted task has_headings failed old (files ++ file ∷ []) new (counted outcome tally)
+
+-- the exit status of a check without failures: 1 if files would change
+abbrev pub found_status : Tally → ℕ
+found_status tally = if tally.changed == 0 then 0 else 1
+
+-- the exit status without failures, by task
+abbrev pub status_without : Task → Tally → ℕ
+status_without Check tally = found_status tally
+status_without Diff tally = found_status tally
+status_without Write tally = 0
+status_without Print tally = 0
+
+-- the exit status: 2 if something failed
+abbrev pub status_of : Task → Tally → ℕ
+status_of task tally = if tally.failed == 0 then status_without task tally else 2
+
+-- whether texts have headings: several texts are printed
+abbrev pub has_headings : Task → List (List ℕ) → Bool
+has_headings Check files = false
+has_headings Diff files = false
+has_headings Write files = false
+has_headings Print files = nat_lt 1 (length files)
+
+-- the report on some files
+pub record IsReport (task : Task) (failed : ℕ) (files : List (List ℕ)) (old new : Option (List ℕ)) (status : ℕ) : Type 0 where
+  pub tally : Tally
+  pub formatted : AreFormatted task (has_headings task files) failed old files new tally
+  pub status_is : status ≡ status_of task tally

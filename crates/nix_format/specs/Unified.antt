@@ -1,0 +1,50 @@
+-- A diff as text, in the unified format.
+use Rattle.std.specs.Prelude.{◌≡◌, ◌==◌, ◌+◌, ◌-◌, ℕ, List, [], ◌∷◌, ◌++◌, length, slice_index, Some, codes, decimal, if◌then◌else◌}
+use Rattle.std.specs.{List.flat_map, Str.byte}
+use Rattle.nix_format.specs.declared.diff.DiffLine.{DiffLine}
+use Rattle.nix_format.specs.declared.diff.DiffLine.TheVariants.{Common, Removed, Added}
+use Rattle.nix_format.specs.declared.unified.Hunk.{Hunk}
+use Rattle.nix_format.specs.Diff.{line_feed, lines_of, IsDiff}
+use Rattle.nix_format.specs.Hunks.{AreHunks, hunk_lines, patched_from}
+
+-- what follows a line that does not end with a line feed
+abbrev pub no_line_feed : List ℕ
+no_line_feed = codes "\n\\ No newline at end of file\n"
+
+-- a line with its end
+abbrev pub with_end : List ℕ → List ℕ
+with_end line = if slice_index line (length line - 1) == line_feed then line else line ++ no_line_feed
+
+-- a line of a diff, after a sign
+abbrev pub line_text : DiffLine → List ℕ
+line_text (Common line) = byte " " ∷ with_end line.now
+line_text (Removed line) = byte "-" ∷ with_end line.now
+line_text (Added line) = byte "+" ∷ with_end line.now
+
+-- lines of one text, by how many precede them: the number of the first one, and how many there are unless it is one; if there is none, the number of the
+-- line before
+abbrev pub range_text : ℕ → ℕ → List ℕ
+range_text before count =
+    if count == 0 then decimal before ++ codes ",0"
+    else if count == 1 then decimal (before + 1)
+    else decimal (before + 1) ++ codes "," ++ decimal count
+
+-- the header of a hunk: its lines in the old text and in the new one
+abbrev pub header_text : Hunk → List ℕ
+header_text hunk =
+    codes "@@ -" ++ range_text hunk.before.olds hunk.counts.olds ++ codes " +" ++ range_text hunk.before.news hunk.counts.news ++ codes " @@\n"
+
+-- a hunk of a diff
+abbrev pub hunk_text : List DiffLine → Hunk → List ℕ
+hunk_text diff hunk = header_text hunk ++ flat_map line_text (hunk_lines diff hunk)
+
+-- a text has the hunks of a diff of two texts, after their names; applied where their headers say, these turn the lines of the old text into those of the new
+-- one
+pub record IsUnified (old new text : List ℕ) : Type 0 where
+  pub diff : List DiffLine
+  pub is_diff : IsDiff old new diff
+  pub hunks : List Hunk
+  pub are_hunks : AreHunks diff 0 hunks
+  pub patches : patched_from diff hunks 0 (lines_of old) ≡ Some (lines_of new)
+  pub names : List ℕ
+  pub whole : text ≡ names ++ flat_map (hunk_text diff) hunks

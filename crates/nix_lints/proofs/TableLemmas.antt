@@ -1,0 +1,170 @@
+-- The maps say what is known after one more name.
+use Rattle.std.proofs.Common.{◌≡◌, ℕ, List, [], Bool, true, false, Option, Some, None, refl, ap, sym, ◌∙◌, subst, ◌==◌, arith}
+use Rattle.std.proofs.lemmas.{Bool.{false≢true, Decides.nat_tests}, Slice.Eq.bytes_eq-Decides, Map.Text.is_eq-slice_cmp}
+use Rattle.std.specs.Prelude.{cond, ◌&&◌, option_map, if◌then◌else◌}
+use Rattle.std.specs.{Option.{option_or, unwrap_or}, Str.bytes_eq, Ordering.{is_eq, nat_cmp, ordering_then}, Cow.cow_str_bytes}
+use Rattle.std.specs.{BTreeMap.{BTreeMap, get, get_by, is_at}, Map.lookup, Cmp.{tied_then, unsigned_tied}, Cmp.Lexicographic.slice_cmp, declared.cmp.Ordering.Ordering}
+use Rattle.std.specs.declared.borrow.CowStr.TheVariants.{Borrowed}
+use Rattle.nix_lints.specs.Attributes.{Key, FirstNames, compare_key, attribute_by, first_by, IsTable}
+use Rattle.nix_lints.specs.Repeated.{Known, nothing, earlier, attribute_from, with_name, with_value, is_called}
+use Rattle.nix_lints.specs.DefinedNames.{Site, named, site_of}
+use Rattle.nix_lints.specs.declared.definitions.Place.{Place}
+
+-- nothing after an option
+or_none : {X : Type 0} (o : Option X) → option_or o None ≡ o
+or_none None = refl
+or_none (Some x) = refl
+
+-- both ways lead to one place
+same_both : {X : Type 0} (b : Bool) (x : X) → (if b then x else x) ≡ x
+same_both true x = refl
+same_both false x = refl
+
+and_both : (a b : Bool) → (a && b) ≡ true → (a ≡ true) × (b ≡ true)
+and_both true true is = (refl, refl)
+and_both true false is = absurd (false≢true is)
+and_both false b is = absurd (false≢true is)
+
+-- the key of an attribute and a name
+abbrev pub key_with : ℕ → List ℕ → Key
+key_with home text = (home, Borrowed record { ref_ptr = (0, 0); now = text })
+
+-- how two keys compare
+abbrev pub compare_keys : Key → Key → Ordering
+compare_keys a b = ordering_then (nat_cmp a.0 b.0) (slice_cmp nat_cmp (cow_str_bytes a.1) (cow_str_bytes b.1))
+
+-- keys are the same where attributes and names are
+same_key : (a b : ℕ) (s t : List ℕ) → is_eq (compare_key a s (key_with b t)) ≡ ((a == b) && bytes_eq s t)
+same_key a b s t =
+    sym (tied_then (nat_cmp a b) (slice_cmp nat_cmp s t)) ∙ ap (λ e. e && is_eq (slice_cmp nat_cmp s t)) (unsigned_tied a b)
+    ∙ ap (λ e. (a == b) && e) (is_eq-slice_cmp s t)
+
+-- one attribute has a first name
+pub key_updated : (key : Key) (home : ℕ) (text : List ℕ) (place : Option Place) (old new : Key → Option Place) → key.0 ≡ home → cow_str_bytes key.1 ≡ text →
+    ((query : Key) → new query ≡ cond (is_eq (compare_keys key query)) place (old query)) → (h : ℕ) (t : List ℕ) →
+    new (key_with h t) ≡ cond ((home == h) && bytes_eq text t) place (old (key_with h t))
+key_updated key home text place old new is_home is_text updates h t =
+    let was : Option Place = old (key_with h t) in
+    updates (key_with h t)
+    ∙ ap (λ n. cond (is_eq (ordering_then (nat_cmp n h) (slice_cmp nat_cmp (cow_str_bytes key.1) t))) place was) is_home
+    ∙ ap (λ bytes. cond (is_eq (ordering_then (nat_cmp home h) (slice_cmp nat_cmp bytes t))) place was) is_text
+    ∙ ap (λ e. cond e place was) (same_key home h text t)
+
+-- the first name at such a key
+pub first_at : (firsts : FirstNames) (key : Key) (home : ℕ) (text : List ℕ) → key.0 ≡ home → cow_str_bytes key.1 ≡ text →
+    get_by (compare_keys key) firsts ≡ first_by firsts home text
+first_at firsts key home text is_home is_text =
+    ap (λ n. get_by (λ (k : Key). ordering_then (nat_cmp n k.0) (slice_cmp nat_cmp (cow_str_bytes key.1) (cow_str_bytes k.1))) firsts) is_home
+    ∙ ap (λ bytes. get_by (λ (k : Key). ordering_then (nat_cmp home k.0) (slice_cmp nat_cmp bytes (cow_str_bytes k.1))) firsts) is_text
+
+-- one place has another attribute
+pub attribute_updated : (attributes new : BTreeMap ℕ ℕ) (key put start attribute : ℕ) → key ≡ start → put ≡ attribute →
+    ((query : ℕ) → get nat_cmp new query ≡ cond (is_eq (nat_cmp key query)) (Some put) (get nat_cmp attributes query)) → (other : ℕ) →
+    attribute_by new other ≡ (if start == other then attribute else attribute_by attributes other)
+attribute_updated attributes new key put start attribute is_start is_attribute updates other =
+    ap (λ o. unwrap_or o other)
+    (updates other ∙ ap (λ k. cond (is_eq (nat_cmp k other)) (Some put) (get nat_cmp attributes other)) is_start
+    ∙ ap (λ v. cond (is_eq (nat_cmp start other)) (Some v) (get nat_cmp attributes other)) is_attribute
+    ∙ ap (λ e. cond e (Some attribute) (get nat_cmp attributes other)) (unsigned_tied start other))
+    ∙ chosen (start == other)
+  where
+    chosen : (b : Bool) → unwrap_or (cond b (Some attribute) (get nat_cmp attributes other)) other
+        ≡ (if b then attribute else unwrap_or (get nat_cmp attributes other) other)
+    chosen true = refl
+    chosen false = refl
+
+-- empty maps say what is known before the first name
+pub empty_table : (attributes : BTreeMap ℕ ℕ) (firsts : FirstNames) → attributes.entries ≡ [] → firsts.entries ≡ [] → IsTable nothing attributes firsts
+empty_table attributes firsts no_attribute no_first = record {
+  attributes_are = λ start. ap (λ es. unwrap_or (lookup (is_at (nat_cmp start)) es) start) no_attribute;
+  firsts_are = λ home text. ap (λ es. option_map site_of (lookup (is_at (compare_key home text)) es)) no_first;
+}
+
+-- a set that is a value is added
+pub value_added : (known : Known) (attributes new : BTreeMap ℕ ℕ) (firsts : FirstNames) (set start : ℕ) →
+    ((other : ℕ) → attribute_by new other ≡ (if set == other then attribute_by attributes start else attribute_by attributes other)) →
+    IsTable known attributes firsts → IsTable (with_value known set start) new firsts
+value_added known attributes new firsts set start updated table = record {
+  attributes_are = λ other. updated other
+      ∙ ap (λ a. if set == other then a else attribute_by attributes other) (table.attributes_are start)
+      ∙ ap (λ a. if set == other then known.attribute start else a) (table.attributes_are other);
+  firsts_are = table.firsts_are;
+}
+
+-- a name is added that must be evaluated
+pub unknown_added : (known : Known) (attributes : BTreeMap ℕ ℕ) (firsts : FirstNames) (own : Site) →
+    IsTable known attributes firsts → IsTable (with_name known (named None own)) attributes firsts
+unknown_added known attributes firsts own table = record {
+  attributes_are = λ start. table.attributes_are start ∙ sym (same_both (own.extent.start == start) (known.attribute start));
+  firsts_are = λ home text. table.firsts_are home text ∙ sym (none (known.attribute own.owner == home) (known.first home text));
+}
+  where
+    none : (b : Bool) (first : Option Site) → option_or first (if b && false then Some own else None) ≡ first
+    none true first = or_none first
+    none false first = or_none first
+
+-- a first name is among those that are known
+first_kept : (b : Bool) (new old : Option Place) (first : Option Site) (place : Place) → new ≡ cond b (Some place) old → option_map site_of old ≡ first →
+    (b ≡ true → first ≡ None) → option_map site_of new ≡ option_or first (if b then Some (site_of place) else None)
+first_kept true new old first place is was none =
+    ap (option_map site_of) is ∙ sym (ap (λ f. option_or f (Some (site_of place))) (none refl))
+first_kept false new old first place is was none = ap (option_map site_of) is ∙ was ∙ sym (or_none first)
+
+-- the first name stays the first
+first_stays : (b : Bool) (first : Option Site) (site own : Site) → (b ≡ true → first ≡ Some site) → first ≡ option_or first (if b then Some own else None)
+first_stays true first site own is = is refl ∙ sym (ap (λ f. option_or f (Some own)) (is refl))
+first_stays false first site own is = sym (or_none first)
+
+-- what is known of a name at the same attribute and the same name
+at_same : (known : Known) (home h : ℕ) (text t : List ℕ) (o : Option Site) → known.first home text ≡ o →
+    ((home == h) && bytes_eq text t) ≡ true → known.first h t ≡ o
+at_same known home h text t o is same =
+    let parts = and_both (home == h) (bytes_eq text t) same in
+    let home_is : home ≡ h = grind (arith, nat_tests, parts.0) in
+    let text_is : text ≡ t = (bytes_eq-Decides text t).0 parts.1 in
+    ap (λ n. known.first n t) (sym home_is) ∙ ap (known.first home) (sym text_is) ∙ is
+
+-- a name is added that is the first of its attribute
+pub first_added : (known : Known) (attributes : BTreeMap ℕ ℕ) (old new : FirstNames) (text : List ℕ) (place : Place) →
+    IsTable known attributes old → first_by old (attribute_by attributes place.owner) text ≡ None →
+    ((h : ℕ) (t : List ℕ) → first_by new h t ≡ cond ((attribute_by attributes place.owner == h) && bytes_eq text t) (Some place) (first_by old h t)) →
+    IsTable (with_name known (named (Some text) (site_of place))) attributes new
+first_added known attributes old new text place table none updated =
+    let home_is : attribute_by attributes place.owner ≡ known.attribute place.owner = table.attributes_are place.owner in
+    let absent : known.first (known.attribute place.owner) text ≡ None =
+    subst (λ n. known.first n text ≡ None) home_is
+    (sym (table.firsts_are (attribute_by attributes place.owner) text) ∙ ap (option_map site_of) none) in
+    record {
+      attributes_are = λ start. table.attributes_are start ∙ sym (same_both (place.range.start == start) (known.attribute start))
+          ∙ ap (λ o. if place.range.start == start then attribute_from (known.attribute start) o else known.attribute start) (sym absent);
+      firsts_are = λ h t. first_kept ((known.attribute place.owner == h) && bytes_eq text t) (first_by new h t) (first_by old h t) (known.first h t) place
+          (updated h t ∙ ap (λ n. cond ((n == h) && bytes_eq text t) (Some place) (first_by old h t)) home_is) (table.firsts_are h t)
+          (at_same known (known.attribute place.owner) h text t None absent);
+    }
+
+-- a name is added that defines an attribute again
+pub again_added : (known : Known) (old new : BTreeMap ℕ ℕ) (firsts : FirstNames) (text : List ℕ) (first place : Place) →
+    IsTable known old firsts → first_by firsts (attribute_by old place.owner) text ≡ Some first →
+    ((other : ℕ) → attribute_by new other ≡ (if place.range.start == other then first.range.start else attribute_by old other)) →
+    IsTable (with_name known (named (Some text) (site_of place))) new firsts
+again_added known old new firsts text first place table some updated =
+    let home_is : attribute_by old place.owner ≡ known.attribute place.owner = table.attributes_are place.owner in
+    let present : known.first (known.attribute place.owner) text ≡ Some (site_of first) =
+    subst (λ n. known.first n text ≡ Some (site_of first)) home_is
+    (sym (table.firsts_are (attribute_by old place.owner) text) ∙ ap (option_map site_of) some) in
+    record {
+      attributes_are = λ start. updated start
+          ∙ ap (λ a. if place.range.start == start then first.range.start else a) (table.attributes_are start)
+          ∙ ap (λ o. if place.range.start == start then attribute_from (known.attribute start) o else known.attribute start) (sym present);
+      firsts_are = λ h t. table.firsts_are h t
+          ∙ first_stays ((known.attribute place.owner == h) && bytes_eq text t) (known.first h t) (site_of first) (site_of place)
+          (at_same known (known.attribute place.owner) h text t (Some (site_of first)) present);
+    }
+
+-- the first name that the map has is the one that is known
+pub earlier_found : (known : Known) (attributes : BTreeMap ℕ ℕ) (firsts : FirstNames) (text : List ℕ) (place : Place) (o : Option Place) →
+    IsTable known attributes firsts → first_by firsts (attribute_by attributes place.owner) text ≡ o →
+    earlier known (named (Some text) (site_of place)) ≡ option_map site_of o
+earlier_found known attributes firsts text place o table is =
+    ap (λ n. known.first n text) (sym (table.attributes_are place.owner))
+    ∙ sym (table.firsts_are (attribute_by attributes place.owner) text) ∙ ap (option_map site_of) is

@@ -1,0 +1,38 @@
+-- What the program keeps of the names that it has passed.
+use Rattle.std.specs.Prelude.{◌≡◌, ℕ, List, Option, Some, None, option_map}
+use Rattle.std.specs.Option.{unwrap_or}
+use Rattle.std.specs.BTreeMap.{BTreeMap, get, get_by}
+use Rattle.std.specs.Cmp.Lexicographic.{slice_cmp}
+use Rattle.std.specs.Cow.{cow_str_bytes}
+use Rattle.std.specs.Ordering.{nat_cmp, ordering_then}
+use Rattle.std.specs.declared.alloc.Global.{Global}
+use Rattle.std.specs.declared.borrow.CowStr.{CowStr}
+use Rattle.std.specs.declared.cmp.Ordering.{Ordering}
+use Rattle.nix_lints.specs.Repeated.{Known}
+use Rattle.nix_lints.specs.DefinedNames.{site_of}
+use Rattle.nix_lints.specs.declared.definitions.Place.{Place}
+
+-- an attribute or a set, and a name of an attribute that it has
+abbrev pub Key : Type 0
+Key = ℕ × CowStr Global
+
+-- first names of attributes
+abbrev pub FirstNames : Type 0
+FirstNames = BTreeMap Key Place
+
+-- how a name of an attribute compares to a key
+abbrev pub compare_key : ℕ → List ℕ → Key → Ordering
+compare_key home text key = ordering_then (nat_cmp home key.0) (slice_cmp nat_cmp text (cow_str_bytes key.1))
+
+-- the attribute of what begins at an offset
+abbrev pub attribute_by : BTreeMap ℕ ℕ → ℕ → ℕ
+attribute_by attributes start = unwrap_or (get nat_cmp attributes start) start
+
+-- the first name of an attribute
+abbrev pub first_by : FirstNames → ℕ → List ℕ → Option Place
+first_by firsts home text = get_by (compare_key home text) firsts
+
+-- the maps say what is known
+pub record IsTable (known : Known) (attributes : BTreeMap ℕ ℕ) (firsts : FirstNames) : Type 0 where
+  pub attributes_are : (start : ℕ) → attribute_by attributes start ≡ known.attribute start
+  pub firsts_are : (home : ℕ) (text : List ℕ) → option_map site_of (first_by firsts home text) ≡ known.first home text

@@ -1,0 +1,213 @@
+-- JSON strings that are read run by run.
+use Rattle.std.proofs.Common.{◌≡◌, ◌∙◌, ℕ, zero, suc, ◌+◌, ◌-◌, ◌<◌, ◌≤◌, true, false, Bool, List, [], ◌∷◌, ◌++◌, length, get_or, take, drop, ap, ap₂, sym, refl, arith, inl, inr, ne_eqb, append_assoc, append-nil, Option, Some, None}
+use Rattle.std.specs.Prelude.{not, ◌&&◌, if◌then◌else◌, ◌==◌, nat_lt}
+use Rattle.std.specs.Char.{encode_utf8, InScalarRange, OutOfScalarRange}
+use Rattle.std.specs.List.{prefix_len}
+use Rattle.std.proofs.lemmas.List.{length-drop, get_or-drop}
+use Rattle.std.proofs.lemmas.List.Sums.{prefix_len_stops}
+use Rattle.std.proofs.lemmas.{Bool.{cond-true, cond-false}, Bool.Decides.nat_tests}
+use Rattle.nix_values.specs.JsonEscapes.{is_plain}
+use Rattle.nix_values.specs.JsonContent.{is_high, is_low, escaped_unit, escape_at, behind, content}
+
+-- nothing is in front
+behind_none : (x : Option (List ℕ × ℕ)) → behind [] 0 x ≡ x
+behind_none None = refl
+behind_none (Some r) = let e : 0 + r.1 ≡ r.1 = omega arith in ap (λ n. Some (r.0, n)) e
+
+-- what is in front of what is in front
+pub behind_twice : (v w : List ℕ) (m n : ℕ) (x : Option (List ℕ × ℕ)) → behind v m (behind w n x) ≡ behind (v ++ w) (m + n) x
+behind_twice v w m n None = refl
+behind_twice v w m n (Some r) =
+    let e : m + (n + r.1) ≡ m + n + r.1 = omega arith in ap₂ (λ (t : List ℕ) (k : ℕ). Some (t, k)) (sym (append_assoc v w r.0)) e
+
+-- bytes are passed over
+content_after : (n : ℕ) (bs : List ℕ) → n ≤ length bs → content n bs ≡ behind [] n (content 0 (drop n bs))
+unfolding content
+content_after zero bs h = sym (behind_none (content 0 bs))
+content_after (suc n) [] h = absurd (omega (arith, h))
+content_after (suc n) (b ∷ bs) h =
+    let rest : n ≤ length bs = omega (arith, h) in
+    let e : 1 + n ≡ suc n = omega arith in
+    ap (behind [] 1) (content_after n bs rest) ∙ behind_twice [] [] 1 n (content 0 (drop n bs)) ∙ ap (λ k. behind [] k (content 0 (drop n bs))) e
+
+-- the last of four choices
+last_of_four : {A : Type 0} (x y z : Bool) (p q r s : A) → not z && (not x && not y) ≡ true → (if x then p else (if y then q else (if z then r else s))) ≡ s
+last_of_four false false false p q r s h = refl
+last_of_four true y false p q r s h = absurd (cc)
+last_of_four false true false p q r s h = absurd (cc)
+last_of_four x y true p q r s h = absurd (cc)
+
+-- a byte that needs no escape
+plain_byte : (b : ℕ) (bs : List ℕ) → is_plain b ≡ true → content 0 (b ∷ bs) ≡ behind (b ∷ []) 1 (content 0 bs)
+unfolding content
+plain_byte b bs h = last_of_four (b == 34) (b == 92) (nat_lt b 32) _ _ _ _ h
+
+-- a byte, plain or not, in front of some bytes
+abbrev RunsOf : List ℕ → Type 0
+RunsOf bs = content 0 bs ≡ behind (take (prefix_len is_plain bs) bs) (prefix_len is_plain bs) (content 0 (drop (prefix_len is_plain bs) bs))
+
+plain_front : (b : ℕ) (bs : List ℕ) (e : Bool) → is_plain b ≡ e → RunsOf bs → RunsOf (b ∷ bs)
+plain_front b bs false h rest = rw h (sym (behind_none (content 0 (b ∷ bs))))
+plain_front b bs true h rest = rw h (plain_more b bs (prefix_len is_plain bs) h rest)
+  where
+    plain_more : (b : ℕ) (bs : List ℕ) (n : ℕ) → is_plain b ≡ true → content 0 bs ≡ behind (take n bs) n (content 0 (drop n bs))
+        → content 0 (b ∷ bs) ≡ behind (take (1 + n) (b ∷ bs)) (1 + n) (content 0 (drop (1 + n) (b ∷ bs)))
+    plain_more b bs n h rest =
+        let e : suc n ≡ 1 + n = omega arith in
+        plain_byte b bs h ∙ ap (behind (b ∷ []) 1) rest ∙ behind_twice (b ∷ []) (take n bs) 1 n (content 0 (drop n bs))
+        ∙ ap (λ k. behind (take k (b ∷ bs)) (1 + n) (content 0 (drop k (b ∷ bs)))) e
+
+-- a run of bytes that need no escape
+pub plain_run : (bs : List ℕ)
+    → content 0 bs ≡ behind (take (prefix_len is_plain bs) bs) (prefix_len is_plain bs) (content 0 (drop (prefix_len is_plain bs) bs))
+plain_run [] = sym (behind_none (content 0 []))
+plain_run (b ∷ bs) = plain_front b bs (is_plain b) refl (plain_run bs)
+
+-- an escape
+escape_first : (bs : List ℕ) (c n : ℕ) → escape_at bs ≡ Some (c, n) → n ≤ length bs
+    → content 0 (92 ∷ bs) ≡ behind (encode_utf8 c) (1 + n) (content 0 (drop n bs))
+unfolding content
+escape_first bs c n h within =
+    rw h (ap (behind (encode_utf8 c) 1) (content_after n bs within) ∙ behind_twice (encode_utf8 c) [] 1 n (content 0 (drop n bs))
+    ∙ ap (λ v. behind v (1 + n) (content 0 (drop n bs))) (append-nil (encode_utf8 c)))
+
+-- what is read of a text, and what is left of it
+pub record IsReadTo (text value rest : List ℕ) : Type 0 where
+  pub within : length rest ≤ length text
+  pub same : content 0 text ≡ behind value (length text - length rest) (content 0 rest)
+
+-- nothing is read yet
+pub read_none : (text : List ℕ) → IsReadTo text [] text
+read_none text = record {
+  within = omega arith;
+  same = let e : 0 ≡ length text - length text = omega arith in sym (behind_none (content 0 text)) ∙ ap (λ n. behind [] n (content 0 text)) e;
+}
+
+-- a run more is read
+pub read_run : (text value rest mid left : List ℕ) → IsReadTo text value rest → left ≡ drop (prefix_len is_plain rest) rest
+    → mid ≡ value ++ take (prefix_len is_plain rest) rest → prefix_len is_plain rest ≤ length rest → IsReadTo text mid left
+read_run text value rest mid left h behind_is mid_is fits =
+    let n = prefix_len is_plain rest in
+    let len : length left ≡ length rest - n = ap length behind_is ∙ length-drop n rest in
+    let e : length text - length rest + n ≡ length text - length left = omega (arith, len, h.within) in
+    record {
+      within = omega (arith, len, h.within);
+      same = h.same ∙ ap (behind value (length text - length rest)) (plain_run rest)
+          ∙ behind_twice value (take n rest) (length text - length rest) n (content 0 (drop n rest))
+          ∙ ap₂ (λ v k. behind v k (content 0 (drop n rest))) (sym mid_is) e ∙ ap (λ l. behind mid (length text - length left) (content 0 l)) (sym behind_is);
+    }
+
+-- an escape more is read
+pub read_escape : (text mid left bs new rest : List ℕ) (c n : ℕ) → IsReadTo text mid left → left ≡ 92 ∷ bs → escape_at bs ≡ Some (c, n) → n ≤ length bs
+    → new ≡ mid ++ encode_utf8 c → rest ≡ drop n bs → IsReadTo text new rest
+read_escape text mid left bs new rest c n h left_is found fits new_is rest_is =
+    let len : length rest ≡ length bs - n = ap length rest_is ∙ length-drop n bs in
+    let more : length left ≡ suc (length bs) = ap length left_is in
+    let e : length text - length left + (1 + n) ≡ length text - length rest = omega (arith, len, more, h.within, fits) in
+    record {
+      within = omega (arith, len, more, h.within);
+      same = h.same ∙ ap (λ l. behind mid (length text - length left) (content 0 l)) left_is
+          ∙ ap (behind mid (length text - length left)) (escape_first bs c n found fits)
+          ∙ behind_twice mid (encode_utf8 c) (length text - length left) (1 + n) (content 0 (drop n bs))
+          ∙ ap₂ (λ v k. behind v k (content 0 (drop n bs))) (sym new_is) e ∙ ap (λ l. behind new (length text - length rest) (content 0 l)) (sym rest_is);
+    }
+
+-- the closing quote is read
+pub read_quote : (text mid left bs : List ℕ) → IsReadTo text mid left → left ≡ 34 ∷ bs → content 0 text ≡ Some (mid, length text - length left + 1)
+unfolding content
+read_quote text mid left bs h left_is =
+    h.same ∙ ap (λ l. behind mid (length text - length left) (content 0 l)) left_is ∙ ap (λ v. Some (v, length text - length left + 1)) (append-nil mid)
+
+-- what is left is no string
+pub read_wrong : (text mid left : List ℕ) → IsReadTo text mid left → content 0 left ≡ None → content 0 text ≡ None
+read_wrong text mid left h none = h.same ∙ ap (behind mid (length text - length left)) none
+
+-- what is no string
+pub no_quote : (left : List ℕ) → left ≡ [] → content 0 left ≡ None
+unfolding content
+no_quote left h = ap (content 0) h
+
+pub no_escape : (left bs : List ℕ) → left ≡ 92 ∷ bs → escape_at bs ≡ None → content 0 left ≡ None
+unfolding content
+no_escape left bs h none = ap (content 0) h ∙ rw none refl
+
+-- a byte that is not allowed without an escape, and is neither a quote nor a backslash
+third_of_four : {A : Type 0} (x y z : Bool) (p q r s : A) → not z && (not x && not y) ≡ false → x ≡ false → y ≡ false
+    → (if x then p else (if y then q else (if z then r else s))) ≡ r
+third_of_four false false true p q r s h i j = refl
+third_of_four false false false p q r s h i j = absurd (cc)
+third_of_four true y z p q r s h i j = absurd (cc)
+third_of_four false true z p q r s h i j = absurd (cc)
+
+pub no_control : (left bs : List ℕ) (b : ℕ) → left ≡ b ∷ bs → is_plain b ≡ false → b == 34 ≡ false → b == 92 ≡ false → content 0 left ≡ None
+unfolding content
+no_control left bs b h plain quote backslash = ap (content 0) h ∙ third_of_four (b == 34) (b == 92) (nat_lt b 32) _ _ _ _ plain quote backslash
+
+-- a byte at the front of what is left
+head_is : (left : List ℕ) (b : ℕ) → 0 < length left → get_or left 0 0 ≡ b → left ≡ b ∷ drop 1 left
+head_is [] b some is = absurd (omega (arith, some))
+head_is (x ∷ xs) b some is = ap (λ y. y ∷ xs) is
+
+-- the closing quote comes next
+pub quote_next : (text mid left : List ℕ) → IsReadTo text mid left → 0 < length left → get_or left 0 0 ≡ 34 →
+    content 0 text ≡ Some (mid, length text - length left + 1)
+quote_next text mid left h some is = read_quote text mid left (drop 1 left) h (head_is left 34 some is)
+
+-- an escape comes next
+pub escape_next : (text mid left bs new rest : List ℕ) (c n : ℕ) → IsReadTo text mid left → 0 < length left → get_or left 0 0 ≡ 92 → bs ≡ drop 1 left →
+    escape_at bs ≡ Some (c, n) → n ≤ length bs → new ≡ mid ++ encode_utf8 c → rest ≡ drop n bs → IsReadTo text new rest
+escape_next text mid left bs new rest c n h some is behind_is found fits new_is rest_is =
+    read_escape text mid left bs new rest c n h (head_is left 92 some is ∙ ap (λ l. 92 ∷ l) (sym behind_is)) found fits new_is rest_is
+
+pub no_escape_next : (text mid left bs : List ℕ) → IsReadTo text mid left → 0 < length left → get_or left 0 0 ≡ 92 → bs ≡ drop 1 left →
+    escape_at bs ≡ None → content 0 text ≡ None
+no_escape_next text mid left bs h some is behind_is none =
+    read_wrong text mid left h (no_escape left bs (head_is left 92 some is ∙ ap (λ l. 92 ∷ l) (sym behind_is)) none)
+
+-- the text ends
+pub end_next : (text mid left : List ℕ) → IsReadTo text mid left → left ≡ [] → content 0 text ≡ None
+end_next text mid left h none = read_wrong text mid left h (no_quote left none)
+
+-- a byte comes next that needs an escape, or ends the string
+run_stops : (rest left : List ℕ) → left ≡ drop (prefix_len is_plain rest) rest → 0 < length left → is_plain (get_or left 0 0) ≡ false
+run_stops rest left is some =
+    let n = prefix_len is_plain rest in
+    let len : length left ≡ length rest - n = ap length is ∙ length-drop n rest in
+    let within : n < length rest = omega (arith, len, some) in
+    let e : n + 0 ≡ n = omega arith in
+    let same : get_or left 0 0 ≡ get_or rest n 0 = ap (λ l. get_or l 0 0) is ∙ get_or-drop n rest 0 0 ∙ ap (λ k. get_or rest k 0) e in
+    ap is_plain same ∙ prefix_len_stops is_plain rest 0 within
+
+pub control_next : (text mid rest left : List ℕ) → IsReadTo text mid left → left ≡ drop (prefix_len is_plain rest) rest → 0 < length left →
+    (get_or left 0 0 ≡ 34 → ⊥) → (get_or left 0 0 ≡ 92 → ⊥) → content 0 text ≡ None
+control_next text mid rest left h is some no_34 no_92 =
+    read_wrong text mid left h (no_control left (drop 1 left) (get_or left 0 0) (head_is left (get_or left 0 0) some refl) (run_stops rest left is some)
+    (ne_eqb (get_or left 0 0) 34 no_34) (ne_eqb (get_or left 0 0) 92 no_92))
+
+-- ---- escapes by number
+
+low_below : (u : ℕ) → u < 0xD800 → is_low u ≡ false
+low_below u h = grind (arith, nat_tests)
+
+low_above : (u : ℕ) → 0xE000 ≤ u → is_low u ≡ false
+low_above u h = grind (arith, nat_tests)
+
+low_between : (u : ℕ) → is_high u ≡ false → 0xD800 ≤ u → u ≤ 0xDFFF → is_low u ≡ true
+low_between u other from to = grind (arith, nat_tests)
+
+low_of_scalar : (u : ℕ) → InScalarRange u → is_low u ≡ false
+low_of_scalar u h = elim h [ inl below ↦ low_below u below | inr above ↦ low_above u above.0 ]
+
+low_of_other : (u : ℕ) → u < 65536 → is_high u ≡ false → OutOfScalarRange u → is_low u ≡ true
+low_of_other u small other h = elim h [ inl within ↦ low_between u other within.0 within.1 | inr past ↦ absurd (omega (arith, small, past)) ]
+
+-- a number that is no half of a pair
+pub unit_found : (u v : ℕ) (rest : List ℕ) → (u ≡ 0 → ⊥) → is_high u ≡ false → InScalarRange u → v ≡ u → escaped_unit (Some u) rest ≡ Some (v, 5)
+unit_found u v rest some other range same =
+    cond-false (u == 0) _ _ (ne_eqb u 0 some) ∙ cond-false (is_high u) _ _ other ∙ cond-false (is_low u) _ _ (low_of_scalar u range)
+    ∙ ap (λ (k : ℕ). Some (k, 5)) (sym same)
+
+-- the second half of a pair alone
+pub unit_none : (u : ℕ) (rest : List ℕ) → (u ≡ 0 → ⊥) → u < 65536 → is_high u ≡ false → OutOfScalarRange u → escaped_unit (Some u) rest ≡ None
+unit_none u rest some small other range =
+    cond-false (u == 0) _ _ (ne_eqb u 0 some) ∙ cond-false (is_high u) _ _ other ∙ cond-true (is_low u) _ _ (low_of_other u small other range)

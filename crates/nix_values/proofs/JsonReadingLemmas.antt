@@ -1,0 +1,172 @@
+-- What the reader of JSON does with each token.
+use Rattle.std.proofs.Common.{◌≡◌, ◌∙◌, ℕ, ◌-◌, ◌<◌, true, false, Bool, List, [], ◌∷◌, ◌++◌, length, take, ap, sym, refl, subst, arith, append-nil, inl, inr, Some, None, Result}
+use Rattle.std.specs.Prelude.{Ok, Err}
+use Rattle.std.proofs.lemmas.Bool.{cases_lt}
+use Rattle.std.proofs.lemmas.List.{nil_from_length}
+use Rattle.nix_values.specs.declared.json_reader.TheConstants.{MOST_DEPTH}
+use Rattle.nix_values.specs.declared.json_reader.State.{State}
+use Rattle.nix_values.specs.declared.json_reader.State.TheVariants as state
+use Rattle.nix_values.specs.declared.json_reader.Frame.{Frame}
+use Rattle.nix_values.specs.declared.json_reader.Reading.{Reading}
+use Rattle.nix_values.specs.declared.json_error.JsonStop.{JsonStop}
+use Rattle.nix_values.specs.declared.json_error.JsonStop.TheVariants.{Memory, Refused}
+use Rattle.nix_values.specs.Contents.{Plain, text, Entry}
+use Rattle.nix_values.specs.Json.{Part, parts_from, opening, closing, comma, colon, string, scalar, entry}
+use Rattle.nix_values.specs.JsonReading.{parts_in, parts_left, name_of, IsInside, IsState, IsSound, is_value_next, is_name_next, is_close_next, is_comma_next, is_colon_next, opened, opened_plain, state_behind, entries_in, IsAdded, Takes, IfRefused, IfStopped, TakesOrNot}
+use Rattle.nix_values.proofs.JsonStateLemmas.{rest_pop, parts_behind, state_sound, scalar_fits, name_fits, string_scalar, opened_sound, open_fits, close_fits, behind_comma, comma_fits, comma_sound, colon_fits, none_inside}
+
+-- what a refusal may say
+pub stopped : (stop : JsonStop) (none : Type 0) → none → IfStopped stop none
+stopped Memory none h = tt
+stopped (Refused error) none h = λ other. h
+
+pub refused : (stop : JsonStop) (none : Type 0) → none → IfRefused stop none
+refused Memory none h = tt
+refused (Refused error) none h = h
+
+-- no name is known where none is needed
+no_name : (s : State) (fs : List Frame) (name : List ℕ) → is_close_next s ≡ true → IsState s fs name → name ≡ []
+no_name state.ValueOrClose fs name next h = h.1
+no_name state.NameOrClose fs name next h = h.1
+no_name state.CommaOrClose fs name next h = h.1
+no_name _ fs name next h = absurd (cc)
+
+-- what is left, and sound, in a state with frames and a name
+pub left_in : (r : Reading) (s : State) (fs : List Frame) (name : List ℕ) → r.state ≡ s → r.frames.items ≡ fs → name_of r.name ≡ name →
+    parts_in s fs name ≡ parts_left r
+left_in r s fs name s_is fs_is name_is =
+    sym (ap (λ t. parts_in t r.frames.items (name_of r.name)) s_is ∙ ap (λ gs. parts_in s gs (name_of r.name)) fs_is ∙ ap (parts_in s fs) name_is)
+
+pub sound_in : (r : Reading) (s : State) (fs : List Frame) (name : List ℕ) → r.state ≡ s → r.frames.items ≡ fs → name_of r.name ≡ name →
+    IsState s fs name → IsSound r
+sound_in r s fs name s_is fs_is name_is h =
+    subst (λ t. IsState t r.frames.items (name_of r.name)) (sym s_is)
+    (subst (λ gs. IsState s gs (name_of r.name)) (sym fs_is) (subst (IsState s fs) (sym name_is) h))
+
+-- a value that holds no values
+pub takes_scalar : (old mid new : Reading) (p : Plain) → IsSound old → is_value_next old.state ≡ true → IsAdded old p mid →
+    new.state ≡ state_behind mid.frames.items → new.frames.items ≡ mid.frames.items → name_of new.name ≡ name_of mid.name →
+    entries_in new ≡ entries_in mid → Takes old (scalar p) new
+takes_scalar old mid new p sound next added s_is fs_is name_is es_is =
+    let fs : List Frame = old.frames.items in
+    let st : new.state ≡ state_behind fs = s_is ∙ ap state_behind added.frames in
+    let frames : new.frames.items ≡ fs = fs_is ∙ added.frames in
+    let name : name_of new.name ≡ [] = name_is ∙ added.no_name in
+    let es : List Entry = entry (length fs) (name_of old.name) p in
+    record {
+      added = es;
+      parts = scalar_fits old.state fs (name_of old.name) p next sound
+          ∙ ap (λ (ps : List Part). Some (ps, es)) (sym (parts_behind fs []) ∙ left_in new (state_behind fs) fs [] st frames name);
+      entries = es_is ∙ added.entries;
+      sound = sound_in new (state_behind fs) fs [] st frames name (state_sound fs [] refl);
+    }
+
+-- the beginning of a list or a set
+pub takes_open : (old mid new : Reading) (b : Bool) (f : Frame) → IsSound old → is_value_next old.state ≡ true → length old.frames.items < MOST_DEPTH →
+    IsAdded old (opened_plain b) mid → f.is_set ≡ b → new.state ≡ opened b → new.frames.items ≡ mid.frames.items ++ f ∷ [] →
+    name_of new.name ≡ name_of mid.name → entries_in new ≡ entries_in mid → Takes old (opening b) new
+takes_open old mid new b f sound next room added is s_is fs_is name_is es_is =
+    let fs : List Frame = old.frames.items in
+    let frames : new.frames.items ≡ fs ++ f ∷ [] = fs_is ∙ ap (λ gs. gs ++ f ∷ []) added.frames in
+    let name : name_of new.name ≡ [] = name_is ∙ added.no_name in
+    let es : List Entry = entry (length fs) (name_of old.name) (opened_plain b) in
+    record {
+      added = es;
+      parts = open_fits b old.state fs f (name_of old.name) [] next room sound
+          ∙ ap (λ (ps : List Part). Some (ps, es)) (left_in new (opened b) (fs ++ f ∷ []) [] s_is frames name);
+      entries = es_is ∙ added.entries;
+      sound = sound_in new (opened b) (fs ++ f ∷ []) [] s_is frames name (opened_sound b fs f [] is refl);
+    }
+
+-- a name
+pub takes_name : (old new : Reading) (t : List ℕ) → IsSound old → is_name_next old.state ≡ true → new.state ≡ state.Colon →
+    new.frames.items ≡ old.frames.items → name_of new.name ≡ t → entries_in new ≡ entries_in old → Takes old (string t) new
+takes_name old new t sound next s_is fs_is name_is es_is =
+    let fs : List Frame = old.frames.items in
+    let none : List Entry = [] in
+    record {
+      added = [];
+      parts = name_fits old.state fs (name_of old.name) t next sound
+          ∙ ap (λ (ps : List Part). Some (ps, none)) (left_in new state.Colon fs t s_is fs_is name_is);
+      entries = es_is ∙ sym (append-nil (entries_in old));
+      sound = sound_in new state.Colon fs t s_is fs_is name_is tt;
+    }
+
+-- the end of a list or a set
+pub takes_close : (old new : Reading) (b : Bool) → IsSound old → is_close_next old.state ≡ true → IsInside b old.frames.items →
+    new.state ≡ state_behind new.frames.items → new.frames.items ≡ take (length old.frames.items - 1) old.frames.items →
+    name_of new.name ≡ name_of old.name → entries_in new ≡ entries_in old → Takes old (closing b) new
+takes_close old new b sound next inside s_is fs_is name_is es_is =
+    let fs : List Frame = old.frames.items in
+    let none : List Entry = [] in
+    let some : 0 < length fs = elim (cases_lt 0 (length fs)) [
+      | inl more ↦ more
+      | inr less ↦
+          let zero_len : length fs ≡ 0 = omega (arith, less) in
+          absurd (none_inside b fs (nil_from_length fs zero_len) inside)
+    ] in
+    let name : name_of new.name ≡ [] = name_is ∙ no_name old.state fs (name_of old.name) next sound in
+    record {
+      added = [];
+      parts = close_fits b old.state fs (name_of old.name) next inside sound
+          ∙ ap (λ (ps : List Part). Some (ps, none)) (sym (rest_pop fs new.frames.items some fs_is)
+          ∙ sym (parts_behind new.frames.items []) ∙ left_in new (state_behind new.frames.items) new.frames.items [] s_is refl name);
+      entries = es_is ∙ sym (append-nil (entries_in old));
+      sound = sound_in new (state_behind new.frames.items) new.frames.items [] s_is refl name (state_sound new.frames.items [] refl);
+    }
+
+-- a comma
+pub takes_comma : (old new : Reading) (b : Bool) → IsSound old → is_comma_next old.state ≡ true → IsInside b old.frames.items →
+    new.state ≡ behind_comma b → new.frames.items ≡ old.frames.items → name_of new.name ≡ name_of old.name → entries_in new ≡ entries_in old →
+    Takes old comma new
+takes_comma old new b sound next inside s_is fs_is name_is es_is =
+    let fs : List Frame = old.frames.items in
+    let name : List ℕ = name_of old.name in
+    let none : List Entry = [] in
+    record {
+      added = [];
+      parts = comma_fits b old.state fs name next inside sound
+          ∙ ap (λ (ps : List Part). Some (ps, none)) (left_in new (behind_comma b) fs name s_is fs_is name_is);
+      entries = es_is ∙ sym (append-nil (entries_in old));
+      sound = sound_in new (behind_comma b) fs name s_is fs_is name_is (comma_sound b old.state fs name next inside sound);
+    }
+
+-- a colon
+pub takes_colon : (old new : Reading) → is_colon_next old.state ≡ true → new.state ≡ state.Value →
+    new.frames.items ≡ old.frames.items → name_of new.name ≡ name_of old.name → entries_in new ≡ entries_in old → Takes old colon new
+takes_colon old new next s_is fs_is name_is es_is =
+    let fs : List Frame = old.frames.items in
+    let name : List ℕ = name_of old.name in
+    let none : List Entry = [] in
+    record {
+      added = [];
+      parts = colon_fits old.state fs name next ∙ ap (λ (ps : List Part). Some (ps, none)) (left_in new state.Value fs name s_is fs_is name_is);
+      entries = es_is ∙ sym (append-nil (entries_in old));
+      sound = sound_in new state.Value fs name s_is fs_is name_is tt;
+    }
+
+-- what a refusal says of one text, it says of another
+pub refused_map : (stop : JsonStop) (P Q : Type 0) → (P → Q) → IfRefused stop P → IfRefused stop Q
+refused_map Memory P Q f h = tt
+refused_map (Refused error) P Q f h = f h
+
+pub stopped_map : (stop : JsonStop) (P Q : Type 0) → (P → Q) → IfStopped stop P → IfStopped stop Q
+stopped_map Memory P Q f h = tt
+stopped_map (Refused error) P Q f h = λ other. f (h other)
+
+pub stopped_refused : (stop : JsonStop) (P Q : Type 0) → (P → Q) → IfRefused stop P → IfStopped stop Q
+stopped_refused Memory P Q f h = tt
+stopped_refused (Refused error) P Q f h = λ other. f h
+
+-- a string where no name is next is a value
+pub text_taken : (r : Result (Unit {0}) JsonStop) (old new : Reading) (t : List ℕ) → is_name_next old.state ≡ false → IsSound old →
+    TakesOrNot r old (scalar (text t)) new → TakesOrNot r old (string t) new
+text_taken (Ok x) old new t next sound h = record {
+  added = h.added;
+  parts = sym (string_scalar old.state old.frames.items (name_of old.name) t next sound) ∙ h.parts;
+  entries = h.entries;
+  sound = h.sound;
+}
+text_taken (Err stop) old new t next sound h =
+    stopped_map stop (parts_from (parts_left old) (scalar (text t)) ≡ None) (parts_from (parts_left old) (string t) ≡ None)
+    (λ none. sym (string_scalar old.state old.frames.items (name_of old.name) t next sound) ∙ none) h

@@ -1,0 +1,219 @@
+-- What the reader of JSON has read: the parts that are still to come, and the values so far.
+use Rattle.std.specs.Prelude.{◌≡◌, ◌≢◌, ℕ, ◌+◌, ◌-◌, ◌<◌, ◌≤◌, Bool, true, false, List, [], ◌∷◌, ◌++◌, length, take, drop, map, slice_index, Option, Some, None, option_map, Result, MatchResult, String, string_bytes}
+use Rattle.std.specs.Char.{encode_utf8}
+use Rattle.std.specs.List.{prefix_len}
+use Rattle.nix_values.specs.JsonEscapes.{is_plain}
+use Rattle.nix_values.specs.declared.data.Data.{Data}
+use Rattle.nix_values.specs.declared.json_error.JsonReason.TheVariants.{Repeated}
+use Rattle.nix_values.specs.declared.json_error.JsonError.{JsonError}
+use Rattle.nix_values.specs.declared.json_error.JsonStop.{JsonStop}
+use Rattle.nix_values.specs.declared.json_error.JsonStop.TheVariants.{Memory, Refused}
+use Rattle.nix_values.specs.declared.json_tokens.Token.{Token as Found}
+use Rattle.nix_values.specs.declared.json_tokens.Token.TheVariants as kind
+use Rattle.nix_values.specs.declared.json_tokens.Cut.{Cut}
+use Rattle.nix_values.specs.declared.json_reader.State.{State}
+use Rattle.nix_values.specs.declared.json_reader.State.TheVariants as state
+use Rattle.nix_values.specs.declared.json_reader.Frame.{Frame}
+use Rattle.nix_values.specs.declared.json_reader.Reading.{Reading}
+use Rattle.nix_values.specs.Contents.{Plain, list, set, plain_of, Entry, entry_of, contents}
+use Rattle.nix_values.specs.JsonContent.{escape_at}
+use Rattle.nix_values.specs.Json.{Token, opening, closing, comma, colon, string, scalar, word_at, Part, value, first_item, more_items, first_member, more_members, member, named, entry, parts_from, json_values, IsJson}
+
+-- a part of a text ends behind a byte of ASCII
+abbrev pub EndsAscii : List ℕ → ℕ → Type 0
+EndsAscii text end = (0 < end) × (end ≤ length text) × (slice_index text (end - 1) < 128)
+
+-- what is found, or that there is nothing
+abbrev pub Finds : {T E : Type 0} → Result T E → Option T → Type 0
+Finds r wanted = MatchResult r (λ x. wanted ≡ Some x) (λ e. wanted ≡ None)
+
+-- what a refusal says of a text; one for want of memory says nothing
+abbrev pub IfRefused : JsonStop → Type 0 → Type 0
+IfRefused Memory none = Unit {0}
+IfRefused (Refused error) none = none
+
+-- what was read, or that there is nothing to read
+abbrev pub Reads : {T : Type 0} → Result T JsonStop → (T → Type 0) → Type 0 → Type 0
+Reads r read none = MatchResult r read (λ stop. IfRefused stop none)
+
+-- the leading bytes that need no escape are written, and this is what follows them
+abbrev pub IsRun : List ℕ → List ℕ → List ℕ → List ℕ → Type 0
+IsRun old text new rest = (rest ≡ drop (prefix_len is_plain text) text) × (new ≡ old ++ take (prefix_len is_plain text) text)
+
+-- an escape was read: its character is written, and this is what follows it
+abbrev pub IsEscape : List ℕ → List ℕ → List ℕ → List ℕ → Type 0
+IsEscape old text new rest =
+    (c : ℕ) × (n : ℕ) × (escape_at text ≡ Some (c, n)) × (n ≤ length text) × (new ≡ old ++ encode_utf8 c) × (rest ≡ drop n text)
+
+-- ---- tokens
+
+-- the token of JSON that the reader found, if it found one
+abbrev pub token_of : Found → Option Token
+token_of (kind.Open is_set) = Some (opening is_set)
+token_of (kind.Close is_set) = Some (closing is_set)
+token_of kind.Comma = Some comma
+token_of kind.Colon = Some colon
+token_of (kind.Text t) = Some (string (string_bytes t))
+token_of (kind.Scalar v) = Some (scalar (plain_of v))
+token_of kind.Other = None
+
+-- a text begins with this word, or with none
+abbrev pub IsWord : List ℕ → Found → ℕ → Type 0
+IsWord bytes token len =
+    (word_at bytes ≡ option_map (λ t. (t, len)) (token_of token)) × (0 < len) × (0 < length bytes → len ≤ length bytes)
+
+-- the token at a place, if there is one
+abbrev pub IsCutOf : Option (Token × ℕ) → List ℕ → ℕ → Cut → Type 0
+IsCutOf wanted text at cut =
+    (wanted ≡ option_map (λ t. (t, cut.end - at)) (token_of cut.token)) × (at < cut.end) × (cut.end ≤ length text)
+
+-- the token at a place is read, or there is none
+abbrev pub ReadsCut : Result Cut JsonStop → Option (Token × ℕ) → List ℕ → ℕ → Type 0
+ReadsCut r wanted text at = Reads r (IsCutOf wanted text at) (wanted ≡ None)
+
+-- ---- parts
+
+-- what may follow a value in an opening list or set
+abbrev pub more_of : Bool → ℕ → Part
+more_of true depth = more_members depth
+more_of false depth = more_items depth
+
+-- what may follow a value in opening lists and sets, innermost first
+abbrev pub rest_from : ℕ → List Frame → List Part → List Part
+rest_from depth [] parts = parts
+rest_from depth (f ∷ fs) parts = rest_from (depth + 1) fs (more_of f.is_set (depth + 1) ∷ parts)
+
+abbrev pub rest_of : List Frame → List Part
+rest_of frames = rest_from 0 frames []
+
+-- the name of the next value
+abbrev pub name_of : {Z : Type 0} → Option (String Z × ℕ) → List ℕ
+name_of None = []
+name_of (Some n) = string_bytes n.0
+
+-- the parts that are still to come
+abbrev pub parts_in : State → List Frame → List ℕ → List Part
+parts_in state.Value frames name = value (length frames) name ∷ rest_of frames
+parts_in state.ValueOrClose frames name = first_item (length frames) ∷ drop 1 (rest_of frames)
+parts_in state.Name frames name = member (length frames) ∷ drop 1 (rest_of frames)
+parts_in state.NameOrClose frames name = first_member (length frames) ∷ drop 1 (rest_of frames)
+parts_in state.Colon frames name = named (length frames) name ∷ rest_of frames
+parts_in state.CommaOrClose frames name = rest_of frames
+parts_in state.End frames name = rest_of frames
+
+abbrev pub parts_left : Reading → List Part
+parts_left r = parts_in r.state r.frames.items (name_of r.name)
+
+-- the innermost list or set is of a sort
+abbrev pub IsInside : Bool → List Frame → Type 0
+IsInside is_set frames = rest_of frames ≡ more_of is_set (length frames) ∷ drop 1 (rest_of frames)
+
+-- a state fits to the lists and sets that are opening, and to the name that is known
+abbrev pub IsState : State → List Frame → List ℕ → Type 0
+IsState state.Value frames name = Unit {0}
+IsState state.ValueOrClose frames name = IsInside false frames × (name ≡ [])
+IsState state.Name frames name = IsInside true frames × (name ≡ [])
+IsState state.NameOrClose frames name = IsInside true frames × (name ≡ [])
+IsState state.Colon frames name = Unit {0}
+IsState state.CommaOrClose frames name = (0 < length frames) × (name ≡ [])
+IsState state.End frames name = (frames ≡ []) × (name ≡ [])
+
+abbrev pub IsSound : Reading → Type 0
+IsSound r = IsState r.state r.frames.items (name_of r.name)
+
+-- the values so far
+abbrev pub entries_in : Reading → List Entry
+entries_in r = map entry_of r.found.items.items
+
+-- whether a value may come next, or a name
+abbrev pub is_value_next : State → Bool
+is_value_next state.Value = true
+is_value_next state.ValueOrClose = true
+is_value_next _ = false
+
+abbrev pub is_name_next : State → Bool
+is_name_next state.Name = true
+is_name_next state.NameOrClose = true
+is_name_next _ = false
+
+-- whether the end of the innermost list or set may come next
+abbrev pub is_close_next : State → Bool
+is_close_next state.ValueOrClose = true
+is_close_next state.NameOrClose = true
+is_close_next state.CommaOrClose = true
+is_close_next _ = false
+
+-- whether a comma, a colon or nothing may come next
+abbrev pub is_comma_next : State → Bool
+is_comma_next state.CommaOrClose = true
+is_comma_next _ = false
+
+abbrev pub is_colon_next : State → Bool
+is_colon_next state.Colon = true
+is_colon_next _ = false
+
+abbrev pub is_end : State → Bool
+is_end state.End = true
+is_end _ = false
+
+-- what comes behind a value
+abbrev pub state_behind : List Frame → State
+state_behind [] = state.End
+state_behind (f ∷ fs) = state.CommaOrClose
+
+-- the value that begins with a bracket, and what comes next inside it
+abbrev pub opened_plain : Bool → Plain
+opened_plain true = set
+opened_plain false = list
+
+abbrev pub opened : Bool → State
+opened true = state.NameOrClose
+opened false = state.ValueOrClose
+
+-- nothing is read yet
+pub record IsBegun (r : Reading) : Type 0 where
+  pub is_state : r.state ≡ state.Value
+  pub no_name : name_of r.name ≡ []
+  pub no_frames : r.frames.items ≡ []
+  pub no_entries : entries_in r ≡ []
+
+-- a value is added
+pub record IsAdded (old : Reading) (plain : Plain) (new : Reading) : Type 0 where
+  pub entries : entries_in new ≡ entries_in old ++ entry (length old.frames.items) (name_of old.name) plain
+  pub frames : new.frames.items ≡ old.frames.items
+  pub no_name : name_of new.name ≡ []
+
+-- a token is taken
+pub record Takes (old : Reading) (token : Token) (new : Reading) : Type 0 where
+  pub added : List Entry
+  pub parts : parts_from (parts_left old) token ≡ Some (parts_left new, added)
+  pub entries : entries_in new ≡ entries_in old ++ added
+  pub sound : IsSound new
+
+-- what a refusal says of a text, unless it is for a name that an object has twice
+abbrev pub IfWrong : JsonError → Type 0 → Type 0
+IfWrong error none = error.reason ≢ Repeated → none
+
+abbrev pub IfStopped : JsonStop → Type 0 → Type 0
+IfStopped Memory none = Unit {0}
+IfStopped (Refused error) none = IfWrong error none
+
+-- a token is taken, or it does not fit
+abbrev pub TakesOrNot : Result (Unit {0}) JsonStop → Reading → Token → Reading → Type 0
+TakesOrNot r old token new = MatchResult r (λ x. Takes old token new) (λ stop. IfStopped stop (parts_from (parts_left old) token ≡ None))
+
+-- the same of what the reader found
+abbrev pub FoundOrNot : Result (Unit {0}) JsonStop → Reading → Option Token → Reading → Type 0
+FoundOrNot r old None new = MatchResult r (λ x. ⊥) (λ stop. Unit {0})
+FoundOrNot r old (Some token) new = TakesOrNot r old token new
+
+abbrev pub TakesTokenOrNot : Result (Unit {0}) JsonStop → Reading → Found → Reading → Type 0
+TakesTokenOrNot r old token new = FoundOrNot r old (token_of token) new
+
+-- a text means no values
+abbrev pub IsNoJson : JsonError → List ℕ → Type 0
+IsNoJson error text = IfWrong error (json_values text ≡ None)
+
+-- the data of a text, or it means no values
+abbrev pub ReadsJson : Result Data JsonStop → List ℕ → Type 0
+ReadsJson r text = MatchResult r (λ found. IsJson text (contents found)) (λ stop. IfStopped stop (json_values text ≡ None))
