@@ -40,7 +40,7 @@ pub fn add_mistakes(alloc: Global, read: &Parse, digest: &mut Digest) -> Result<
 // Adds the names that a text binds.
 fn add_bindings(bindings: &[Binding<'_>], digest: &mut Digest) {
     for binding in bindings {
-        digest.add_text(binding.text);
+        digest.add_text(binding.text.as_str());
         add_node(&binding.node, digest);
         add_node(&binding.scope, digest);
         digest.add_number(binding.first);
@@ -51,7 +51,7 @@ fn add_bindings(bindings: &[Binding<'_>], digest: &mut Digest) {
 // Adds the names that a text uses.
 fn add_references(references: &[Reference<'_>], digest: &mut Digest) {
     for reference in references {
-        digest.add_text(reference.text);
+        digest.add_text(reference.text.as_str());
         add_node(&reference.node, digest);
         digest.add_number(reference.binding.unwrap_or(usize::MAX));
         digest.add_number(usize::from(reference.is_inherited));

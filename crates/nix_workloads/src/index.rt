@@ -44,15 +44,15 @@ fn write_place<W: Write>(
 }
 
 // Writes the lines of the names that a text binds, each with its place, and adds their scopes.
-fn write_bindings<'t, W: Write>(
+fn write_bindings<'n, W: Write>(
     index: &LineIndex<'_>,
-    bindings: &[Binding<'t>],
-    numbers: &mut HashMap<&'t str, usize>,
+    bindings: &'n [Binding<'_>],
+    numbers: &mut HashMap<&'n str, usize>,
     out: &mut W,
     digest: &mut Digest,
 ) -> io::Result<()> {
     for binding in bindings {
-        write_name(numbers, binding.text, out)?;
+        write_name(numbers, binding.text.as_str(), out)?;
         write_place(index, &binding.node, out)?;
         add_node(&binding.scope, digest);
         digest.add_number(binding.first);
@@ -61,17 +61,17 @@ fn write_bindings<'t, W: Write>(
 }
 
 // Writes the lines of the names that a text uses: the number of its binding, or else the name, and its place. Adds how they refer to it.
-fn write_references<'t, W: Write>(
+fn write_references<'n, W: Write>(
     index: &LineIndex<'_>,
-    references: &[Reference<'t>],
-    numbers: &mut HashMap<&'t str, usize>,
+    references: &'n [Reference<'_>],
+    numbers: &mut HashMap<&'n str, usize>,
     out: &mut W,
     digest: &mut Digest,
 ) -> io::Result<()> {
     for reference in references {
         match reference.binding {
             Some(number) => write!(out, "{{\"binding\":{number}")?,
-            None => write_name(numbers, reference.text, out)?,
+            None => write_name(numbers, reference.text.as_str(), out)?,
         }
         write_place(index, &reference.node, out)?;
         digest.add_number(usize::from(reference.is_inherited));
