@@ -4,10 +4,12 @@ use Rattle.std.proofs.KnownBytes.{Appends-trans}
 use Rattle.std.specs.{Prelude.{Some, None, string_bytes, codes}, Io.KnownBytes.Appends}
 use Rattle.rnix_green.specs.declared.range.TextRange.{TextRange}
 use Rattle.nix_cli.specs.MessagePlaces.{place_text}
+use Rattle.nix_diagnostics.specs.Codes.{severity_of}
+use Rattle.nix_diagnostics.specs.declared.code.Severity.{Severity}
 use Rattle.nix_diagnostics.specs.declared.diagnostic.Diagnostic.{Diagnostic}
 use Rattle.nix_diagnostics.specs.declared.notes.Note.{Note}
 use Rattle.nix_check.proofs.AppendedPieces.{three}
-use Rattle.nix_check.specs.{Listed.Prints, AsText.{message_text, help_text, IsPlacedText, IsNoteText, HasPlace, AreNoteTexts, IsText}}
+use Rattle.nix_check.specs.{Listed.Prints, AsText.{message_text, severity_text, help_text, IsPlacedText, IsNoteText, HasPlace, AreNoteTexts, IsText}}
 
 -- a message at a place is printed, with an excerpt
 pub placed_printed : (is_colored : Bool) (name text message : List ℕ) (start from : ℕ) (old first second new : Option (List ℕ)) → from ≡ start →
@@ -34,13 +36,13 @@ unplaced_note is_colored name text note old new is written =
     (bytes, subst (λ (r : Option TextRange). HasPlace is_colored name text note.message.now r bytes) (sym is) refl, written)
 
 -- a diagnostic is printed as text
-pub text_printed : (is_colored : Bool) (name text : List ℕ) (d : Diagnostic) (message : List ℕ) (start : ℕ)
-    (old first second third new : Option (List ℕ)) → message ≡ string_bytes d.message → start ≡ d.range.start →
-    Appends old first (place_text name text start) → Appends first second (message_text is_colored (codes "31") (codes "error:") message) →
+pub text_printed : (is_colored : Bool) (name text : List ℕ) (d : Diagnostic) (severity : Severity) (message : List ℕ) (start : ℕ)
+    (old first second third new : Option (List ℕ)) → severity ≡ severity_of d.code → message ≡ string_bytes d.message → start ≡ d.range.start →
+    Appends old first (place_text name text start) → Appends first second (severity_text is_colored severity message) →
     ((excerpt : List ℕ) × Appends second third excerpt) → Prints (AreNoteTexts is_colored name text d.notes.items) third new →
     Prints (IsText is_colored name text d) old new
-text_printed is_colored name text d message start old first second third new is at place words excerpt notes =
-    let error = message_text is_colored (codes "31") (codes "error:") message in (
+text_printed is_colored name text d severity message start old first second third new serious is at place words excerpt notes =
+    let error = severity_text is_colored severity message in (
       place_text name text start ++ error ++ excerpt.0 ++ notes.0,
       record {
         excerpt = excerpt.0;
@@ -48,7 +50,8 @@ text_printed is_colored name text d message start old first second third new is 
         are_notes = notes.1;
         whole =
             ap (λ n. place_text name text n ++ error ++ excerpt.0 ++ notes.0) at
-            ∙ ap (λ m. place_text name text d.range.start ++ message_text is_colored (codes "31") (codes "error:") m ++ excerpt.0 ++ notes.0) is;
+            ∙ ap (λ s. place_text name text d.range.start ++ severity_text is_colored s message ++ excerpt.0 ++ notes.0) serious
+            ∙ ap (λ m. place_text name text d.range.start ++ severity_text is_colored (severity_of d.code) m ++ excerpt.0 ++ notes.0) is;
       },
       Appends-trans old third new (place_text name text start ++ error ++ excerpt.0) notes.0
           (three old first second third (place_text name text start) error excerpt.0 place words excerpt.1) notes.2,

@@ -1,11 +1,20 @@
 -- What the definitions say of some examples.
 use Rattle.std.proofs.Common.{◌≡◌, [], ◌∷◌, refl}
 use Rattle.std.specs.Prelude.{codes, true, false}
-use Rattle.nix_check.specs.{Listed.comma_joined, AsText.message_text, AsSarif.{uri, sarif_tail}, Printed.more_line, ErrorReport.{count_line, status_of}}
+use Rattle.nix_diagnostics.specs.declared.code.Code.TheVariants.{RepeatedAttribute}
+use Rattle.nix_diagnostics.specs.declared.code.Severity.TheVariants.{Warning}
+use Rattle.nix_check.specs.{Listed.comma_joined, AsText.{message_text, severity_text}, AsJson.errors_member, AsSarif.{uri, sarif_tail}, Printed.more_line, ErrorReport.{count_line, status_of}}
 
 -- a message without colors
 plain_message : message_text false (codes "31") (codes "error:") (codes "expected a value") ≡ codes "error: expected a value\n"
 plain_message = refl
+
+-- what a code is printed with
+repeated_member : errors_member RepeatedAttribute 0 ≡ codes ",\"severity\":\"error\",\"code\":\"repeated-attribute\",\"errors\":0,\"notes\":["
+repeated_member = refl
+
+warning_text : severity_text false Warning (codes "unused") ≡ codes "warning: unused\n"
+warning_text = refl
 
 -- commas are between texts
 two_joined : comma_joined (codes "a" ∷ codes "b" ∷ []) ≡ codes "a,b"

@@ -2,7 +2,7 @@
 use Rattle.std.specs.Prelude.{ℕ, ◌-◌, List, ◌++◌, codes, decimal, map, string_bytes, unwrap_or}
 use Rattle.rnix_green.specs.declared.range.TextRange.{TextRange}
 use Rattle.nix_cli.specs.{JsonString.json_string, MessagePlaces.line_and_column}
-use Rattle.nix_diagnostics.specs.Codes.{code_name}
+use Rattle.nix_diagnostics.specs.Codes.{code_name, severity_of, severity_name}
 use Rattle.nix_diagnostics.specs.declared.code.Code.{Code}
 use Rattle.nix_diagnostics.specs.declared.diagnostic.Diagnostic.{Diagnostic}
 use Rattle.nix_diagnostics.specs.declared.notes.Note.{Note}
@@ -22,10 +22,11 @@ message_members text range message =
 abbrev pub note_object : List ℕ → TextRange → Note → List ℕ
 note_object text range note = codes "{" ++ message_members text (unwrap_or note.range range) note.message.now ++ codes "}"
 
--- what a diagnostic reports, and the number of errors that it covers, before its notes
+-- how serious it is what a diagnostic reports, what that is, and the number of errors that it covers, before its notes
 abbrev pub errors_member : Code → ℕ → List ℕ
 errors_member code errors =
-    codes ",\"severity\":\"error\",\"code\":\"" ++ (code_name code ++ (codes "\",\"errors\":" ++ (decimal errors ++ codes ",\"notes\":[")))
+    codes ",\"severity\":\"" ++ (severity_name (severity_of code) ++ (codes "\",\"code\":\"" ++ (code_name code
+    ++ (codes "\",\"errors\":" ++ (decimal errors ++ codes ",\"notes\":[")))))
 
 -- a diagnostic: the file, the place, the message, what it reports, the number of errors that it covers, and the notes
 abbrev pub json_line : List ℕ → List ℕ → Diagnostic → List ℕ

@@ -3,7 +3,7 @@ use Rattle.std.specs.Prelude.{ℕ, ◌+◌, ◌/◌, ◌%◌, ◌==◌, ◌&&◌
 use Rattle.std.specs.{List.flat_map, Char.is_ascii_alphanumeric}
 use Rattle.rnix_green.specs.declared.range.TextRange.{TextRange}
 use Rattle.nix_cli.specs.{JsonString.json_string, MessagePlaces.line_and_column}
-use Rattle.nix_diagnostics.specs.Codes.{code_name}
+use Rattle.nix_diagnostics.specs.Codes.{code_name, severity_of, severity_name}
 use Rattle.nix_diagnostics.specs.declared.code.Code.{Code}
 use Rattle.nix_diagnostics.specs.declared.diagnostic.Diagnostic.{Diagnostic}
 use Rattle.nix_diagnostics.specs.declared.notes.Note.{Note}
@@ -68,9 +68,10 @@ abbrev pub related_location : List ℕ → List ℕ → TextRange → Note → L
 related_location name text range note =
     codes "{" ++ location name text (unwrap_or note.range range) ++ codes "," ++ message_object note.message.now ++ codes "}"
 
--- what a result reports
+-- what a result reports, and how serious that is
 abbrev pub rule_members : Code → List ℕ
-rule_members code = codes "{\"ruleId\":\"" ++ code_name code ++ codes "\",\"level\":\"error\","
+rule_members code =
+    codes "{\"ruleId\":\"" ++ (code_name code ++ (codes "\",\"level\":\"" ++ (severity_name (severity_of code) ++ codes "\",")))
 
 -- a diagnostic as a result, with its notes as related locations
 abbrev pub sarif_result : List ℕ → List ℕ → Diagnostic → List ℕ

@@ -2,6 +2,9 @@
 use Rattle.std.specs.Prelude.{◌≡◌, ℕ, Bool, List, [], ◌∷◌, ◌++◌, codes, string_bytes, Option, Some, None, if◌then◌else◌}
 use Rattle.rnix_green.specs.declared.range.TextRange.{TextRange}
 use Rattle.nix_cli.specs.MessagePlaces.{place_text}
+use Rattle.nix_diagnostics.specs.Codes.{severity_of}
+use Rattle.nix_diagnostics.specs.declared.code.Severity.{Severity}
+use Rattle.nix_diagnostics.specs.declared.code.Severity.TheVariants.{Error, Warning}
 use Rattle.nix_diagnostics.specs.declared.diagnostic.Diagnostic.{Diagnostic}
 use Rattle.nix_diagnostics.specs.declared.notes.Note.{Note}
 use Rattle.nix_check.specs.Listed.{AreListed}
@@ -13,6 +16,11 @@ word_text is_colored color word = if is_colored then 27 ∷ codes "[1;" ++ color
 -- a kind of message, and the message
 abbrev pub message_text : Bool → List ℕ → List ℕ → List ℕ → List ℕ
 message_text is_colored color kind message = word_text is_colored color kind ++ codes " " ++ message ++ codes "\n"
+
+-- the name of a severity, errors in red and warnings in yellow, and a message
+abbrev pub severity_text : Bool → Severity → List ℕ → List ℕ
+severity_text is_colored Error message = message_text is_colored (codes "31") (codes "error:") message
+severity_text is_colored Warning message = message_text is_colored (codes "33") (codes "warning:") message
 
 -- a note without a place
 abbrev pub help_text : Bool → List ℕ → List ℕ
@@ -42,4 +50,4 @@ pub record IsText (is_colored : Bool) (name text : List ℕ) (d : Diagnostic) (b
   pub excerpt : List ℕ
   pub notes : List ℕ
   pub are_notes : AreNoteTexts is_colored name text d.notes.items notes
-  pub whole : bytes ≡ place_text name text d.range.start ++ message_text is_colored (codes "31") (codes "error:") (string_bytes d.message) ++ excerpt ++ notes
+  pub whole : bytes ≡ place_text name text d.range.start ++ severity_text is_colored (severity_of d.code) (string_bytes d.message) ++ excerpt ++ notes

@@ -70,14 +70,16 @@ fn write_notes<W: Write>(
     Ok(())
 }
 
-// Writes what a diagnostic reports and the number of its errors, before its notes.
+// Writes what a diagnostic reports, how serious that is, and the number of its errors, before its notes.
 fn write_errors<W: Write>(code: Code, errors: usize, out: &mut W) -> io::Result<()>
     ensures { OnOk result (Appends (W.contents out.old) (W.contents out.new) (errors_member code errors)) }
 {
+    let severity = code.severity();
+    let level = severity.name();
     let name = code.name();
     write!(
         out,
-        ",\"severity\":\"error\",\"code\":\"{name}\",\"errors\":{errors},\"notes\":["
+        ",\"severity\":\"{level}\",\"code\":\"{name}\",\"errors\":{errors},\"notes\":["
     )
 }
 

@@ -190,12 +190,14 @@ fn write_separator<W: Write>(is_first: bool, out: &mut W) -> io::Result<()>
     out.write_all(if is_first { b"\n" } else { b",\n" })
 }
 
-// Writes what a result reports.
+// Writes what a result reports, and how serious that is.
 fn write_rule<W: Write>(code: Code, out: &mut W) -> io::Result<()>
     ensures { OnOk result (Appends (W.contents out.old) (W.contents out.new) (rule_members code)) }
 {
+    let severity = code.severity();
+    let level = severity.name();
     let name = code.name();
-    write!(out, "{{\"ruleId\":\"{name}\",\"level\":\"error\",")
+    write!(out, "{{\"ruleId\":\"{name}\",\"level\":\"{level}\",")
 }
 
 // Writes a diagnostic as a result, with its notes as related locations.

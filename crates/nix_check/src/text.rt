@@ -3,11 +3,11 @@
 ghost use Rattle.std.specs.Prelude.{OnOk};
 ghost use Rattle.std.specs.Io.KnownBytes.{Appends};
 ghost use Rattle.nix_cli.specs.MessagePlaces.{IsIndexed};
-ghost use Rattle.nix_check.specs.AsText.{word_text, message_text, help_text, IsPlacedText, IsNoteText, AreNoteTexts, IsText};
+ghost use Rattle.nix_check.specs.AsText.{word_text, message_text, severity_text, help_text, IsPlacedText, IsNoteText, AreNoteTexts, IsText};
 ghost use Rattle.nix_check.specs.Listed.{Prints};
 
 use nix_cli::{Source, write_excerpt, write_place};
-use nix_diagnostics::{Diagnostic, Note};
+use nix_diagnostics::{Diagnostic, Note, Severity};
 use rnix::TextRange;
 use std::io::{self, Write};
 
@@ -94,6 +94,21 @@ fn write_notes<W: Write>(
     Ok(())
 }
 
+// Writes the name of a severity in its color, and a message.
+fn write_severe<W: Write>(
+    severity: Severity,
+    message: &str,
+    is_colored: bool,
+    out: &mut W,
+) -> io::Result<()>
+    ensures { OnOk result (Appends (W.contents out.old) (W.contents out.new) (severity_text is_colored severity message.now)) }
+{
+    match severity {
+        Severity::Error => write_message("error:", "31", message, is_colored, out),
+        Severity::Warning => write_message("warning:", "33", message, is_colored, out),
+    }
+}
+
 /// Writes a diagnostic: its place, message, line with carets, and notes.
 pub fn write_text<W: Write>(
     source: &Source<'_>,
@@ -107,7 +122,8 @@ pub fn write_text<W: Write>(
 {
     let (start, end) = (diagnostic.range.start(), diagnostic.range.end());
     write_place(source, start, out)?;
-    write_message("error:", "31", diagnostic.message.as_str(), is_colored, out)?;
+    let severity = diagnostic.code.severity();
+    write_severe(severity, diagnostic.message.as_str(), is_colored, out)?;
     write_excerpt(source.text, start..end, out)?;
     write_notes(source, &diagnostic.notes, is_colored, out)
 }

@@ -1,8 +1,10 @@
--- What diagnostics report, and the names of that for tools.
+-- What diagnostics report and how serious that is, and the names of both for tools.
 use Rattle.std.specs.Prelude.{ℕ, List, codes}
 use Rattle.rnix_grammar.specs.Fault.{Fault, too_deep}
 use Rattle.nix_diagnostics.specs.declared.code.Code.{Code}
 use Rattle.nix_diagnostics.specs.declared.code.Code.TheVariants.{SyntaxError, NestedTooDeep, RepeatedAttribute}
+use Rattle.nix_diagnostics.specs.declared.code.Severity.{Severity}
+use Rattle.nix_diagnostics.specs.declared.code.Severity.TheVariants.{Error, Warning}
 
 -- what is reported of an error
 abbrev pub code_of : Fault → Code
@@ -14,3 +16,14 @@ abbrev pub code_name : Code → List ℕ
 code_name SyntaxError = codes "syntax-error"
 code_name NestedTooDeep = codes "nested-too-deep"
 code_name RepeatedAttribute = codes "repeated-attribute"
+
+-- how serious it is: Nix refuses all that has a code so far
+abbrev pub severity_of : Code → Severity
+severity_of SyntaxError = Error
+severity_of NestedTooDeep = Error
+severity_of RepeatedAttribute = Error
+
+-- the name for tools
+abbrev pub severity_name : Severity → List ℕ
+severity_name Error = codes "error"
+severity_name Warning = codes "warning"

@@ -1,10 +1,31 @@
-//! What diagnostics report, by names for tools.
+//! What diagnostics report and how serious that is, by names for tools.
 
 ghost use Rattle.std.specs.Prelude.{◌≡◌};
 ghost use Rattle.rnix_grammar.specs.Fault.{fault_of};
-ghost use Rattle.nix_diagnostics.specs.Codes.{code_of, code_name};
+ghost use Rattle.nix_diagnostics.specs.Codes.{code_of, code_name, severity_of, severity_name};
 
 use rnix::ParseError;
+
+/// How serious something is that a diagnostic reports.
+#[derive(Clone, Copy, Debug, PartialEq, Eq)]
+pub enum Severity {
+    /// Nix refuses the text.
+    Error,
+    /// Nix accepts the text, but it hardly means what was meant. No code has this severity so far.
+    Warning,
+}
+
+impl Severity {
+    /// Returns the name that SARIF, LSP and compilers use: `error` or `warning`.
+    pub fn name(self) -> &'static str
+        ensures { result.now ≡ severity_name self }
+    {
+        match self {
+            Severity::Error => "error",
+            Severity::Warning => "warning",
+        }
+    }
+}
 
 /// What a diagnostic reports.
 #[derive(Clone, Copy, Debug, PartialEq, Eq)]
@@ -36,6 +57,15 @@ impl Code {
             Code::SyntaxError => "syntax-error",
             Code::NestedTooDeep => "nested-too-deep",
             Code::RepeatedAttribute => "repeated-attribute",
+        }
+    }
+
+    /// Returns how serious what it stands for is.
+    pub fn severity(self) -> Severity
+        ensures { result ≡ severity_of self }
+    {
+        match self {
+            Code::SyntaxError | Code::NestedTooDeep | Code::RepeatedAttribute => Severity::Error,
         }
     }
 }

@@ -19,7 +19,7 @@ mod replacement;
 mod unwanted;
 mod words;
 
-pub use code::Code;
+pub use code::{Code, Severity};
 pub use diagnostic::{Diagnostic, all_diagnostics, diagnostics};
 pub use notes::Note;
 pub use replacement::Replacement;
