@@ -181,20 +181,20 @@ part_action r.TextEnd left next touches = end_action next
 part_action part left next touches = child_action (left + 1) next
 
 -- what goes on with an operand
-abbrev pub follow : SyntaxKind → Action
-follow TOKEN_DOT = a.Wrap NODE_SELECT (p.Left SELECT) application_level
-follow TOKEN_OR = a.ApplyOr
-follow TOKEN_QUESTION = a.Wrap NODE_HAS_ATTR (p.Left HAS_ATTR) has_attr_level
-follow kind = if is_fn_arg kind then a.Apply else a.Wrap NODE_BIN_OP (p.Right (right_of kind)) (max_bp_of kind)
+abbrev pub continue_action : SyntaxKind → Action
+continue_action TOKEN_DOT = a.Wrap NODE_SELECT (p.Left SELECT) application_level
+continue_action TOKEN_OR = a.ApplyOr
+continue_action TOKEN_QUESTION = a.Wrap NODE_HAS_ATTR (p.Left HAS_ATTR) has_attr_level
+continue_action kind = if is_fn_arg kind then a.Apply else a.Wrap NODE_BIN_OP (p.Right (right_of kind)) (max_bp_of kind)
 
 -- an operator goes on whose level is between these
-abbrev pub goes_on : ℕ → ℕ → SyntaxKind → Bool
-goes_on min_bp max_bp kind = nat_le 1 (binding_power kind) && (nat_le min_bp (binding_power kind) && nat_le (binding_power kind) max_bp)
+abbrev pub may_continue : ℕ → ℕ → SyntaxKind → Bool
+may_continue min_bp max_bp kind = nat_le 1 (binding_power kind) && (nat_le min_bp (binding_power kind) && nat_le (binding_power kind) max_bp)
 
 -- after an operand: what goes on with it at a level between two, or its end
 abbrev pub more_action : ℕ → ℕ → Option SyntaxKind → Action
 more_action min_bp max_bp None = a.EndOperand
-more_action min_bp max_bp (Some kind) = if goes_on min_bp max_bp kind then follow kind else a.EndOperand
+more_action min_bp max_bp (Some kind) = if may_continue min_bp max_bp kind then continue_action kind else a.EndOperand
 
 -- at a slot of the table
 abbrev pub slot_action : Option Slot → ℕ → Option SyntaxKind → Bool → Action

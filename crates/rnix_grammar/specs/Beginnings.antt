@@ -7,7 +7,7 @@ use Rattle.rnix_grammar.specs.Levels.{expression_level, inversion_level, negatio
 use Rattle.rnix_grammar.specs.AnnotatedForest.{Token, AnnotatedForest, tokens_in, head_kind}
 use Rattle.rnix_grammar.specs.Begins.{is_pattern, second_kind}
 use Rattle.rnix_grammar.specs.TreeLevels.{row_level}
-use Rattle.rnix_grammar.specs.Operands.{first_tree, goes_on}
+use Rattle.rnix_grammar.specs.Operands.{first_tree, is_continued}
 
 -- a name alone, or as the parameter of a function
 abbrev pub first_kind_of_name : List ℕ → Option SyntaxKind → SyntaxKind
@@ -58,4 +58,4 @@ BeginsAs level x (t ∷ ts) = first_kind level t.kind t.text (head_kind ts) (sec
 -- item does not continue it
 abbrev pub IsOperandOf : Option ℕ → AnnotatedForest → List Token → Type 0
 IsOperandOf None x after = Unit {0}
-IsOperandOf (Some level) x after = (level ≤ row_level x) × BeginsAs level x (tokens_in x ++ after) × (goes_on level x after ≡ false)
+IsOperandOf (Some level) x after = (level ≤ row_level x) × BeginsAs level x (tokens_in x ++ after) × (is_continued level x after ≡ false)

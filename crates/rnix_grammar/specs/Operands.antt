@@ -27,6 +27,6 @@ follows kind x =
     else (if is_fn_arg kind then nat_le application_level (row_level x) else ((is_dot kind || is_or kind) && is_atom_row x)))
 
 -- the next item would go on with an operand of a level
-abbrev pub goes_on : ℕ → AnnotatedForest → List Token → Bool
-goes_on level x [] = false
-goes_on level x (t ∷ ts) = follows t.kind x && nat_le level (binding_power t.kind)
+abbrev pub is_continued : ℕ → AnnotatedForest → List Token → Bool
+is_continued level x [] = false
+is_continued level x (t ∷ ts) = follows t.kind x && nat_le level (binding_power t.kind)

@@ -3,7 +3,7 @@
 ghost use Rattle.std.specs.Prelude.{◌≡◌, Bool, Option, true};
 ghost use Rattle.rnix_kinds.specs.declared.kinds.SyntaxKind.{SyntaxKind};
 ghost use Rattle.rnix_grammar.specs.declared.action.Action.TheVariants.{Close};
-ghost use Rattle.rnix_grammar.specs.Actions.{close_action, follow, goes_on, more_action, left_action, action_at};
+ghost use Rattle.rnix_grammar.specs.Actions.{close_action, continue_action, may_continue, more_action, left_action, action_at};
 
 use crate::expected_set::ExpectedSet;
 use crate::level::{
@@ -73,8 +73,8 @@ fn close_action(kind: SyntaxKind) -> Action
 
 /// Returns what the reader does with a token that continues an operand.
 #[inline(always)]
-pub fn follow(kind: SyntaxKind) -> Action
-    ensures { result ≡ follow kind }
+pub fn continue_action(kind: SyntaxKind) -> Action
+    ensures { result ≡ continue_action kind }
 {
     match kind {
         SyntaxKind::TOKEN_DOT => Action::Wrap(
@@ -106,8 +106,8 @@ pub fn follow(kind: SyntaxKind) -> Action
 
 /// Returns whether a token continues an operand after which operators of the levels from `min_bp` to `max_bp` may follow.
 #[inline(always)]
-pub fn goes_on(min_bp: u8, max_bp: u8, kind: SyntaxKind) -> bool
-    ensures { result ≡ goes_on min_bp max_bp kind }
+pub fn may_continue(min_bp: u8, max_bp: u8, kind: SyntaxKind) -> bool
+    ensures { result ≡ may_continue min_bp max_bp kind }
 {
     let level = binding_power(kind);
     level != NO_LEVEL && min_bp <= level && level <= max_bp
@@ -120,8 +120,8 @@ fn more_action(min_bp: u8, max_bp: u8, next: Option<SyntaxKind>) -> Action
     match next {
         None => Action::EndOperand,
         Some(kind) => {
-            if goes_on(min_bp, max_bp, kind) {
-                follow(kind)
+            if may_continue(min_bp, max_bp, kind) {
+                continue_action(kind)
             } else {
                 Action::EndOperand
             }

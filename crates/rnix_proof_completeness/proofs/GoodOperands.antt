@@ -8,7 +8,7 @@ use Rattle.rnix_green.specs.{Equality.same_kind, Forest.{Forest, empty, leaf, no
 use Rattle.rnix_grammar.specs.declared.rules.Part.TheVariants.{Operand, Many, Argument}
 use Rattle.rnix_grammar.specs.AnnotatedForest.{Token, AnnotatedForest, blank, token, branch, ◌⊕◌, one_branch, tokens_in, head_kind}
 use Rattle.rnix_grammar.specs.{Begins.second_kind, Beginnings.{IsOperandOf, BeginsAs, first_kind, first_kind_of_let, kind_if}, Yield.kind_of_token, Reports.repeats, Nest.{nest, counts_no_child}, Tables.depth_limit}
-use Rattle.rnix_grammar.specs.{Levels.{binding_power, left_of}, TokenKinds.{is_dot, is_or, is_question}, Operands.{first_tree, follows, goes_on}}
+use Rattle.rnix_grammar.specs.{Levels.{binding_power, left_of}, TokenKinds.{is_dot, is_or, is_question}, Operands.{first_tree, follows, is_continued}}
 use Rattle.rnix_grammar.specs.{TreeLevels.{level_of, row_level, is_atom_row, is_or_row}, Rows.{is_atom, is_expression, is_infix, fits}}
 use Rattle.rnix_grammar.specs.Rules.{Row, done, ◌·◌, only, after, IsExpected, is_first_expected, IsFollowed}
 use Rattle.rnix_proof_lemmas.proofs.{Basics.{true_is_not_false, not_if}, EveryKind.whenever_both, LevelLemmas.{at_most, at_most_true, atom_fits, binding_power_max, fits_looser}}
@@ -184,7 +184,7 @@ follows_binding_power TOKEN_DOT x h = refl
 follows_binding_power _ x h = cc
 
 -- where only looser operators follow, none goes on with an operand
-stops_here : (level : ℕ) (x : AnnotatedForest) (ts : List Token) → binds_at_most (below level) (head_kind ts) ≡ true → goes_on level x ts ≡ false
+stops_here : (level : ℕ) (x : AnnotatedForest) (ts : List Token) → binds_at_most (below level) (head_kind ts) ≡ true → is_continued level x ts ≡ false
 stops_here level x [] h = refl
 stops_here level x (t ∷ ts) h = both_no (follows t.kind x) (nat_le level (binding_power t.kind))
     (λ e. by level (is_bound t.kind) h (nat_le level (binding_power t.kind)) refl (at_most 1 (binding_power t.kind) (follows_binding_power t.kind x e)))

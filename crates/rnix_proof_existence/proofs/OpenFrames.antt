@@ -2,7 +2,7 @@
 use Rattle.std.proofs.Common.{◌≡◌, ◌⊎◌, inl, inr, ℕ, ◌≤◌, true, false, List, [], ◌∷◌, ◌++◌, refl, ap, sym, ◌∙◌, subst, append_assoc, append-nil}
 use Rattle.{rnix_kinds.specs.declared.kinds.SyntaxKind.{SyntaxKind, TheVariants.NODE_ROOT}, rnix_grammar.specs.declared.position.Position.Position}
 use Rattle.rnix_grammar.specs.{declared.{action.Action.Action, rules.Part.TheVariants.TextEnd}, Fault.Fault, Rows.fits, TreeLevels.{row_level, is_or_row}}
-use Rattle.rnix_grammar.specs.{Beginnings.BeginsAs, Operands.goes_on, AnnotatedForest.{Token, Stray, AnnotatedForest, blank, ◌⊕◌, one_token, one_branch}}
+use Rattle.rnix_grammar.specs.{Beginnings.BeginsAs, Operands.is_continued, AnnotatedForest.{Token, Stray, AnnotatedForest, blank, ◌⊕◌, one_token, one_branch}}
 use Rattle.rnix_grammar.specs.{AnnotatedForest.{one_fault, row_of, tokens_in, leaf_kind, end_from}, Reports.report, Reads.{IsOver, Reads}, Rules.{Row, done}}
 use Rattle.{rnix_grammar.{specs.{Rules.{◌·◌, row as row_of_kind}}}, rnix_proof_lemmas.specs.Machine.{Machine, Head, Node, SecondBind, Operand, Frame, put}}
 use Rattle.rnix_proof_lemmas.{specs.Machine.{kind_of, made, min_bp_of, perform}, proofs.{Basics.true_is_not_false, AnnotatedForestLemmas.{⊕-assoc, tokens_two}}}
@@ -56,7 +56,7 @@ pub record IsCompleteOperand (level : ℕ) (x : AnnotatedForest) (us : List Toke
   pub least : level ≤ row_level x
   pub fit : fits level (seen_kind x) ≡ true
   pub no_or : is_or_row x ≡ false
-  pub not_followed : goes_on level x us ≡ false
+  pub not_followed : is_continued level x us ≡ false
 
 -- An operand that is read as x up to some items is read as y up to others, with more errors.
 abbrev pub Grows : ℕ → ℕ → AnnotatedForest → List Token → ℕ → AnnotatedForest → List Token → ℕ → List Fault → Type 0

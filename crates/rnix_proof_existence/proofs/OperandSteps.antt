@@ -5,9 +5,9 @@ use Rattle.rnix_kinds.specs.declared.kinds.SyntaxKind.{SyntaxKind, TheVariants.{
 use Rattle.rnix_kinds.{specs.{declared.kinds.SyntaxKind.TheVariants.{NODE_BIN_OP, NODE_IDENT}, SyntaxKind.is_fn_arg}, proofs.AllKinds.implied}
 use Rattle.rnix_grammar.specs.declared.{position.Position.Position, action.Action.Action, slot_table.TheConstants.{APPLIED, HAS_ATTR, SELECT}}
 use Rattle.rnix_grammar.specs.{declared.rules.Part.TheVariants.{Argument, Binary, Suffix}, Fault.Fault, Levels.{binding_power, right_of, max_bp_of}}
-use Rattle.rnix_grammar.specs.{Actions.{follow, goes_on, more_action}, TokenKinds.is_or, Rows.{is_infix, fits}, AnnotatedForest.{Token, AnnotatedForest, blank}}
+use Rattle.rnix_grammar.specs.{Actions.{continue_action, may_continue, more_action}, TokenKinds.is_or, Rows.{is_infix, fits}, AnnotatedForest.{Token, AnnotatedForest, blank}}
 use Rattle.rnix_grammar.specs.{AnnotatedForest.{◌⊕◌, one_branch, leaf_kind, leaf_kind_as, head_kind}, Reports.repeats, Operands.{first_tree, follows}}
-use Rattle.rnix_grammar.specs.{Operands.{goes_on as goes_behind}, TreeLevels.{row_level, operator_in, calls_or}, Reads.end, Beginnings.{BeginsAs, IsOperandOf}}
+use Rattle.rnix_grammar.specs.{Operands.{is_continued}, TreeLevels.{row_level, operator_in, calls_or}, Reads.end, Beginnings.{BeginsAs, IsOperandOf}}
 use Rattle.{rnix_grammar.{specs.{Rules.{IsExpected, IsFollowed, Row, after, done, row as row_of_kind, ◌·◌, only}}}, rnix_proof_lemmas.specs.Machine.Node}
 use Rattle.rnix_proof_lemmas.{specs.{Machine.{Operand, Frame, put, opened}, SlotRows.left_at}, proofs.Basics.{true_is_not_false, not_if, some_same}}
 use Rattle.rnix_proof_lemmas.proofs.{AnnotatedForestLemmas.⊕-assoc, LevelLemmas.{at_most, at_most_true, fits_looser, right_within, within}}
@@ -29,8 +29,8 @@ argument_no_or : (k : SyntaxKind) → binding_power k ≡ 15 → is_or k ≡ fal
 argument_no_or k h = not_if (is_or k) (implied (λ o. nat_eq (binding_power o) 15) (λ o. if is_or o then false else true) refl k (grind (arith, nat_tests, h)))
 
 -- an item that may not continue an operand between two levels does not continue a tree that allows no tighter one
-not_followed_behind : (min_bp max_bp : ℕ) (x : AnnotatedForest) (ts : List Token) → ((j : SyntaxKind) → head_kind ts ≡ Some j → goes_on min_bp max_bp j ≡ false)
-    → FollowedTo max_bp x → goes_behind min_bp x ts ≡ false
+not_followed_behind : (min_bp max_bp : ℕ) (x : AnnotatedForest) (ts : List Token) → ((j : SyntaxKind) → head_kind ts ≡ Some j → may_continue min_bp max_bp j ≡ false)
+    → FollowedTo max_bp x → is_continued min_bp x ts ≡ false
 not_followed_behind min_bp max_bp x [] h w = refl
 not_followed_behind min_bp max_bp x (t ∷ ts) h w = by (follows t.kind x) (nat_le min_bp (binding_power t.kind)) refl refl
   where
@@ -52,7 +52,7 @@ abbrev Between : ℕ → ℕ → SyntaxKind → Type 0
 Between min_bp max_bp k = (1 ≤ binding_power k) × (min_bp ≤ binding_power k) × (binding_power k ≤ max_bp)
 
 -- so does that of a token that continues an operand
-between : (min_bp max_bp : ℕ) (k : SyntaxKind) → goes_on min_bp max_bp k ≡ true → Between min_bp max_bp k
+between : (min_bp max_bp : ℕ) (k : SyntaxKind) → may_continue min_bp max_bp k ≡ true → Between min_bp max_bp k
 between min_bp max_bp k h =
     let x = and_parts _ _ h in let y = within min_bp (binding_power k) max_bp x.1 in (at_most 1 (binding_power k) x.0, y.0, y.1)
 
@@ -68,7 +68,7 @@ no_binding_power : (k : SyntaxKind) (action : Action) → 1 ≤ 0 → FollowsBy 
 no_binding_power k action h = absurd (omega (arith, h))
 
 -- each token with a level has such an action
-followed_by : (k : SyntaxKind) → 1 ≤ binding_power k → FollowsBy k (follow k)
+followed_by : (k : SyntaxKind) → 1 ≤ binding_power k → FollowsBy k (continue_action k)
 followed_by TOKEN_DOT h = by_dot
 followed_by TOKEN_OR h = by_or
 followed_by TOKEN_QUESTION h = by_question
@@ -86,7 +86,7 @@ module _ (whole : Outcome) (min_bp max_bp d : ℕ) (x : AnnotatedForest) (n : �
 
   -- no item continues it, and it is complete
   settles : (fs : List Frame) → AtOperand min_bp max_bp d x fs → (ts : List Token)
-      → ((j : SyntaxKind) → head_kind ts ≡ Some j → goes_on min_bp max_bp j ≡ false)
+      → ((j : SyntaxKind) → head_kind ts ≡ Some j → may_continue min_bp max_bp j ≡ false)
       → IsPreservedBy whole a.EndOperand frame fs ts n gs
   settles [] r ts h = absurd (alone r.below)
   settles (g ∷ fs) r ts h = (
@@ -266,8 +266,8 @@ module _ (whole : Outcome) (min_bp max_bp d : ℕ) (x : AnnotatedForest) (n : �
     -- each step at it
     pub operand_step : (ts : List Token) → IsPreservedBy whole (more_action min_bp max_bp (head_kind ts)) frame fs ts n gs
     operand_step [] = settles fs r [] (λ j e. absurd (cc e))
-    operand_step (t ∷ ts) = by (goes_on min_bp max_bp t.kind) refl
+    operand_step (t ∷ ts) = by (may_continue min_bp max_bp t.kind) refl
       where
-        by : (w : Bool) → goes_on min_bp max_bp t.kind ≡ w → IsPreservedBy whole (if w then follow t.kind else a.EndOperand) frame fs (t ∷ ts) n gs
-        by true e = let w : Between min_bp max_bp t.kind = between min_bp max_bp t.kind e in goes t.kind (follow t.kind) (followed_by t.kind w.0) t ts refl w
-        by false e = settles fs r (t ∷ ts) (λ j h. subst (λ (k : SyntaxKind). goes_on min_bp max_bp k ≡ false) (some_same t.kind j h) e)
+        by : (w : Bool) → may_continue min_bp max_bp t.kind ≡ w → IsPreservedBy whole (if w then continue_action t.kind else a.EndOperand) frame fs (t ∷ ts) n gs
+        by true e = let w : Between min_bp max_bp t.kind = between min_bp max_bp t.kind e in goes t.kind (continue_action t.kind) (followed_by t.kind w.0) t ts refl w
+        by false e = settles fs r (t ∷ ts) (λ j h. subst (λ (k : SyntaxKind). may_continue min_bp max_bp k ≡ false) (some_same t.kind j h) e)

@@ -3,7 +3,7 @@ use Rattle.std.proofs.Common.{◌≡◌, ℕ, ◌≤◌, Bool, true, List, [], �
 use Rattle.{std.specs.List.list_all, rnix_kinds.{specs.declared.kinds.SyntaxKind.{SyntaxKind, TheVariants.NODE_INTERPOL}, proofs.AllKinds.{all_kinds, every}}}
 use Rattle.{rnix_green.specs.{Range.Extent, Equality.same_kind}, rnix_grammar.specs.{UnwantedRun.run_of, AnnotatedForest.{Token, Note, Stray, Unwanted, Extra}}}
 use Rattle.rnix_grammar.specs.{AnnotatedForest.{DoubleBind, TooDeep, AnnotatedForest, blank, one_fault, row_of, tokens_in, head_kind}, Beginnings.first_kind}
-use Rattle.rnix_grammar.specs.{Beginnings.{BeginsAs, IsOperandOf}, Operands.{first_tree, follows, goes_on}, TreeLevels.row_level, Rules.{Row, after, level_at}}
+use Rattle.rnix_grammar.specs.{Beginnings.{BeginsAs, IsOperandOf}, Operands.{first_tree, follows, is_continued}, TreeLevels.row_level, Rules.{Row, after, level_at}}
 use Rattle.rnix_grammar.specs.{Begins.second_kind, Levels.binding_power, Reads.IsWrong, TokenKinds.is_path_piece}
 use Rattle.{rnix_proof_lemmas.proofs.ReachableRows.{IsKnown, every_known}, rnix_proof_layout.proofs.MovedItems.{moved, past, later, moved_trees, moved_two}}
 use Rattle.rnix_proof_layout.proofs.{MovedItems.{tokens_after, row_moved, head_moved, second_moved, length_moved, some_moved, run_moved}, Unplaced.unplaced}
@@ -11,7 +11,7 @@ use Rattle.rnix_proof_layout.proofs.{Unplaced.{unplaced_moved, alike, row_level_
 
 -- the next item goes on with a tree, at other places
 goes_same : (level : ℕ) (x y : AnnotatedForest) (ts : List Token) (ps : List Extent) → unplaced x ≡ unplaced y
-    → goes_on level x ts ≡ goes_on level y (moved ts ps)
+    → is_continued level x ts ≡ is_continued level y (moved ts ps)
 goes_same level x y [] ps e = refl
 goes_same level x y (t ∷ ts) ps e = ap (λ w. w && nat_le level (binding_power t.kind)) (alike (follows t.kind) (follows_same t.kind) x y e)
 

@@ -4,7 +4,7 @@ use Rattle.std.specs.{Prelude.drop, List.list_any}
 use Rattle.rnix_kinds.specs.declared.kinds.SyntaxKind.{SyntaxKind, TheVariants.{TOKEN_INHERIT, TOKEN_OR, TOKEN_QUESTION, NODE_IDENT, NODE_INTERPOL, NODE_PAT_BIND, NODE_PATTERN, NODE_PAT_ENTRY, NODE_ERROR, NODE_ROOT}}
 use Rattle.rnix_green.specs.Equality.{same_kind}
 use Rattle.rnix_grammar.specs.declared.{position.Position.Position, action.Action.Action, rules.Part.Part, slot_table.{Slot.{Slot, TheVariants.{Next, End}}, TheConstants.{SLOTS, ROOT, PATTERN, AFTER_COMMA, AFTER_FORMAL, PATTERN_CLOSE, BOUND_AFTER_COMMA, BOUND_AFTER_FORMAL, BOUND_PATTERN_CLOSE}}}
-use Rattle.rnix_grammar.specs.{Tables.wanted_kinds, Actions.{expected_set_of, token_action, is_not, follow, goes_on, slot_action, action_at}, Slots.{slot_at}}
+use Rattle.rnix_grammar.specs.{Tables.wanted_kinds, Actions.{expected_set_of, token_action, is_not, continue_action, may_continue, slot_action, action_at}, Slots.{slot_at}}
 use Rattle.rnix_proof_lemmas.specs.FrameKinds.{FrameKind, Root, Pattern, Entry, OperandFrame, NodeFrame, frame_kind, frame_kind_of_row, frame_kind_in, may_hold, is_open}
 use Rattle.rnix_proof_lemmas.specs.Allowed.{Allowed}
 use Rattle.rnix_proof_lemmas.specs.Measures.{steps_with, steps_from, measure, begin_measure_in, begin_measure}
@@ -206,5 +206,5 @@ allowed (p.Right level) None touches = ((refl, omega (arith)), refl)
 allowed (p.Right level) (Some kind) touches = (refl, refl)
 allowed (p.AfterOperand min_bp max_bp) None touches = refl
 allowed (p.AfterOperand min_bp max_bp) (Some kind) touches =
-    either (p.AfterOperand min_bp max_bp) (Some kind) (goes_on min_bp max_bp kind) (follow kind) a.EndOperand
-    (λ h. each_kind (λ k. Allowed (p.AfterOperand min_bp max_bp) (Some k) (follow k)) (assumption) kind) (λ h. refl)
+    either (p.AfterOperand min_bp max_bp) (Some kind) (may_continue min_bp max_bp kind) (continue_action kind) a.EndOperand
+    (λ h. each_kind (λ k. Allowed (p.AfterOperand min_bp max_bp) (Some k) (continue_action k)) (assumption) kind) (λ h. refl)

@@ -6,7 +6,7 @@ use Rattle.rnix_grammar.specs.declared.begin.Begin.{Begin}
 use Rattle.rnix_grammar.specs.declared.begin.Begin.TheVariants as b
 use Rattle.rnix_grammar.specs.AnnotatedForest.{Token, AnnotatedForest, tokens_in, head_kind}
 use Rattle.rnix_grammar.specs.Begins.{begin_of, second_kind}
-use Rattle.rnix_grammar.specs.Operands.{first_tree, goes_on}
+use Rattle.rnix_grammar.specs.Operands.{first_tree, is_continued}
 use Rattle.rnix_grammar.specs.TreeLevels.{row_level}
 
 -- the kind of the first tree of what begins so
@@ -27,4 +27,4 @@ IsBegun level x (t ∷ ts) = kind_of (begin_of level t.kind t.text (head_kind ts
 -- An operand of a level before some items binds as tightly as the level asks, begins as its items say, and the next item does not go on with it.
 abbrev pub IsOperand : Option ℕ → AnnotatedForest → List Token → Type 0
 IsOperand None x after = Unit {0}
-IsOperand (Some level) x after = (level ≤ row_level x) × IsBegun level x (tokens_in x ++ after) × (goes_on level x after ≡ false)
+IsOperand (Some level) x after = (level ≤ row_level x) × IsBegun level x (tokens_in x ++ after) × (is_continued level x after ≡ false)

@@ -24,7 +24,7 @@ pub record IsAwaiting (row : AnnotatedForest) (ts vs : List Token) : Type 0 wher
   pub before : AnnotatedForest
   pub at : List Token
   pub row_is : row ≡ with_leading true before at
-  pub repaired_nonempty : HasTrivia before ts at
+  pub before_has_trivia : HasTrivia before ts at
   pub next : vs ≡ from_item at
 
 -- the rows that wait, one above another: each begins where the tree begins for which the one below waits, and the lowest with all tokens
@@ -48,11 +48,11 @@ AttachesTrivia all m = HaveTrivia all m.frames m.left
 
 -- a row begins to wait
 awaits : (row : AnnotatedForest) (ts us : List Token) → HasTrivia row ts us → IsAwaiting (with_leading true row us) ts (from_item us)
-awaits row ts us h = record { before = row; at = us; row_is = refl; repaired_nonempty = h; next = refl }
+awaits row ts us h = record { before = row; at = us; row_is = refl; before_has_trivia = h; next = refl }
 
 -- a row in which nothing is read waits
 awaits_blank : (ts : List Token) → HasNoLeadingTrivia ts → IsAwaiting blank ts ts
-awaits_blank ts b = record { before = blank; at = ts; row_is = sym (no_leading_trivia ts b); repaired_nonempty = with_trivia_blank ts; next = sym b }
+awaits_blank ts b = record { before = blank; at = ts; row_is = sym (no_leading_trivia ts b); before_has_trivia = with_trivia_blank ts; next = sym b }
 
 -- what is waited for does not begin with trivia
 awaited_no_leading_trivia : (row : AnnotatedForest) (ts vs : List Token) → IsAwaiting row ts vs → HasNoLeadingTrivia vs
@@ -62,7 +62,7 @@ awaited_no_leading_trivia row ts vs h = subst HasNoLeadingTrivia (sym h.next) (f
 came : (row g : AnnotatedForest) (ts vs us : List Token) → IsAwaiting row ts vs → HasTrivia g vs us → HasTree (without_trivia g) → HasTrivia (row ⊕ g) ts us
 came row g ts vs us h j t =
     subst (λ (x : AnnotatedForest). HasTrivia (x ⊕ g) ts us) (sym h.row_is)
-    (with_trivia_added h.before g ts h.at us h.repaired_nonempty (subst (λ (x : List Token). HasTrivia g x us) h.next j) t)
+    (with_trivia_added h.before g ts h.at us h.before_has_trivia (subst (λ (x : List Token). HasTrivia g x us) h.next j) t)
 
 -- what is made of a row
 made_with_trivia : (h : Head) (row : AnnotatedForest) (ts us : List Token) → HasNoLeadingTrivia ts → HasTrivia row ts us → HasTrivia (made h row) ts us

@@ -12,7 +12,7 @@ use Rattle.rnix_grammar.specs.{Reads.{leaf as leaf_node_made, missing_part, wron
 use Rattle.{rnix_grammar.specs.Named.{is_repeated, Lacks}, rnix_proof_lemmas.{specs.{LeafKinds.is_node, Spelled.AreSpelled}, proofs.Basics.true_is_not_false}}
 use Rattle.rnix_proof_lemmas.proofs.{SpelledLemmas.{spelled_first, spelled_rest}, EntryNames.{has-⊕, if_not}, AfterErrors.wrong_goes, ViableRows.reads_row}
 use Rattle.{rnix_proof_lemmas.proofs.RowKinds.has_row, rnix_proof_soundness.proofs.{RowViews.{entry_text, ends, stands, View, view}, RowForms.are_entries_new}}
-use Rattle.rnix_proof_soundness.proofs.{TokenDependentForms.{sound_made, sound_tokens}, SoundRows.{Skips, IsEntry, Tokens, Calls, IsSound, repaired_nonempty}}
+use Rattle.rnix_proof_soundness.proofs.{TokenDependentForms.{sound_made, sound_tokens}, SoundRows.{Skips, IsEntry, Tokens, Calls, IsSound, sound_row}}
 use Rattle.rnix_grammar.specs.declared.rules.Part.TheVariants as p
 
 -- errors of two rows
@@ -169,4 +169,4 @@ pub converse : (f : AnnotatedForest) (faults : List Fault) → ReadsRoot f fault
     → ended_count faults ≡ 0
     → Lacks is_repeated faults → has_no_extension NODE_ROOT (repaired f) ≡ true → IsExpression (repaired f)
 converse f faults h named w e m o = one_expression (view NODE_ROOT (row NODE_ROOT) (repaired f)
-    (repaired_nonempty NODE_ROOT (row NODE_ROOT) blank f (sound h refl w named o (none_counted faults e) m)))
+    (sound_row NODE_ROOT (row NODE_ROOT) blank f (sound h refl w named o (none_counted faults e) m)))

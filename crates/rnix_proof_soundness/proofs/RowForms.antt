@@ -6,7 +6,7 @@ use Rattle.rnix_grammar.specs.{Levels.{expression_level, selection_level}, Token
 use Rattle.rnix_grammar.specs.{Rules.{Row, done, ◌·◌, row}, declared.rules.Part.TheVariants.EndOr}
 use Rattle.rnix_grammar.specs.{Rows.{fits, is_atom, is_attr, is_entry, is_expression}, AllowedNames.is_named, TreeLevels.level_of}
 use Rattle.rnix_proof_lemmas.proofs.{Basics.{not_if, true_is_not_false}, EveryKind.{not_together, whenever_both, never as no_kind_both}, KindsOfNodes.fits_expression}
-use Rattle.rnix_proof_soundness.proofs.RowViews.{begins_with_leaf, entry_text, IsBind, binds_before, binds_behind, IsPart, IsIn, Offers, attr_of, is_piece, goes_on}
+use Rattle.rnix_proof_soundness.proofs.RowViews.{begins_with_leaf, entry_text, IsBind, binds_before, binds_behind, IsPart, IsIn, Offers, attr_of, is_piece, continues_path}
 use Rattle.rnix_proof_soundness.proofs.RowViews.{Ends, ends, Leads, leads, heads, One, FirstNode, stands, Several, over, and_leaf, and_node}
 use Rattle.rnix_proof_soundness.proofs.RowViews.{Braces, closed, dotted, last, comma, View}
 use Rattle.rnix_grammar.specs.Grammar as G
@@ -87,13 +87,13 @@ pieces (and_leaf {k = _} i b r) = absurd (not_together refl i b)
 pieces (and_node {k = K.NODE_INTERPOL} i b a m r) = G.interpolated m (pieces r)
 pieces (and_node {k = _} i b a m r) = absurd (not_together refl i b)
 
-path_pieces : {a : SyntaxKind → Forest → Type 0} {f : Forest} → Several goes_on a Ends f → G.PathPieces f
+path_pieces : {a : SyntaxKind → Forest → Type 0} {f : Forest} → Several continues_path a Ends f → G.PathPieces f
 path_pieces (over ends) = G.pieces_end
-path_pieces (and_leaf {k = k} i b r) = G.piece (whenever_both is_token goes_on is_path_piece refl k i b) (path_pieces r)
+path_pieces (and_leaf {k = k} i b r) = G.piece (whenever_both is_token continues_path is_path_piece refl k i b) (path_pieces r)
 path_pieces (and_node {k = K.NODE_INTERPOL} i b a m r) = G.piece_on m (path_pieces r)
 path_pieces (and_node {k = _} i b a m r) = absurd (not_together refl i b)
 
-path_end_of : {a : SyntaxKind → Forest → Type 0} {r : Row} {f : Forest} → One false K.NODE_INTERPOL r (Several goes_on a Ends) f ⊎ Ends f → G.PathEnd f
+path_end_of : {a : SyntaxKind → Forest → Type 0} {r : Row} {f : Forest} → One false K.NODE_INTERPOL r (Several continues_path a Ends) f ⊎ Ends f → G.PathEnd f
 path_end_of (inl (heads m b v)) = G.path_on m (path_pieces v)
 path_end_of (inr ends) = G.path_end
 

@@ -88,8 +88,8 @@ is_piece K.TOKEN_STRING_CONTENT = true
 is_piece K.NODE_INTERPOL = true
 is_piece k = false
 
-abbrev pub goes_on : SyntaxKind → Bool
-goes_on k = is_path_piece k || same_kind K.NODE_INTERPOL k
+abbrev pub continues_path : SyntaxKind → Bool
+continues_path k = is_path_piece k || same_kind K.NODE_INTERPOL k
 
 -- the parts of such a row: nothing; a child of a kind; an operand; several children; formals
 pub data Ends : Forest → Type 0 where
@@ -158,7 +158,7 @@ View parent (p.Many n w · r) = Several (fits n) (Offers parent n) (One (is_toke
 View parent (p.Entries w · r) = Several is_entry (λ k c. Unit {0}) (One (is_token w) w (p.Entries w · r) (View parent r))
 View parent (p.Names · p.Wanted w · r) = Several is_attr (λ k c. Unit {0}) (One (is_token w) w (p.Names · p.Wanted w · r) (View parent r))
 View parent (p.Pieces · p.Wanted w · r) = Several is_piece (λ k c. Unit {0}) (One (is_token w) w (p.Pieces · p.Wanted w · r) (View parent r))
-View parent (p.PathPieces · r) = Several goes_on (λ k c. Unit {0}) Ends
+View parent (p.PathPieces · r) = Several continues_path (λ k c. Unit {0}) Ends
 View parent (p.Attr · p.MoreAttrs · r) = Attrpath
 View parent (p.Formals · r) = Braces (View parent r)
 View parent (p.FormalsAfterComma · r) = Braces (View parent r)
@@ -292,10 +292,10 @@ module _ (parent : SyntaxKind) where
   piece_on w k r h = inl (this_kind w k r h)
 
   -- pieces of a path stand up to the end of the row
-  pieces : (r : Row) (f : Forest) → GrammarRow parent (p.PathPieces · r) f → Several goes_on (λ k c. Unit {0}) Ends f
+  pieces : (r : Row) (f : Forest) → GrammarRow parent (p.PathPieces · r) f → Several continues_path (λ k c. Unit {0}) Ends f
   pieces r empty (ended h) = over ends
-  pieces r (leaf k t f) (leaf_node_made i h) = let x = kept (goes_on k) (p.PathPieces · r) h in and_leaf i x.0 (pieces r f x.1)
-  pieces r (node k c f) (node_started i m a h) = let x = kept (goes_on k) (p.PathPieces · r) h in and_node i x.0 tt m (pieces r f x.1)
+  pieces r (leaf k t f) (leaf_node_made i h) = let x = kept (continues_path k) (p.PathPieces · r) h in and_leaf i x.0 (pieces r f x.1)
+  pieces r (node k c f) (node_started i m a h) = let x = kept (continues_path k) (p.PathPieces · r) h in and_node i x.0 tt m (pieces r f x.1)
 
   -- an operand stands next
   operand : (n : ℕ) (counted : Bool) (r : Row) {V : Forest → Type 0} → ((f : Forest) → GrammarRow parent r f → V f) → (f : Forest)

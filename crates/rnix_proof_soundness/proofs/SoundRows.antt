@@ -215,15 +215,15 @@ grammar_row_number : (parent : SyntaxKind) (q : Row) {f : Forest} → GrammarRow
 grammar_row_number parent q h = node_started refl tt (number_asked parent q, refl) h
 
 -- so a sound row has children that are what they are in the grammar
-pub repaired_nonempty : (parent : SyntaxKind) (q : Row) (b f : AnnotatedForest) → IsSound parent q b f → GrammarRow parent q (repaired f)
-repaired_nonempty i q b blank h = ended h
-repaired_nonempty i q b (token k t f) h = leaf_node_made (leaf_is_token h.0) (repaired_nonempty i (after q k) (b ⊕ one_token k t) f h.1)
-repaired_nonempty i q b (branch k c f) h = node_started h.0.node (h.0.made.part i h.0.extension) (asked i q b k c h.0, bound_child q k c h.0.tokens h.0.suited)
-    (repaired_nonempty i (after q k) (b ⊕ one_branch k c) f h.1)
-repaired_nonempty i q b (fault Stray c f) h = grammar_row_number i q (repaired_nonempty i (after q NODE_LITERAL) (b ⊕ one_fault Stray c) f h.1)
-repaired_nonempty i q b (fault TooDeep c f) h = grammar_row_number i q (repaired_nonempty i (after q NODE_LITERAL) (b ⊕ one_fault TooDeep c) f h.1)
-repaired_nonempty i q b (fault (Unwanted u) c f) h =
-    grammar_row_run i q (repaired f) (run_at q) (goes_on_at i q (repaired f)) (repaired_nonempty i (after_run (run_at q)) (b ⊕ one_fault (Unwanted u) c) f h.1)
-repaired_nonempty i q b (fault Extra c f) h = repaired_nonempty i q (b ⊕ one_fault Extra c) f h.1
-repaired_nonempty i q b (fault DoubleBind c f) h = subst (λ z. GrammarRow i z (repaired f)) (sym h.0)
-    (alike i (p.BoundAlready · done) done refl (λ e. refl) (λ k c x. x) (λ H k none h. h) (repaired_nonempty i done (b ⊕ one_fault DoubleBind c) f h.1))
+pub sound_row : (parent : SyntaxKind) (q : Row) (b f : AnnotatedForest) → IsSound parent q b f → GrammarRow parent q (repaired f)
+sound_row i q b blank h = ended h
+sound_row i q b (token k t f) h = leaf_node_made (leaf_is_token h.0) (sound_row i (after q k) (b ⊕ one_token k t) f h.1)
+sound_row i q b (branch k c f) h = node_started h.0.node (h.0.made.part i h.0.extension) (asked i q b k c h.0, bound_child q k c h.0.tokens h.0.suited)
+    (sound_row i (after q k) (b ⊕ one_branch k c) f h.1)
+sound_row i q b (fault Stray c f) h = grammar_row_number i q (sound_row i (after q NODE_LITERAL) (b ⊕ one_fault Stray c) f h.1)
+sound_row i q b (fault TooDeep c f) h = grammar_row_number i q (sound_row i (after q NODE_LITERAL) (b ⊕ one_fault TooDeep c) f h.1)
+sound_row i q b (fault (Unwanted u) c f) h =
+    grammar_row_run i q (repaired f) (run_at q) (goes_on_at i q (repaired f)) (sound_row i (after_run (run_at q)) (b ⊕ one_fault (Unwanted u) c) f h.1)
+sound_row i q b (fault Extra c f) h = sound_row i q (b ⊕ one_fault Extra c) f h.1
+sound_row i q b (fault DoubleBind c f) h = subst (λ z. GrammarRow i z (repaired f)) (sym h.0)
+    (alike i (p.BoundAlready · done) done refl (λ e. refl) (λ k c x. x) (λ H k none h. h) (sound_row i done (b ⊕ one_fault DoubleBind c) f h.1))

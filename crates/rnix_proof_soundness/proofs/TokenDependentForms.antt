@@ -16,7 +16,7 @@ use Rattle.rnix_proof_lemmas.{specs.Spelled.is_spelled, proofs.{Basics.{choice, 
 use Rattle.rnix_proof_lemmas.proofs.{LevelLemmas.at_most, ReachableRows.is_viable, KindsOfNodes.fits_expression}
 use Rattle.rnix_proof_soundness.proofs.{RowViews.{begins_with_leaf, IsIn, Ends, ends, leads, heads, FirstNode, stands, View, view}, RowForms.are_entries_new}
 use Rattle.rnix_proof_soundness.proofs.{RowForms.{is_closed, depends_on_tokens, is_value, IsMade, made, of_strict}, SoundRows.{leaf_is_token, IsName, name}}
-use Rattle.rnix_proof_soundness.proofs.SoundRows.{IsEntry, Tokens, IsLeaf, IsChild, Skips, IsSound, no_part, nowhere, zero, named_value, repaired_nonempty}
+use Rattle.rnix_proof_soundness.proofs.SoundRows.{IsEntry, Tokens, IsLeaf, IsChild, Skips, IsSound, no_part, nowhere, zero, named_value, sound_row}
 use Rattle.rnix_proof_soundness.proofs.SoundRows.{level_operand}
 use Rattle.rnix_grammar.specs.Grammar as G
 use Rattle.rnix_grammar.specs.Tables as tables
@@ -168,7 +168,7 @@ position_made = token_next NODE_CUR_POS (row NODE_CUR_POS) blank refl refl refl 
 
 -- what is left of a row is seen part by part
 seen : (parent : SyntaxKind) (q : Row) (b f : AnnotatedForest) → IsSound parent q b f → View parent q (repaired f)
-seen i q b f s = view i q (repaired f) (repaired_nonempty i q b f s)
+seen i q b f s = view i q (repaired f) (sound_row i q b f s)
 
 -- prefix operators
 prefix_strict : (c : AnnotatedForest) → IsSound NODE_UNARY_OP (row NODE_UNARY_OP) blank c → G.Strict (prefix_in c) NODE_UNARY_OP (repaired c)

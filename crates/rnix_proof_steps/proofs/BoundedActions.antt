@@ -6,7 +6,7 @@ use Rattle.rnix_kinds.specs.declared.kinds.SyntaxKind.TheVariants.{TOKEN_INHERIT
 use Rattle.rnix_green.specs.Equality.{same_kind}
 use Rattle.rnix_grammar.specs.declared.{position.Position.Position, action.Action.Action, slot_table.Slot.{Slot, TheVariants.{Next, End}}}
 use Rattle.rnix_grammar.specs.declared.slot_table.TheConstants.{SLOTS, PATTERN, AFTER_COMMA, AFTER_FORMAL, PATTERN_CLOSE, BOUND_AFTER_COMMA, BOUND_AFTER_FORMAL, BOUND_PATTERN_CLOSE, DYNAMIC, STRING, STRING_CLOSED, INHERIT_END, INHERIT_CLOSED, INTERPOL, INHERIT, INHERIT_FROM, INHERITED_NAME, ATTRPATH, ATTRPATH_VALUE, PAT_BIND, PAT_ENTRY, SECOND_BIND, BIN_OP_END}
-use Rattle.rnix_grammar.specs.{Slots.slot_at, Actions.{expected_set_of, name_action, attr_action, names_action, pieces_action, piece_action, more_attrs_action, formals_action, end_or_action, bound_action, close_action, is_not, follow, goes_on, slot_action, action_at}}
+use Rattle.rnix_grammar.specs.{Slots.slot_at, Actions.{expected_set_of, name_action, attr_action, names_action, pieces_action, piece_action, more_attrs_action, formals_action, end_or_action, bound_action, close_action, is_not, continue_action, may_continue, slot_action, action_at}}
 use Rattle.rnix_proof_lemmas.specs.Measures.{measure}
 use Rattle.rnix_proof_lemmas.proofs.{Basics.choice, EachKind.each_kind, EachIndex.each_index}
 use Rattle.rnix_proof_size.proofs.NodeBounds.{both_answers}
@@ -148,8 +148,8 @@ keeps_at = each_index KeepsAt (assumption) past_end
 kept : (x : Position) (kind : SyntaxKind) (touches : Bool) → keeps x (action_at x (Some kind) touches) ≡ true
 kept (p.Left i) kind touches = acted (λ action. keeps (p.Left i) action ≡ true) (slot_at i) i kind touches (keeps_at i)
 kept (p.AfterOperand min_bp max_bp) kind touches =
-    choice (λ action. keeps (p.AfterOperand min_bp max_bp) action ≡ true) (goes_on min_bp max_bp kind)
-    (every (λ k. keeps (p.AfterOperand min_bp max_bp) (follow k)) refl kind) refl
+    choice (λ action. keeps (p.AfterOperand min_bp max_bp) action ≡ true) (may_continue min_bp max_bp kind)
+    (every (λ k. keeps (p.AfterOperand min_bp max_bp) (continue_action k)) refl kind) refl
 kept (p.Right level) kind touches =
     both_answers (λ any. are_at_most (reads false any false (p.Right level) (p.Left BIN_OP_END))
     && are_at_most (reads true any false (p.Right level) (p.Left BIN_OP_END))) refl (nat_eq level 0)

@@ -3,9 +3,9 @@ use Rattle.std.proofs.{lemmas.Bool.and_parts, Common.{◌≡◌, ◌++◌, subst
 use Rattle.{std.proofs.Common.{◌∙◌, ◌&&◌, if◌then◌else◌, nat_le, Option, None, nat_eq}, rnix_kinds.specs.declared.kinds.SyntaxKind.SyntaxKind}
 use Rattle.rnix_kinds.specs.declared.kinds.SyntaxKind.TheVariants.{TOKEN_AT, TOKEN_COLON, TOKEN_IDENT, TOKEN_INVERT, TOKEN_L_BRACE, TOKEN_LET, TOKEN_SUB}
 use Rattle.rnix_kinds.specs.declared.kinds.SyntaxKind.TheVariants.{NODE_APPLY, NODE_BIN_OP, NODE_HAS_ATTR, NODE_IDENT_PARAM, NODE_LAMBDA, NODE_LEGACY_LET}
-use Rattle.{rnix_kinds.specs.declared.kinds.SyntaxKind.TheVariants.{NODE_PATTERN, NODE_SELECT, NODE_UNARY_OP}, rnix_grammar.specs.Actions.{follow, more_action}}
-use Rattle.rnix_grammar.specs.{Actions.{goes_on as goes_between}, Levels.binding_power, AnnotatedForest.{Token, AnnotatedForest, head_kind, end_from, blank}}
-use Rattle.rnix_grammar.specs.{AnnotatedForest.{token, branch, one_branch, leaf_kind_as, Stray}, Operands.{follows, first_tree, goes_on}}
+use Rattle.{rnix_kinds.specs.declared.kinds.SyntaxKind.TheVariants.{NODE_PATTERN, NODE_SELECT, NODE_UNARY_OP}, rnix_grammar.specs.Actions.{continue_action, more_action}}
+use Rattle.rnix_grammar.specs.{Actions.{may_continue}, Levels.binding_power, AnnotatedForest.{Token, AnnotatedForest, head_kind, end_from, blank}}
+use Rattle.rnix_grammar.specs.{AnnotatedForest.{token, branch, one_branch, leaf_kind_as, Stray}, Operands.{follows, first_tree, is_continued}}
 use Rattle.rnix_grammar.specs.{declared.{action.Action.Action, begin.Begin.Begin}, Fault.Fault, TreeLevels.{row_level, level_of}, Tables.is_cur_pos}
 use Rattle.rnix_grammar.specs.{Begins.{begin_of, begin_name, begin_let, is_pattern, second_kind}, Rows.{is_atom, is_expression}, Rules.{after, done}}
 use Rattle.{rnix_grammar.{specs.{Rules.{row as row_of_kind}}}, rnix_proof_lemmas.specs.{BegunOperands.{IsBegun, kind_of}, Machine.{Operand, Frame, machine}}}
@@ -19,22 +19,22 @@ use Rattle.rnix_grammar.specs.declared.begin.Begin.TheVariants as b
 
 -- an item goes on with a tree, as far as the tree's level
 pub goes : (level max_bp : ℕ) (i : SyntaxKind) (x : AnnotatedForest) → FollowedTo max_bp x → follows i x ≡ true → level ≤ binding_power i
-    → more_action level max_bp (Some i) ≡ follow i
+    → more_action level max_bp (Some i) ≡ continue_action i
 goes level max_bp i x b f l =
     let w = (b i).1 f in
-    ap (λ z. if z then follow i else a.EndOperand) (all_three (nat_le 1 (binding_power i)) (nat_le level (binding_power i)) (nat_le (binding_power i) max_bp)
+    ap (λ z. if z then continue_action i else a.EndOperand) (all_three (nat_le 1 (binding_power i)) (nat_le level (binding_power i)) (nat_le (binding_power i) max_bp)
     (at_most_true 1 (binding_power i) w.0) (at_most_true level (binding_power i) l) (at_most_true (binding_power i) max_bp w.1))
   where
     all_three : (u v w : Bool) → u ≡ true → v ≡ true → w ≡ true → (u && (v && w)) ≡ true
     all_three u v w e f g = ap (λ z. z && (v && w)) e ∙ ap (λ z. z && w) f ∙ g
 
 -- an operand that no item goes on with ends
-pub settles : (level max_bp : ℕ) (x : AnnotatedForest) (us : List Token) → FollowedTo max_bp x → goes_on level x us ≡ false
+pub settles : (level max_bp : ℕ) (x : AnnotatedForest) (us : List Token) → FollowedTo max_bp x → is_continued level x us ≡ false
     → more_action level max_bp (head_kind us) ≡ a.EndOperand
 settles level max_bp x [] b h = refl
-settles level max_bp x (t ∷ ts) b h = by (goes_between level max_bp t.kind) refl
+settles level max_bp x (t ∷ ts) b h = by (may_continue level max_bp t.kind) refl
   where
-    by : (w : Bool) → goes_between level max_bp t.kind ≡ w → (if w then follow t.kind else a.EndOperand) ≡ a.EndOperand
+    by : (w : Bool) → may_continue level max_bp t.kind ≡ w → (if w then continue_action t.kind else a.EndOperand) ≡ a.EndOperand
     by false e = refl
     by true e =
         let u = and_parts (nat_le 1 (binding_power t.kind)) (nat_le level (binding_power t.kind) && nat_le (binding_power t.kind) max_bp) e in
@@ -50,7 +50,7 @@ begun_same level x y (t ∷ ts) e h = h ∙ e
 -- a tree with which an item goes on is the first of another that is read, if the steps read the rest of that
 pub continued : (zs xs : List Token) (x z : AnnotatedForest) (i : SyntaxKind) (action : Action) (max_bp d n : ℕ) (us : List Token) (es ds : List Fault)
     → follows i x ≡ true
-    → head_kind (xs ++ us) ≡ Some i → follow i ≡ action → first_tree z ≡ first_tree x → row_level z ≤ binding_power i → FollowedTo max_bp z
+    → head_kind (xs ++ us) ≡ Some i → continue_action i ≡ action → first_tree z ≡ first_tree x → row_level z ≤ binding_power i → FollowedTo max_bp z
     → ReadsTree d n zs x (xs ++ us) es
     → ((level other : ℕ) (f : Frame) (fs : List Frame) (gs : List Fault)
     → Runs false (perform false action (opened Operand (p.AfterOperand level other) d x) (f ∷ fs) (xs ++ us) (end_from n zs) gs)

@@ -3,7 +3,7 @@ use Rattle.std.proofs.Common.{◌≡◌, ℕ, Bool, true, false, List, [], ◌�
 use Rattle.rnix_kinds.{proofs.AllKinds.implied, specs.declared.kinds.SyntaxKind.{SyntaxKind, TheVariants.{TOKEN_ADD, TOKEN_DOT, TOKEN_QUESTION, NODE_BIN_OP}}}
 use Rattle.rnix_kinds.specs.declared.kinds.SyntaxKind.TheVariants.{NODE_HAS_ATTR, NODE_LITERAL, NODE_SELECT}
 use Rattle.rnix_grammar.specs.declared.{position.Position.Position, rules.Part.TheVariants.{Binary, Suffix}, slot_table.TheConstants.{HAS_ATTR, SELECT}}
-use Rattle.rnix_grammar.specs.{Fault.Fault, Actions.{follow as follow_of}, Levels.{binding_power, right_of, max_bp_of}, AnnotatedForest.{Token, Stray}}
+use Rattle.rnix_grammar.specs.{Fault.Fault, Actions.{continue_action}, Levels.{binding_power, right_of, max_bp_of}, AnnotatedForest.{Token, Stray}}
 use Rattle.rnix_grammar.specs.AnnotatedForest.{AnnotatedForest, blank, branch, token, ◌⊕◌, one_token, one_branch, one_fault, row_of, tokens_in, leaf_kind}
 use Rattle.rnix_grammar.specs.{AnnotatedForest.end_from, Reports.report, Rows.{is_atom, is_questioned, is_operand, is_infix, is_expression}}
 use Rattle.rnix_grammar.specs.{TreeLevels.row_level, Operands.{follows, first_tree}, Rules.{IsFollowed, Row, after, done, only as row_if, row as row_of_kind}}
@@ -59,7 +59,7 @@ record Joins (k : SyntaxKind) (q : Row) (test : SyntaxKind → Bool) (z : Syntax
   follow : (i : SyntaxKind) (x : AnnotatedForest) → IsFollowed q x (Some i) → follows i x ≡ true
   goes : (i : SyntaxKind) → is_viable (after q i) ≡ true → after q i ≡ rest_at (z i)
   in_row_of : (i : SyntaxKind) → is_at k (z i) ≡ true
-  action : (i : SyntaxKind) → is_viable (after q i) ≡ true → follow_of i ≡ a.Wrap k (z i) (max_bp i)
+  action : (i : SyntaxKind) → is_viable (after q i) ≡ true → continue_action i ≡ a.Wrap k (z i) (max_bp i)
   level : (i : SyntaxKind) (x : AnnotatedForest) (t : Token) (f : AnnotatedForest) → IsSingle x → is_viable (after q i) ≡ true
       → row_level (one_branch k (x ⊕ token i t f)) ≡ binding_power i
   followed : (i : SyntaxKind) (x : AnnotatedForest) → is_viable (after q i) ≡ true → row_level (one_branch k x) ≡ binding_power i
@@ -116,7 +116,7 @@ joined_reads m rows trees k q test z max_bp w d n us c es r = leading trees w.be
         (ap (λ i. follows i x) (sym e) ∙ w.follow (leaf_kind k t) x v.followed) (read_on rows (z t.kind) (w.in_row_of t.kind) rest))
 
 -- how a binary operator goes on
-follow_infix : (i : SyntaxKind) → is_infix i ≡ true → follow_of i ≡ a.Wrap NODE_BIN_OP (p.Right (right_of i)) (max_bp_of i)
+follow_infix : (i : SyntaxKind) → is_infix i ≡ true → continue_action i ≡ a.Wrap NODE_BIN_OP (p.Right (right_of i)) (max_bp_of i)
 follow_infix TOKEN_ADD h = refl
 follow_infix _ h = cc
 
@@ -147,7 +147,7 @@ question_reads m rows trees =
       follow = λ i x h. h;
       goes = λ i l. ap (after (Suffix TOKEN_QUESTION · left_at HAS_ATTR)) (question i l);
       in_row_of = λ i. refl;
-      action = λ i l. ap follow_of (question i l);
+      action = λ i l. ap continue_action (question i l);
       level = λ i x t f one l. sym (ap binding_power (question i l));
       followed = λ i x l e. followed_question (one_branch NODE_HAS_ATTR x) refl refl;
       first = λ x. refl;
@@ -165,7 +165,7 @@ selected_reads m rows trees =
       follow = λ i x h. h;
       goes = λ i l. ap (after (Suffix TOKEN_DOT · left_at SELECT)) (dot i l);
       in_row_of = λ i. refl;
-      action = λ i l. ap follow_of (dot i l);
+      action = λ i l. ap continue_action (dot i l);
       level = λ i x t f one l. sym (ap binding_power (dot i l));
       followed = λ i x l e. followed_selection (one_branch NODE_SELECT x) refl refl;
       first = λ x. refl;

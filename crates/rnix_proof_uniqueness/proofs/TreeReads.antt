@@ -3,9 +3,9 @@ use Rattle.std.proofs.Common.{◌≡◌, ℕ, ◌≤◌, Bool, true, false, List
 use Rattle.{std.proofs.{Common.{if◌then◌else◌, suc}, lemmas.Bool.and_parts}, rnix_kinds.{proofs.AllKinds.implied, specs.declared.kinds.SyntaxKind.SyntaxKind}}
 use Rattle.rnix_kinds.specs.declared.kinds.SyntaxKind.TheVariants.{TOKEN_FLOAT, TOKEN_OR, NODE_APPLY, NODE_IDENT, NODE_BIN_OP, NODE_HAS_ATTR, NODE_LAMBDA}
 use Rattle.{rnix_kinds.specs.{declared.kinds.SyntaxKind.TheVariants.{NODE_LEGACY_LET, NODE_SELECT}, SyntaxKind.is_fn_arg}, rnix_grammar.specs.Fault.Fault}
-use Rattle.rnix_grammar.specs.{Actions.{follow as follow_of}, Levels.binding_power, TokenKinds.is_or, AnnotatedForest.{Token, Stray, AnnotatedForest, blank}}
+use Rattle.rnix_grammar.specs.{Actions.{continue_action}, Levels.binding_power, TokenKinds.is_or, AnnotatedForest.{Token, Stray, AnnotatedForest, blank}}
 use Rattle.rnix_grammar.specs.AnnotatedForest.{branch, fault, ◌⊕◌, one_token, one_branch, one_fault, row_of, tokens_in, leaf_kind, head_kind, end_from}
-use Rattle.rnix_grammar.specs.{Reports.{report, repeats}, Rows.{is_simple, is_expression, fits}, TreeLevels.{row_level, is_or_row}, Operands.{follows, goes_on}}
+use Rattle.rnix_grammar.specs.{Reports.{report, repeats}, Rows.{is_simple, is_expression, fits}, TreeLevels.{row_level, is_or_row}, Operands.{follows, is_continued}}
 use Rattle.rnix_grammar.specs.{declared.{rules.Part.TheVariants.Argument, slot_table.TheConstants.APPLIED}, Beginnings.{BeginsAs, IsOperandOf}}
 use Rattle.{rnix_grammar.{specs.{Rules.{IsExpected, IsFollowed, done, only as row_if, row as row_of_kind, ◌·◌}}}, rnix_proof_lemmas.specs.Machine.Node}
 use Rattle.rnix_proof_lemmas.{specs.{Machine.{Operand, Frame, machine, opened, perform, rest as here}, BegunOperands.IsBegun}, proofs.KindsOfNodes.unreported}
@@ -19,7 +19,7 @@ use Rattle.rnix_grammar.specs.declared.position.Position.TheVariants as p
 use Rattle.rnix_grammar.specs.declared.action.Action.TheVariants as a
 
 -- how the first item of an argument goes on with a tree
-passes : (i : SyntaxKind) → is_fn_arg i ≡ true → follow_of i ≡ a.Apply
+passes : (i : SyntaxKind) → is_fn_arg i ≡ true → continue_action i ≡ a.Apply
 passes TOKEN_FLOAT h = refl
 passes _ h = cc
 
@@ -31,7 +31,7 @@ call_level x v w one h = ap (λ z. if z then 16 else 15) (single_calls x v one �
 called : (zs xs : List Token) (x v : AnnotatedForest) (i : SyntaxKind) (d n : ℕ) (us : List Token) (es ds : List Fault) → IsSingle x
     → head_kind (xs ++ us) ≡ Some i → is_fn_arg i ≡ true → follows i x ≡ true
     → ReadsTree d n zs x (xs ++ us) es → ReadsTree d (end_from n zs) xs v us ds
-    → is_or_row v ≡ false → 16 ≤ row_level v → IsBegun 16 v (xs ++ us) → goes_on 16 v us ≡ false
+    → is_or_row v ≡ false → 16 ≤ row_level v → IsBegun 16 v (xs ++ us) → is_continued 16 v us ≡ false
     → ReadsTree d n (zs ++ xs) (one_branch NODE_APPLY (x ⊕ v)) us (es ++ ds)
 called zs xs x v i d n us es ds one next arg follow tree passed plain tight begun over =
     continued zs xs x z i a.Apply 15 d n us es ds follow next (passes i arg) (first_in x v one)
@@ -59,7 +59,7 @@ called_or zs x t d n us es one kind follow named tree =
     let v : AnnotatedForest = one_branch NODE_IDENT (one_token (leaf_kind NODE_IDENT t) t) in
     let z : AnnotatedForest = one_branch NODE_APPLY (x ⊕ v) in
     let level : row_level z ≡ 16 = call_level x v true one named in
-    continued zs (t ∷ []) x z t.kind a.ApplyOr 15 d n us es [] follow refl (ap follow_of kind) (first_in x v one) (omega (arith, level, ap binding_power kind))
+    continued zs (t ∷ []) x z t.kind a.ApplyOr 15 d n us es [] follow refl (ap continue_action kind) (first_in x v one) (omega (arith, level, ap binding_power kind))
     (followed_selection z level refl) tree
     (λ level other f fs gs. runs_to (ap (λ w. machine (opened Operand (p.AfterOperand level 15) d z ∷ (f ∷ fs)) us t.end w) (sym (append-nil gs))) here)
 
@@ -102,7 +102,7 @@ Called d n zs x us es xs v ds = ReadsTree d n (zs ++ xs) (one_branch NODE_APPLY 
 argument : (d n : ℕ) (zs xs : List Token) (x v : AnnotatedForest) (us : List Token) (es ds : List Fault) → IsSingle x → ReadsTree d n zs x (xs ++ us) es
     → IsExpected (Argument · done) (end_from n zs) (xs ++ us) false
     → IsFollowed (Argument · done) x (head_kind (xs ++ us)) → is_or_row v ≡ false → 16 ≤ row_level v → IsBegun 16 v (xs ++ us)
-    → goes_on 16 v us ≡ false → ReadsTree d (end_from n zs) xs v us ds
+    → is_continued 16 v us ≡ false → ReadsTree d (end_from n zs) xs v us ds
     → Called d n zs x us es xs v ds
 argument d n zs xs x v us es ds one reads o w plain tight begun over tree = by (xs ++ us) refl o w
   where

@@ -15,8 +15,8 @@ use Rattle.rnix_grammar.specs.declared.begin.Begin.TheVariants as b
 
 module _ (f : Frame) (fs : List Frame) (ts : List Token) (n : ℕ) (es : List Fault) where
   -- what the reader holds
-  abbrev repaired_nonempty : State
-  repaired_nonempty = erase (machine (f ∷ fs) ts n es)
+  abbrev reader_state : State
+  reader_state = erase (machine (f ∷ fs) ts n es)
 
   -- behind the trivia
   abbrev us : List Token
@@ -30,7 +30,7 @@ module _ (f : Frame) (fs : List Frame) (ts : List Token) (n : ℕ) (es : List Fa
   abbrev function : ℕ → ℕ → List Frame
   function level d = opened (Node NODE_LAMBDA) (p.Left LAMBDA) d blank ∷ on (p.AfterOperand level 16) d
 
-  operand : (over : Position) (d : ℕ) → operand_begun over d repaired_nonempty ≡ erase (machine (on over d) us n es)
+  operand : (over : Position) (d : ℕ) → operand_begun over d reader_state ≡ erase (machine (on over d) us n es)
   operand over d =
       ap (operand_here over d) (erase-eaten _ f fs ts n es) ∙ erase-operand over d (put f.position (with_leading true f.row ts) f ∷ fs) us n es
 
@@ -42,17 +42,17 @@ module _ (f : Frame) (fs : List Frame) (ts : List Token) (n : ℕ) (es : List Fa
       → started k (erase_with ms (machine gs us n es)) ≡ erase_with ms (machine (opened (Node k) (p.Left APPLIED) d blank ∷ gs) us n es)
   inner ms k d gs = ap (started_here k) (erase-settled ms gs ts n es) ∙ erase-started ms k (p.Left APPLIED) d gs us n es
 
-  lambda : (level d : ℕ) → lambda_begun (p.AfterOperand level 16) d repaired_nonempty ≡ erase (machine (function level d) us n es)
+  lambda : (level d : ℕ) → lambda_begun (p.AfterOperand level 16) d reader_state ≡ erase (machine (function level d) us n es)
   lambda level d = ap (node_started NODE_LAMBDA (p.Left LAMBDA) d) (operand (p.AfterOperand level 16) d)
       ∙ node NODE_LAMBDA (p.Left LAMBDA) d (on (p.AfterOperand level 16) d)
 
-  leafs : (k : SyntaxKind) (level d : ℕ) (t : Token) → begun_as (b.Leaf k) level d t repaired_nonempty ≡ erase (begun true (b.Leaf k) level d t f fs ts n es)
+  leafs : (k : SyntaxKind) (level d : ℕ) (t : Token) → begun_as (b.Leaf k) level d t reader_state ≡ erase (begun true (b.Leaf k) level d t f fs ts n es)
   leafs k level d t =
       ap (leaf_node_made k) (operand (p.AfterOperand level 16) d) ∙ erase-first _ k (opened Operand (p.AfterOperand level 16) d blank)
       (put f.position (with_leading true f.row ts) f ∷ fs) ts n es
 
   nodes : (k : SyntaxKind) (left max_bp level d : ℕ) (t : Token)
-      → begun_as (b.Node k left max_bp) level d t repaired_nonempty ≡ erase (begun true (b.Node k left max_bp) level d t f fs ts n es)
+      → begun_as (b.Node k left max_bp) level d t reader_state ≡ erase (begun true (b.Node k left max_bp) level d t f fs ts n es)
   nodes k left max_bp level d t =
       let position : Position = p.Left left in
       let gs : List Frame = on (p.AfterOperand level max_bp) d in
@@ -60,7 +60,7 @@ module _ (f : Frame) (fs : List Frame) (ts : List Token) (n : ℕ) (es : List Fa
       ∙ erase-next _ k (opened (Node k) position d blank) gs ts n es
 
   -- an operand begins as the machine's
-  begins_as : (how : Begin) (level d : ℕ) (t : Token) → begun_as how level d t repaired_nonempty ≡ erase (begun true how level d t f fs ts n es)
+  begins_as : (how : Begin) (level d : ℕ) (t : Token) → begun_as how level d t reader_state ≡ erase (begun true how level d t f fs ts n es)
   unfolding failed
   begins_as (b.Leaf k) level d t = leafs k level d t
   begins_as (b.Node k left max_bp) level d t = nodes k left max_bp level d t
@@ -92,14 +92,14 @@ module _ (f : Frame) (fs : List Frame) (ts : List Token) (n : ℕ) (es : List Fa
       ∙ ap (bumped NODE_PATTERN) (node NODE_PATTERN (p.Left PATTERN) d (function level d)) ∙ erase-next _ NODE_PATTERN pattern (function level d) ts n es
   begins_as b.Stray level d t = ap (failed (report Stray (t ∷ []))) (leafs NODE_ERROR level d t)
 
-  operand_is : (level d : ℕ) → operand_read level d repaired_nonempty ≡ erase (operand_on true level d f fs ts (items ts) n es)
+  operand_is : (level d : ℕ) → operand_read level d reader_state ≡ erase (operand_on true level d f fs ts (items ts) n es)
   unfolding failed
-  operand_is level d = elim (items ts) as (λ xs. operand_with level d (head_of xs) (tail_of xs) repaired_nonempty ≡ erase
+  operand_is level d = elim (items ts) as (λ xs. operand_with level d (head_of xs) (tail_of xs) reader_state ≡ erase
       (operand_on true level d f fs ts xs n es))
       [ [] ↦ refl | t ∷ xs ↦ begins_as (begins_with level t xs) level d t ]
 
   -- what is nested too deep
-  deep : limit_reported repaired_nonempty ≡ erase (limited true f fs ts n es)
+  deep : limit_reported reader_state ≡ erase (limited true f fs ts n es)
   unfolding failed
   deep =
       let run : List Token = items ts in
@@ -108,9 +108,9 @@ module _ (f : Frame) (fs : List Frame) (ts : List Token) (n : ℕ) (es : List Fa
       ∙ ap (failed too_deep) (erase-eaten _ g fs (run_rest true run ts) (end_from n run) es)
 
   -- an operand is read as the machine's, counted or not
-  pub expression_is : (level : ℕ) (counted : Bool) → expression_read level counted f.depth repaired_nonempty ≡ erase (reading true level counted f fs ts n es)
+  pub expression_is : (level : ℕ) (counted : Bool) → expression_read level counted f.depth reader_state ≡ erase (reading true level counted f fs ts n es)
   expression_is level true =
-      elim (nat_le depth_limit f.depth) as (λ x. (if x then limit_reported repaired_nonempty else operand_read level (f.depth + 1) repaired_nonempty)
+      elim (nat_le depth_limit f.depth) as (λ x. (if x then limit_reported reader_state else operand_read level (f.depth + 1) reader_state)
       ≡ erase (if x then limited true f fs ts n es else operand_on true level (suc f.depth) f fs ts (items ts) n es))
       [ true ↦ deep | false ↦ rw add-one (operand_is level (suc f.depth)) ]
   expression_is level false = operand_is level f.depth

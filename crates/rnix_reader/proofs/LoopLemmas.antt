@@ -3,7 +3,7 @@ use Rattle.std.proofs.{Common.{◌≡◌, ◌<◌, ℕ, Bool, true, false, Optio
 use Rattle.{std.{proofs.lemmas.Bool.false≢true, specs.Prelude.if◌then◌else◌}, rnix_kinds.specs.declared.kinds.{SyntaxKind.SyntaxKind, SyntaxKind.TheVariants.TOKEN_DOT}}
 use Rattle.{rnix_kinds.specs.declared.kinds.SyntaxKind.TheVariants.NODE_ROOT, rnix_green.specs.{Forest.{empty, node}, Draft.wrapped-join}}
 use Rattle.rnix_grammar.specs.{declared.{slot_table.TheConstants.ROOT, action.Action.Action, position.Position.Position}, AnnotatedForest.{Token, AnnotatedForest, blank}}
-use Rattle.rnix_grammar.specs.Actions.{follow, goes_on, more_action}
+use Rattle.rnix_grammar.specs.Actions.{continue_action, may_continue, more_action}
 use Rattle.rnix_grammar.specs.{AnnotatedForest.{forget, head_kind, touches}, Layout.{items, from_item}, Fault.Fault}
 use Rattle.rnix_proof_lemmas.specs.Allowed.{Allowed}
 use Rattle.rnix_proof_lemmas.specs.FrameKinds.{AreStacked}
@@ -12,7 +12,7 @@ use Rattle.rnix_proof_lemmas.specs.Machine.{rest as here, then as further}
 use Rattle.{rnix_proof_lemmas.proofs.{StackedFrames.step_stacked, AllowedLemmas.allowed}, rnix_reader.specs.declared.mark.Mark.Mark}
 use Rattle.rnix_reader.specs.{declared.pattern_names.Names.Names, Placed.AreInOrder, PatternNames.entries_in, State.{State, items_left, with_marks, eaten, ended}, Erase.marks_of}
 use Rattle.rnix_reader.specs.{Erase.{mark_of, erase, erase_with, popped}, Holds.{IsGoing, IsThrough, IsReadTo, work}, Performed.{Performed, NamesAfter, IsReady}}
-use Rattle.rnix_reader.{specs.Performed.{action_of, continues, is_finish}, proofs.{StateLemmas.state_is, DocumentLemmas.root_through, EraseLemmas.erase-eaten}}
+use Rattle.rnix_reader.{specs.Performed.{action_of, is_continuation, is_finish}, proofs.{StateLemmas.state_is, DocumentLemmas.root_through, EraseLemmas.erase-eaten}}
 use Rattle.rnix_reader.proofs.{StepsOfReader.{ready, performs}, GoesLemmas.Goes, PerformLemmas.perform_goes, WorkLemmas.{work_is, perform_less}}
 use Rattle.rnix_grammar.specs.declared.position.Position.TheVariants as p
 use Rattle.rnix_grammar.specs.declared.action.Action.TheVariants as a
@@ -43,21 +43,21 @@ not_finish a.Finish h = absurd (h refl)
 not_finish action h = refl
 
 -- what the table has follow an operand goes on with it
-pub follow_continues : (kind : SyntaxKind) → continues (follow kind) ≡ true
-follow_continues TOKEN_DOT = refl
-follow_continues kind = refl
+pub continue_action_is_continuation : (kind : SyntaxKind) → is_continuation (continue_action kind) ≡ true
+continue_action_is_continuation TOKEN_DOT = refl
+continue_action_is_continuation kind = refl
 
 -- what goes on with an operand does not end the text
-follow_goes : (kind : SyntaxKind) → is_finish (follow kind) ≡ false
-follow_goes TOKEN_DOT = refl
-follow_goes kind = refl
+continue_action_is_no_finish : (kind : SyntaxKind) → is_finish (continue_action kind) ≡ false
+continue_action_is_no_finish TOKEN_DOT = refl
+continue_action_is_no_finish kind = refl
 
 -- nor does what follows an operand
 more_goes : (min_bp max_bp : ℕ) (next : Option SyntaxKind) → is_finish (more_action min_bp max_bp next) ≡ false
 more_goes min_bp max_bp None = refl
 more_goes min_bp max_bp (Some kind) =
-    elim (goes_on min_bp max_bp kind) as (λ b. is_finish (if b then follow kind else a.EndOperand) ≡ false) [
-      | true ↦ follow_goes kind
+    elim (may_continue min_bp max_bp kind) as (λ b. is_finish (if b then continue_action kind else a.EndOperand) ≡ false) [
+      | true ↦ continue_action_is_no_finish kind
       | false ↦ refl
     ]
 

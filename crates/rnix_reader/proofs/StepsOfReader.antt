@@ -34,8 +34,8 @@ inside (f ∷ fs) n l =
 
 module _ (f : Frame) (fs : List Frame) (ts : List Token) (n : ℕ) (es : List Fault) (names : Names) (w : IsWell f fs ts n names.second) where
   -- what the reader holds, whose innermost mark is taken
-  abbrev repaired_nonempty : State
-  repaired_nonempty = popped (machine (f ∷ fs) ts n es)
+  abbrev popped_state : State
+  popped_state = popped (machine (f ∷ fs) ts n es)
 
   sort : frame_kind_of_head f.head ≡ frame_kind f.position
   sort = head_sort f.head f.position fs w.fit
@@ -43,7 +43,7 @@ module _ (f : Frame) (fs : List Frame) (ts : List Token) (n : ℕ) (es : List Fa
   is_there : is_operand_frame (frame_kind f.position) ≡ false → 0 < length (nodes_of (f ∷ fs))
   is_there e = node_open f.head (tree_count (trees_of fs)) (nodes_of fs) (ap is_operand_frame sort ∙ e)
 
-  checkpoint : IsCheckpoint (mark_of f fs) repaired_nonempty
+  checkpoint : IsCheckpoint (mark_of f fs) popped_state
   checkpoint =
       let at : ℕ = tree_count (trees_of fs) in
       let le : nat_le at (tree_count (trees_of (f ∷ fs))) ≡ true =
@@ -54,7 +54,7 @@ module _ (f : Frame) (fs : List Frame) (ts : List Token) (n : ℕ) (es : List Fa
   again e = subst (λ x. HasRange names.second n x f.row) (head_second_bind f.head (sort ∙ e)) w.range
 
   -- what an action needs is there
-  pub ready : (action : Action) → Allowed f.position (head_kind (items ts)) action → IsReady action (mark_of f fs) repaired_nonempty names
+  pub ready : (action : Action) → Allowed f.position (head_kind (items ts)) action → IsReady action (mark_of f fs) popped_state names
   unfolding pushed
   ready a.Close al = is_there (ap is_operand_frame al.0)
   ready a.ClosePattern al = is_there (ap is_operand_frame al)
@@ -75,7 +75,7 @@ module _ (f : Frame) (fs : List Frame) (ts : List Token) (n : ℕ) (es : List Fa
       ∙ erase-node_started k inside f.depth (put after (with_leading true f.row ts) f ∷ fs) (from_item ts) n es
 
   wraps : (k : SyntaxKind) (inside over : Position) → frame_kind f.position ≡ OperandFrame
-      → node_wrapped k inside over (mark_of f fs) repaired_nonempty ≡ erase
+      → node_wrapped k inside over (mark_of f fs) popped_state ≡ erase
       (machine (opened (Node k) inside f.depth f.row ∷ (opened Operand over f.depth blank ∷ fs)) ts n es)
   unfolding pushed started_at
   wraps k inside over e = rw (head_operand f.head (sort ∙ e), join_empty (trees_of fs)) refl
@@ -83,14 +83,14 @@ module _ (f : Frame) (fs : List Frame) (ts : List Token) (n : ℕ) (es : List Fa
   -- what the reader holds after an action is what the machine makes of it
   pub performs : (action : Action) (s' : State) (names' : Names) → AreNamed f fs names → Allowed f.position (head_kind (items ts)) action
       → is_finish action ≡ false
-      → Performed action (mark_of f fs) repaired_nonempty names s' names' → s' ≡ erase (perform true action f fs ts n es)
+      → Performed action (mark_of f fs) popped_state names s' names' → s' ≡ erase (perform true action f fs ts n es)
   unfolding pushed failed
   performs a.Close s' names' k al g d = d ∙ closes f fs ts n es w.fit (ap is_operand_frame al.0) (ap is_root al.0)
   performs a.ClosePattern s' names' k al g d = d ∙ closes f fs ts n es w.fit (ap is_operand_frame al) (ap is_root al)
   performs a.CloseEntry s' names' k al g d = done_entry f fs ts n es names names' s' w.fit k al d
   performs a.CloseDoubleBind s' names' k al g d =
       let tokens : List Token = tokens_in (without_trivia f.row) in
-      d ∙ ap (λ x. failed (double_bind x) (ended repaired_nonempty)) (again al).0
+      d ∙ ap (λ x. failed (double_bind x) (ended popped_state)) (again al).0
       ∙ ap (failed (report DoubleBind tokens)) (closes f fs ts n es w.fit (ap is_operand_frame al) (ap is_root al))
       ∙ closed_failed (report DoubleBind tokens) f fs ts n es
   performs a.Finish s' names' k al g d = absurd (true_is_not_false g)

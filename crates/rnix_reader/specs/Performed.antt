@@ -104,11 +104,11 @@ is_finish a.Finish = true
 is_finish action = false
 
 -- the action goes on with an operand
-abbrev pub continues : Action → Bool
-continues (a.Wrap k inside max_bp) = true
-continues a.Apply = true
-continues a.ApplyOr = true
-continues action = false
+abbrev pub is_continuation : Action → Bool
+is_continuation (a.Wrap k inside max_bp) = true
+is_continuation a.Apply = true
+is_continuation a.ApplyOr = true
+is_continuation action = false
 
 -- a node may be opened where the mark begins
 abbrev pub IsCheckpoint : Mark → State → Type 0

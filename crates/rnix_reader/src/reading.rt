@@ -7,7 +7,7 @@ ghost use Rattle.rnix_proof_lemmas.specs.Machine.{begins, min_bp_of};
 ghost use Rattle.rnix_reader.specs.Erase.{erase};
 ghost use Rattle.rnix_reader.specs.Holds.{IsReadTo};
 ghost use Rattle.rnix_reader.specs.PatternNames.{entries_in, PatternOpened};
-ghost use Rattle.rnix_reader.specs.Performed.{ArgumentNames, IsCheckpoint, IsReady, NamesAfter, NamesFor, PartNames, Performed, action_of, argument_read, begun_as, continues, expression_read, opens_in, opens_on, opens_pattern, operand_read, part_read};
+ghost use Rattle.rnix_reader.specs.Performed.{ArgumentNames, IsCheckpoint, IsReady, NamesAfter, NamesFor, PartNames, Performed, action_of, argument_read, begun_as, is_continuation, expression_read, opens_in, opens_on, opens_pattern, operand_read, part_read};
 ghost use Rattle.rnix_reader.specs.Placed.{token_of, AreInOrder};
 ghost use Rattle.rnix_reader.specs.State.{state, items_left, IsNextItem};
 ghost use Rattle.rnix_reader.specs.FrameSteps.{bound_lambda_begun, legacy_let_begun, pattern_lambda_begun};
@@ -19,8 +19,8 @@ use crate::parser::Parser;
 use crate::pattern_names::Names;
 use rnix_grammar::{
     APPLICATION_LEVEL, APPLIED, Action, BIN_OP_END, BOUND_PATTERN, Begin, EXPRESSION_LEVEL,
-    ExpectedSet, LEGACY_LET, NO_LEVEL, PATTERN, Position, SELECTION_LEVEL, action_at, follow,
-    goes_on, is_past,
+    ExpectedSet, LEGACY_LET, NO_LEVEL, PATTERN, Position, SELECTION_LEVEL, action_at,
+    continue_action, is_past, may_continue,
 };
 use rnix_kinds::SyntaxKind;
 use std::alloc::AllocError;
@@ -202,7 +202,7 @@ fn read_part<'t>(
     ensures names { OnOk result (PartNames level counted after mark (state p.old) names.old names.new) }
 {
     let depth = mark.depth;
-    p.go_on(mark, Position::Left(after))?;
+    p.resume_at(mark, Position::Left(after))?;
     read(p, names, level, counted, depth)?;
     Ok(())
 }
@@ -260,7 +260,7 @@ fn step<'t>(
         Action::DoubleBind(after) => open_double_bind(p, names, mark, after)?,
         Action::Read(level, counted, after) => read_part(p, names, mark, level, counted, after)?,
         Action::Wrap(_, _, _) | Action::Apply | Action::ApplyOr => {
-            go_on_with(p, names, mark, min_bp_of(mark.position), action)?;
+            continue_operand(p, names, mark, min_bp_of(mark.position), action)?;
         }
     }
     Ok(())
@@ -268,14 +268,14 @@ fn step<'t>(
 
 // Goes on with the operand that was read, by an action that does so.
 #[inline(always)]
-fn go_on_with<'t>(
+fn continue_operand<'t>(
     p: &mut Parser<'t>,
     names: &mut Names<'t>,
     mark: Mark,
     min_bp: u8,
     action: Action,
 ) -> Result<(), AllocError>
-    requires action { continues action ≡ true }
+    requires action { is_continuation action ≡ true }
     requires level { min_bp ≡ min_bp_of mark.position }
     requires ready { IsReady action mark (state p.old) names.old }
     ensures state { OnOk result (Performed action mark (state p.old) names.old (state p.new) names.new) }
@@ -308,8 +308,8 @@ fn after_operand<'t>(
     ensures names { OnOk result (NamesAfter (action_of mark.position (state p.old)) mark (state p.old) names.old names.new) }
 {
     if let Some(kind) = p.peek() {
-        if goes_on(min_bp, max_bp, kind) {
-            go_on_with(p, names, mark, min_bp, follow(kind))?;
+        if may_continue(min_bp, max_bp, kind) {
+            continue_operand(p, names, mark, min_bp, continue_action(kind))?;
         }
     }
     Ok(())

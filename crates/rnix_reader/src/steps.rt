@@ -22,7 +22,7 @@ use std::alloc::AllocError;
 impl<'t> Parser<'t> {
     /// Continues the node or operand of the mark at another position.
     #[inline(always)]
-    pub(crate) fn go_on(&mut self, mark: Mark, after: Position) -> Result<(), AllocError>
+    pub(crate) fn resume_at(&mut self, mark: Mark, after: Position) -> Result<(), AllocError>
         ensures state { OnOk result (state self.new ≡ moved_to after mark (state self.old)) }
         ensures builder { OnOk result (self.new.builder ≡ self.old.builder) }
     {
@@ -61,7 +61,7 @@ impl<'t> Parser<'t> {
     pub(crate) fn take(&mut self, mark: Mark, after: u8) -> Result<(), AllocError>
         ensures { OnOk result (state self.new ≡ bumped NODE_ROOT (moved_to (Left after) mark (state self.old))) }
     {
-        self.go_on(mark, Position::Left(after))?;
+        self.resume_at(mark, Position::Left(after))?;
         self.bump(SyntaxKind::NODE_ROOT)?;
         Ok(())
     }
@@ -70,7 +70,7 @@ impl<'t> Parser<'t> {
     pub(crate) fn miss(&mut self, mark: Mark, after: u8) -> Result<(), AllocError>
         ensures { OnOk result (state self.new ≡ failed ended_fault (moved_to (Left after) mark (state self.old))) }
     {
-        self.go_on(mark, Position::Left(after))?;
+        self.resume_at(mark, Position::Left(after))?;
         self.fail_at_end()?;
         Ok(())
     }
@@ -84,7 +84,7 @@ impl<'t> Parser<'t> {
     ) -> Result<(), AllocError>
         ensures { OnOk result (state self.new ≡ end_reported until (moved_to (Left after) mark (state self.old))) }
     {
-        self.go_on(mark, Position::Left(after))?;
+        self.resume_at(mark, Position::Left(after))?;
         self.missing(until)?;
         Ok(())
     }
@@ -99,7 +99,7 @@ impl<'t> Parser<'t> {
         requires { stops until (head_kind (items_left (moved_to (Left after) mark (state self.old)))) ≡ false }
         ensures { OnOk result (state self.new ≡ unwanted_reported until (moved_to (Left after) mark (state self.old))) }
     {
-        self.go_on(mark, Position::Left(after))?;
+        self.resume_at(mark, Position::Left(after))?;
         self.unwanted(until)?;
         Ok(())
     }
@@ -109,7 +109,7 @@ impl<'t> Parser<'t> {
         requires { is_there (head_kind (items_left (moved_to mark.position mark (state self.old)))) ≡ true }
         ensures { OnOk result (state self.new ≡ extra_reported (moved_to mark.position mark (state self.old))) }
     {
-        self.go_on(mark, mark.position)?;
+        self.resume_at(mark, mark.position)?;
         self.extra()?;
         Ok(())
     }
@@ -119,7 +119,7 @@ impl<'t> Parser<'t> {
     pub(crate) fn leaf(&mut self, mark: Mark, kind: SyntaxKind, after: u8) -> Result<(), AllocError>
         ensures { OnOk result (state self.new ≡ leaf_node_made kind (moved_to (Left after) mark (state self.old))) }
     {
-        self.go_on(mark, Position::Left(after))?;
+        self.resume_at(mark, Position::Left(after))?;
         self.leaf_node(kind)?;
         Ok(())
     }
@@ -136,7 +136,7 @@ impl<'t> Parser<'t> {
         ensures { OnOk result (state self.new ≡ node_started kind (Left inside) mark.depth (moved_to (Left after) mark (state self.old))) }
     {
         let depth = mark.depth;
-        self.go_on(mark, Position::Left(after))?;
+        self.resume_at(mark, Position::Left(after))?;
         self.open_node(kind, Position::Left(inside), depth)?;
         Ok(())
     }
@@ -180,7 +180,7 @@ impl<'t> Parser<'t> {
     {
         let depth = mark.depth;
         let at = mark.at;
-        self.go_on(mark, over)?;
+        self.resume_at(mark, over)?;
         self.start_node_at(at, kind)?;
         self.mark(inside, depth, at)?;
         Ok(())
@@ -209,7 +209,7 @@ impl<'t> Parser<'t> {
         ensures { OnOk result (state self.new ≡ or_applied over mark (state self.old)) }
     {
         let at = mark.at;
-        self.go_on(mark, over)?;
+        self.resume_at(mark, over)?;
         self.start_node_at(at, SyntaxKind::NODE_APPLY)?;
         self.leaf_node(SyntaxKind::NODE_IDENT)?;
         self.finish_node()?;
