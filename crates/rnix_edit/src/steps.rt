@@ -175,7 +175,7 @@ fn are_done(mut events: PreorderWithTokens<'_>) -> bool
 
 // Skips the siblings that are alike in both walks, up to the end of each innermost open node, unless this failed too often. Returns the number of
 // failed attempts.
-fn skip_alike<'t>(a: &mut PreorderWithTokens<'t>, b: &mut PreorderWithTokens<'t>, misses: u8) -> u8
+fn try_skip<'t>(a: &mut PreorderWithTokens<'t>, b: &mut PreorderWithTokens<'t>, misses: u8) -> u8
     ensures alike { GoOnAlike (steps_of a.old) (steps_of b.old) (steps_of a.new) (steps_of b.new) }
     ensures skipped { misses < MOST_MISSES → result ≡ misses → a.new ≡ from_leaving 0 a.old }
     ensures kept { misses ≤ result }
@@ -195,14 +195,14 @@ fn skip_alike<'t>(a: &mut PreorderWithTokens<'t>, b: &mut PreorderWithTokens<'t>
 pub fn are_same_walks<'t>(mut a: PreorderWithTokens<'t>, mut b: PreorderWithTokens<'t>) -> bool
     ensures { Decides result (steps_of a.entry ≡ steps_of b.entry) }
 {
-    let mut misses = skip_alike(&mut a, &mut b, 0);
+    let mut misses = try_skip(&mut a, &mut b, 0);
     while let Some(step) = next_step(&mut a) {
         match next_step(&mut b) {
             Some(other) if is_step(step, other) => {}
             _ => return false,
         }
         if !step.enters {
-            misses = skip_alike(&mut a, &mut b, misses);
+            misses = try_skip(&mut a, &mut b, misses);
         }
     }
     are_done(b)

@@ -18,6 +18,7 @@ pub fn parse(
 ) -> Result<(GreenNode, Vec<ParseError>), AllocError>
     ensures { IfOk result (λ parsed. IsParsed tokens.entry parsed.0 (map fault_of parsed.1.items)) }
 {
+    // Nothing is computed here. The contract of the call says that the state of the tokenizer agrees with the text that is left.
     let _text = tokens.rest();
     read_tokens(alloc, tokens)
 }

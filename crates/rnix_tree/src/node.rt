@@ -110,6 +110,7 @@ impl<'t> SyntaxNode<'t> {
         ensures ancestors { result ≡ ancestors_of self.now }
         ensures fits { length result < 2 ^ 64 }
     {
+        // Nothing is computed here. The contract of the call says that the number of its elements fits in a `usize`.
         let _element = self.green.element(self.number);
         Ancestors {
             green: self.green,
@@ -156,6 +157,7 @@ impl<'t> SyntaxNode<'t> {
         ensures count { element_count (part_at self.now) < 2 ^ 64 }
         ensures fits { length result < 2 ^ 64 }
     {
+        // Nothing is computed here. The contract of the call says that the number of its elements fits in a `usize`.
         let _element = self.green.element(self.number);
         PreorderWithTokens::new(self.green, self.number)
     }

@@ -52,6 +52,7 @@ impl<'t> SiblingsWithTokens<'t> {
         ensures siblings { result ≡ siblings_of direction record { tree = green.now; number = number } }
         ensures fits { length result < 2 ^ 64 }
     {
+        // Nothing is computed here. The contract of the call says that the count fits in a `usize`.
         let _count = green.element_count();
         SiblingsWithTokens {
             green,

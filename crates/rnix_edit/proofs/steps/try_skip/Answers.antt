@@ -1,6 +1,6 @@
 use Rattle.std.proofs.Common.{refl}
 use Rattle.rnix_edit.proofs.StepsShown.{goes_on_alike}
-use Rattle.rnix_edit.proofs.steps.skip_alike.Goals as goal
+use Rattle.rnix_edit.proofs.steps.try_skip.Goals as goal
 
 pub returns-then-skip_alike-clause-alike : goal.returns-then-skip_alike-clause-alike
 returns-then-skip_alike-clause-alike c =
