@@ -15,13 +15,13 @@ abbrev pub is_blank : ℕ → Bool
 is_blank byte = byte == 32 || (byte == 10 || (byte == 9 || byte == 13))
 
 -- after a carriage return, or after the first one in the text, there is something other than white space
-abbrev pub goes_on : Bool → List ℕ → Bool
-goes_on returned [] = false
-goes_on returned (byte ∷ bytes) = if returned && not (is_blank byte) then true else goes_on (returned || byte == 13) bytes
+abbrev pub has_text_after_return : Bool → List ℕ → Bool
+has_text_after_return returned [] = false
+has_text_after_return returned (byte ∷ bytes) = if returned && not (is_blank byte) then true else has_text_after_return (returned || byte == 13) bytes
 
 -- a `#` comment ends at its first carriage return for Nix, which then reads more than white space
 abbrev pub ends_early : List ℕ → Bool
-ends_early text = slice_index text 0 == 35 && goes_on false text
+ends_early text = slice_index text 0 == 35 && has_text_after_return false text
 
 -- a float begins with `0.`, and no digit follows
 abbrev pub lacks_digit : List ℕ → Bool

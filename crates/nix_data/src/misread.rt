@@ -3,7 +3,7 @@
 ghost use Rattle.std.specs.Prelude.{◌≡◌, ◌==◌, not, false, is_some, slice_index};
 ghost use Rattle.std.specs.List.{list_all, list_any};
 ghost use Rattle.rnix_green.specs.Tree.{item_of, text_at};
-ghost use Rattle.nix_data.specs.Misread.{is_blank, goes_on, ends_early, lacks_digit, is_misread, is_altered};
+ghost use Rattle.nix_data.specs.Misread.{is_blank, has_text_after_return, ends_early, lacks_digit, is_misread, is_altered};
 
 use crate::no_data::{NoData, Reason};
 use rnix::{SyntaxKind, SyntaxToken, TextRange};
@@ -29,7 +29,7 @@ fn foreign(text: &[u8]) -> Option<usize>
 
 // The number of the first carriage return, if something other than white space follows it.
 fn early_return(text: &[u8]) -> Option<usize>
-    ensures { is_some result ≡ goes_on false text.now }
+    ensures { is_some result ≡ has_text_after_return false text.now }
 {
     let mut found: Option<usize> = None;
     for index in 0..text.len() {

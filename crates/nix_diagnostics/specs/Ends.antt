@@ -53,19 +53,19 @@ is_at_end fault = false
 abbrev pub ends_early : List Fault → Bool
 ends_early faults = list_any is_at_end faults
 
--- a node goes on to an offset, if there is one
-abbrev pub goes_on : ℕ → Option Located → Bool
-goes_on end None = false
-goes_on end (Some node) = nat_le end (item_of node).end
+-- a node, if there is one, reaches an offset
+abbrev pub reaches : ℕ → Option Located → Bool
+reaches end None = false
+reaches end (Some node) = nat_le end (item_of node).end
 
--- the start of the first token of a walk that opens something, in a node that goes on to an offset
+-- the start of the first token of a walk that opens something, in a node that reaches an offset
 abbrev pub first_opening : ℕ → List Spot → Option ℕ
 first_opening end [] = None
 first_opening end (spot ∷ spots) =
     if spot.0 then first_opening end spots
-    else (if opens (item_of spot.1).kind && goes_on end (parent_of spot.1) then Some (item_of spot.1).start else first_opening end spots)
+    else (if opens (item_of spot.1).kind && reaches end (parent_of spot.1) then Some (item_of spot.1).start else first_opening end spots)
 
--- the start of what is never closed, in a text that ends too early: the first token that opens something in a node that goes on to the last item
+-- the start of what is never closed, in a text that ends too early: the first token that opens something in a node that reaches the last item
 abbrev pub lost_from : Located → List Fault → Option ℕ
 lost_from root all = if ends_early all then first_opening (end_of_items root) (elements_of root) else None
 

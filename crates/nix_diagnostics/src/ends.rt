@@ -5,7 +5,7 @@ ghost use Rattle.rnix_green.specs.Walk.{elements_of};
 ghost use Rattle.rnix_grammar.specs.Fault.{fault_of};
 ghost use Rattle.nix_diagnostics.specs.Brackets.{closes};
 ghost use Rattle.nix_diagnostics.specs.Places.{end_of_items};
-ghost use Rattle.nix_diagnostics.specs.Ends.{passes, is_of_string, is_at_end, ends_early, goes_on, first_opening, lost_from, is_from};
+ghost use Rattle.nix_diagnostics.specs.Ends.{passes, is_of_string, is_at_end, ends_early, reaches, first_opening, lost_from, is_from};
 
 use crate::openings::{closes, opens};
 use SyntaxKind::*;
@@ -60,9 +60,9 @@ fn ends_early(errors: &[ParseError]) -> bool
     false
 }
 
-// Whether a node goes on to an offset, if there is one.
-fn goes_on(node: &Option<SyntaxNode<'_>>, end: usize) -> bool
-    ensures { result ≡ goes_on end node.now }
+// Whether a node reaches an offset, if there is one.
+fn reaches(node: &Option<SyntaxNode<'_>>, end: usize) -> bool
+    ensures { result ≡ reaches end node.now }
 {
     match node {
         Some(node) => end <= node.text_range().end(),
@@ -70,13 +70,13 @@ fn goes_on(node: &Option<SyntaxNode<'_>>, end: usize) -> bool
     }
 }
 
-// The start of the first token that opens something in a node that goes on to an offset.
+// The start of the first token that opens something in a node that reaches an offset.
 fn first_opening(root: &SyntaxNode<'_>, end: usize) -> Option<usize>
     ensures { result ≡ first_opening end (elements_of root.now) }
 {
     for element in root.descendants_with_tokens() {
         if let NodeOrToken::Token(token) = element {
-            if opens(token.kind()) && goes_on(&token.parent(), end) {
+            if opens(token.kind()) && reaches(&token.parent(), end) {
                 return Some(token.text_range().start());
             }
         }
