@@ -60,7 +60,8 @@ fn are_in_one_scope(
     longer: Option<&Binding<'_>>,
     shorter: Option<&Binding<'_>>,
 ) -> bool
-    ensures { Decides result (AreInOneScope change (option_map (λ binding. binding.now) longer.entry) (option_map (λ binding. binding.now) shorter.entry)) }
+    ensures { Decides result (AreInOneScope change (option_map (λ binding. binding.now) longer.entry)
+        (option_map (λ binding. binding.now) shorter.entry)) }
 {
     match (longer, shorter) {
         (Some(longer), Some(shorter)) => {

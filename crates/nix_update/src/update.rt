@@ -115,7 +115,8 @@ fn update_in(
     ways: &[Way<'_>],
     update: Update<'_>,
 ) -> Result<Outcome, AllocError>
-    ensures { IfOk result (IsOutcome update.entry (map string_bytes path.now.names.items) path.now.text.now path.now.starts.items ways.now text.now root.now) }
+    ensures { IfOk result (IsOutcome update.entry (map string_bytes path.now.names.items) path.now.text.now path.now.starts.items
+        ways.now text.now root.now) }
 {
     let makers = makers_of(alloc, &path.names, ways, false)?;
     let Some(maker) = makers.first() else {
