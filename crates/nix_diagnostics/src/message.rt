@@ -6,7 +6,6 @@ use crate::words::{LONGEST, add_found, add_shown, add_wanted};
 use rnix::ast::{AstNode, Attrpath, AttrpathValue};
 use rnix::{ParseError, SyntaxKind, SyntaxNode};
 use std::alloc::{AllocError, Global};
-use std::fmt::Write;
 
 // The words for where in its node a token is missing.
 fn context(wanted: SyntaxKind, parent: SyntaxKind) -> &'static str {
@@ -114,9 +113,21 @@ fn details(
             add_wanted(wanted, &mut text)?;
             text.push_str(", found the end of the file")?;
         }
-        ParseError::DuplicatedArgs(_, name) => write!(text, "\"{name}\"")?,
         _ => {}
     }
+    Ok(text)
+}
+
+// A headline with a name in quotes after it.
+fn with_name(alloc: Global, headline: &str, name: &str) -> Result<String, AllocError>
+    ensures { IfOk result (λ text. 0 < length (string_bytes text)) }
+{
+    let room = headline.len().saturating_add(name.len()).saturating_add(2);
+    let mut text = String::with_capacity(alloc, room)?;
+    text.push_str(headline)?;
+    text.push('"')?;
+    text.push_str(name)?;
+    text.push('"')?;
     Ok(text)
 }
 
@@ -128,6 +139,10 @@ pub fn message(
 ) -> Result<String, AllocError>
     ensures { IfOk result (λ text. 0 < length (string_bytes text)) }
 {
+    // A text may repeat many arguments, so their messages are made without a second text.
+    if let ParseError::DuplicatedArgs(_, name) = error {
+        return with_name(alloc, headline(error), name.as_str());
+    }
     let (headline, details) = (headline(error), details(alloc, error, node)?);
     let mut text = String::with_capacity(alloc, headline.len().saturating_add(details.len()))?;
     text.push_str(headline)?;
