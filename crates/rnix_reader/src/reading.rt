@@ -293,7 +293,7 @@ fn continue_operand<'t>(
 }
 
 // Goes on with the operand that was read, if the next item continues it. Otherwise the operand is complete.
-#[tactic(auto, using(crate::proofs::LoopLemmas::follow_continues))]
+#[tactic(auto, using(crate::proofs::LoopLemmas::continue_action_is_continuation))]
 #[inline(always)]
 fn after_operand<'t>(
     p: &mut Parser<'t>,
