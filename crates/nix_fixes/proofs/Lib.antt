@@ -1,3 +1,4 @@
 pub mod ErrorCounts
 pub mod FixLemmas
+pub mod NoteLemmas
 mod FixExamples

@@ -1,11 +1,11 @@
 -- Replacements of bytes of a text, and those with which it has fewer errors.
-use Rattle.std.specs.Prelude.{◌≡◌, ℕ, ◌+◌, ◌-◌, ◌<◌, ◌≤◌, List, ◌++◌, length, take, drop, string_bytes}
-use Rattle.std.specs.Str.{IsCharBoundary, IsUtf8}
+use Rattle.std.specs.Prelude.{◌≡◌, ℕ, ◌+◌, ◌-◌, ◌<◌, ◌≤◌, List, ◌∷◌, ◌++◌, length, take, drop, Option, Some, string_bytes}
+use Rattle.std.specs.{List.All, Str.{IsCharBoundary, IsUtf8}}
 use Rattle.rnix_kinds.specs.Lexical.Tokens.{tokens_of}
 use Rattle.rnix_green.specs.declared.range.TextRange.{TextRange}
 use Rattle.rnix_grammar.specs.Parsed.{IsParsed}
 use Rattle.rnix.specs.ParseResult.{Reading}
-use Rattle.nix_diagnostics.specs.declared.replacement.Replacement.{Replacement}
+use Rattle.nix_diagnostics.specs.declared.{notes.Note.{Note}, replacement.Replacement.{Replacement}}
 use Rattle.nix_fixes.specs.declared.fix.Fix.{Fix}
 
 -- the bytes of a text from start up to end
@@ -51,6 +51,39 @@ pub record IsFix (text : List ℕ) (errors : ℕ) (fix : Fix) : Type 0 where
   pub characters : IsOfCharacters text fix.range
   pub utf8 : IsUtf8 (text_with text fix)
   pub fewer : HasFewer (text_with text fix) errors
+
+-- a fix is what a replacement proposes
+pub record IsProposed (text : List ℕ) (r : Replacement) (fix : Fix) : Type 0 where
+  pub range : fix.range ≡ r.range
+  pub new : string_bytes fix.text ≡ new_text text r
+
+-- a replacement does not help: if it names whole characters, the text with it has no fewer errors than a number
+abbrev pub HelpsNot : List ℕ → ℕ → Replacement → Type 0
+HelpsNot text errors r =
+    IsOfCharacters text r.kept → IsOfCharacters text r.range → HasNoFewer (spliced text r.range.start r.range.end (new_text text r)) errors
+
+-- no replacement of a note helps
+abbrev pub HasNoFix : List ℕ → ℕ → Note → Type 0
+HasNoFix text errors note = (r : Replacement) → note.replacement ≡ Some r → HelpsNot text errors r
+
+-- no replacement of some notes helps
+abbrev pub HaveNoFix : List ℕ → ℕ → List Note → Type 0
+HaveNoFix text errors notes = All (HasNoFix text errors) notes
+
+-- a fix is what a note proposes
+pub record IsOfNote (text : List ℕ) (note : Note) (fix : Fix) : Type 0 where
+  pub replacement : Replacement
+  pub has : note.replacement ≡ Some replacement
+  pub proposed : IsProposed text replacement fix
+
+-- a fix is what a note proposes, before which no note has a replacement that helps
+pub record IsFirstFix (text : List ℕ) (errors : ℕ) (notes : List Note) (fix : Fix) : Type 0 where
+  pub before : List Note
+  pub note : Note
+  pub after : List Note
+  pub are : notes ≡ before ++ note ∷ after
+  pub none : HaveNoFix text errors before
+  pub proposed : IsOfNote text note fix
 
 -- a text becomes another one by one fix, after which it has fewer errors
 pub record IsFixedOnce (old new : List ℕ) : Type 0 where

@@ -1,7 +1,7 @@
 //! The fix of a diagnostic.
 
-ghost use Rattle.std.specs.Prelude.{length, IfOk, IfSome};
-ghost use Rattle.nix_fixes.specs.Fixes.{IsFix};
+ghost use Rattle.std.specs.Prelude.{length, IfOk, IfSome, IfNone};
+ghost use Rattle.nix_fixes.specs.Fixes.{IsFix, HaveNoFix, IsFirstFix};
 
 use crate::tried::{error_count, try_notes};
 use nix_diagnostics::Diagnostic;
@@ -25,7 +25,9 @@ pub fn fix_of(
     text: &str,
     diagnostic: &Diagnostic,
 ) -> Result<Option<Fix>, AllocError>
-    ensures { IfOk result (λ found. IfSome found (IsFix text.now (length read.now.faults))) }
+    ensures fix { IfOk result (λ found. IfSome found (IsFix text.now (length read.now.faults))) }
+    ensures first { IfOk result (λ found. IfSome found (IsFirstFix text.now (length read.now.faults) diagnostic.now.notes.items)) }
+    ensures none { IfOk result (λ found. IfNone found (HaveNoFix text.now (length read.now.faults) diagnostic.now.notes.items)) }
 {
     match try_notes(alloc, text, error_count(read), &diagnostic.notes)? {
         Some(tried) => Ok(Some(tried.fix)),

@@ -1,6 +1,7 @@
 //! Trying replacements.
 
-ghost use Rattle.std.specs.Prelude.{◌≡◌, length, IfOk, IfSome};
+ghost use Rattle.std.specs.Prelude.{◌≡◌, length, string_bytes, IfOk, IfSome, IfNone};
+ghost use Rattle.nix_fixes.specs.Fixes.{spliced, IsOfCharacters, HasNoFewer, IsProposed, HelpsNot, HasNoFix, HaveNoFix, IsOfNote, IsFirstFix};
 ghost use Rattle.nix_fixes.specs.Tries.{IsTried};
 
 use crate::changed_text::{new_text, spliced};
@@ -33,7 +34,10 @@ fn try_new(
     range: TextRange,
     new: String,
 ) -> Result<Option<Tried>, AllocError>
-    ensures { IfOk result (λ found. IfSome found (IsTried text.now errors)) }
+    ensures tried { IfOk result (λ found. IfSome found (IsTried text.now errors)) }
+    ensures is { IfOk result (λ found. IfSome found (λ tried. (tried.fix.range ≡ range) × (tried.fix.text ≡ new))) }
+    ensures none { IfOk result (λ found. IfNone found
+        (IsOfCharacters text.now range → HasNoFewer (spliced text.now range.start range.end (string_bytes new)) errors)) }
 {
     let Some(made) = spliced(alloc, text, range, new.as_str())? else {
         return Ok(None);
@@ -53,7 +57,9 @@ fn try_replacement(
     errors: usize,
     replacement: &Replacement,
 ) -> Result<Option<Tried>, AllocError>
-    ensures { IfOk result (λ found. IfSome found (IsTried text.now errors)) }
+    ensures tried { IfOk result (λ found. IfSome found (IsTried text.now errors)) }
+    ensures proposed { IfOk result (λ found. IfSome found (λ tried. IsProposed text.now replacement.now tried.fix)) }
+    ensures none { IfOk result (λ found. IfNone found (HelpsNot text.now errors replacement.now)) }
 {
     match new_text(alloc, text, replacement)? {
         Some(new) => try_new(alloc, text, errors, replacement.range, new),
@@ -68,7 +74,9 @@ fn try_note(
     errors: usize,
     note: &Note,
 ) -> Result<Option<Tried>, AllocError>
-    ensures { IfOk result (λ found. IfSome found (IsTried text.now errors)) }
+    ensures tried { IfOk result (λ found. IfSome found (IsTried text.now errors)) }
+    ensures proposed { IfOk result (λ found. IfSome found (λ tried. IsOfNote text.now note.now tried.fix)) }
+    ensures none { IfOk result (λ found. IfNone found (HasNoFix text.now errors note.now)) }
 {
     match &note.replacement {
         Some(replacement) => try_replacement(alloc, text, errors, replacement),
@@ -83,7 +91,9 @@ pub fn try_notes(
     errors: usize,
     notes: &[Note],
 ) -> Result<Option<Tried>, AllocError>
-    ensures { IfOk result (λ found. IfSome found (IsTried text.now errors)) }
+    ensures tried { IfOk result (λ found. IfSome found (IsTried text.now errors)) }
+    ensures first { IfOk result (λ found. IfSome found (λ tried. IsFirstFix text.now errors notes.now tried.fix)) }
+    ensures none { IfOk result (λ found. IfNone found (HaveNoFix text.now errors notes.now)) }
 {
     for note in notes {
         if let Some(tried) = try_note(alloc, text, errors, note)? {
