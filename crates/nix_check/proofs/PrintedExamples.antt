@@ -3,16 +3,17 @@ use Rattle.std.proofs.Common.{◌≡◌, [], ◌∷◌, refl}
 use Rattle.std.specs.Prelude.{codes, true, false}
 use Rattle.nix_diagnostics.specs.declared.code.Code.TheVariants.{RepeatedAttribute}
 use Rattle.nix_diagnostics.specs.declared.code.Severity.TheVariants.{Warning}
-use Rattle.nix_check.specs.{Listed.comma_joined, AsText.{message_text, severity_text}, AsJson.errors_member, AsSarif.{uri, sarif_tail}, Printed.more_line, ErrorReport.{count_line, status_of}}
+use Rattle.nix_check.specs.{Listed.comma_joined, AsText.{message_text, severity_text}, AsSarif.{uri, sarif_tail, rule_members}, Printed.more_line, ErrorReport.{count_line, status_of}}
 
 -- a message without colors
 plain_message : message_text false (codes "31") (codes "error:") (codes "expected a value") ≡ codes "error: expected a value\n"
 plain_message = refl
 
--- what a code is printed with
-repeated_member : errors_member RepeatedAttribute 0 ≡ codes ",\"severity\":\"error\",\"code\":\"repeated-attribute\",\"errors\":0,\"notes\":["
-repeated_member = refl
+-- what a result of SARIF begins with
+repeated_rule : rule_members RepeatedAttribute ≡ codes "{\"ruleId\":\"repeated-attribute\",\"level\":\"error\","
+repeated_rule = refl
 
+-- a warning without colors
 warning_text : severity_text false Warning (codes "unused") ≡ codes "warning: unused\n"
 warning_text = refl
 
