@@ -144,6 +144,16 @@ fn remark(
     }
 }
 
+// Returns a list of a note, if there is one, without room for more: a text may have many of these lists.
+fn alone(alloc: Global, note: Option<Note>) -> Result<Vec<Note>, AllocError> {
+    let mut notes = Vec::new(alloc);
+    if let Some(note) = note {
+        notes.reserve_exact(1)?;
+        notes.push(note)?;
+    }
+    Ok(notes)
+}
+
 /// Finds notes on the errors of a text.
 #[derive(Drop)]
 pub struct NoteFinder {
@@ -170,12 +180,11 @@ impl NoteFinder {
         node: Option<SyntaxNode<'_>>,
         place: TextRange,
     ) -> Result<Vec<Note>, AllocError> {
-        let mut notes = Vec::new(alloc);
         if let ParseError::DuplicatedArgs(range, name) = error {
             let first = first_argument(root, *range, name.as_str(), &mut self.entries_left);
-            notes.extend(first)?;
-            return Ok(notes);
+            return alone(alloc, first);
         }
+        let mut notes = Vec::new(alloc);
         let (mismatch, text) = (self.matching.mismatch, root.text());
         let unwanted = Unwanted::of(error, node, &self.matching);
         let unclosed = mismatch
