@@ -1,8 +1,9 @@
 -- What the reader of JSON does with each token.
 use Rattle.std.proofs.Common.{◌≡◌, ◌∙◌, ℕ, ◌-◌, ◌<◌, true, false, Bool, List, [], ◌∷◌, ◌++◌, length, take, ap, sym, refl, subst, arith, append-nil, inl, inr, Some, None, Result}
-use Rattle.std.specs.Prelude.{Ok, Err}
+use Rattle.std.specs.Prelude.{Ok, Err, option_and_then}
 use Rattle.std.proofs.lemmas.Bool.{cases_lt}
 use Rattle.std.proofs.lemmas.List.{nil_from_length}
+use Rattle.std.proofs.lemmas.Option.{none-some}
 use Rattle.nix_values.specs.declared.json_reader.TheConstants.{MOST_DEPTH}
 use Rattle.nix_values.specs.declared.json_reader.State.{State}
 use Rattle.nix_values.specs.declared.json_reader.State.TheVariants as state
@@ -11,14 +12,20 @@ use Rattle.nix_values.specs.declared.json_reader.Reading.{Reading}
 use Rattle.nix_values.specs.declared.json_error.JsonStop.{JsonStop}
 use Rattle.nix_values.specs.declared.json_error.JsonStop.TheVariants.{Memory, Refused}
 use Rattle.nix_values.specs.Contents.{Plain, text, Entry}
-use Rattle.nix_values.specs.Json.{Part, parts_from, opening, closing, comma, colon, string, scalar, entry}
-use Rattle.nix_values.specs.JsonReading.{parts_in, parts_left, name_of, IsInside, IsState, IsSound, is_value_next, is_name_next, is_close_next, is_comma_next, is_colon_next, opened, opened_plain, state_behind, entries_in, IsAdded, Takes, IfRefused, IfStopped, TakesOrNot}
+use Rattle.nix_values.specs.Json.{Token, Part, in_front, parts_from, values_of, json_values, opening, closing, comma, colon, string, scalar, entry}
+use Rattle.nix_values.specs.JsonReading.{parts_in, parts_left, name_of, IsInside, IsState, IsSound, is_value_next, is_name_next, is_close_next, is_comma_next, is_colon_next, opened, opened_plain, state_behind, entries_in, IsPlacedIn, IsDistinct, IsAdded, Takes, IfRefused, IfStopped, RepeatsWith, RepeatsIn, TakesOrNot}
 use Rattle.nix_values.proofs.JsonStateLemmas.{rest_pop, parts_behind, state_sound, scalar_fits, name_fits, string_scalar, opened_sound, open_fits, close_fits, behind_comma, comma_fits, comma_sound, colon_fits, none_inside}
 
 -- what a refusal may say
-pub stopped : (stop : JsonStop) (none : Type 0) → none → IfStopped stop none
-stopped Memory none h = tt
-stopped (Refused error) none h = λ other. h
+pub stopped : (stop : JsonStop) (old : Reading) (token : Token) → parts_from (parts_left old) token ≡ None →
+    IfStopped stop (parts_from (parts_left old) token ≡ None) (RepeatsWith old token)
+stopped Memory old token h = tt
+stopped (Refused error) old token h =
+    (λ other. h, λ rest more e. absurd (none-some more (sym (ap (λ taken. option_and_then (λ r. in_front r.1 (values_of r.0 rest)) taken) h) ∙ e)))
+
+pub stopped_text : (stop : JsonStop) (bytes : List ℕ) → json_values bytes ≡ None → IfStopped stop (json_values bytes ≡ None) (RepeatsIn bytes)
+stopped_text Memory bytes h = tt
+stopped_text (Refused error) bytes h = (λ other. h, λ found e. absurd (none-some found (sym h ∙ e)))
 
 pub refused : (stop : JsonStop) (none : Type 0) → none → IfRefused stop none
 refused Memory none h = tt
@@ -46,8 +53,8 @@ sound_in r s fs name s_is fs_is name_is h =
 -- a value that holds no values
 pub takes_scalar : (old mid new : Reading) (p : Plain) → IsSound old → is_value_next old.state ≡ true → IsAdded old p mid →
     new.state ≡ state_behind mid.frames.items → new.frames.items ≡ mid.frames.items → name_of new.name ≡ name_of mid.name →
-    entries_in new ≡ entries_in mid → Takes old (scalar p) new
-takes_scalar old mid new p sound next added s_is fs_is name_is es_is =
+    entries_in new ≡ entries_in mid → IsPlacedIn new → IsDistinct new → Takes old (scalar p) new
+takes_scalar old mid new p sound next added s_is fs_is name_is es_is placed distinct =
     let fs : List Frame = old.frames.items in
     let st : new.state ≡ state_behind fs = s_is ∙ ap state_behind added.frames in
     let frames : new.frames.items ≡ fs = fs_is ∙ added.frames in
@@ -59,13 +66,15 @@ takes_scalar old mid new p sound next added s_is fs_is name_is es_is =
           ∙ ap (λ (ps : List Part). Some (ps, es)) (sym (parts_behind fs []) ∙ left_in new (state_behind fs) fs [] st frames name);
       entries = es_is ∙ added.entries;
       sound = sound_in new (state_behind fs) fs [] st frames name (state_sound fs [] refl);
+      placed = placed;
+      distinct = distinct;
     }
 
 -- the beginning of a list or a set
 pub takes_open : (old mid new : Reading) (b : Bool) (f : Frame) → IsSound old → is_value_next old.state ≡ true → length old.frames.items < MOST_DEPTH →
     IsAdded old (opened_plain b) mid → f.is_set ≡ b → new.state ≡ opened b → new.frames.items ≡ mid.frames.items ++ f ∷ [] →
-    name_of new.name ≡ name_of mid.name → entries_in new ≡ entries_in mid → Takes old (opening b) new
-takes_open old mid new b f sound next room added is s_is fs_is name_is es_is =
+    name_of new.name ≡ name_of mid.name → entries_in new ≡ entries_in mid → IsPlacedIn new → IsDistinct new → Takes old (opening b) new
+takes_open old mid new b f sound next room added is s_is fs_is name_is es_is placed distinct =
     let fs : List Frame = old.frames.items in
     let frames : new.frames.items ≡ fs ++ f ∷ [] = fs_is ∙ ap (λ gs. gs ++ f ∷ []) added.frames in
     let name : name_of new.name ≡ [] = name_is ∙ added.no_name in
@@ -76,12 +85,14 @@ takes_open old mid new b f sound next room added is s_is fs_is name_is es_is =
           ∙ ap (λ (ps : List Part). Some (ps, es)) (left_in new (opened b) (fs ++ f ∷ []) [] s_is frames name);
       entries = es_is ∙ added.entries;
       sound = sound_in new (opened b) (fs ++ f ∷ []) [] s_is frames name (opened_sound b fs f [] is refl);
+      placed = placed;
+      distinct = distinct;
     }
 
 -- a name
 pub takes_name : (old new : Reading) (t : List ℕ) → IsSound old → is_name_next old.state ≡ true → new.state ≡ state.Colon →
-    new.frames.items ≡ old.frames.items → name_of new.name ≡ t → entries_in new ≡ entries_in old → Takes old (string t) new
-takes_name old new t sound next s_is fs_is name_is es_is =
+    new.frames.items ≡ old.frames.items → name_of new.name ≡ t → entries_in new ≡ entries_in old → IsPlacedIn new → IsDistinct new → Takes old (string t) new
+takes_name old new t sound next s_is fs_is name_is es_is placed distinct =
     let fs : List Frame = old.frames.items in
     let none : List Entry = [] in
     record {
@@ -90,13 +101,15 @@ takes_name old new t sound next s_is fs_is name_is es_is =
           ∙ ap (λ (ps : List Part). Some (ps, none)) (left_in new state.Colon fs t s_is fs_is name_is);
       entries = es_is ∙ sym (append-nil (entries_in old));
       sound = sound_in new state.Colon fs t s_is fs_is name_is tt;
+      placed = placed;
+      distinct = distinct;
     }
 
 -- the end of a list or a set
 pub takes_close : (old new : Reading) (b : Bool) → IsSound old → is_close_next old.state ≡ true → IsInside b old.frames.items →
     new.state ≡ state_behind new.frames.items → new.frames.items ≡ take (length old.frames.items - 1) old.frames.items →
-    name_of new.name ≡ name_of old.name → entries_in new ≡ entries_in old → Takes old (closing b) new
-takes_close old new b sound next inside s_is fs_is name_is es_is =
+    name_of new.name ≡ name_of old.name → entries_in new ≡ entries_in old → IsPlacedIn new → IsDistinct new → Takes old (closing b) new
+takes_close old new b sound next inside s_is fs_is name_is es_is placed distinct =
     let fs : List Frame = old.frames.items in
     let none : List Entry = [] in
     let some : 0 < length fs = elim (cases_lt 0 (length fs)) [
@@ -113,13 +126,15 @@ takes_close old new b sound next inside s_is fs_is name_is es_is =
           ∙ sym (parts_behind new.frames.items []) ∙ left_in new (state_behind new.frames.items) new.frames.items [] s_is refl name);
       entries = es_is ∙ sym (append-nil (entries_in old));
       sound = sound_in new (state_behind new.frames.items) new.frames.items [] s_is refl name (state_sound new.frames.items [] refl);
+      placed = placed;
+      distinct = distinct;
     }
 
 -- a comma
 pub takes_comma : (old new : Reading) (b : Bool) → IsSound old → is_comma_next old.state ≡ true → IsInside b old.frames.items →
     new.state ≡ behind_comma b → new.frames.items ≡ old.frames.items → name_of new.name ≡ name_of old.name → entries_in new ≡ entries_in old →
-    Takes old comma new
-takes_comma old new b sound next inside s_is fs_is name_is es_is =
+    IsPlacedIn new → IsDistinct new → Takes old comma new
+takes_comma old new b sound next inside s_is fs_is name_is es_is placed distinct =
     let fs : List Frame = old.frames.items in
     let name : List ℕ = name_of old.name in
     let none : List Entry = [] in
@@ -129,12 +144,14 @@ takes_comma old new b sound next inside s_is fs_is name_is es_is =
           ∙ ap (λ (ps : List Part). Some (ps, none)) (left_in new (behind_comma b) fs name s_is fs_is name_is);
       entries = es_is ∙ sym (append-nil (entries_in old));
       sound = sound_in new (behind_comma b) fs name s_is fs_is name_is (comma_sound b old.state fs name next inside sound);
+      placed = placed;
+      distinct = distinct;
     }
 
 -- a colon
 pub takes_colon : (old new : Reading) → is_colon_next old.state ≡ true → new.state ≡ state.Value →
-    new.frames.items ≡ old.frames.items → name_of new.name ≡ name_of old.name → entries_in new ≡ entries_in old → Takes old colon new
-takes_colon old new next s_is fs_is name_is es_is =
+    new.frames.items ≡ old.frames.items → name_of new.name ≡ name_of old.name → entries_in new ≡ entries_in old → IsPlacedIn new → IsDistinct new → Takes old colon new
+takes_colon old new next s_is fs_is name_is es_is placed distinct =
     let fs : List Frame = old.frames.items in
     let name : List ℕ = name_of old.name in
     let none : List Entry = [] in
@@ -143,6 +160,8 @@ takes_colon old new next s_is fs_is name_is es_is =
       parts = colon_fits old.state fs name next ∙ ap (λ (ps : List Part). Some (ps, none)) (left_in new state.Value fs name s_is fs_is name_is);
       entries = es_is ∙ sym (append-nil (entries_in old));
       sound = sound_in new state.Value fs name s_is fs_is name_is tt;
+      placed = placed;
+      distinct = distinct;
     }
 
 -- what a refusal says of one text, it says of another
@@ -150,13 +169,14 @@ pub refused_map : (stop : JsonStop) (P Q : Type 0) → (P → Q) → IfRefused s
 refused_map Memory P Q f h = tt
 refused_map (Refused error) P Q f h = f h
 
-pub stopped_map : (stop : JsonStop) (P Q : Type 0) → (P → Q) → IfStopped stop P → IfStopped stop Q
-stopped_map Memory P Q f h = tt
-stopped_map (Refused error) P Q f h = λ other. f (h other)
+pub stopped_map : (stop : JsonStop) (P Q R S : Type 0) → (P → Q) → (R → S) → IfStopped stop P R → IfStopped stop Q S
+stopped_map Memory P Q R S f g h = tt
+stopped_map (Refused error) P Q R S f g h = (λ other. f (h.0 other), g h.1)
 
-pub stopped_refused : (stop : JsonStop) (P Q : Type 0) → (P → Q) → IfRefused stop P → IfStopped stop Q
-stopped_refused Memory P Q f h = tt
-stopped_refused (Refused error) P Q f h = λ other. f h
+pub stopped_refused : (stop : JsonStop) (P : Type 0) (bytes : List ℕ) → (P → json_values bytes ≡ None) → IfRefused stop P →
+    IfStopped stop (json_values bytes ≡ None) (RepeatsIn bytes)
+stopped_refused Memory P bytes f h = tt
+stopped_refused (Refused error) P bytes f h = stopped_text (Refused error) bytes (f h)
 
 -- a string where no name is next is a value
 pub text_taken : (r : Result (Unit {0}) JsonStop) (old new : Reading) (t : List ℕ) → is_name_next old.state ≡ false → IsSound old →
@@ -166,7 +186,13 @@ text_taken (Ok x) old new t next sound h = record {
   parts = sym (string_scalar old.state old.frames.items (name_of old.name) t next sound) ∙ h.parts;
   entries = h.entries;
   sound = h.sound;
+  placed = h.placed;
+  distinct = h.distinct;
 }
 text_taken (Err stop) old new t next sound h =
+    let same : parts_from (parts_left old) (scalar (text t)) ≡ parts_from (parts_left old) (string t) =
+    string_scalar old.state old.frames.items (name_of old.name) t next sound in
     stopped_map stop (parts_from (parts_left old) (scalar (text t)) ≡ None) (parts_from (parts_left old) (string t) ≡ None)
-    (λ none. sym (string_scalar old.state old.frames.items (name_of old.name) t next sound) ∙ none) h
+    (RepeatsWith old (scalar (text t))) (RepeatsWith old (string t))
+    (λ none. sym same ∙ none)
+    (λ repeats rest more e. repeats rest more (ap (λ taken. option_and_then (λ r. in_front r.1 (values_of r.0 rest)) taken) same ∙ e)) h

@@ -76,7 +76,7 @@ more_sort false false d ps qs e = refl
 more_sort true false d ps qs e = absurd (cc)
 more_sort false true d ps qs e = absurd (cc)
 
-one_sort : (b c : Bool) (fs : List Frame) → IsInside b fs → IsInside c fs → b ≡ c
+pub one_sort : (b c : Bool) (fs : List Frame) → IsInside b fs → IsInside c fs → b ≡ c
 one_sort b c fs p q = more_sort b c (length fs) (drop 1 (rest_of fs)) (drop 1 (rest_of fs)) (sym p ∙ q)
 
 -- ---- behind a value

@@ -1,9 +1,12 @@
 -- The tokens of a text that is read token by token, and the values that they mean.
-use Rattle.std.proofs.Common.{◌≡◌, ◌∙◌, ℕ, zero, suc, ◌+◌, ◌-◌, ◌<◌, ◌≤◌, true, false, List, [], ◌∷◌, ◌++◌, length, get_or, drop, ap, sym, refl, arith, append_assoc, append-nil, Option, Some, None}
+use Rattle.std.proofs.Common.{◌≡◌, ◌∙◌, ℕ, zero, suc, ◌+◌, ◌-◌, ◌<◌, ◌≤◌, true, false, List, [], ◌∷◌, ◌++◌, length, get_or, drop, ap, sym, refl, subst, arith, append_assoc, append-nil, Option, Some, None}
 use Rattle.std.specs.Prelude.{option_map, option_and_then}
 use Rattle.std.proofs.lemmas.List.{drop_more, drop-drop, drop_all}
 use Rattle.std.proofs.lemmas.Bool.{cond-true, cond-false}
+use Rattle.std.proofs.lemmas.Option.{none-some, same_Some}
 use Rattle.nix_values.specs.Contents.{Entry}
+use Rattle.nix_values.specs.Repeated.{HasRepeatedName}
+use Rattle.nix_values.specs.JsonReading.{values_with}
 use Rattle.nix_values.specs.Json.{Token, is_space, token_at, tokens_behind, Part, Taken, in_front, parts_from, meaning, values_of}
 
 -- bytes are passed over
@@ -50,7 +53,7 @@ over_token parts t None = none_behind (parts_from parts t)
 over_token parts t (Some ts) = refl
 
 -- a token of a text
-values_step : (parts : List Part) (bytes : List ℕ) (i end : ℕ) (t : Token) → i < length bytes → is_space (get_or bytes i 0) ≡ false → i < end →
+pub values_step : (parts : List Part) (bytes : List ℕ) (i end : ℕ) (t : Token) → i < length bytes → is_space (get_or bytes i 0) ≡ false → i < end →
     token_at (get_or bytes i 0) (drop (i + 1) bytes) ≡ Some (t, end - i) →
     values_of parts (drop i bytes) ≡ option_and_then (λ r. in_front r.1 (values_of r.0 (drop end bytes))) (parts_from parts t)
 values_step parts bytes i end t there solid onward found =
@@ -111,3 +114,18 @@ pub text_cut : (all : Option (List Entry)) (parts more : List Part) (part : Part
 unfolding tokens_behind meaning
 text_cut all parts more part bytes i es so_far past left =
     so_far ∙ ap (λ l. in_front es (values_of parts l)) (drop_all i bytes past) ∙ ap (λ ps. in_front es (values_of ps [])) left
+
+-- values in front of others
+pub in_front_some : (es found : List Entry) (x : Option (List Entry)) → in_front es x ≡ Some found → (more : List Entry) × (x ≡ Some more) × (es ++ more ≡ found)
+in_front_some es found None e = absurd (none-some found e)
+in_front_some es found (Some more) e = (more, refl, same_Some (es ++ more) found e)
+
+-- a token that repeats a name is read
+pub repeating_token : (all : Option (List Entry)) (parts : List Part) (bytes : List ℕ) (i end : ℕ) (t : Token) (es : List Entry) →
+    all ≡ in_front es (values_of parts (drop i bytes)) → i < length bytes → is_space (get_or bytes i 0) ≡ false → i < end →
+    token_at (get_or bytes i 0) (drop (i + 1) bytes) ≡ Some (t, end - i) →
+    ((rest : List ℕ) (more : List Entry) → values_with parts t rest ≡ Some more → HasRepeatedName (es ++ more)) → (found : List Entry) → all ≡ Some found →
+    HasRepeatedName found
+repeating_token all parts bytes i end t es so_far there solid onward is repeats found e =
+    let rest = in_front_some es found (values_of parts (drop i bytes)) (sym so_far ∙ e) in
+    subst HasRepeatedName rest.2 (repeats (drop end bytes) rest.0 (sym (values_step parts bytes i end t there solid onward is) ∙ rest.1))

@@ -7,3 +7,15 @@ pub mod JsonStateLemmas
 pub mod JsonReadingLemmas
 pub mod JsonReadLemmas
 pub mod JsonExamples
+pub mod AttributeExamples
+pub mod SlotLemmas
+pub mod OrderedLemmas
+pub mod AttributeLemmas
+pub mod AttributePutLemmas
+pub mod AttributeInsertLemmas
+pub mod AttributeGrowthLemmas
+pub mod BuiltLemmas
+pub mod RepeatedLemmas
+pub mod JsonPlaceLemmas
+pub mod JsonRepeatLemmas
+pub mod JsonDistinctLemmas

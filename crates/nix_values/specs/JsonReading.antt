@@ -1,5 +1,5 @@
 -- What the reader of JSON has read: the parts that are still to come, and the values so far.
-use Rattle.std.specs.Prelude.{◌≡◌, ◌≢◌, ℕ, ◌+◌, ◌-◌, ◌<◌, ◌≤◌, Bool, true, false, List, [], ◌∷◌, ◌++◌, length, take, drop, map, slice_index, Option, Some, None, option_map, Result, MatchResult, String, string_bytes}
+use Rattle.std.specs.Prelude.{◌≡◌, ◌≢◌, ℕ, ◌+◌, ◌-◌, ◌<◌, ◌≤◌, Bool, true, false, List, [], ◌∷◌, ◌++◌, length, take, drop, map, slice_index, Option, Some, None, option_map, option_and_then, Result, MatchResult, String, string_bytes}
 use Rattle.std.specs.Char.{encode_utf8}
 use Rattle.std.specs.List.{prefix_len}
 use Rattle.nix_values.specs.JsonEscapes.{is_plain}
@@ -17,7 +17,10 @@ use Rattle.nix_values.specs.declared.json_reader.Frame.{Frame}
 use Rattle.nix_values.specs.declared.json_reader.Reading.{Reading}
 use Rattle.nix_values.specs.Contents.{Plain, list, set, plain_of, Entry, entry_of, contents}
 use Rattle.nix_values.specs.JsonContent.{escape_at}
-use Rattle.nix_values.specs.Json.{Token, opening, closing, comma, colon, string, scalar, word_at, Part, value, first_item, more_items, first_member, more_members, member, named, entry, parts_from, json_values, IsJson}
+use Rattle.nix_values.specs.Json.{Token, opening, closing, comma, colon, string, scalar, word_at, Part, value, first_item, more_items, first_member, more_members, member, named, entry, in_front, parts_from, values_of, json_values, IsJson}
+use Rattle.nix_values.specs.Repeated.{entry_keys, HasRepeatedName, HasDistinctNames}
+use Rattle.nix_values.specs.FoundKeys.{found_keys}
+use Rattle.nix_values.specs.JsonPlaces.{last_frame, set_of, in_set, IsPlaced}
 
 -- a part of a text ends behind a byte of ASCII
 abbrev pub EndsAscii : List ℕ → ℕ → Type 0
@@ -125,6 +128,34 @@ IsSound r = IsState r.state r.frames.items (name_of r.name)
 abbrev pub entries_in : Reading → List Entry
 entries_in r = map entry_of r.found.items.items
 
+-- the attributes that are read are found
+abbrev pub IsPlacedIn : Reading → Type 0
+IsPlacedIn r = IsPlaced r.found r.attributes r.frames.items
+
+-- a value is the attribute of the innermost list or set that has a name
+abbrev pub IsTaken : Reading → ℕ → List ℕ → Type 0
+IsTaken r number name = (frame : Frame) × (last_frame r.frames.items ≡ Some frame) × (found_keys r.found number ≡ Some (frame.node, name))
+
+-- the innermost set has no value with a name
+abbrev pub IsNotTaken : Reading → List ℕ → Type 0
+IsNotTaken r name = (frame : Frame) (number : ℕ) → last_frame r.frames.items ≡ Some frame → found_keys r.found number ≡ Some (frame.node, name) → ⊥
+
+-- no value is the attribute that a value with a name becomes
+abbrev pub IsFree : Reading → List ℕ → Type 0
+IsFree r name = (number : ℕ) (key : ℕ × List ℕ) → in_set (set_of (last_frame r.frames.items)) name ≡ Some key → entry_keys (entries_in r) number ≡ Some key → ⊥
+
+-- so it is with the name that is known, where a value comes next, perhaps behind a colon
+abbrev pub IsNextFree : State → Reading → Type 0
+IsNextFree state.Value r = IsFree r (name_of r.name)
+IsNextFree state.ValueOrClose r = IsFree r (name_of r.name)
+IsNextFree state.Colon r = IsFree r (name_of r.name)
+IsNextFree _ r = Unit {0}
+
+-- no set has two values with one name, nor will the next one be such a value
+pub record IsDistinct (r : Reading) : Type 0 where
+  pub distinct : HasDistinctNames (entries_in r)
+  pub free : IsNextFree r.state r
+
 -- whether a value may come next, or a name
 abbrev pub is_value_next : State → Bool
 is_value_next state.Value = true
@@ -189,18 +220,28 @@ pub record Takes (old : Reading) (token : Token) (new : Reading) : Type 0 where
   pub parts : parts_from (parts_left old) token ≡ Some (parts_left new, added)
   pub entries : entries_in new ≡ entries_in old ++ added
   pub sound : IsSound new
+  pub placed : IsPlacedIn new
+  pub distinct : IsDistinct new
 
--- what a refusal says of a text, unless it is for a name that an object has twice
-abbrev pub IfWrong : JsonError → Type 0 → Type 0
-IfWrong error none = error.reason ≢ Repeated → none
+-- what a refusal says of a text: unless it is for a name that an object has twice, and in any case
+abbrev pub IfWrong : JsonError → Type 0 → Type 0 → Type 0
+IfWrong error none repeats = (error.reason ≢ Repeated → none) × repeats
 
-abbrev pub IfStopped : JsonStop → Type 0 → Type 0
-IfStopped Memory none = Unit {0}
-IfStopped (Refused error) none = IfWrong error none
+abbrev pub IfStopped : JsonStop → Type 0 → Type 0 → Type 0
+IfStopped Memory none repeats = Unit {0}
+IfStopped (Refused error) none repeats = IfWrong error none repeats
+
+-- the values that a token means with the bytes that follow it
+abbrev pub values_with : List Part → Token → List ℕ → Option (List Entry)
+values_with parts token rest = option_and_then (λ r. in_front r.1 (values_of r.0 rest)) (parts_from parts token)
+
+-- if a token and what follows it mean values, some set has two of one name
+abbrev pub RepeatsWith : Reading → Token → Type 0
+RepeatsWith r token = (rest : List ℕ) (more : List Entry) → values_with (parts_left r) token rest ≡ Some more → HasRepeatedName (entries_in r ++ more)
 
 -- a token is taken, or it does not fit
 abbrev pub TakesOrNot : Result (Unit {0}) JsonStop → Reading → Token → Reading → Type 0
-TakesOrNot r old token new = MatchResult r (λ x. Takes old token new) (λ stop. IfStopped stop (parts_from (parts_left old) token ≡ None))
+TakesOrNot r old token new = MatchResult r (λ x. Takes old token new) (λ stop. IfStopped stop (parts_from (parts_left old) token ≡ None) (RepeatsWith old token))
 
 -- the same of what the reader found
 abbrev pub FoundOrNot : Result (Unit {0}) JsonStop → Reading → Option Token → Reading → Type 0
@@ -210,10 +251,18 @@ FoundOrNot r old (Some token) new = TakesOrNot r old token new
 abbrev pub TakesTokenOrNot : Result (Unit {0}) JsonStop → Reading → Found → Reading → Type 0
 TakesTokenOrNot r old token new = FoundOrNot r old (token_of token) new
 
--- a text means no values
+-- if a text means values, some set has two of one name
+abbrev pub RepeatsIn : List ℕ → Type 0
+RepeatsIn text = (found : List Entry) → json_values text ≡ Some found → HasRepeatedName found
+
+-- a text means no values, or some of which a set has two of one name
 abbrev pub IsNoJson : JsonError → List ℕ → Type 0
-IsNoJson error text = IfWrong error (json_values text ≡ None)
+IsNoJson error text = IfWrong error (json_values text ≡ None) (RepeatsIn text)
+
+-- the data that are read, if any, have no set with two values of one name
+abbrev pub ReadsDistinct : Result Data JsonStop → Type 0
+ReadsDistinct r = MatchResult r (λ found. HasDistinctNames (contents found)) (λ stop. Unit {0})
 
 -- the data of a text, or it means no values
 abbrev pub ReadsJson : Result Data JsonStop → List ℕ → Type 0
-ReadsJson r text = MatchResult r (λ found. IsJson text (contents found)) (λ stop. IfStopped stop (json_values text ≡ None))
+ReadsJson r text = MatchResult r (λ found. IsJson text (contents found)) (λ stop. IfStopped stop (json_values text ≡ None) (RepeatsIn text))

@@ -5,3 +5,15 @@ pub mod JsonContent
 pub mod JsonNumbers
 pub mod Json
 pub mod JsonReading
+pub mod AttributeHash
+pub mod Slots
+pub mod Ordered
+pub mod Keys
+pub mod Attributes
+pub mod Index
+pub mod Built
+pub mod FoundKeys
+pub mod Building
+pub mod Repeated
+pub mod Attached
+pub mod JsonPlaces

@@ -1,20 +1,29 @@
 //! The attributes of sets by their names. Each is looked up by its hash; names that were chosen to share one are looked up in their order.
 
+ghost use Rattle.std.specs.Prelude.{◌≡◌, ◌≢◌, ℕ, List, Option, Some, option_map, IsTrue, false, OnOk, OnErr};
+ghost use Rattle.nix_values.specs.Keys.{Keys, is_key};
+ghost use Rattle.nix_values.specs.AttributeHash.{attribute_hash};
+
 use crate::ordered::OrderedAttributes;
-use crate::slots::{Slots, hash_of};
+use crate::slots::{Slots, Spot, hash_of};
 use std::alloc::{AllocError, Global};
+use std::collections::BTreeMap;
 
 /// Values with numbers, some of which are attributes.
 pub trait Values {
+    // Which attribute each value is.
+    ghost keys: { Self → Keys };
+
     /// The set that a value is an attribute of, and its name.
-    fn attribute(&self, number: usize) -> Option<(usize, &str)>;
+    fn attribute(&self, number: usize) -> Option<(usize, &str)>
+        ensures { option_map (λ p. (p.0, p.1.now)) result ≡ keys self.now number };
 }
 
 // Where an attribute is found.
 enum Place {
-    // In the slot of its hash that so many stand before, as this number.
+    // In this slot, as this number.
     Taken(usize, usize),
-    // Nowhere, and this slot is free.
+    // Nowhere, and this slot of its hash is free.
     Free(usize),
     // Among those that found no slot, if anywhere.
     Crowded,
@@ -28,9 +37,24 @@ pub struct Attributes {
     crowded: OrderedAttributes,
 }
 
+// Whether what a value is an attribute of is a set, and a name its name.
+fn is_attribute(found: Option<(usize, &str)>, set: usize, name: &str) -> bool
+    ensures { result ≡ is_key (option_map (λ p. (p.0, p.1.now)) found.entry) set name.now }
+{
+    match found {
+        Some((other, text)) => other == set && text == name,
+        None => false,
+    }
+}
+
 impl Attributes {
+    ghost use Rattle.nix_values.specs.Attributes.{place_in, found_in, HasHash, IsSound, FindsNone, IsWithin, IsSame, IsInserted, IsNew, IsAddedTo};
+    ghost use Rattle.nix_values.specs.Attributes.{IsFoundAdded, AreSlotsAdded, AreSetsAdded, AreCrowdedAdded};
+
     /// Returns no attributes.
-    pub fn new(alloc: Global) -> Attributes {
+    pub fn new(alloc: Global) -> Attributes
+        ensures { (keys : Keys) → IsSound keys result × FindsNone keys result }
+    {
         Attributes {
             slots: Slots::new(alloc),
             crowded: OrderedAttributes::new(alloc),
@@ -38,24 +62,27 @@ impl Attributes {
     }
 
     // Where the attribute of a set is that has a name with this hash. At most one name is compared.
-    fn place<V: Values>(&self, values: &V, hash: u64, set: usize, name: &str) -> Place {
-        for (step, slot) in self.slots.window(hash).iter().enumerate() {
-            if slot.is_free() {
-                return Place::Free(step);
-            }
-            if let Some(number) = slot.number_of(hash) {
-                return if values.attribute(number) == Some((set, name)) {
-                    Place::Taken(step, number)
+    fn place<V: Values>(&self, values: &V, hash: u64, set: usize, name: &str) -> Place
+        requires { hash ≡ attribute_hash set name.now }
+        ensures { result ≡ place_in self.now (V.keys values.now) set name.now }
+    {
+        match self.slots.spot(hash) {
+            Spot::Free(at) => Place::Free(at),
+            Spot::Taken(at, number) => {
+                if is_attribute(values.attribute(number), set, name) {
+                    Place::Taken(at, number)
                 } else {
                     Place::Crowded
-                };
+                }
             }
+            Spot::Full => Place::Crowded,
         }
-        Place::Crowded
     }
 
     /// Returns the attribute of a set that has a name.
-    pub fn get<V: Values>(&self, values: &V, set: usize, name: &str) -> Option<usize> {
+    pub fn get<V: Values>(&self, values: &V, set: usize, name: &str) -> Option<usize>
+        ensures { result ≡ found_in self.now (V.keys values.now) set name.now }
+    {
         match self.place(values, hash_of(set, name), set, name) {
             Place::Taken(_, number) => Some(number),
             Place::Free(_) => None,
@@ -63,36 +90,154 @@ impl Attributes {
         }
     }
 
-    // Puts those of other slots into the slots of a larger table, and what finds none there among the crowded.
-    fn move_slots<V: Values>(
+    // Adds an attribute of which no other value is found.
+    fn add<V: Values>(
         &mut self,
         alloc: Global,
         values: &V,
-        grown: &mut Slots,
-    ) -> Result<(), AllocError> {
-        for slot in self.slots.slots() {
-            let Some((hash, number)) = slot.entry() else {
-                continue;
-            };
-            if !grown.add(hash, number) {
-                if let Some((set, name)) = values.attribute(number) {
-                    self.crowded.insert(alloc, set, name, number)?;
-                }
+        hash: u64,
+        number: usize,
+    ) -> Result<(), AllocError>
+        requires sound { IsSound (V.keys values.now) self.old }
+        requires hash { HasHash (V.keys values.now) number hash }
+        requires number { number ≢ usize.MAX }
+        requires other { IsNew (V.keys values.now) self.old number }
+        ensures { OnOk result (IsAddedTo (V.keys values.now) self.old number self.new) }
+    {
+        if !self.slots.add(hash, number) {
+            if let Some((set, name)) = values.attribute(number) {
+                self.crowded.insert(alloc, set, name, number)?;
             }
         }
         Ok(())
     }
 
-    // Makes room for twice as many slots that are taken. What fails leaves the attributes as they are.
-    fn grow<V: Values>(&mut self, alloc: Global, values: &V) -> Result<(), AllocError> {
-        let mut grown = Slots::with_room(alloc, self.slots.count().saturating_mul(2))?;
-        self.move_slots(alloc, values, &mut grown)?;
-        self.crowded.attributes.retain(|_, number| {
-            !values
-                .attribute(*number)
-                .is_some_and(|(set, name)| grown.add(hash_of(set, name), *number))
-        });
-        self.slots = grown;
+    // Adds the attributes in the slots of others.
+    fn add_slots<V: Values>(
+        &mut self,
+        alloc: Global,
+        values: &V,
+        from: &Attributes,
+    ) -> Result<(), AllocError>
+        requires sound { IsSound (V.keys values.now) self.old }
+        requires others { IsSound (V.keys values.now) from.now }
+        requires within { IsWithin (V.keys values.now) self.old from.now }
+        ensures { OnOk result (AreSlotsAdded (V.keys values.now) from.now self.new) }
+    {
+        for slot in from.slots.slots() {
+            if let Some((hash, number)) = slot.entry() {
+                self.add(alloc, values, hash, number)?;
+            }
+        }
+        Ok(())
+    }
+
+    // Whether a value is found as the attribute of a set that has a name.
+    fn finds<V: Values>(&self, values: &V, set: usize, name: &str, number: usize) -> bool
+        ensures found { IsTrue result → found_in self.now (V.keys values.now) set name.now ≡ Some number }
+        ensures other { result ≡ false → found_in self.now (V.keys values.now) set name.now ≡ Some number → ⊥ }
+    {
+        match self.get(values, set, name) {
+            Some(found) => found == number,
+            None => false,
+        }
+    }
+
+    // Adds an attribute, if others find it.
+    fn add_found<V: Values>(
+        &mut self,
+        alloc: Global,
+        values: &V,
+        from: &Attributes,
+        number: usize,
+    ) -> Result<(), AllocError>
+        requires sound { IsSound (V.keys values.now) self.old }
+        requires others { IsSound (V.keys values.now) from.now }
+        requires within { IsWithin (V.keys values.now) self.old from.now }
+        ensures { OnOk result (IsFoundAdded (V.keys values.now) from.now number self.old self.new) }
+    {
+        if let Some((set, name)) = values.attribute(number) {
+            if from.finds(values, set, name, number) {
+                self.add(alloc, values, hash_of(set, name), number)?;
+            }
+        }
+        Ok(())
+    }
+
+    // Adds the attributes of a name that others have among the crowded.
+    fn add_sets<V: Values>(
+        &mut self,
+        alloc: Global,
+        values: &V,
+        from: &Attributes,
+        sets: &BTreeMap<usize, usize>,
+    ) -> Result<(), AllocError>
+        requires sound { IsSound (V.keys values.now) self.old }
+        requires others { IsSound (V.keys values.now) from.now }
+        requires within { IsWithin (V.keys values.now) self.old from.now }
+        ensures { OnOk result (AreSetsAdded (V.keys values.now) from.now sets.now self.old self.new) }
+    {
+        for number in sets.values() {
+            self.add_found(alloc, values, from, *number)?;
+        }
+        Ok(())
+    }
+
+    // Adds the attributes that others have among the crowded.
+    fn add_crowded<V: Values>(
+        &mut self,
+        alloc: Global,
+        values: &V,
+        from: &Attributes,
+    ) -> Result<(), AllocError>
+        requires sound { IsSound (V.keys values.now) self.old }
+        requires others { IsSound (V.keys values.now) from.now }
+        requires within { IsWithin (V.keys values.now) self.old from.now }
+        ensures { OnOk result (AreCrowdedAdded (V.keys values.now) from.now self.old self.new) }
+    {
+        for sets in from.crowded.names.values() {
+            self.add_sets(alloc, values, from, sets)?;
+        }
+        Ok(())
+    }
+
+    // Makes room for twice as many slots that are taken.
+    fn grow<V: Values>(&mut self, alloc: Global, values: &V) -> Result<(), AllocError>
+        requires { IsSound (V.keys values.now) self.old }
+        ensures grown { OnOk result (IsSame (V.keys values.now) self.old self.new) }
+        ensures kept { OnErr result (self.new ≡ self.old) }
+    {
+        let room = self.slots.count().saturating_mul(2);
+        let mut grown = Attributes {
+            slots: Slots::with_room(alloc, room)?,
+            crowded: OrderedAttributes::new(alloc),
+        };
+        grown.add_slots(alloc, values, self)?;
+        grown.add_crowded(alloc, values, self)?;
+        *self = grown;
+        Ok(())
+    }
+
+    // Makes a value the attribute of a set that has a name, without new slots.
+    fn put<V: Values>(
+        &mut self,
+        alloc: Global,
+        values: &V,
+        set: usize,
+        name: &str,
+        number: usize,
+    ) -> Result<(), AllocError>
+        requires sound { IsSound (V.keys values.now) self.old }
+        requires number { number ≢ usize.MAX }
+        ensures inserted { OnOk result (IsInserted (V.keys values.now) self.old set name.now number self.new) }
+        ensures kept { OnErr result (IsSame (V.keys values.now) self.old self.new) }
+    {
+        let hash = hash_of(set, name);
+        match self.place(values, hash, set, name) {
+            Place::Taken(at, _) => self.slots.put(at, hash, number),
+            Place::Free(at) => self.slots.put(at, hash, number),
+            Place::Crowded => self.crowded.insert(alloc, set, name, number)?,
+        }
         Ok(())
     }
 
@@ -101,17 +246,18 @@ impl Attributes {
         &mut self,
         alloc: Global,
         values: &V,
-        (set, name): (usize, &str),
+        set: usize,
+        name: &str,
         number: usize,
-    ) -> Result<(), AllocError> {
+    ) -> Result<(), AllocError>
+        requires sound { IsSound (V.keys values.now) self.old }
+        requires number { number ≢ usize.MAX }
+        ensures inserted { OnOk result (IsInserted (V.keys values.now) self.old set name.now number self.new) }
+        ensures kept { OnErr result (IsSame (V.keys values.now) self.old self.new) }
+    {
         if !self.slots.has_room() {
             self.grow(alloc, values)?;
         }
-        let hash = hash_of(set, name);
-        match self.place(values, hash, set, name) {
-            Place::Taken(step, _) | Place::Free(step) => self.slots.put(step, hash, number),
-            Place::Crowded => self.crowded.insert(alloc, set, name, number)?,
-        }
-        Ok(())
+        self.put(alloc, values, set, name, number)
     }
 }

@@ -1,5 +1,11 @@
 //! Data that is being read: values with their parents, in the order in which they were found.
 
+ghost use Rattle.std.specs.Prelude.{◌≡◌, ℕ, ◌<◌, [], ◌∷◌, ◌++◌, length, map, false, IsTrue, IfOk, OnOk, OnErr, string_bytes};
+ghost use Rattle.std.proofs.Props.{props};
+ghost use Rattle.nix_values.specs.Contents.{Plain, plain_of};
+ghost use Rattle.nix_values.specs.Built.{built_of, is_set_at, attribute_of};
+ghost use Rattle.nix_values.specs.Index.{IsIndex, IsIndexWith};
+
 use crate::attributes::Attributes;
 use crate::data::{Data, Value};
 use crate::nodes::{Node, Nodes};
@@ -10,11 +16,38 @@ use std::alloc::{AllocError, Global};
 pub struct Builder {
     values: Nodes,
     attributes: Attributes,
+    ghost index: { IsIndex (map built_of values.nodes.items) attributes } by { Prim.hlevel props },
+}
+
+// Makes the value that comes next the attribute of a set, if it is inside one.
+fn attach(
+    alloc: Global,
+    values: &Nodes,
+    attributes: &mut Attributes,
+    parent: Option<usize>,
+    name: &str,
+) -> Result<(), AllocError>
+    requires index { IsIndex (map built_of values.now.nodes.items) attributes.old }
+    requires room { length values.now.nodes.items < usize.MAX }
+    ensures attached { OnOk result (IsIndexWith (map built_of values.now.nodes.items) parent name.now attributes.new) }
+    ensures kept { OnErr result (IsIndex (map built_of values.now.nodes.items) attributes.new) }
+{
+    let Some(set) = parent else {
+        return Ok(());
+    };
+    if !values.is_set(set) {
+        return Ok(());
+    }
+    attributes.insert(alloc, values, set, name, values.nodes.len())
 }
 
 impl Builder {
+    ghost use Rattle.nix_values.specs.Building.{values_in, IsAddedLast};
+
     /// Returns a builder of no data.
-    pub fn new(alloc: Global) -> Builder {
+    pub fn new(alloc: Global) -> Builder
+        ensures { values_in result ≡ [] }
+    {
         Builder {
             values: Nodes {
                 nodes: Vec::new(alloc),
@@ -24,17 +57,23 @@ impl Builder {
     }
 
     /// The number of values so far.
-    pub fn len(&self) -> usize {
+    pub fn len(&self) -> usize
+        ensures { result ≡ length (values_in self.now) }
+    {
         self.values.nodes.len()
     }
 
     /// Returns whether a value is a set.
-    pub fn is_set(&self, node: usize) -> bool {
+    pub fn is_set(&self, node: usize) -> bool
+        ensures { result ≡ is_set_at (values_in self.now) node }
+    {
         self.values.is_set(node)
     }
 
     /// Returns the attribute of a set that has a name.
-    pub fn attribute(&self, set: usize, name: &str) -> Option<usize> {
+    pub fn attribute(&self, set: usize, name: &str) -> Option<usize>
+        ensures { result ≡ attribute_of (values_in self.now) set name.now }
+    {
         self.attributes.get(&self.values, set, name)
     }
 
@@ -45,20 +84,23 @@ impl Builder {
         parent: Option<usize>,
         name: String,
         value: Value,
-    ) -> Result<usize, AllocError> {
+    ) -> Result<usize, AllocError>
+        ensures added { IfOk result (λ number. IsAddedLast self.old number parent (string_bytes name) (plain_of value) self.new) }
+        ensures kept { OnErr result (values_in self.new ≡ values_in self.old) }
+    {
         let node = self.values.nodes.len();
         let depth = match parent.and_then(|number| self.values.nodes.get(number)) {
             Some(around) => around.depth.saturating_add(1),
             None => 0,
         };
-        if let Some(set) = parent {
-            if self.is_set(set) {
-                self.values.nodes.reserve(1)?;
-                let attribute = (set, name.as_str());
-                self.attributes
-                    .insert(alloc, &self.values, attribute, node)?;
-            }
-        }
+        self.values.nodes.reserve(1)?;
+        attach(
+            alloc,
+            &self.values,
+            &mut self.attributes,
+            parent,
+            name.as_str(),
+        )?;
         self.values.nodes.push(Node {
             parent,
             depth,

@@ -1,10 +1,13 @@
 //! The values of a JSON text so far.
 
-ghost use Rattle.std.specs.Prelude.{◌≡◌, []};
+ghost use Rattle.std.specs.Prelude.{◌≡◌, [], length, OnOk};
+ghost use Rattle.nix_values.specs.Attributes.{IsSound};
+ghost use Rattle.nix_values.specs.FoundKeys.{found_keys};
+ghost use Rattle.nix_values.specs.Attached.{IsAttached};
 
-use crate::attributes::Values;
+use crate::attributes::{Attributes, Values};
 use crate::data::Item;
-use std::alloc::Global;
+use std::alloc::{AllocError, Global};
 
 /// Where a value was found.
 #[derive(Clone, Copy)]
@@ -27,11 +30,29 @@ pub struct Found {
 impl Found {
     /// Returns no values.
     pub fn new(alloc: Global) -> Found
-        ensures { result.items.items ≡ [] }
+        ensures items { result.items.items ≡ [] }
+        ensures places { result.places.items ≡ [] }
     {
         Found {
             items: Vec::new(alloc),
             places: Vec::new(alloc),
+        }
+    }
+
+    /// Makes the value that comes next the attribute of a set, if there is one.
+    pub fn attach(
+        &self,
+        alloc: Global,
+        attributes: &mut Attributes,
+        set: Option<usize>,
+        name: &str,
+    ) -> Result<(), AllocError>
+        requires { IsSound (found_keys self.now) attributes.old }
+        ensures { OnOk result (IsAttached (found_keys self.now) attributes.old set name.now (length self.now.items.items) attributes.new) }
+    {
+        match set {
+            Some(set) => attributes.insert(alloc, self, set, name, self.items.len()),
+            None => Ok(()),
         }
     }
 
@@ -42,6 +63,8 @@ impl Found {
 }
 
 impl Values for Found {
+    ghost keys = { found_keys };
+
     fn attribute(&self, number: usize) -> Option<(usize, &str)> {
         let place = self.places.get(number)?;
         let item = self.items.get(number)?;

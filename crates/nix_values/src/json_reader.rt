@@ -1,9 +1,11 @@
 //! The data of a JSON text.
 
-ghost use Rattle.std.specs.Prelude.{◌≡◌, [], IfNone, IfSome, IfOk, OnOk, MatchResult, string_bytes};
+ghost use Rattle.std.specs.Prelude.{◌≡◌, [], IfNone, IfSome, IfOk, OnOk, MatchResult, length, string_bytes};
 ghost use Rattle.nix_values.specs.Contents.{plain_of, contents};
 ghost use Rattle.nix_values.specs.Json.{opening, closing, comma, colon, string, scalar, IsJson};
-ghost use Rattle.nix_values.specs.JsonReading.{opened, opened_plain, IsNoJson, ReadsJson};
+ghost use Rattle.nix_values.specs.JsonPlaces.{last_frame, set_of};
+ghost use Rattle.nix_values.specs.JsonReading.{opened, opened_plain, IsNoJson, ReadsJson, ReadsDistinct};
+ghost use Rattle.nix_values.specs.Repeated.{HasDistinctNames};
 
 use crate::attributes::Attributes;
 use crate::data::{Data, Item, Value};
@@ -67,10 +69,13 @@ fn opened(is_set: bool) -> State
 
 impl Reading {
     ghost use Rattle.nix_values.specs.JsonReading.{is_value_next, is_name_next, is_close_next, is_comma_next, is_colon_next, is_end, state_behind, IsInside, IsSound, IsAdded, TakesOrNot, TakesTokenOrNot, IsBegun};
+    ghost use Rattle.nix_values.specs.JsonReading.{entries_in, IsPlacedIn, IsTaken, IsNotTaken, IsDistinct};
 
     // Nothing is read yet.
     fn new(alloc: Global) -> Reading
-        ensures { IsBegun result }
+        ensures begun { IsBegun result }
+        ensures placed { IsPlacedIn result }
+        ensures distinct { IsDistinct result }
     {
         Reading {
             alloc,
@@ -84,6 +89,7 @@ impl Reading {
 
     // The innermost list or set.
     fn innermost(&self) -> Option<Frame>
+        ensures last { result ≡ last_frame self.now.frames.items }
         ensures none { IfNone result (self.now.frames.items ≡ []) }
         ensures some { IfSome result (λ frame. IsInside frame.is_set self.now.frames.items) }
     {
@@ -122,9 +128,22 @@ impl Reading {
         refused(reason, at)
     }
 
+    // The innermost set, if it is in no list.
+    fn innermost_set(&self) -> Option<usize>
+        ensures { result ≡ set_of (last_frame self.now.frames.items) }
+    {
+        match self.innermost() {
+            Some(frame) => { if frame.is_set { Some(frame.node) } else { None } }
+            None => None,
+        }
+    }
+
     // Adds a value to the innermost list or set.
     fn add(&mut self, value: Value, at: usize) -> Result<usize, AllocError>
-        ensures { OnOk result (IsAdded self.old (plain_of value) self.new) }
+        requires { IsPlacedIn self.old }
+        ensures added { OnOk result (IsAdded self.old (plain_of value) self.new) }
+        ensures placed { OnOk result (IsPlacedIn self.new) }
+        ensures number { IfOk result (λ number. number ≡ length (entries_in self.old)) }
     {
         let number = self.found.items.len();
         let depth = self.frames.len();
@@ -132,15 +151,9 @@ impl Reading {
             Some(named) => named,
             None => (String::new(self.alloc), at),
         };
-        let set = match self.innermost() {
-            Some(frame) if frame.is_set => Some(frame.node),
-            _ => None,
-        };
-        if let Some(set) = set {
-            let attribute = (set, name.as_str());
-            self.attributes
-                .insert(self.alloc, &self.found, attribute, number)?;
-        }
+        let set = self.innermost_set();
+        self.found
+            .attach(self.alloc, &mut self.attributes, set, name.as_str())?;
         self.found.places.push(Place { offset, set })?;
         self.found.items.push(Item { depth, name, value })?;
         Ok(number)
@@ -193,7 +206,9 @@ impl Reading {
 
     // Takes a value that holds no values.
     fn take_scalar(&mut self, value: Value, at: usize) -> Result<(), JsonStop>
-        requires { IsSound self.old }
+        requires sound { IsSound self.old }
+        requires placed { IsPlacedIn self.old }
+        requires distinct { IsDistinct self.old }
         ensures { TakesOrNot result self.old (scalar (plain_of value)) self.new }
     {
         if !self.is_value_next() {
@@ -206,7 +221,9 @@ impl Reading {
 
     // Takes the beginning of a list or a set.
     fn take_open(&mut self, is_set: bool, at: usize) -> Result<(), JsonStop>
-        requires { IsSound self.old }
+        requires sound { IsSound self.old }
+        requires placed { IsPlacedIn self.old }
+        requires distinct { IsDistinct self.old }
         ensures { TakesOrNot result self.old (opening is_set) self.new }
     {
         if !self.is_value_next() {
@@ -222,14 +239,20 @@ impl Reading {
     }
 
     // The attribute of the innermost set that has a name.
-    fn attribute(&self, name: &str) -> Option<usize> {
+    fn attribute(&self, name: &str) -> Option<usize>
+        requires { IsPlacedIn self.now }
+        ensures taken { IfSome result (λ number. IsTaken self.now number name.now) }
+        ensures free { IfNone result (IsNotTaken self.now name.now) }
+    {
         let set = self.innermost()?.node;
         self.attributes.get(&self.found, set, name)
     }
 
     // Takes a string: a name or a value.
     fn take_text(&mut self, text: String, at: usize) -> Result<(), JsonStop>
-        requires { IsSound self.old }
+        requires sound { IsSound self.old }
+        requires placed { IsPlacedIn self.old }
+        requires distinct { IsDistinct self.old }
         ensures { TakesOrNot result self.old (string (string_bytes text)) self.new }
     {
         if !self.is_name_next() {
@@ -249,7 +272,9 @@ impl Reading {
 
     // Takes the end of a list or a set.
     fn take_close(&mut self, is_set: bool, at: usize) -> Result<(), JsonStop>
-        requires { IsSound self.old }
+        requires sound { IsSound self.old }
+        requires placed { IsPlacedIn self.old }
+        requires distinct { IsDistinct self.old }
         ensures { TakesOrNot result self.old (closing is_set) self.new }
     {
         if !self.is_close_next() {
@@ -268,7 +293,9 @@ impl Reading {
 
     // Takes a comma.
     fn take_comma(&mut self, at: usize) -> Result<(), JsonStop>
-        requires { IsSound self.old }
+        requires sound { IsSound self.old }
+        requires placed { IsPlacedIn self.old }
+        requires distinct { IsDistinct self.old }
         ensures { TakesOrNot result self.old comma self.new }
     {
         if !self.is_comma_next() {
@@ -287,7 +314,9 @@ impl Reading {
 
     // Takes a colon.
     fn take_colon(&mut self, at: usize) -> Result<(), JsonStop>
-        requires { IsSound self.old }
+        requires sound { IsSound self.old }
+        requires placed { IsPlacedIn self.old }
+        requires distinct { IsDistinct self.old }
         ensures { TakesOrNot result self.old colon self.new }
     {
         if !self.is_colon_next() {
@@ -299,7 +328,9 @@ impl Reading {
 
     // Takes a token.
     fn take(&mut self, token: Token, at: usize) -> Result<(), JsonStop>
-        requires { IsSound self.old }
+        requires sound { IsSound self.old }
+        requires placed { IsPlacedIn self.old }
+        requires distinct { IsDistinct self.old }
         ensures { TakesTokenOrNot result self.old token self.new }
     {
         match token {
@@ -316,7 +347,8 @@ impl Reading {
 
 // The data of a JSON text.
 fn read(alloc: Global, text: &str) -> Result<Data, JsonStop>
-    ensures { ReadsJson result text.now }
+    ensures read { ReadsJson result text.now }
+    ensures distinct { ReadsDistinct result }
 {
     let mut reading = Reading::new(alloc);
     let mut at = after_space(text, 0);
@@ -341,7 +373,8 @@ fn read(alloc: Global, text: &str) -> Result<Data, JsonStop>
 
 /// Returns the data of a JSON text, or why the text is refused.
 pub fn data_of_json(alloc: Global, text: &str) -> Result<Result<Data, JsonError>, AllocError>
-    ensures { IfOk result (λ outcome. MatchResult outcome (λ found. IsJson text.now (contents found)) (λ error. IsNoJson error text.now)) }
+    ensures read { IfOk result (λ outcome. MatchResult outcome (λ found. IsJson text.now (contents found)) (λ error. IsNoJson error text.now)) }
+    ensures distinct { IfOk result (λ outcome. IfOk outcome (λ found. HasDistinctNames (contents found))) }
 {
     match read(alloc, text) {
         Ok(found) => Ok(Ok(found)),

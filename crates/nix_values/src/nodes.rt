@@ -1,5 +1,8 @@
 //! Values that are being read, with their parents, in the order in which they were found.
 
+ghost use Rattle.std.specs.Prelude.{◌≡◌, map};
+ghost use Rattle.nix_values.specs.Built.{built_of, is_set_at, keys_of};
+
 use crate::attributes::Values;
 use crate::data::{Item, Value};
 use std::alloc::{AllocError, Global};
@@ -31,6 +34,8 @@ pub struct Nodes {
 }
 
 impl Values for Nodes {
+    ghost keys = { λ values. keys_of (map built_of values.nodes.items) };
+
     fn attribute(&self, number: usize) -> Option<(usize, &str)> {
         let found = self.nodes.get(number)?;
         match found.parent {
@@ -42,7 +47,9 @@ impl Values for Nodes {
 
 impl Nodes {
     /// Whether a value is a set.
-    pub fn is_set(&self, node: usize) -> bool {
+    pub fn is_set(&self, node: usize) -> bool
+        ensures { result ≡ is_set_at (map built_of self.now.nodes.items) node }
+    {
         match self.nodes.get(node) {
             Some(found) => matches!(&found.value, Value::Set),
             None => false,

@@ -1,40 +1,36 @@
 //! Attributes in the order of their names.
 
+ghost use Rattle.std.specs.Prelude.{◌≡◌, ℕ, List, OnOk, OnErr};
+ghost use Rattle.nix_values.specs.Ordered.{crowded_in, IsWithCrowded, IsSameCrowded, HasNoCrowded};
+
 use std::alloc::{AllocError, Global};
 use std::collections::BTreeMap;
 
 /// The attributes of sets by their names.
 #[derive(Drop)]
 pub struct OrderedAttributes {
-    // The number of each name.
-    names: BTreeMap<String, usize>,
-    /// The attribute of a set by the number of its name.
-    pub attributes: BTreeMap<(usize, usize), usize>,
+    /// For each name its attribute of each set.
+    pub names: BTreeMap<String, BTreeMap<usize, usize>>,
 }
 
 impl OrderedAttributes {
     /// Returns no attributes.
-    pub fn new(alloc: Global) -> OrderedAttributes {
+    pub fn new(alloc: Global) -> OrderedAttributes
+        ensures { HasNoCrowded result }
+    {
         OrderedAttributes {
             names: BTreeMap::new(alloc),
-            attributes: BTreeMap::new(alloc),
         }
     }
 
     /// Returns the attribute of a set that has a name.
-    pub fn get(&self, set: usize, name: &str) -> Option<usize> {
-        let number = self.names.get(name)?;
-        self.attributes.get(&(set, *number)).copied()
-    }
-
-    // The number of a name, which it then has.
-    fn number_of(&mut self, alloc: Global, name: &str) -> Result<usize, AllocError> {
-        if let Some(number) = self.names.get(name) {
-            return Ok(*number);
+    pub fn get(&self, set: usize, name: &str) -> Option<usize>
+        ensures { result ≡ crowded_in self.now set name.now }
+    {
+        match self.names.get(name) {
+            Some(sets) => sets.get(&set).copied(),
+            None => None,
         }
-        let number = self.names.len();
-        self.names.insert(String::from_str(alloc, name)?, number)?;
-        Ok(number)
     }
 
     /// Makes a value the attribute of a set that has a name.
@@ -44,9 +40,17 @@ impl OrderedAttributes {
         set: usize,
         name: &str,
         value: usize,
-    ) -> Result<(), AllocError> {
-        let number = self.number_of(alloc, name)?;
-        self.attributes.insert((set, number), value)?;
+    ) -> Result<(), AllocError>
+        ensures inserted { OnOk result (IsWithCrowded self.old set name.now value self.new) }
+        ensures kept { OnErr result (IsSameCrowded self.old self.new) }
+    {
+        if let Some(sets) = self.names.get_mut(name) {
+            sets.insert(set, value)?;
+            return Ok(());
+        }
+        let mut sets = BTreeMap::new(alloc);
+        sets.insert(set, value)?;
+        self.names.insert(String::from_str(alloc, name)?, sets)?;
         Ok(())
     }
 }

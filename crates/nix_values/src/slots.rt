@@ -1,5 +1,8 @@
 //! A hash table of numbers. A hash that has too many others near it finds no slot there.
 
+ghost use Rattle.std.specs.Prelude.{◌≡◌, ◌<◌, ◌+◌, ◌^◌, IsTrue, IfOk, true, false};
+ghost use Rattle.nix_values.specs.AttributeHash.{attribute_hash};
+
 use std::alloc::{AllocError, Global};
 use std::hash::{FoldHasher, Hasher};
 
@@ -19,27 +22,35 @@ pub struct Slot {
     number: usize,
 }
 
+/// Where a search for a hash ends.
+#[derive(Clone, Copy)]
+pub enum Spot {
+    /// At a free slot: no number has the hash.
+    Free(usize),
+    /// At the slot of a number with the hash.
+    Taken(usize, usize),
+    /// Nowhere: all slots of the hash are taken by numbers with others.
+    Full,
+}
+
 impl Slot {
+    ghost use Rattle.nix_values.specs.Slots.{is_free, entry_of};
+
     /// Whether no number is here.
-    pub fn is_free(self) -> bool {
+    pub fn is_free(self) -> bool
+        ensures { result ≡ is_free self }
+    {
         self.number == FREE
     }
 
     /// The number that is here, and its hash.
-    pub fn entry(self) -> Option<(u64, usize)> {
+    pub fn entry(self) -> Option<(u64, usize)>
+        ensures { result ≡ entry_of self }
+    {
         if self.is_free() {
             None
         } else {
             Some((self.hash, self.number))
-        }
-    }
-
-    /// The number that is here, if it has a hash.
-    pub fn number_of(self, hash: u64) -> Option<usize> {
-        if self.hash == hash && self.number != FREE {
-            Some(self.number)
-        } else {
-            None
         }
     }
 }
@@ -52,19 +63,16 @@ pub struct Slots {
     mask: usize,
     // How many slots are taken.
     count: usize,
-}
-
-/// The hash of an attribute.
-pub fn hash_of(set: usize, name: &str) -> u64 {
-    let mut hasher = FoldHasher::default();
-    hasher.write_usize(set);
-    hasher.write(name.as_bytes());
-    hasher.finish()
+    ghost small: { mask < 2 ^ 63 },
 }
 
 impl Slots {
+    ghost use Rattle.nix_values.specs.Slots.{first_of, spot_of, slot_at, HasNone, IsPut, IsAdded, IsNotAdded};
+
     /// Returns a table of no slots.
-    pub fn new(alloc: Global) -> Slots {
+    pub fn new(alloc: Global) -> Slots
+        ensures { HasNone result }
+    {
         Slots {
             slots: Vec::new(alloc),
             mask: 0,
@@ -73,7 +81,9 @@ impl Slots {
     }
 
     /// Returns free slots for a count of numbers: at least twice as many.
-    pub fn with_room(alloc: Global, count: usize) -> Result<Slots, AllocError> {
+    pub fn with_room(alloc: Global, count: usize) -> Result<Slots, AllocError>
+        ensures { IfOk result (λ slots. HasNone slots) }
+    {
         let least = count.saturating_mul(2).max(LEAST);
         let firsts = least.checked_next_power_of_two().ok_or(AllocError)?;
         let free = Slot {
@@ -82,13 +92,15 @@ impl Slots {
         };
         Ok(Slots {
             slots: Vec::from_elem(alloc, free, firsts.saturating_add(WINDOW))?,
-            mask: firsts.saturating_sub(1),
+            mask: firsts - 1,
             count: 0,
         })
     }
 
     /// How many slots are taken.
-    pub fn count(&self) -> usize {
+    pub fn count(&self) -> usize
+        ensures { result ≡ self.now.count }
+    {
         self.count
     }
 
@@ -98,27 +110,44 @@ impl Slots {
     }
 
     /// All slots.
-    pub fn slots(&self) -> &[Slot] {
+    pub fn slots(&self) -> &[Slot]
+        ensures { result.now ≡ self.now.slots.items }
+    {
         self.slots.as_slice()
     }
 
     // The first slot of a hash.
-    fn first(&self, hash: u64) -> usize {
+    fn first(&self, hash: u64) -> usize
+        ensures is { result ≡ first_of self.now hash }
+        ensures small { result < 2 ^ 63 }
+    {
         hash as usize & self.mask
     }
 
-    /// The slots of a hash.
-    pub fn window(&self, hash: u64) -> &[Slot] {
+    /// Searches the slots of a hash.
+    pub fn spot(&self, hash: u64) -> Spot
+        ensures { result ≡ spot_of self.now hash }
+    {
         let first = self.first(hash);
-        self.slots
-            .get(first..first.saturating_add(WINDOW))
-            .unwrap_or(&[])
+        let Some(window) = self.slots.get(first..first + WINDOW) else {
+            return Spot::Full;
+        };
+        for (step, slot) in window.iter().enumerate() {
+            if slot.is_free() {
+                return Spot::Free(first + step);
+            }
+            if slot.hash == hash {
+                return Spot::Taken(first + step, slot.number);
+            }
+        }
+        Spot::Full
     }
 
-    /// Puts a number into one of the slots of its hash.
-    pub fn put(&mut self, step: usize, hash: u64, number: usize) {
-        let place = self.first(hash).saturating_add(step);
-        if let Some(slot) = self.slots.get_mut(place) {
+    /// Puts a number into a slot.
+    pub fn put(&mut self, at: usize, hash: u64, number: usize)
+        ensures { IsPut self.old at hash number self.new }
+    {
+        if let Some(slot) = self.slots.get_mut(at) {
             if slot.is_free() {
                 self.count = self.count.saturating_add(1);
             }
@@ -127,21 +156,27 @@ impl Slots {
     }
 
     /// Puts a number into the first free slot of its hash, if there is one and no number has this hash. Returns whether it did.
-    pub fn add(&mut self, hash: u64, number: usize) -> bool {
-        let mut free = None;
-        for (step, slot) in self.window(hash).iter().enumerate() {
-            if slot.is_free() {
-                free = Some(step);
-                break;
+    pub fn add(&mut self, hash: u64, number: usize) -> bool
+        ensures added { IsTrue result → IsAdded self.old hash number self.new }
+        ensures kept { result ≡ false → IsNotAdded self.old hash self.new }
+    {
+        match self.spot(hash) {
+            Spot::Free(at) => {
+                self.put(at, hash, number);
+                true
             }
-            if slot.number_of(hash).is_some() {
-                return false;
-            }
+            Spot::Taken(_, _) | Spot::Full => false,
         }
-        let Some(step) = free else {
-            return false;
-        };
-        self.put(step, hash, number);
-        true
     }
+}
+
+/// The hash of an attribute.
+#[tactic(auto, unfolding(crate::specs::AttributeHash::attribute_hash))]
+pub fn hash_of(set: usize, name: &str) -> u64
+    ensures { result ≡ attribute_hash set name.now }
+{
+    let mut hasher = FoldHasher::default();
+    hasher.write_usize(set);
+    hasher.write(name.as_bytes());
+    hasher.finish()
 }

@@ -1,5 +1,5 @@
 use Rattle.std.proofs.Common.{◌≡◌, ◌∙◌, true, false, sym}
-use Rattle.nix_values.specs.JsonReading.{is_end, token_of, IsSound}
+use Rattle.nix_values.specs.JsonReading.{is_end, token_of, IsSound, IsPlacedIn, IsDistinct}
 use Rattle.nix_values.proofs.JsonReadLemmas.{IsReadUpTo, read_begun, begun_sound, read_token, read_wrong_token, read_no_token, read_end, read_cut}
 use Rattle.nix_values.proofs.json_reader.read.Goals as goal
 
@@ -7,18 +7,20 @@ pub loop-at-init : goal.loop-at-init
 loop-at-init c = record {
   within = c.after_space-at.ensures.within;
   solid = c.after_space-at.ensures.stops;
-  sound = begun_sound c.new-reading.result c.new-reading.ensures;
-  left = read_begun c.args.text.now c.after_space-at.result c.new-reading.result c.new-reading.ensures c.after_space-at.ensures.same;
+  sound = begun_sound c.new-reading.result c.new-reading.ensures.begun;
+  placed = c.new-reading.ensures.placed;
+  distinct = c.new-reading.ensures.distinct;
+  left = read_begun c.args.text.now c.after_space-at.result c.new-reading.result c.new-reading.ensures.begun c.after_space-at.ensures.same;
 }
 
-pub returns-in-Err : goal.returns-in-Err
-returns-in-Err c =
+pub returns-in-Err-clause-read : goal.returns-in-Err-clause-read
+returns-in-Err-clause-read c =
     read_no_token c.in-Err.stop c.args.text.now c.loop-at.at c.loop-at.reading c.loop-at.invariant.left c.loop-at-test.true
     (c.loop-at.invariant.solid c.loop-at-test.true) c.in-Err.ensures
 
 pub loop-at-preserved : goal.loop-at-preserved
 loop-at-preserved c =
-    let step : IsReadUpTo c.args.text.now c.after_space-at-in-Ok-take.result c.take.new.self × IsSound c.take.new.self =
+    let step : IsReadUpTo c.args.text.now c.after_space-at-in-Ok-take.result c.take.new.self × IsSound c.take.new.self × IsPlacedIn c.take.new.self × IsDistinct c.take.new.self =
     read_token (token_of c.in-Ok.cut.token) c.args.text.now c.loop-at.at c.in-Ok.cut.end c.after_space-at-in-Ok-take.result c.loop-at.reading
     c.take.new.self c.loop-at.invariant.left c.loop-at-test.true (c.loop-at.invariant.solid c.loop-at-test.true) c.in-Ok.ensures.1 c.in-Ok.ensures.0
     c.in-Ok-take.ensures c.after_space-at-in-Ok-take.ensures.same in
@@ -26,20 +28,22 @@ loop-at-preserved c =
       within = c.after_space-at-in-Ok-take.ensures.within;
       solid = c.after_space-at-in-Ok-take.ensures.stops;
       sound = step.1;
+      placed = step.2;
+      distinct = step.3;
       left = step.0;
     }
 
-pub returns-in-Err-take : goal.returns-in-Err-take
-returns-in-Err-take c =
+pub returns-in-Err-take-clause-read : goal.returns-in-Err-take-clause-read
+returns-in-Err-take-clause-read c =
     read_wrong_token (token_of c.in-Ok.cut.token) c.in-Err-take.stop c.args.text.now c.loop-at.at c.in-Ok.cut.end c.loop-at.reading c.take.new.self
     c.loop-at.invariant.left c.loop-at-test.true (c.loop-at.invariant.solid c.loop-at-test.true) c.in-Ok.ensures.1 c.in-Ok.ensures.0 c.in-Err-take.ensures
 
-pub returns-then-not-is_end : goal.returns-then-not-is_end
-returns-then-not-is_end c =
+pub returns-then-not-is_end-clause-read : goal.returns-then-not-is_end-clause-read
+returns-then-not-is_end-clause-read c =
     let more : is_end c.loop-at.reading.state ≡ false = sym c.is_end.ensures ∙ c.if-not-is_end.true in
     read_cut c.unexpected.result c.args.text.now c.loop-at.at c.loop-at.reading c.loop-at.invariant.left c.loop-at.invariant.sound c.loop-at-test.false more
 
-pub returns : goal.returns
-returns c =
+pub returns-clause-read : goal.returns-clause-read
+returns-clause-read c =
     let done : is_end c.loop-at.reading.state ≡ true = sym c.is_end.ensures ∙ c.if-not-is_end.false in
     read_end c.args.text.now c.loop-at.at c.loop-at.reading c.loop-at.invariant.left c.loop-at.invariant.sound c.loop-at-test.false done

@@ -1,6 +1,6 @@
 use Rattle.std.proofs.Common.{◌≡◌, ◌-◌, ◌<◌, ◌≤◌, false, length, get_or}
 use Rattle.nix_values.specs.Json.{is_space}
-use Rattle.nix_values.specs.JsonReading.{IsSound}
+use Rattle.nix_values.specs.JsonReading.{IsSound, IsPlacedIn, IsDistinct}
 use Rattle.nix_values.proofs.JsonReadLemmas.{IsReadUpTo}
 use Rattle.nix_values.proofs.json_reader.read.Given as goal
 
@@ -10,6 +10,8 @@ invariant-loop-at l = record {
   within : l.at ≤ length l.text;
   solid : l.at < length l.text → is_space (get_or l.text l.at 0) ≡ false;
   sound : IsSound l.reading;
+  placed : IsPlacedIn l.reading;
+  distinct : IsDistinct l.reading;
   left : IsReadUpTo l.text l.at l.reading;
 }
 

@@ -1,6 +1,8 @@
 use Rattle.std.proofs.Common.{◌≡◌, ◌∙◌, true, false, sym, refl}
 use Rattle.nix_values.specs.JsonReading.{name_of, is_colon_next}
+use Rattle.nix_values.specs.Json.{colon}
 use Rattle.nix_values.proofs.JsonStateLemmas.{colon_wrong}
+use Rattle.nix_values.proofs.JsonDistinctLemmas.{colon_free}
 use Rattle.nix_values.proofs.JsonReadingLemmas.{stopped, takes_colon}
 use Rattle.nix_values.proofs.json_reader.Reading.take_colon.Goals as goal
 
@@ -8,10 +10,11 @@ pub returns-then-not-is_colon_next : goal.returns-then-not-is_colon_next
 returns-then-not-is_colon_next c =
     let old = c.args.self.now in
     let next : is_colon_next old.state ≡ false = sym c.is_colon_next.ensures ∙ c.if-not-is_colon_next.true in
-    stopped c.unexpected.result _ (colon_wrong old.state old.frames.items (name_of old.name) next c.requires)
+    stopped c.unexpected.result old colon (colon_wrong old.state old.frames.items (name_of old.name) next c.requires.sound)
 
 pub returns : goal.returns
 returns c =
     let old = c.args.self.now in
     let next : is_colon_next old.state ≡ true = sym c.is_colon_next.ensures ∙ c.if-not-is_colon_next.false in
-    takes_colon old _ next refl refl refl refl
+    takes_colon old _ next refl refl refl refl c.requires.placed
+    (record { distinct = c.requires.distinct.distinct; free = colon_free old.state old next c.requires.distinct.free })

@@ -1,0 +1,116 @@
+-- The attributes of some values, found by their sets and names.
+use Rattle.std.specs.Prelude.{◌≡◌, ◌≢◌, ℕ, ◌==◌, ◌&&◌, false, List, Option, Some, None, option_map, if◌then◌else◌}
+use Rattle.std.specs.Str.{bytes_eq}
+use Rattle.std.specs.BTreeMap.{BTreeMap, values}
+use Rattle.nix_values.specs.declared.slots.TheConstants.{FREE}
+use Rattle.nix_values.specs.declared.slots.Spot.{Spot}
+use Rattle.nix_values.specs.declared.slots.Spot.TheVariants.{Free, Taken, Full}
+use Rattle.nix_values.specs.declared.attributes.Place.{Place}
+use Rattle.nix_values.specs.declared.attributes.Place.TheVariants as place
+use Rattle.nix_values.specs.declared.attributes.Attributes.{Attributes}
+use Rattle.nix_values.specs.AttributeHash.{attribute_hash}
+use Rattle.nix_values.specs.Slots.{is_free, slot_at, spot_of}
+use Rattle.nix_values.specs.Ordered.{crowded_in, IsOneOf}
+use Rattle.nix_values.specs.Keys.{Keys, is_key}
+
+-- where the attribute of a set that has a name is, by where the search for its hash ends
+abbrev pub place_of : Spot → Keys → ℕ → List ℕ → Place
+place_of (Free at) keys set name = place.Free at
+place_of (Taken at number) keys set name = if is_key (keys number) set name then place.Taken at number else place.Crowded
+place_of Full keys set name = place.Crowded
+
+-- the place of an attribute
+abbrev pub place_in : Attributes → Keys → ℕ → List ℕ → Place
+place_in attributes keys set name = place_of (spot_of attributes.slots (attribute_hash set name)) keys set name
+
+-- the value at a place, where the crowded have another one
+abbrev pub number_at : Place → Option ℕ → Option ℕ
+number_at (place.Taken at number) crowded = Some number
+number_at (place.Free at) crowded = None
+number_at place.Crowded crowded = crowded
+
+-- the value that is found as the attribute of a set that has a name
+abbrev pub found_in : Attributes → Keys → ℕ → List ℕ → Option ℕ
+found_in attributes keys set name = number_at (place_in attributes keys set name) (crowded_in attributes.crowded set name)
+
+-- a value is an attribute with a hash
+abbrev pub HasHash : Keys → ℕ → ℕ → Type 0
+HasHash keys number hash = option_map (λ key. attribute_hash key.0 key.1) (keys number) ≡ Some hash
+
+-- the slot of a number at which a search ends, and the number
+abbrev pub taken_at : Spot → Option (ℕ × ℕ)
+taken_at (Taken at number) = Some (at, number)
+taken_at _ = None
+
+-- attributes are where they are looked for: a search for the hash of each taken slot ends there; numbers in slots and among the crowded are those
+-- of attributes, with the hash of the slot and with the name; and no search for the hash of a crowded one ends at a free slot
+pub record IsSound (keys : Keys) (attributes : Attributes) : Type 0 where
+  pub reached : (i : ℕ) → is_free (slot_at attributes.slots.slots.items i) ≡ false →
+      taken_at (spot_of attributes.slots (slot_at attributes.slots.slots.items i).hash) ≡ Some (i, (slot_at attributes.slots.slots.items i).number)
+  pub hashed : (hash at number : ℕ) → spot_of attributes.slots hash ≡ Taken at number → HasHash keys number hash
+  pub named : (set : ℕ) (name : List ℕ) (number : ℕ) → crowded_in attributes.crowded set name ≡ Some number →
+      (keys number ≡ Some (set, name)) × (number ≢ FREE)
+  pub crowded : (set : ℕ) (name : List ℕ) (number at : ℕ) → crowded_in attributes.crowded set name ≡ Some number →
+      spot_of attributes.slots (attribute_hash set name) ≡ Free at → ⊥
+
+-- no attribute is found
+abbrev pub FindsNone : Keys → Attributes → Type 0
+FindsNone keys attributes = (set : ℕ) (name : List ℕ) → found_in attributes keys set name ≡ None
+
+-- each attribute that is found is found among others too
+abbrev pub IsWithin : Keys → Attributes → Attributes → Type 0
+IsWithin keys attributes others =
+    (set : ℕ) (name : List ℕ) (number : ℕ) → found_in attributes keys set name ≡ Some number → found_in others keys set name ≡ Some number
+
+-- the same attributes are found
+pub record IsSame (keys : Keys) (old new : Attributes) : Type 0 where
+  pub sound : IsSound keys new
+  pub finds : (set : ℕ) (name : List ℕ) → found_in new keys set name ≡ found_in old keys set name
+
+-- a value is found as the attribute of a set that has a name, and others as before
+pub record IsWith (keys : Keys) (old : Attributes) (set : ℕ) (name : List ℕ) (number : ℕ) (new : Attributes) : Type 0 where
+  pub sound : IsSound keys new
+  pub finds : (s : ℕ) (n : List ℕ) → found_in new keys s n ≡ (if set == s && bytes_eq name n then Some number else found_in old keys s n)
+
+-- the same, of any values that are the same attributes as before, and this one
+abbrev pub IsInserted : Keys → Attributes → ℕ → List ℕ → ℕ → Attributes → Type 0
+IsInserted keys old set name number new = (later : Keys) → ((n : ℕ) (key : ℕ × List ℕ) → keys n ≡ Some key → later n ≡ Some key) →
+    later number ≡ Some (set, name) → IsWith later old set name number new
+
+-- an attribute is added, of which no other value is found
+abbrev pub IsNew : Keys → Attributes → ℕ → Type 0
+IsNew keys attributes number = (set : ℕ) (name : List ℕ) (other : ℕ) → keys number ≡ Some (set, name) → found_in attributes keys set name ≡ Some other → other ≡ number
+
+abbrev pub IsAddedTo : Keys → Attributes → ℕ → Attributes → Type 0
+IsAddedTo keys old number new = (set : ℕ) (name : List ℕ) → keys number ≡ Some (set, name) → IsWith keys old set name number new
+
+-- the attributes of the slots of others are found
+pub record AreSlotsAdded (keys : Keys) (others new : Attributes) : Type 0 where
+  pub sound : IsSound keys new
+  pub within : IsWithin keys new others
+  pub all : (i set : ℕ) (name : List ℕ) → is_free (slot_at others.slots.slots.items i) ≡ false →
+      keys (slot_at others.slots.slots.items i).number ≡ Some (set, name) →
+      found_in new keys set name ≡ Some (slot_at others.slots.slots.items i).number
+
+-- a value that is found as an attribute in others is found
+pub record IsFoundAdded (keys : Keys) (others : Attributes) (number : ℕ) (old new : Attributes) : Type 0 where
+  pub sound : IsSound keys new
+  pub within : IsWithin keys new others
+  pub kept : IsWithin keys old new
+  pub all : (set : ℕ) (name : List ℕ) → found_in others keys set name ≡ Some number → found_in new keys set name ≡ Some number
+
+-- some values that are found as attributes in others are found
+pub record AreSetsAdded (keys : Keys) (others : Attributes) (sets : BTreeMap ℕ ℕ) (old new : Attributes) : Type 0 where
+  pub sound : IsSound keys new
+  pub within : IsWithin keys new others
+  pub kept : IsWithin keys old new
+  pub all : (set : ℕ) (name : List ℕ) (number : ℕ) → IsOneOf (values sets) number → found_in others keys set name ≡ Some number →
+      found_in new keys set name ≡ Some number
+
+-- the crowded attributes of others are found
+pub record AreCrowdedAdded (keys : Keys) (others old new : Attributes) : Type 0 where
+  pub sound : IsSound keys new
+  pub within : IsWithin keys new others
+  pub kept : IsWithin keys old new
+  pub all : (set : ℕ) (name : List ℕ) (number : ℕ) → crowded_in others.crowded set name ≡ Some number → found_in others keys set name ≡ Some number →
+      found_in new keys set name ≡ Some number

@@ -1,0 +1,11 @@
+-- Which attributes the values of a JSON text are.
+use Rattle.std.specs.Prelude.{slice_get, option_and_then, option_map, string_bytes}
+use Rattle.nix_values.specs.declared.json_found.Found.{Found}
+use Rattle.nix_values.specs.Keys.{Keys}
+
+-- a value is the attribute of the set of its place
+abbrev pub found_keys : Found → Keys
+found_keys found number =
+    option_and_then
+    (λ place. option_and_then (λ item. option_map (λ set. (set, string_bytes item.name)) place.set) (slice_get found.items.items number))
+    (slice_get found.places.items number)
