@@ -217,8 +217,9 @@ def is_error_token(text, root, error):
 
 
 def is_path_of_dots(text, root, error):
-    _, token, after = token_at(root, error)
-    return token is not None and token.kind == "TOKEN_ELLIPSIS" and after is not None and after.start == token.end and after.text.startswith("/")
+    _, token, _ = token_at(root, error)
+    path = rb"\.\.\.[A-Za-z0-9._+-]*(/[A-Za-z0-9._+-]+)+"
+    return token is not None and token.kind == "TOKEN_ELLIPSIS" and re.match(path, text.encode()[token.start:]) is not None
 
 
 def is_zero_selected(text, root, error):
