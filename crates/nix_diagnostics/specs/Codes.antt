@@ -17,7 +17,7 @@ code_name SyntaxError = codes "syntax-error"
 code_name NestedTooDeep = codes "nested-too-deep"
 code_name RepeatedAttribute = codes "repeated-attribute"
 
--- how serious it is: Nix refuses all that has a code so far
+-- how serious it is: all that has a code so far is an error
 abbrev pub severity_of : Code → Severity
 severity_of SyntaxError = Error
 severity_of NestedTooDeep = Error

@@ -9,7 +9,7 @@ use rnix::ParseError;
 /// How serious something is that a diagnostic reports.
 #[derive(Clone, Copy, Debug, PartialEq, Eq)]
 pub enum Severity {
-    /// Nix refuses the text.
+    /// Nix refuses the text, or this library does not read all of it.
     Error,
     /// Nix accepts the text, but it hardly means what was meant. No code has this severity so far.
     Warning,
