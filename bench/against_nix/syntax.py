@@ -227,11 +227,17 @@ def is_zero_selected(text, root, error):
     return before is not None and token is not None and token.kind == "TOKEN_INTERPOL_START" and before.text == "0." and before.end == token.start
 
 
+def is_or_of_zero(text, root, error):
+    _, token, _ = token_at(root, error)
+    before = rb"(^|[^\w.])0\.or(\s|#[^\n]*\n|/\*.*?\*/)*$"
+    return token is not None and token.kind == "TOKEN_OR" and re.search(before, text.encode()[:token.start], re.DOTALL) is not None
+
+
 def ends_comment(text, root, error):
     return any(is_comment_with_return(it) for it in root.below())
 
 
-ACCEPTED_BY_NIX = [has_nul, ends_comment, is_inversion, is_old_let, is_error_token, is_path_of_dots, is_zero_selected]
+ACCEPTED_BY_NIX = [has_nul, ends_comment, is_inversion, is_old_let, is_error_token, is_path_of_dots, is_zero_selected, is_or_of_zero]
 
 # What Nix refuses and rnix does not: what it says beyond the grammar, and what the tree shows.
 BEYOND_GRAMMAR = ["duplicate formal function argument", "dynamic attributes not allowed in (let|inherit)", "invalid integer", "invalid float"]
@@ -269,9 +275,13 @@ def is_empty_piece(node):
     return node.kind == "TOKEN_PATH_SEARCH" and re.search("</|//|/>", node.text) is not None
 
 
+def is_doubled_home(node):
+    return node.kind == "TOKEN_PATH_HOME" and node.text.startswith("~//")
+
+
 def is_comment_with_return(node):
     return node.kind == "TOKEN_COMMENT" and node.text.startswith("#") and "\r" in node.text.rstrip("\r\n")
 
 
 REFUSED_BY_NIX = [is_lambda_operand, is_many_in_one_name, is_indented_name, is_odd_space, is_zero_point, is_pipe, is_parted_path, is_empty_piece,
-                  is_comment_with_return]
+                  is_doubled_home, is_comment_with_return]
