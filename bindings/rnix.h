@@ -29,7 +29,7 @@ extern "C" {
 #endif
 
 /* The version of the interface that this header describes. */
-#define RNIX_VERSION 4u
+#define RNIX_VERSION 5u
 
 /* Returns the version of the library's interface, which must be RNIX_VERSION. It changes with a function, a struct or a number of this header. */
 uint32_t rnix_version(void);
@@ -38,7 +38,7 @@ uint32_t rnix_version(void);
 enum rnix_refusal {
     RNIX_NOT_UTF8 = -1,   /* the text is not UTF-8 */
     RNIX_NO_MEMORY = -2,  /* malloc or realloc returned NULL, or the tree has 2^32 elements or more */
-    RNIX_NONE_SUCH = -3,  /* there is no such kind, name, error, string or unit of columns; no other refusal applies then */
+    RNIX_NONE_SUCH = -3,  /* there is no such kind, name, error, diagnostic, string or unit of columns; no other refusal applies then */
     RNIX_TOO_LONG = -4,   /* the text has 2^32 bytes or more; rnix_tokens has no such limit */
     RNIX_HAS_ERRORS = -5, /* the text has errors (rnix_format) */
     RNIX_DIFFERENT = -6   /* the new text would differ in more than white space (rnix_format); this is a bug of the formatter */
@@ -283,6 +283,13 @@ struct rnix_diagnostic {
     uint64_t message_end;
 };
 
+/* A fix of a text: 24 bytes. */
+struct rnix_fix {
+    uint64_t start; /* the range of the text to replace; empty where something is inserted */
+    uint64_t end;
+    uint64_t text_len; /* the number of bytes of the new text, which may be more than the buffer has room for */
+};
+
 /* A name that a `let`, a `rec` set or a function binds: 48 bytes. */
 struct rnix_binding {
     uint64_t start; /* the range of the name, with its quotes or its `${` and `}` */
@@ -360,6 +367,15 @@ int64_t rnix_diagnostics(const uint8_t *text, size_t len, struct rnix_diagnostic
                          uint64_t *buffer_len);
 
 /*
+ * Writes a fix of one diagnostic of a text (its number in rnix_diagnostics, from 0) to *fix (not NULL), and the new text for its range in UTF-8 to
+ * `buffer`, without a terminating zero. With the fix, the text is UTF-8 and has fewer errors. The text is parsed, and then parsed again with each
+ * of the guesses at what was meant, up to the first that is a fix; there are at most three guesses.
+ * Returns 1, or 0 if no guess is a fix; then nothing is written. Refusals: RNIX_NOT_UTF8, RNIX_TOO_LONG, RNIX_NO_MEMORY; RNIX_NONE_SUCH if no
+ * diagnostic has the number.
+ */
+int64_t rnix_fix(const uint8_t *text, size_t len, size_t diagnostic, struct rnix_fix *fix, uint8_t *buffer, size_t room);
+
+/*
  * Writes the name of a kind in ASCII, such as TOKEN_ADD, without a terminating zero (RNIX_KIND_NAMES has one).
  * Returns the number of bytes. Refusal: RNIX_NONE_SUCH if no kind has the number.
  */
@@ -406,6 +422,14 @@ int64_t rnix_positions(const uint8_t *text, size_t len, uint32_t unit, const uin
  */
 int64_t rnix_names(const uint8_t *text, size_t len, struct rnix_binding *bindings, size_t binding_room, struct rnix_reference *references,
                    size_t reference_room, uint64_t *reference_count);
+
+/*
+ * Parses a text once, and writes what rnix_names and rnix_diagnostics write, and the number of diagnostics to *diagnostic_count (not NULL).
+ * Returns the number of bindings. Refusals: RNIX_NOT_UTF8, RNIX_TOO_LONG, RNIX_NO_MEMORY.
+ */
+int64_t rnix_analysis(const uint8_t *text, size_t len, struct rnix_binding *bindings, size_t binding_room, struct rnix_reference *references,
+                      size_t reference_room, uint64_t *reference_count, struct rnix_diagnostic *diagnostics, size_t room,
+                      uint64_t *diagnostic_count, uint8_t *buffer, size_t buffer_room, uint64_t *buffer_len);
 
 /*
  * Writes a text without errors in the style of Nixpkgs, in UTF-8, without a terminating zero: the same tokens, comments included, with other white

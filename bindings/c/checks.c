@@ -37,6 +37,7 @@ static void check_structs(void) {
     CHECK(sizeof(struct rnix_string_part) == 32);
     CHECK(sizeof(struct rnix_position) == 16);
     CHECK(sizeof(struct rnix_diagnostic) == 32);
+    CHECK(sizeof(struct rnix_fix) == 24);
     CHECK(sizeof(struct rnix_binding) == 48);
     CHECK(sizeof(struct rnix_reference) == 40);
     CHECK(offsetof(struct rnix_element, kind) == 32);
@@ -214,6 +215,32 @@ static void check_diagnostics(void) {
     CHECK(rnix_diagnostics((const uint8_t *)"a", 1, NULL, 0, NULL, 0, &said_len) == 0 && said_len == 0);
 }
 
+/* Whether the fix of the first diagnostic of a text replaces a range by a new text. */
+static int is_fix(const char *wrong, uint64_t start, uint64_t end, const char *new_text) {
+    struct rnix_fix fix = {0};
+    uint8_t written[16] = {0};
+    int64_t answer = rnix_fix((const uint8_t *)wrong, strlen(wrong), 0, &fix, written, sizeof written);
+    return answer == 1 && fix.start == start && fix.end == end && fix.text_len == strlen(new_text) && strcmp((char *)written, new_text) == 0;
+}
+
+static void check_fixes(void) {
+    CHECK(is_fix("{ a = 1 }", 7, 7, ";"));
+    CHECK(is_fix("[ 1, 2 ]", 3, 4, ""));
+    CHECK(is_fix("{ a = '1.0'; }", 6, 11, "\"1.0\""));
+    CHECK(is_fix("# \xc3\xa4\n{ a = 1 }", 12, 12, ";"));
+    struct rnix_fix fix, blank;
+    uint8_t some[4] = {0};
+    memset(&blank, 0x5a, sizeof blank);
+    fix = blank;
+    CHECK(rnix_fix((const uint8_t *)"{ a = '1.0'; }", 14, 0, &fix, some, 2) == 1 && fix.text_len == 5 && memcmp(some, "\"1\0", 4) == 0);
+    CHECK(rnix_fix((const uint8_t *)"{ a = '1.0'; }", 14, 0, &fix, NULL, 0) == 1 && fix.text_len == 5);
+    fix = blank;
+    CHECK(rnix_fix((const uint8_t *)"{ a = ; }", 9, 0, &fix, some, sizeof some) == 0 && memcmp(&fix, &blank, sizeof fix) == 0);
+    CHECK(rnix_fix((const uint8_t *)"{ a = ; }", 9, 1, &fix, some, sizeof some) == RNIX_NONE_SUCH && memcmp(&fix, &blank, sizeof fix) == 0);
+    CHECK(rnix_fix((const uint8_t *)"a", 1, 0, &fix, NULL, 0) == RNIX_NONE_SUCH);
+    CHECK(rnix_fix((const uint8_t *)"a", 1, SIZE_MAX, &fix, NULL, 0) == RNIX_NONE_SUCH);
+}
+
 static void check_names(void) {
     static const char let[] = "let a = 1; in with b; { inherit a; c = d; \"e\" = x: x; }";
     struct rnix_binding bindings[4];
@@ -227,6 +254,29 @@ static void check_names(void) {
     CHECK(references[1].binding == 0 && references[1].is_inherited == 1 && references[1].is_open == 0);
     CHECK(references[2].binding == RNIX_NO_NUMBER && references[2].is_open == 1);
     CHECK(references[3].binding == 1 && references[3].kind == RNIX_NODE_IDENT);
+}
+
+/* One call writes what rnix_names and rnix_diagnostics write, for each of a few rooms. */
+static void check_analysis(void) {
+    static const char let[] = "let a = 1; in [ (x: a x";
+    struct written {
+        struct rnix_binding bindings[4];
+        struct rnix_reference references[4];
+        struct rnix_diagnostic diagnostics[4];
+        uint8_t said[256];
+        uint64_t counts[3];
+    } both, apart;
+    for (size_t room = 0; room <= 4; room++) {
+        memset(&both, 0x5a, sizeof both);
+        memset(&apart, 0x5a, sizeof apart);
+        int64_t answer = rnix_analysis((const uint8_t *)let, sizeof let - 1, both.bindings, room, both.references, room, &both.counts[0],
+                                       both.diagnostics, room, &both.counts[1], both.said, 64 * room, &both.counts[2]);
+        CHECK(answer == rnix_names((const uint8_t *)let, sizeof let - 1, apart.bindings, room, apart.references, room, &apart.counts[0]));
+        int64_t count = rnix_diagnostics((const uint8_t *)let, sizeof let - 1, apart.diagnostics, room, apart.said, 64 * room, &apart.counts[2]);
+        apart.counts[1] = (uint64_t)count;
+        CHECK(answer == 2 && both.counts[0] == 2 && both.counts[1] == 1 && both.counts[2] > 10);
+        CHECK(memcmp(&both, &apart, sizeof both) == 0);
+    }
 }
 
 static void check_format(void) {
@@ -252,6 +302,9 @@ static void check_refusals(void) {
     CHECK(rnix_strings(bytes, sizeof bytes, NULL, 0, NULL, 0, &errors) == RNIX_NOT_UTF8 && errors == 7);
     CHECK(rnix_diagnostics(bytes, sizeof bytes, NULL, 0, NULL, 0, &errors) == RNIX_NOT_UTF8 && errors == 7);
     CHECK(rnix_names(bytes, sizeof bytes, NULL, 0, NULL, 0, &errors) == RNIX_NOT_UTF8 && errors == 7);
+    CHECK(rnix_analysis(bytes, sizeof bytes, NULL, 0, NULL, 0, &errors, NULL, 0, &errors, NULL, 0, &errors) == RNIX_NOT_UTF8 && errors == 7);
+    struct rnix_fix fix = {7, 7, 7};
+    CHECK(rnix_fix(bytes, sizeof bytes, 0, &fix, NULL, 0) == RNIX_NOT_UTF8 && fix.start == 7 && fix.end == 7 && fix.text_len == 7);
     CHECK(rnix_positions(bytes, sizeof bytes, 0, NULL, 0, NULL, 0) == RNIX_NOT_UTF8);
     CHECK(rnix_positions(bytes, sizeof bytes, 9, NULL, 0, NULL, 0) == RNIX_NOT_UTF8);
     CHECK(rnix_kind_of_name(bytes, sizeof bytes) == RNIX_NONE_SUCH);
@@ -311,13 +364,15 @@ static struct rooms {
     struct rnix_string_part string_parts[8];
     struct rnix_position positions[2];
     struct rnix_diagnostic diagnostics[4];
+    struct rnix_fix fix;
     struct rnix_binding bindings[4];
     struct rnix_reference references[4];
     uint8_t bytes[512];
     uint64_t count;
+    uint64_t others[2];
 } rooms, untouched;
 
-enum { CALLS = 11 };
+enum { CALLS = 13 };
 
 /* A call of each function that allocates; its arrays are those of `rooms`. */
 static int64_t call(int number, size_t string) {
@@ -334,6 +389,10 @@ static int64_t call(int number, size_t string) {
     case 8: return rnix_diagnostics(text, len, rooms.diagnostics, 4, rooms.bytes, sizeof rooms.bytes, &rooms.count);
     case 9: return rnix_names(text, len, rooms.bindings, 4, rooms.references, 4, &rooms.count);
     case 10: return rnix_parse_compact(text, len, rooms.ranges, 64, rooms.links, 64, rooms.errors, 4, &rooms.count);
+    case 11: return rnix_fix(text, len, 0, &rooms.fix, rooms.bytes, sizeof rooms.bytes);
+    case 12:
+        return rnix_analysis(text, len, rooms.bindings, 4, rooms.references, 4, &rooms.count, rooms.diagnostics, 4, &rooms.others[0], rooms.bytes,
+                             sizeof rooms.bytes, &rooms.others[1]);
     default: return rnix_positions(text, len, RNIX_UTF16, offsets, 2, rooms.positions, 2);
     }
 }
@@ -381,6 +440,11 @@ static void check_empty(void) {
     CHECK(rnix_strings(NULL, 0, NULL, 0, NULL, 0, &count) == 0 && count == 0);
     CHECK(rnix_diagnostics(NULL, 0, NULL, 0, NULL, 0, &count) == 1 && count > 0);
     CHECK(rnix_names(NULL, 0, NULL, 0, NULL, 0, &count) == 0 && count == 0);
+    struct rnix_fix fix;
+    CHECK(rnix_fix(NULL, 0, 0, &fix, NULL, 0) == 0 && rnix_fix(NULL, 0, 1, &fix, NULL, 0) == RNIX_NONE_SUCH);
+    uint64_t counts[3] = {7, 7, 7};
+    CHECK(rnix_analysis(NULL, 0, NULL, 0, NULL, 0, &counts[0], NULL, 0, &counts[1], NULL, 0, &counts[2]) == 0);
+    CHECK(counts[0] == 0 && counts[1] == 1 && counts[2] > 0);
     CHECK(rnix_positions(NULL, 0, RNIX_BYTES, NULL, 0, NULL, 0) == 0);
     CHECK(rnix_format(NULL, 0, NULL, 0) == RNIX_HAS_ERRORS);
 }
@@ -431,7 +495,9 @@ int main(int argc, char **argv) {
     check_all_strings();
     check_positions();
     check_diagnostics();
+    check_fixes();
     check_names();
+    check_analysis();
     check_format();
     check_refusals();
     if (argc < 2) {

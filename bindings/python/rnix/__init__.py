@@ -17,7 +17,7 @@ from rnix.edits import EditError, Edits
 from rnix.errors import ParseError
 from rnix.formatting import FormatError, formatted
 from rnix.library import KINDS, Refused
-from rnix.messages import Diagnostic, diagnostics
+from rnix.messages import Diagnostic, Fix, diagnostics, fix
 from rnix.scopes import Binding, Reference, Resolution, resolve
 from rnix.strings import parts, path_parts, value
 from rnix.tokenizer import Lexeme, tokenize
@@ -30,6 +30,7 @@ __all__ = [
     "EditError",
     "Edits",
     "Element",
+    "Fix",
     "FormatError",
     "Lexeme",
     "Node",
@@ -41,6 +42,7 @@ __all__ = [
     "Tree",
     "ast",
     "diagnostics",
+    "fix",
     "formatted",
     "parse",
     "parts",

@@ -8,7 +8,7 @@ import os
 import pathlib
 from typing import Any, Callable
 
-VERSION = 4
+VERSION = 5
 NOT_UTF8, NO_MEMORY, NONE_SUCH, TOO_LONG, HAS_ERRORS, DIFFERENT = -1, -2, -3, -4, -5, -6
 NO_NUMBER = 2**64 - 1
 NO_KIND = 2**32 - 1
@@ -99,6 +99,12 @@ class Diagnostic(ctypes.Structure):
     ]
 
 
+class Fix(ctypes.Structure):
+    """struct rnix_fix."""
+
+    _fields_ = [("start", ctypes.c_uint64), ("end", ctypes.c_uint64), ("text_len", ctypes.c_uint64)]
+
+
 class Binding(ctypes.Structure):
     """struct rnix_binding."""
 
@@ -162,6 +168,7 @@ _ARGUMENTS = {
     "rnix_kind_name": [ctypes.c_uint32, *_array(ctypes.c_char)],
     "rnix_kind_of_name": _text(),
     "rnix_diagnostics": _text(*_array(Diagnostic), *_array(ctypes.c_char), ctypes.POINTER(ctypes.c_uint64)),
+    "rnix_fix": _text(ctypes.c_size_t, ctypes.POINTER(Fix), *_array(ctypes.c_char)),
     "rnix_format": _text(*_array(ctypes.c_char)),
     "rnix_names": _text(*_array(Binding), *_array(Reference), ctypes.POINTER(ctypes.c_uint64)),
     "rnix_positions": _text(ctypes.c_uint32, ctypes.POINTER(ctypes.c_uint64), ctypes.c_size_t, *_array(Position)),

@@ -1,4 +1,4 @@
-"""The errors of a text in words for people."""
+"""The errors of a text in words for people, and fixes for them."""
 
 from __future__ import annotations
 
@@ -20,6 +20,16 @@ class Diagnostic:
     """The message."""
 
 
+@dataclass(frozen=True)
+class Fix:
+    """A range of a text, and what to write instead."""
+
+    range: tuple[int, int]
+    """The range to replace, in bytes; empty where something is inserted."""
+    text: str
+    """The new text."""
+
+
 def diagnostics(tree: Tree) -> list[Diagnostic]:
     """Returns the diagnostics of a text, in the order of its errors. One may stand for several errors in a row."""
     source = tree.source
@@ -33,3 +43,19 @@ def diagnostics(tree: Tree) -> list[Diagnostic]:
     )
     joined = memoryview(text).cast("B")[:text_len].tobytes()
     return [Diagnostic((one.start, one.end), joined[one.message_start : one.message_end].decode()) for one in found[:count]]
+
+
+def fix(tree: Tree, diagnostic: int) -> Fix | None:
+    """Returns a fix for the diagnostic of an index in `diagnostics(tree)`, or None if none is known. With it, the text has fewer errors."""
+    source = tree.source
+    found = library.Fix()
+    guess = 64
+    while True:
+        room = library.room_for(ctypes.c_char, guess)
+        answer = LIBRARY.rnix_fix(source, len(source), diagnostic, ctypes.byref(found), room, guess)
+        if answer in (0, library.NONE_SUCH):
+            return None
+        library.count_of(answer)
+        if found.text_len <= guess:
+            return Fix((found.start, found.end), memoryview(room).cast("B")[: found.text_len].tobytes().decode())
+        guess = found.text_len

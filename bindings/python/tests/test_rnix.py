@@ -195,6 +195,31 @@ class Batches(unittest.TestCase):
             tree = rnix.parse(text)
             self.assertEqual(bool(rnix.diagnostics(tree)), bool(tree.errors))
 
+    def test_fixes_leave_fewer_errors(self):
+        def fixed(text):
+            found = rnix.fix(rnix.parse(text), 0)
+            source, (start, end) = text.encode(), found.range
+            return (source[:start] + found.text.encode() + source[end:]).decode()
+
+        for wrong, right in [("# ä\n{ a = 1 }", "# ä\n{ a = 1; }"), ("[ 1, 2 ]", "[ 1 2 ]"), ("{ a = 'b'; }", '{ a = "b"; }')]:
+            self.assertEqual(fixed(wrong), right)
+        long = f"'{'a' * 100}'"
+        self.assertEqual(fixed(long), long.replace("'", '"'))
+        self.assertIsNone(rnix.fix(rnix.parse("{ a = ; }"), 0))
+        self.assertIsNone(rnix.fix(rnix.parse("a"), 0))
+        self.assertIsNone(rnix.fix(rnix.parse("[ 1, 2 ]"), 1))
+        self.assertRaises(ctypes.ArgumentError, rnix.fix, rnix.parse("[ 1, 2 ]"), "0")
+        count = 0
+        for text, _ in list(stored("trees"))[::41]:
+            tree = rnix.parse(text)
+            for number in range(len(rnix.diagnostics(tree))):
+                found = rnix.fix(tree, number)
+                if found is not None:
+                    made = tree.source[: found.range[0]] + found.text.encode() + tree.source[found.range[1] :]
+                    self.assertLess(len(rnix.parse(made).errors), len(tree.errors))
+                    count += 1
+        self.assertGreater(count, 5)
+
     def test_a_text_is_formatted(self):
         self.assertEqual(rnix.formatted("{a=1;# b\n}"), "{\n  a = 1; # b\n}\n")
         self.assertRaises(rnix.FormatError, rnix.formatted, "{a=1")
@@ -291,6 +316,7 @@ class Header(unittest.TestCase):
             "rnix_string_part": library.StringPart,
             "rnix_position": library.Position,
             "rnix_diagnostic": library.Diagnostic,
+            "rnix_fix": library.Fix,
             "rnix_binding": library.Binding,
             "rnix_reference": library.Reference,
         }

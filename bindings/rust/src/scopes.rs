@@ -54,30 +54,68 @@ impl Resolution {
     }
 }
 
+/// Returns how many bindings and references are expected in a text.
+pub(crate) fn guesses(text: &str) -> (usize, usize) {
+    (text.len() / 4 + 8, text.len() / 2 + 8)
+}
+
 // Encodes the bindings and references of a text.
 fn read(text: &str) -> Result<(Vec<ffi::Binding>, Vec<ffi::Reference>), Refused> {
-    let guesses = (text.len() / 4 + 8, text.len() / 2 + 8);
     // SAFETY: the call fills its arrays as `listed_twice` requires.
     unsafe {
-        ffi::listed_twice(guesses, |room, len, references, reference_room, reference_count| {
-            ffi::rnix_names(
-                text.as_ptr(),
-                text.len(),
-                room,
-                len,
-                references,
-                reference_room,
-                reference_count,
-            )
-        })
+        ffi::listed_twice(
+            guesses(text),
+            |room, len, references, reference_room, reference_count| {
+                ffi::rnix_names(
+                    text.as_ptr(),
+                    text.len(),
+                    room,
+                    len,
+                    references,
+                    reference_room,
+                    reference_count,
+                )
+            },
+        )
     }
 }
 
-// The node of a kind and a range.
-fn node(root: &SyntaxNode, kind: u32, start: u64, end: u64) -> SyntaxNode {
-    let range = TextRange::new(TextSize::new(start as u32), TextSize::new(end as u32));
-    let number = root.tree.node_at(SyntaxKind::at(kind), range);
-    SyntaxNode::at(&root.tree, number.expect("the library names a node of the tree"))
+// Finds nodes. The search for each begins at the one before, since names come in the order of the text, and many of them have one scope.
+struct Finder<'t> {
+    root: &'t SyntaxNode,
+    last: u32,
+}
+
+impl Finder<'_> {
+    // The node of a kind and a range.
+    fn node(&mut self, kind: u32, start: u64, end: u64) -> SyntaxNode {
+        let range = TextRange::new(TextSize::new(start as u32), TextSize::new(end as u32));
+        let number = self.root.tree.node_from(self.last, SyntaxKind::at(kind), range);
+        self.last = number.expect("the library names a node of the tree");
+        SyntaxNode::at(&self.root.tree, self.last)
+    }
+}
+
+/// Returns what encoded bindings and references are in a tree.
+pub(crate) fn resolution(root: &SyntaxNode, bindings: &[ffi::Binding], references: &[ffi::Reference]) -> Resolution {
+    let (mut names, mut scopes) = (Finder { root, last: 0 }, Finder { root, last: 0 });
+    let binding = |one: &ffi::Binding| Binding {
+        name: names.node(one.kind, one.start, one.end),
+        scope: scopes.node(one.scope_kind, one.scope_start, one.scope_end),
+        first: one.first as usize,
+    };
+    let bindings = bindings.iter().map(binding).collect();
+    let mut names = Finder { root, last: 0 };
+    let reference = |one: &ffi::Reference| Reference {
+        name: names.node(one.kind, one.start, one.end),
+        binding: (one.binding != ffi::NO_NUMBER).then_some(one.binding as usize),
+        is_inherited: one.is_inherited == 1,
+        is_open: one.is_open == 1,
+    };
+    Resolution {
+        bindings,
+        references: references.iter().map(reference).collect(),
+    }
 }
 
 /// Returns the bindings and references of a text.
@@ -87,19 +125,5 @@ fn node(root: &SyntaxNode, kind: u32, start: u64, end: u64) -> SyntaxNode {
 pub fn resolve(parse: &Parse<Root>) -> Resolution {
     let root = parse.syntax();
     let (bindings, references) = read(root.tree.text(0)).unwrap_or_else(|refused| panic!("{refused}"));
-    let binding = |one: &ffi::Binding| Binding {
-        name: node(&root, one.kind, one.start, one.end),
-        scope: node(&root, one.scope_kind, one.scope_start, one.scope_end),
-        first: one.first as usize,
-    };
-    let reference = |one: &ffi::Reference| Reference {
-        name: node(&root, one.kind, one.start, one.end),
-        binding: (one.binding != ffi::NO_NUMBER).then_some(one.binding as usize),
-        is_inherited: one.is_inherited == 1,
-        is_open: one.is_open == 1,
-    };
-    Resolution {
-        bindings: bindings.iter().map(binding).collect(),
-        references: references.iter().map(reference).collect(),
-    }
+    resolution(&root, &bindings, &references)
 }

@@ -203,10 +203,29 @@ impl Tree {
         }
     }
 
-    /// Returns the node of a kind and a range.
-    pub(crate) fn node_at(&self, kind: SyntaxKind, range: TextRange) -> Option<u32> {
-        let first = self.count_before(range.start());
+    // How many elements start before an offset. The search begins at an element, and takes longer the further the offset is from it.
+    fn count_before_from(&self, near: u32, offset: TextSize) -> u32 {
+        let starts_before = |range: &Range| range.start < offset.into();
+        let mut low = near as usize;
+        if !starts_before(&self.ranges[low]) {
+            return self.ranges[..low].partition_point(starts_before) as u32;
+        }
+        let mut step = 8;
+        while self.ranges.get(low + step).is_some_and(starts_before) {
+            low += step;
+            step *= 2;
+        }
+        let high = self.ranges.len().min(low + step);
+        (low + self.ranges[low..high].partition_point(starts_before)) as u32
+    }
+
+    /// Returns the node of a kind and a range. The search begins at an element.
+    pub(crate) fn node_from(&self, near: u32, kind: SyntaxKind, range: TextRange) -> Option<u32> {
         let is_it = |number: &u32| self.kind(*number) == kind && self.range(*number) == range;
+        if is_it(&near) {
+            return Some(near);
+        }
+        let first = self.count_before_from(near, range.start());
         (first..self.count()).find(is_it)
     }
 
@@ -229,6 +248,32 @@ impl Tree {
             links,
             origin: Some((Arc::clone(self), node)),
             strings: OnceLock::new(),
+        }
+    }
+}
+
+#[cfg(test)]
+mod tests {
+    use super::*;
+
+    #[test]
+    fn a_node_is_found_from_each_element() {
+        let text = "let a = { b, c ? [ 1 2 ] }@d: \"x${b}y\"; in with a; [ (a d) ''z'' 1 2 3 4 5 6 7 8 9 0 ]";
+        let (tree, _) = Tree::read(text).unwrap();
+        for near in 0..tree.count() {
+            for number in (0..tree.count()).filter(|number| !tree.is_token(*number)) {
+                let found = tree.node_from(near, tree.kind(number), tree.range(number));
+                assert_eq!(found, Some(number));
+            }
+            for offset in 0..=text.len() as u32 + 1 {
+                let offset = TextSize::new(offset);
+                assert_eq!(tree.count_before_from(near, offset), tree.count_before(offset));
+            }
+            let end = TextSize::of(text);
+            assert_eq!(
+                tree.node_from(near, SyntaxKind::NODE_IDENT, TextRange::empty(end)),
+                None
+            );
         }
     }
 }

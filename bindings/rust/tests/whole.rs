@@ -1,10 +1,10 @@
-//! Calls that return what a whole text has: its diagnostics, its names, and the parts of its strings.
+//! Calls that return what a whole text has: its diagnostics and their fixes, its names, and the parts of its strings.
 
 use rnix::ast::{InterpolPart, Str};
-use rnix::diagnostics::diagnostics;
+use rnix::diagnostics::{diagnostics, fix, names_and_diagnostics};
 use rnix::scopes::resolve;
 use rnix::syntax::ast::AstNode;
-use rnix::{Root, SyntaxKind, TextRange};
+use rnix::{Edits, Root, SyntaxKind, TextRange};
 
 #[test]
 fn diagnostics_say_what_is_wrong() {
@@ -12,6 +12,65 @@ fn diagnostics_say_what_is_wrong() {
     assert_eq!(found[0].message, "expected \";\" after the value of \"a\", found \"}\"");
     assert_eq!(found[0].range, TextRange::new(13.into(), 14.into()));
     assert!(diagnostics(&Root::parse("a")).is_empty());
+}
+
+// A text with the fix of its first diagnostic.
+fn fixed(text: &str) -> Option<String> {
+    let found = fix(&Root::parse(text), 0)?;
+    let mut edits = Edits::new(text);
+    edits.replace(found.range, &found.text).unwrap();
+    Some(edits.apply())
+}
+
+#[test]
+fn fixes_write_what_was_meant() {
+    for (wrong, right) in [
+        ("# ä\n{ a = 1 }", "# ä\n{ a = 1; }"),
+        ("[ 1, 2 ]", "[ 1 2 ]"),
+        ("if a = b then c else d", "if a == b then c else d"),
+        ("{ a = [ 1 2; }", "{ a = [ 1 2 ]; }"),
+        ("{ a = 'b'; }", "{ a = \"b\"; }"),
+    ] {
+        assert_eq!(fixed(wrong).as_deref(), Some(right));
+    }
+    let long = format!("'{}'", "a".repeat(100));
+    assert_eq!(fixed(&long), Some(long.replace('\'', "\"")));
+    assert_eq!(fixed("{ a = ; }"), None);
+    assert_eq!(fixed("a"), None);
+    assert_eq!(fix(&Root::parse("[ 1, 2 ]"), 1), None);
+}
+
+#[test]
+fn fixes_leave_fewer_errors() {
+    let texts = [
+        "{\n  a = 1\n  b = 2;\n  c = [ 3, 4 ];\n  d = '5';\n  e = ;\n  f = 6\n}\n",
+        "a: { b = (1; c = 'd'; }",
+        "x)",
+    ];
+    let mut count = 0;
+    for text in texts {
+        let parse = Root::parse(text);
+        for number in 0..diagnostics(&parse).len() {
+            if let Some(found) = fix(&parse, number) {
+                let mut edits = Edits::new(text);
+                edits.replace(found.range, &found.text).unwrap();
+                assert!(Root::parse(&edits.apply()).errors().len() < parse.errors().len());
+                count += 1;
+            }
+        }
+    }
+    assert!(count >= 5, "{count}");
+}
+
+#[test]
+fn one_call_returns_names_and_diagnostics() {
+    let many = "[ (a: b: a c) ]) ".repeat(200);
+    for text in ["", "let a = 1; in a", "let a = 1; b = in { c ]: a", many.as_str()] {
+        let parse = Root::parse(text);
+        let (names, found) = names_and_diagnostics(&parse);
+        assert_eq!(found, diagnostics(&parse));
+        assert_eq!(format!("{names:?}"), format!("{:?}", resolve(&parse)));
+    }
 }
 
 #[test]

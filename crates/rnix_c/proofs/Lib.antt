@@ -4,6 +4,7 @@ pub mod FilledLemmas
 pub mod KindNames
 pub mod NumberedSpots
 pub mod ShortTrees
+pub mod WrittenFixes
 pub mod WrittenNames
 pub mod WrittenParts
 pub mod WrittenTokens

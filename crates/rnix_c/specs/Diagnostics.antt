@@ -1,11 +1,12 @@
 -- What calls write of diagnostics.
-use Rattle.std.specs.Prelude.{ℕ, List, [], ◌∷◌, ◌++◌, length, fold, string_bytes}
+use Rattle.std.specs.Prelude.{◌≡◌, ℕ, ℤ, List, [], ◌∷◌, ◌++◌, length, fold, string_bytes}
 use Rattle.rnix_green.specs.Range.{bounds_of}
 use Rattle.rnix_green.specs.Tree.{Tree}
 use Rattle.rnix_grammar.specs.Fault.{Fault}
 use Rattle.nix_diagnostics.specs.declared.diagnostic.Diagnostic.{Diagnostic}
 use Rattle.nix_diagnostics.specs.Shown.{AreShown}
 use Rattle.rnix_c.specs.declared.diagnostics.RnixDiagnostic.{RnixDiagnostic}
+use Rattle.rnix_c.specs.Answers.{filled, IsWritten}
 use Rattle.rnix_c.specs.StringCalls.{located}
 
 -- some diagnostics as they are written for C, and their joined messages
@@ -37,3 +38,9 @@ said_of all = fold with_diagnostic (said [] []) all
 -- the diagnostics show the errors of a tree
 abbrev pub AreSaid : Tree → List Fault → List Diagnostic → Type 0
 AreSaid tree faults all = AreShown (located tree 0) faults all
+
+-- diagnostics that show the errors of a tree are written, and their joined messages, and how many bytes these have
+abbrev pub WritesDiagnostics : Tree → List Fault → ℤ → List RnixDiagnostic → List RnixDiagnostic → List ℕ → List ℕ → ℕ → Type 0
+WritesDiagnostics tree faults answer old new was is count =
+    (all : List Diagnostic) × AreSaid tree faults all × IsWritten (said_of all).records answer old new
+    × (is ≡ filled (said_of all).messages was) × (count ≡ length (said_of all).messages)

@@ -4,6 +4,7 @@ pub mod CompactElements
 pub mod Diagnostics
 pub mod Elements
 pub mod Errors
+pub mod FixCalls
 pub mod Formatting
 pub mod KindCalls
 pub mod Messages

@@ -1,11 +1,13 @@
 -- What calls write of bindings and references.
-use Rattle.std.specs.Prelude.{ℕ, cond, List, map}
+use Rattle.std.specs.Prelude.{◌≡◌, ℕ, ℤ, cond, List, map, length}
 use Rattle.rnix_kinds.specs.SyntaxKind.{place_of}
-use Rattle.rnix_green.specs.Tree.{Located, item_of}
+use Rattle.rnix_green.specs.Tree.{Tree, Located, item_of}
 use Rattle.nix_scopes.specs.Scopes.{Bound, Resolved, number_in, bindings_in, resolved_in}
 use Rattle.rnix_c.specs.declared.names.RnixBinding.{RnixBinding}
 use Rattle.rnix_c.specs.declared.names.RnixReference.{RnixReference}
+use Rattle.rnix_c.specs.Answers.{filled, IsWritten}
 use Rattle.rnix_c.specs.Elements.{number_or_none}
+use Rattle.rnix_c.specs.StringCalls.{located}
 
 -- what is written of a binding, where the first binding of its name in its scope has this number
 abbrev pub binding_of : ℕ → Bound → RnixBinding
@@ -41,3 +43,10 @@ bindings_written root = map (binding_among (bindings_in root)) (bindings_in root
 -- what is written of the references inside a node
 abbrev pub references_written : Located → List RnixReference
 references_written root = map reference_of (resolved_in root)
+
+-- the bindings and the references of a tree are written, and how many references there are
+abbrev pub WritesNames : Tree → ℤ → List RnixBinding → List RnixBinding → List RnixReference → List RnixReference → ℕ → Type 0
+WritesNames tree answer old new was is count =
+    IsWritten (bindings_written (located tree 0)) answer old new
+    × (is ≡ filled (references_written (located tree 0)) was)
+    × (count ≡ length (references_written (located tree 0)))

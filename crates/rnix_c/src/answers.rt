@@ -18,7 +18,7 @@ pub const NOT_UTF8: i64 = -1;
 /// Memory is refused.
 pub const NO_MEMORY: i64 = -2;
 
-/// There is no such kind, error, string or unit of columns.
+/// There is no such kind, error, diagnostic, string or unit of columns.
 pub const NONE_SUCH: i64 = -3;
 
 /// The text is too long: 2^32 bytes or more.

@@ -2,11 +2,12 @@
 
 ghost use Rattle.std.specs.Prelude.{◌≡◌, List, length, IfOk, OnOk, string_bytes};
 ghost use Rattle.nix_diagnostics.specs.declared.diagnostic.Diagnostic.{Diagnostic as Worded};
-ghost use Rattle.rnix_c.specs.Answers.{filled, IsWritten, Answers};
-ghost use Rattle.rnix_c.specs.Diagnostics.{said, with_diagnostic, said_of, AreSaid};
+ghost use Rattle.rnix_c.specs.Answers.{filled, Answers};
+ghost use Rattle.rnix_c.specs.Diagnostics.{said, with_diagnostic, said_of, AreSaid, WritesDiagnostics};
 
 use crate::answers::{NO_MEMORY, fill, parse_of};
 use nix_diagnostics::{Diagnostic, diagnostics};
+use rnix::Parse;
 use std::alloc::{AllocError, Global};
 
 /// A diagnostic: a range of the text, and the range of its message in the joined messages.
@@ -54,6 +55,32 @@ fn said_of(
     Ok((records, messages))
 }
 
+/// The diagnostics of a text as numbers, and their joined messages.
+pub fn described(alloc: Global, read: &Parse) -> Result<(Vec<RnixDiagnostic>, String), AllocError>
+    ensures { IfOk result (λ made. (all : List Worded) × AreSaid read.now.tree read.now.faults all
+        × (said made.0.items (string_bytes made.1) ≡ said_of all)) }
+{
+    let all = diagnostics(alloc, read)?;
+    said_of(alloc, &all)
+}
+
+/// Writes the first diagnostics and messages, as many as there is room for, and how many bytes the messages have.
+pub fn write_diagnostics(
+    records: &[RnixDiagnostic],
+    messages: &str,
+    room: &mut [RnixDiagnostic],
+    buffer: &mut [u8],
+    buffer_len: &mut u64,
+)
+    ensures records { room.new ≡ filled records.now room.old }
+    ensures messages { buffer.new ≡ filled messages.now buffer.old }
+    ensures length { buffer_len.new ≡ length messages.now }
+{
+    fill(records, room);
+    fill(messages.as_bytes(), buffer);
+    *buffer_len = messages.len() as u64;
+}
+
 /// The diagnostics of a text: how many there are. Their messages are written too, and how many bytes these have.
 #[unsafe(no_mangle)]
 pub extern "C" fn rnix_diagnostics(
@@ -64,21 +91,15 @@ pub extern "C" fn rnix_diagnostics(
     buffer_len: &mut u64,
 ) -> i64
     ensures { Answers text.now result ((room.new ≡ room.old) × (buffer.new ≡ buffer.old) × (buffer_len.new ≡ buffer_len.old))
-        (λ tree faults. (all : List Worded) × AreSaid tree faults all × IsWritten (said_of all).records result room.old room.new
-        × (buffer.new ≡ filled (said_of all).messages buffer.old) × (buffer_len.new ≡ length (said_of all).messages)) }
+        (λ tree faults. WritesDiagnostics tree faults result room.old room.new buffer.old buffer.new buffer_len.new) }
 {
     let read = match parse_of(alloc, text) {
         Ok(read) => read,
         Err(answer) => return answer,
     };
-    let Ok(all) = diagnostics(alloc, &read) else {
-        return NO_MEMORY;
-    };
-    match said_of(alloc, &all) {
+    match described(alloc, &read) {
         Ok((records, messages)) => {
-            fill(&records, room);
-            fill(messages.as_bytes(), buffer);
-            *buffer_len = messages.len() as u64;
+            write_diagnostics(&records, &messages, room, buffer, buffer_len);
             records.len() as i64
         }
         Err(_) => NO_MEMORY,

@@ -4,11 +4,13 @@
 ghost use Rattle.std.specs.Prelude.{◌≡◌};
 
 mod all_strings;
+mod analysis;
 mod answers;
 mod compact;
 mod diagnostics;
 mod elements;
 mod errors;
+mod fixes;
 mod formatting;
 mod kinds;
 mod messages;
@@ -21,7 +23,7 @@ mod tree;
 /// The number of this interface. It changes where a function, a struct or the number of a kind does.
 #[unsafe(no_mangle)]
 pub extern "C" fn rnix_version() -> u32
-    ensures { result ≡ 4 }
+    ensures { result ≡ 5 }
 {
-    4
+    5
 }

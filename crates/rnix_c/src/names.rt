@@ -4,8 +4,7 @@ ghost use Rattle.std.specs.Prelude.{◌≡◌, length, map};
 ghost use Rattle.nix_scopes.specs.Bound.{bindings_of, references_of, bound_of, resolved_of, AreFirst};
 ghost use Rattle.nix_scopes.specs.Scopes.{bindings_in, resolved_in};
 ghost use Rattle.rnix_c.specs.Answers.{filled, IsWritten, Answers};
-ghost use Rattle.rnix_c.specs.StringCalls.{located};
-ghost use Rattle.rnix_c.specs.NameCalls.{binding_of, reference_of, bindings_written, references_written};
+ghost use Rattle.rnix_c.specs.NameCalls.{binding_of, reference_of, bindings_written, references_written, WritesNames};
 
 use crate::answers::{NO_MEMORY, parsed};
 use crate::elements::number_or_none;
@@ -87,8 +86,8 @@ fn fill_references(references: &[Reference<'_>], room: &mut [RnixReference])
     }
 }
 
-// Writes the first bindings and references, as many as there is room for, and how many references there are. Returns how many bindings there are.
-fn write_names(
+/// Writes the first bindings and references, as many as there is room for, and how many references there are. Returns how many bindings there are.
+pub fn write_names(
     names: &Resolution<'_>,
     root: &SyntaxNode<'_>,
     bindings: &mut [RnixBinding],
@@ -120,9 +119,7 @@ pub extern "C" fn rnix_names(
     reference_count: &mut u64,
 ) -> i64
     ensures { Answers text.now result ((bindings.new ≡ bindings.old) × (references.new ≡ references.old) × (reference_count.new ≡ reference_count.old))
-        (λ tree _. IsWritten (bindings_written (located tree 0)) result bindings.old bindings.new
-        × (references.new ≡ filled (references_written (located tree 0)) references.old)
-        × (reference_count.new ≡ length (references_written (located tree 0)))) }
+        (λ tree _. WritesNames tree result bindings.old bindings.new references.old references.new reference_count.new) }
 {
     let (green, _errors) = match parsed(alloc, text) {
         Ok(read) => read,
