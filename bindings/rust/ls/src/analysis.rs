@@ -1,17 +1,19 @@
-//! What is known of a text: its tree, its errors, and its names.
+//! What is known of a text: its tree, its errors, its names, and its diagnostics.
 
 use crate::protocol::{Code, Failure};
 use rnix::ast::{Dynamic, Expr, InterpolPart, Str};
-use rnix::scopes::{resolve, Binding, Reference, Resolution};
+use rnix::diagnostics::{names_and_diagnostics, Diagnostic};
+use rnix::scopes::{Binding, Reference, Resolution};
 use rnix::syntax::ast::AstNode as _;
 use rnix::{Parse, Root, SyntaxKind, SyntaxNode, SyntaxToken, TextRange, TextSize};
 use std::cell::OnceCell;
 
-/// The tree of a text, and what its names refer to.
+/// The tree of a text, what its names refer to, and what is wrong with it.
 pub struct Analysis {
     /// The tree and the errors.
     pub parse: Parse<Root>,
-    names: OnceCell<Resolution>,
+    // Both come from one more parse: an editor shows the diagnostics of each text, and nearly always asks about its names.
+    found: OnceCell<(Resolution, Vec<Diagnostic>)>,
 }
 
 /// A name in a text, and its numbers in the resolution. What is bound by an `inherit` has both numbers.
@@ -34,7 +36,7 @@ impl Analysis {
         let parse = Root::try_parse(text);
         Ok(Analysis {
             parse: parse.map_err(|refused| Failure::new(Code::InternalError, refused.to_string()))?,
-            names: OnceCell::new(),
+            found: OnceCell::new(),
         })
     }
 
@@ -50,7 +52,16 @@ impl Analysis {
 
     /// Returns what the names of the text refer to.
     pub fn names(&self) -> &Resolution {
-        self.names.get_or_init(|| resolve(&self.parse))
+        &self.found().0
+    }
+
+    /// Returns what is wrong with the text.
+    pub fn diagnostics(&self) -> &[Diagnostic] {
+        &self.found().1
+    }
+
+    fn found(&self) -> &(Resolution, Vec<Diagnostic>) {
+        self.found.get_or_init(|| names_and_diagnostics(&self.parse))
     }
 
     /// Returns the binding of a number.

@@ -121,6 +121,17 @@ def asked(counted, text, found):
         found[method] = counted.instructions()
 
 
+def corrected(counted, text):
+    """Returns the instructions of a quick fix for the first error of a text."""
+    client = counted.client
+    client.open(text)
+    error, *_ = client.diagnostics()
+    counted.instructions()
+    (action,) = client.at("codeAction", range=error["range"], context={"diagnostics": [error]})
+    assert action["title"] == "Insert `;`", action
+    return counted.instructions()
+
+
 def figures(size, is_ascii):
     """Returns the figures for a text, by their names."""
     text, found = packages(size, is_ascii), {}
@@ -130,7 +141,7 @@ def figures(size, is_ascii):
             client.open(text)
             client.diagnostics()
             found["start, open, diagnostics"] = counted.instructions()
-            found["a parse"], found["names"] = counted.inclusive("rnix_parse_compact"), counted.inclusive("rnix_names")
+            found["a parse"], found["names"] = counted.inclusive("rnix_parse_compact"), counted.inclusive("rnix_analysis")
             found["a session"] = found["start, open, diagnostics"] - found["names"]
             asked(counted, text, found)
             found["a key press"] = pressed(counted, text)
@@ -140,6 +151,7 @@ def figures(size, is_ascii):
             client.diagnostics()
             found["a key press, with an error"] = pressed(counted, broken)
             found["with an error, in parses"] = found["a key press, with an error"] / found["a parse"]
+            found["a quick fix for an error"] = corrected(counted, text.replace(";\n", "\n", 1))
     return found
 
 

@@ -164,6 +164,26 @@ class Features(unittest.TestCase):
         self.client.open("args@{ a, b ? 1 }: { c }: args")
         self.assertEqual([span(it) for it in self.client.diagnostics()], [(0, 21, 0, 22)])
 
+    def test_a_quick_fix_corrects_an_error(self):
+        text = "{\n  a = [ \"😀\" 1, 2 ];\n  b = '3';\n  c = 4\n  d = 5;\n  e = ;\n}\n"
+        self.client.open(text)
+        errors = self.client.diagnostics()
+        found = [self.client.at("codeAction", range=it["range"], context={"diagnostics": [it]}) for it in errors]
+        titles = [[it["title"] for it in actions] for actions in found]
+        self.assertEqual(titles, [["Remove `,`"], ["Replace `'3'` by `\"3\"`"], ["Insert `;`"], []])
+        for number, before, after in [(0, "1,", "1"), (1, "'3'", '"3"'), (2, "c = 4", "c = 4;")]:
+            (action,) = found[number]
+            self.assertEqual((action["kind"], action["diagnostics"]), ("quickfix", [errors[number]]))
+            self.assertEqual(applied(text, self.edits(action["edit"])), text.replace(before, after))
+        whole = {"start": {"line": 0, "character": 0}, "end": {"line": 99, "character": 0}}
+        for params, count in [({"diagnostics": []}, 3), ({"diagnostics": [], "only": ["refactor"]}, 0)]:
+            self.assertEqual(len(self.client.at("codeAction", range=whole, context=params)), count)
+        self.client.change("{\n" + "  a = [ 1, 2 ];\n" * 30 + "}\n")
+        self.assertEqual(len(self.client.at("codeAction", range=whole, context={"diagnostics": []})), 20)
+        with Client({}) as plain:
+            plain.open(text)
+            self.assertEqual(plain.at("codeAction", range=whole, context={"diagnostics": []}), [])
+
     def test_a_quick_fix_removes_an_unused_name(self):
         hints = self.client.diagnostics()
         for hint, before, after in [(hints[0], "stdenv, unused,", "stdenv,"), (hints[1], "  inherit (lib) mapAttrs;\n", "")]:

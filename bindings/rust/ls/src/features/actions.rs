@@ -1,7 +1,8 @@
-//! Quick fixes for unused names.
+//! Quick fixes for syntax errors and unused names.
 
 use super::comments::has_comment;
-use super::diagnostics::hint;
+use super::diagnostics::{error, hint};
+use super::fixes::{correction, Fix};
 use super::rename::keeps_meaning;
 use super::unused::unused;
 use crate::analysis::{name_text, Analysis};
@@ -13,14 +14,8 @@ use rnix::scopes::{resolve, Resolution};
 use rnix::syntax::ast::AstNode as _;
 use rnix::{Edits, Root, SyntaxKind, SyntaxNode, TextRange, TextSize};
 
-/// An answer has this many quick fixes at most, since each of them is tried out.
+/// An answer has at most this many quick fixes for errors, and as many for unused names, since each of them is tried out.
 const MOST: usize = 20;
-
-/// A quick fix: its title, and its edits.
-struct Fix {
-    title: String,
-    edits: Vec<(TextRange, String)>,
-}
 
 // A range with the white space after it, or its whole lines if nothing else is in them.
 fn with_space(text: &str, range: TextRange) -> TextRange {
@@ -125,12 +120,12 @@ fn mark(analysis: &Analysis, number: usize) -> Option<Fix> {
     })
 }
 
-fn shown(request: &Request, number: usize, fix: &Fix) -> Value {
-    let hint = hint(request.document, request.analysis, number);
+// A quick fix for a diagnostic as a code action.
+fn shown(request: &Request, diagnostic: Option<Value>, fix: &Fix) -> Value {
     object([
         ("title", fix.title.as_str().into()),
         ("kind", "quickfix".into()),
-        ("diagnostics", array(hint)),
+        ("diagnostics", array(diagnostic)),
         ("isPreferred", true.into()),
         ("edit", request.workspace_edit(&fix.edits)),
     ])
@@ -143,30 +138,44 @@ fn wants_fixes(request: &Request) -> bool {
     request.client.takes_actions && only.map_or(true, |kinds| kinds.iter().any(is_wanted))
 }
 
-/// Returns the response to `textDocument/codeAction`: the quick fixes for the unused names in the range.
+// The quick fixes for the errors in a range.
+fn corrections(request: &Request, range: TextRange) -> Vec<Value> {
+    let (analysis, text) = (request.analysis, request.text().content());
+    let numbered = analysis.diagnostics().iter().enumerate();
+    let in_range = numbered.filter(|(_, found)| found.range.intersect(range).is_some());
+    let action = |(number, found)| {
+        let fix = correction(analysis, text, number)?;
+        Some(shown(request, Some(error(request.document, found)), &fix))
+    };
+    in_range.take(MOST).filter_map(action).collect()
+}
+
+// The quick fixes for the unused names in a range.
+fn removals(request: &Request, range: TextRange) -> Vec<Value> {
+    let (analysis, text) = (request.analysis, request.text().content());
+    let is_in_range = |number: &usize| {
+        let place = analysis.binding(*number).map(|binding| binding.name.text_range());
+        place.is_some_and(|place| place.intersect(range).is_some())
+    };
+    let action = |number| {
+        let fix = removal(analysis, text, number).or_else(|| mark(analysis, number))?;
+        Some(shown(request, hint(request.document, analysis, number), &fix))
+    };
+    let in_range = unused(analysis).into_iter().filter(is_in_range);
+    in_range.take(MOST).filter_map(action).collect()
+}
+
+/// Returns the response to `textDocument/codeAction`: the quick fixes for the errors and the unused names in the range.
 ///
 /// # Errors
 /// The parameters have no range.
 pub fn actions(request: &Request) -> Outcome {
     let range = range_of(request.text(), request.params.get("range"))?;
-    let analysis = request.analysis;
     if !wants_fixes(request) {
         return Ok(array([]));
     }
-    let is_in_range = |number: &usize| {
-        let place = analysis.binding(*number).map(|binding| binding.name.text_range());
-        place.is_some_and(|place| place.intersect(range).is_some())
-    };
-    let text = request.text().content();
-    let numbers = unused(analysis).into_iter().filter(is_in_range);
-    let fix = |number| {
-        Some((
-            number,
-            removal(analysis, text, number).or_else(|| mark(analysis, number))?,
-        ))
-    };
-    let fixes = numbers.take(MOST).filter_map(fix);
-    Ok(array(fixes.map(|(number, fix)| shown(request, number, &fix))))
+    let corrections = corrections(request, range);
+    Ok(array(corrections.into_iter().chain(removals(request, range))))
 }
 
 #[cfg(test)]

@@ -4,7 +4,7 @@ use super::globals::is_global;
 use crate::analysis::Analysis;
 use crate::json::{array, object, Value};
 use rnix::scopes::{Binding, Reference, Resolution};
-use rnix::{ElementRef, SyntaxKind, TextSize};
+use rnix::{SyntaxKind, TextSize};
 
 /// The types of tokens, by their numbers.
 const TYPES: [&str; 9] = [
@@ -131,10 +131,10 @@ impl Classes {
         }
     }
 
-    /// Returns the class of a token, if it has one. Tokens must come in the order of the text.
-    pub fn class(&mut self, token: ElementRef<'_>) -> Option<Class> {
-        match token.kind() {
-            SyntaxKind::TOKEN_IDENT => Some(self.name_class(token.text_range().start())),
+    /// Returns the class of a token by its kind and its start, if it has one. Tokens must come in the order of the text.
+    pub fn class(&mut self, kind: SyntaxKind, start: TextSize) -> Option<Class> {
+        match kind {
+            SyntaxKind::TOKEN_IDENT => Some(self.name_class(start)),
             kind => other_class(kind),
         }
     }

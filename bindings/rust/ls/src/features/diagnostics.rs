@@ -5,7 +5,7 @@ use crate::analysis::name_text;
 use crate::json::{array, object, object_of, Value};
 use crate::protocol::{range, Failure};
 use crate::{analysis::Analysis, documents::Document};
-use rnix::diagnostics::{diagnostics, Diagnostic};
+use rnix::diagnostics::Diagnostic;
 
 const ERROR: usize = 1;
 const HINT: usize = 4;
@@ -13,7 +13,8 @@ const HINT: usize = 4;
 /// The tag of what is not needed, which editors show faded.
 const UNNECESSARY: usize = 1;
 
-fn error(document: &Document, found: &Diagnostic) -> Value {
+/// Returns the diagnostic of an error.
+pub fn error(document: &Document, found: &Diagnostic) -> Value {
     object([
         ("range", range(&document.text, found.range)),
         ("severity", ERROR.into()),
@@ -41,8 +42,7 @@ pub fn hint(document: &Document, analysis: &Analysis, number: usize) -> Option<V
 /// Memory runs out.
 pub fn published(document: &Document) -> Result<Value, Failure> {
     let analysis = document.analysis()?;
-    let found = diagnostics(&analysis.parse);
-    let errors = found.iter().map(|found| error(document, found));
+    let errors = analysis.diagnostics().iter().map(|found| error(document, found));
     let numbers = unused(analysis).into_iter();
     let hints = numbers.filter_map(|number| hint(document, analysis, number));
     Ok(object_of([

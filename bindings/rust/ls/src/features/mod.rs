@@ -6,6 +6,7 @@ pub mod comments;
 pub mod completion;
 pub mod delta;
 pub mod diagnostics;
+pub mod fixes;
 pub mod folding;
 pub mod formatting;
 pub mod globals;

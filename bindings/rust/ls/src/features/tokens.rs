@@ -55,10 +55,13 @@ fn encoded(request: &Request, range: TextRange) -> Vec<u32> {
     };
     let root = request.analysis.root();
     let tokens = root.elements().filter(|element| element.is_token());
-    let tokens = tokens.skip_while(|token| token.text_range().end() <= range.start());
-    for token in tokens.take_while(|token| token.text_range().start() < range.end()) {
-        if let Some(class) = classes.class(token) {
-            encoder.add(token.text_range().into(), class);
+    for token in tokens.skip_while(|token| token.text_range().end() <= range.start()) {
+        let place = token.text_range();
+        if place.start() >= range.end() {
+            break;
+        }
+        if let Some(class) = classes.class(token.kind(), place.start()) {
+            encoder.add(place.into(), class);
         }
     }
     encoder.numbers

@@ -50,6 +50,21 @@
   (changed)
   (message-is "rnix [unused]: `unused` is not used")
 
+  ;; The same error, and its quick fix.
+  (let ((text (buffer-string)))
+    (go-to ";\n  archive")
+    (delete-char 1)
+    (changed)
+    (message-is "rnix: expected \";\" after the value of \"version\", found \"=\"")
+    (go-to "= \"hello-")
+    (let* ((place (eglot--pos-to-lsp-position))
+           (actions (ask :textDocument/codeAction :range (list :start place :end place) :context '(:diagnostics []))))
+      (check "Insert `;`" (plist-get (aref actions 0) :title) "the quick fix")
+      (eglot--apply-workspace-edit (plist-get (aref actions 0) :edit)))
+    (check text (buffer-string) "the text after the quick fix")
+    (changed)
+    (message-is "rnix [unused]: `unused` is not used"))
+
   (go-to "archive}")
   (xref-find-definitions (thing-at-point 'symbol))
   (check "archive = " (buffer-substring (point) (+ (point) 10)) "the definition")

@@ -65,6 +65,16 @@ local function ask(method, params)
   return answer.result, answer.error
 end
 
+-- Applies the first quick fix at a place.
+local function quick_fix(place, title)
+  go_to(place)
+  local params = vim.lsp.util.make_range_params()
+  params.context = { diagnostics = {} }
+  local actions = ask('codeAction', params)
+  check(title, actions[1] and actions[1].title, 'the quick fix')
+  vim.lsp.util.apply_workspace_edit(actions[1].edit, 'utf-16')
+end
+
 local function run()
   vim.cmd('edit example.nix')
   local place = places('unused')[1]
@@ -80,6 +90,15 @@ local function run()
   vim.cmd('silent undo')
   wait_for('correction', function() return vim.deep_equal({ hint }, diagnostics(1)) end)
   check(text, lines(), 'the text')
+
+  -- The same error, and its quick fix.
+  go_to(places('"2.12.1";')[1])
+  vim.cmd('normal! $x')
+  wait_for('second error', function() return diagnostics(1)[1][4] == message end)
+  local shown = diagnostics(1)[1]
+  quick_fix({ shown[1], shown[2] }, 'Insert `;`')
+  wait_for('second correction', function() return vim.deep_equal({ hint }, diagnostics(1)) end)
+  check(text, lines(), 'the text after the quick fix')
 
   go_to(places('archive}')[1])
   vim.lsp.buf.definition()
@@ -102,16 +121,11 @@ local function run()
   local _, refusal = ask('rename', params)
   check('with the new name, some name would refer to something else', refusal and refusal.message, 'the refusal')
 
-  local shown = ask('hover', vim.lsp.util.make_position_params()).contents.value
-  check('A parameter, line 9', shown:match('A parameter.*'), 'the hover')
+  local hover = ask('hover', vim.lsp.util.make_position_params()).contents.value
+  check('A parameter, line 9', hover:match('A parameter.*'), 'the hover')
 
   -- The quick fix for the unused name.
-  go_to(places('unused')[1])
-  params = vim.lsp.util.make_range_params()
-  params.context = { diagnostics = {} }
-  local actions = ask('codeAction', params)
-  check('Remove `unused`', actions[1].title, 'the quick fix')
-  vim.lsp.util.apply_workspace_edit(actions[1].edit, 'utf-16')
+  quick_fix(places('unused')[1], 'Remove `unused`')
   check({}, places('unused'), 'the removed name')
   wait_for('next unused name', function() return diagnostics(1)[1][4] == '`args` is not used' end)
 
