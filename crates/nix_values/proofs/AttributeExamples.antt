@@ -3,9 +3,9 @@ use Rattle.std.proofs.Common.{◌≡◌, ℕ, List, [], ◌∷◌, Some, None, r
 use Rattle.nix_values.specs.declared.slots.Slot.{Slot}
 use Rattle.nix_values.specs.declared.slots.Spot.TheVariants.{Free, Taken, Full}
 use Rattle.nix_values.specs.Contents.{Plain, integer, set, list, Entry}
-use Rattle.nix_values.specs.Slots.{free_slot, spot_from}
+use Rattle.nix_values.specs.HashSlots.{free_slot, spot_from}
 use Rattle.nix_values.specs.Built.{Built, attribute_of}
-use Rattle.nix_values.specs.Repeated.{entry_keys}
+use Rattle.nix_values.specs.RepeatedNames.{entry_keys}
 use Rattle.std.specs.Prelude.{pos}
 
 -- ---- slots
@@ -57,7 +57,8 @@ at depth name plain = record { depth = depth; name = name; plain = plain }
 
 -- {"a": {"b": 1}, "c": [2], "b": 3}
 abbrev json : List Entry
-json = at 0 [] set ∷ at 1 (97 ∷ []) set ∷ at 2 (98 ∷ []) (integer (pos 1)) ∷ at 1 (99 ∷ []) list ∷ at 2 [] (integer (pos 2)) ∷ at 1 (98 ∷ []) (integer (pos 3)) ∷ []
+json = at 0 [] set ∷ at 1 (97 ∷ []) set ∷ at 2 (98 ∷ []) (integer (pos 1)) ∷ at 1 (99 ∷ []) list ∷ at 2 [] (integer (pos 2)) ∷ at 1 (98 ∷ [])
+    (integer (pos 3)) ∷ []
 
 the_whole : entry_keys json 0 ≡ None
 the_whole = refl

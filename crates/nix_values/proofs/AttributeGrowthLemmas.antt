@@ -12,9 +12,9 @@ use Rattle.nix_values.specs.declared.slots.Slot.{Slot}
 use Rattle.nix_values.specs.declared.attributes.Attributes.{Attributes}
 use Rattle.nix_values.specs.AttributeHash.{attribute_hash}
 use Rattle.nix_values.specs.Keys.{Keys}
-use Rattle.nix_values.specs.Slots.{is_free, entry_of, free_slot, slot_at, spot_of, first_of}
-use Rattle.nix_values.specs.Ordered.{IsOneOf}
-use Rattle.nix_values.specs.Attributes.{found_in, HasHash, IsSound, IsWithin, IsSame, IsWith, IsNew, IsAddedTo, IsFoundAdded, AreSlotsAdded, AreSetsAdded, AreCrowdedAdded}
+use Rattle.nix_values.specs.HashSlots.{is_free, slot_entry, free_slot, slot_at, spot_of, first_of}
+use Rattle.nix_values.specs.OrderedNames.{IsOneOf}
+use Rattle.nix_values.specs.IndexedAttributes.{found_in, HasHash, IsConsistent, IsWithin, IsSame, IsWith, IsNew, IsAddedTo, IsFoundAdded, AreSlotsAdded, AreSetsAdded, AreCrowdedAdded}
 use Rattle.nix_values.proofs.AttributeInsertLemmas.{same_pair, hash_is}
 use Rattle.nix_values.proofs.SlotLemmas.{Holds, taken_in}
 use Rattle.nix_values.proofs.AttributeLemmas.{hash_key, reached_at, key_is, key_yes, same_key, same_is, found_taken, found_cases, found_key}
@@ -48,7 +48,7 @@ with_finds keys a b s n m more =
     more.finds s n ∙ cond-true (same_key s n s n) (Some m) (found_in a keys s n) (key_yes (Some (s, n)) s n refl)
 
 -- the value in a slot is found
-pub slot_found : (keys : Keys) (a : Attributes) (i s : ℕ) (n : List ℕ) → IsSound keys a → is_free (slot_at a.slots.slots.items i) ≡ false →
+pub slot_found : (keys : Keys) (a : Attributes) (i s : ℕ) (n : List ℕ) → IsConsistent keys a → is_free (slot_at a.slots.slots.items i) ≡ false →
     keys (slot_at a.slots.slots.items i).number ≡ Some (s, n) → found_in a keys s n ≡ Some (slot_at a.slots.slots.items i).number
 slot_found keys a i s n sound taken key =
     let slot = slot_at a.slots.slots.items i in
@@ -67,7 +67,7 @@ both_within None None there back = refl
 both_within None (Some x) there back = back x refl
 
 -- the slots and the crowded are all
-pub grown_same : (keys : Keys) (old middle new : Attributes) → IsSound keys old → AreSlotsAdded keys old middle → AreCrowdedAdded keys old middle new →
+pub grown_same : (keys : Keys) (old middle new : Attributes) → IsConsistent keys old → AreSlotsAdded keys old middle → AreCrowdedAdded keys old middle new →
     IsSame keys old new
 grown_same keys old middle new sound slots crowded = record {
   sound = crowded.sound;
@@ -86,12 +86,12 @@ grown_same keys old middle new sound slots crowded = record {
 
 -- the attributes of the first slots are added
 pub record IsAddedTill (keys : Keys) (others new : Attributes) (count : ℕ) : Type 0 where
-  pub sound : IsSound keys new
+  pub sound : IsConsistent keys new
   pub within : IsWithin keys new others
   pub all : (j s : ℕ) (n : List ℕ) → j < count → is_free (slot_at others.slots.slots.items j) ≡ false →
       keys (slot_at others.slots.slots.items j).number ≡ Some (s, n) → found_in new keys s n ≡ Some (slot_at others.slots.slots.items j).number
 
-pub till_start : (keys : Keys) (others new : Attributes) → IsSound keys new → IsWithin keys new others → IsAddedTill keys others new 0
+pub till_start : (keys : Keys) (others new : Attributes) → IsConsistent keys new → IsWithin keys new others → IsAddedTill keys others new 0
 till_start keys others new sound within = record { sound = sound; within = within; all = λ j s n before taken key. absurd (omega arith) }
 
 pub till_free : (keys : Keys) (others new : Attributes) (i : ℕ) → IsAddedTill keys others new i → is_free (slot_at others.slots.slots.items i) ≡ true →
@@ -105,18 +105,18 @@ till_free keys others new i till free = record {
       (cases_eq j i);
 }
 
-pub slot_hash : (keys : Keys) (a : Attributes) (i : ℕ) → IsSound keys a → is_free (slot_at a.slots.slots.items i) ≡ false →
+pub slot_hash : (keys : Keys) (a : Attributes) (i : ℕ) → IsConsistent keys a → is_free (slot_at a.slots.slots.items i) ≡ false →
     HasHash keys (slot_at a.slots.slots.items i).number (slot_at a.slots.slots.items i).hash
 slot_hash keys a i sound taken =
     let slot = slot_at a.slots.slots.items i in
     sound.hashed slot.hash i slot.number (reached_at keys a i sound taken)
 
-pub slot_new : (keys : Keys) (a others : Attributes) (i : ℕ) → IsSound keys others → IsWithin keys a others →
+pub slot_new : (keys : Keys) (a others : Attributes) (i : ℕ) → IsConsistent keys others → IsWithin keys a others →
     is_free (slot_at others.slots.slots.items i) ≡ false → IsNew keys a (slot_at others.slots.slots.items i).number
 slot_new keys a others i sound within taken =
     new_within keys a others (slot_at others.slots.slots.items i).number within (λ s n key. slot_found keys others i s n sound taken key)
 
-pub till_added : (keys : Keys) (others old new : Attributes) (i : ℕ) → IsSound keys others → IsAddedTill keys others old i →
+pub till_added : (keys : Keys) (others old new : Attributes) (i : ℕ) → IsConsistent keys others → IsAddedTill keys others old i →
     is_free (slot_at others.slots.slots.items i) ≡ false → IsAddedTo keys old (slot_at others.slots.slots.items i).number new →
     IsAddedTill keys others new (i + 1)
 till_added keys others old new i sound till taken added =
@@ -154,7 +154,7 @@ till_all keys others new count till past = record {
 }
 
 -- the entry of a slot
-entry_is : (slot : Slot) (h m : ℕ) → Some (h, m) ≡ entry_of slot → (is_free slot ≡ false) × (slot.hash ≡ h) × (slot.number ≡ m)
+entry_is : (slot : Slot) (h m : ℕ) → Some (h, m) ≡ slot_entry slot → (is_free slot ≡ false) × (slot.hash ≡ h) × (slot.number ≡ m)
 entry_is slot h m e = by (is_free slot) refl
   where
     by : (b : Bool) → is_free slot ≡ b → (is_free slot ≡ false) × (slot.hash ≡ h) × (slot.number ≡ m)
@@ -164,7 +164,7 @@ entry_is slot h m e = by (is_free slot) refl
         some_pair_parts h slot.hash m slot.number (e ∙ cond-false (is_free slot) None (Some (slot.hash, slot.number)) is) in
         (is, sym same.0, sym same.1)
 
-entry_none : (slot : Slot) → None ≡ entry_of slot → is_free slot ≡ true
+entry_none : (slot : Slot) → None ≡ slot_entry slot → is_free slot ≡ true
 entry_none slot e = by (is_free slot) refl
   where
     by : (b : Bool) → is_free slot ≡ b → is_free slot ≡ true
@@ -175,24 +175,24 @@ module _ (keys : Keys) (others : Attributes) (items : List Slot) (i : ℕ) (d : 
   item_is : get_or items i d ≡ slot_at others.slots.slots.items i
   item_is = get_or_default items i d free_slot inside ∙ ap (λ x. slot_at x i) is
 
-  pub entry_new : (a : Attributes) (h m : ℕ) → Some (h, m) ≡ entry_of (get_or items i d) → IsSound keys others → IsWithin keys a others → IsNew keys a m
+  pub entry_new : (a : Attributes) (h m : ℕ) → Some (h, m) ≡ slot_entry (get_or items i d) → IsConsistent keys others → IsWithin keys a others → IsNew keys a m
   entry_new a h m e sound within =
-      let entry = entry_is (slot_at others.slots.slots.items i) h m (e ∙ ap entry_of item_is) in
+      let entry = entry_is (slot_at others.slots.slots.items i) h m (e ∙ ap slot_entry item_is) in
       subst (λ x. IsNew keys a x) entry.2 (slot_new keys a others i sound within entry.0)
 
-  pub entry_added : (old new : Attributes) (h m : ℕ) → Some (h, m) ≡ entry_of (get_or items i d) → IsSound keys others → IsAddedTill keys others old i →
+  pub entry_added : (old new : Attributes) (h m : ℕ) → Some (h, m) ≡ slot_entry (get_or items i d) → IsConsistent keys others → IsAddedTill keys others old i →
       IsAddedTo keys old m new → IsAddedTill keys others new (i + 1)
   entry_added old new h m e sound till added =
-      let entry = entry_is (slot_at others.slots.slots.items i) h m (e ∙ ap entry_of item_is) in
+      let entry = entry_is (slot_at others.slots.slots.items i) h m (e ∙ ap slot_entry item_is) in
       till_added keys others old new i sound till entry.0 (subst (λ x. IsAddedTo keys old x new) (sym entry.2) added)
 
-  pub entry_free : (new : Attributes) → None ≡ entry_of (get_or items i d) → IsAddedTill keys others new i → IsAddedTill keys others new (i + 1)
-  entry_free new e till = till_free keys others new i till (entry_none (slot_at others.slots.slots.items i) (e ∙ ap entry_of item_is))
+  pub entry_free : (new : Attributes) → None ≡ slot_entry (get_or items i d) → IsAddedTill keys others new i → IsAddedTill keys others new (i + 1)
+  entry_free new e till = till_free keys others new i till (entry_none (slot_at others.slots.slots.items i) (e ∙ ap slot_entry item_is))
 
 -- ---- the crowded of others, one by one
 
 -- a value that is not found in others
-pub found_none : (keys : Keys) (others a : Attributes) (m : ℕ) → IsSound keys a → IsWithin keys a others →
+pub found_none : (keys : Keys) (others a : Attributes) (m : ℕ) → IsConsistent keys a → IsWithin keys a others →
     ((s : ℕ) (n : List ℕ) → found_in others keys s n ≡ Some m → ⊥) → IsFoundAdded keys others m a a
 found_none keys others a m sound within none = record {
   sound = sound;
@@ -202,7 +202,7 @@ found_none keys others a m sound within none = record {
 }
 
 -- a value that is added
-pub found_added : (keys : Keys) (others a b : Attributes) (m t : ℕ) (k : List ℕ) → IsSound keys others → IsWithin keys a others →
+pub found_added : (keys : Keys) (others a b : Attributes) (m t : ℕ) (k : List ℕ) → IsConsistent keys others → IsWithin keys a others →
     keys m ≡ Some (t, k) → found_in others keys t k ≡ Some m → IsAddedTo keys a m b → IsFoundAdded keys others m a b
 found_added keys others a b m t k sound within key there added =
     let more = added t k key in
@@ -214,24 +214,26 @@ found_added keys others a b m t k sound within key there added =
     }
 
 -- a value of another name, or of none
-pub found_other_key : (keys : Keys) (others : Attributes) (m t : ℕ) (k : List ℕ) → IsSound keys others → keys m ≡ Some (t, k) →
+pub found_other_key : (keys : Keys) (others : Attributes) (m t : ℕ) (k : List ℕ) → IsConsistent keys others → keys m ≡ Some (t, k) →
     (found_in others keys t k ≡ Some m → ⊥) → (s : ℕ) (n : List ℕ) → found_in others keys s n ≡ Some m → ⊥
 found_other_key keys others m t k sound key none s n e =
     let same : (s ≡ t) × (n ≡ k) = same_pair keys m s t n k (found_key keys others s n m sound e) key in
     none (ap₂ (λ x y. found_in others keys x y) (sym same.0) (sym same.1) ∙ e)
 
-pub found_no_key : (keys : Keys) (others : Attributes) (m : ℕ) → IsSound keys others → keys m ≡ None → (s : ℕ) (n : List ℕ) → found_in others keys s n ≡ Some m → ⊥
+pub found_no_key : (keys : Keys) (others : Attributes) (m : ℕ) → IsConsistent keys others → keys m ≡ None → (s : ℕ) (n : List ℕ) →
+    found_in others keys s n ≡ Some m → ⊥
 found_no_key keys others m sound none s n e =
     none-some {A = ℕ × List ℕ} (s, n) (sym none ∙ found_key keys others s n m sound e)
 
 -- all but some of the values of a name are added
 pub record AreSetsTill (keys : Keys) (others : Attributes) (sets : BTreeMap ℕ ℕ) (old new : Attributes) (left : List ℕ) : Type 0 where
-  pub sound : IsSound keys new
+  pub sound : IsConsistent keys new
   pub within : IsWithin keys new others
   pub kept : IsWithin keys old new
   pub all : (m : ℕ) → IsOneOf (values sets) m → IsOneOf left m ⊎ ((s : ℕ) (n : List ℕ) → found_in others keys s n ≡ Some m → found_in new keys s n ≡ Some m)
 
-pub sets_start : (keys : Keys) (others : Attributes) (sets : BTreeMap ℕ ℕ) (old : Attributes) (left : List ℕ) → IsSound keys old → IsWithin keys old others →
+pub sets_start : (keys : Keys) (others : Attributes) (sets : BTreeMap ℕ ℕ) (old : Attributes) (left : List ℕ) → IsConsistent keys old →
+    IsWithin keys old others →
     left ≡ values sets → AreSetsTill keys others sets old old left
 sets_start keys others sets old left sound within is = record {
   sound = sound;
@@ -266,13 +268,13 @@ sets_all keys others sets old new left till none = record {
 
 -- all but some names are added
 pub record AreNamesTill (keys : Keys) (others old new : Attributes) (left : List (BTreeMap ℕ ℕ)) : Type 0 where
-  pub sound : IsSound keys new
+  pub sound : IsConsistent keys new
   pub within : IsWithin keys new others
   pub kept : IsWithin keys old new
   pub all : (sets : BTreeMap ℕ ℕ) → IsOneOf (values others.crowded.names) sets → IsOneOf left sets ⊎
       ((s : ℕ) (n : List ℕ) (m : ℕ) → IsOneOf (values sets) m → found_in others keys s n ≡ Some m → found_in new keys s n ≡ Some m)
 
-pub names_start : (keys : Keys) (others old : Attributes) (left : List (BTreeMap ℕ ℕ)) → IsSound keys old → IsWithin keys old others →
+pub names_start : (keys : Keys) (others old : Attributes) (left : List (BTreeMap ℕ ℕ)) → IsConsistent keys old → IsWithin keys old others →
     left ≡ values others.crowded.names → AreNamesTill keys others old old left
 names_start keys others old left sound within is = record {
   sound = sound;

@@ -11,9 +11,9 @@ use Rattle.nix_values.specs.declared.attributes.Place.TheVariants as place
 use Rattle.nix_values.specs.declared.attributes.Attributes.{Attributes}
 use Rattle.nix_values.specs.AttributeHash.{attribute_hash}
 use Rattle.nix_values.specs.Keys.{Keys, is_key}
-use Rattle.nix_values.specs.Slots.{is_free, slot_at, spot_of, first_of, HasNone, IsPut, IsAdded}
-use Rattle.nix_values.specs.Ordered.{HasNoCrowded, IsWithCrowded}
-use Rattle.nix_values.specs.Attributes.{place_of, place_in, found_in, HasHash, IsSound, FindsNone, IsWithin, IsSame, IsWith, IsInserted, IsNew, IsAddedTo}
+use Rattle.nix_values.specs.HashSlots.{is_free, slot_at, spot_of, first_of, HasNone, IsPut, IsStored}
+use Rattle.nix_values.specs.OrderedNames.{HasNoCrowded, IsWithCrowded}
+use Rattle.nix_values.specs.IndexedAttributes.{place_of, place_in, found_in, HasHash, IsConsistent, FindsNone, IsWithin, IsSame, IsWith, IsInserted, IsNew, IsAddedTo}
 use Rattle.nix_values.proofs.SlotLemmas.{Holds, taken_in}
 use Rattle.nix_values.proofs.AttributeLemmas.{hash_key, has_hash, key_is, same_key, spot_at, crowded_at, spot_cases, found_free, found_full, found_taken, found_other}
 use Rattle.nix_values.proofs.AttributePutLemmas.{with_free, with_taken, with_crowded}
@@ -28,7 +28,7 @@ none_taken table g i m none e =
 pub no_some : (x : ℕ) (o : Option ℕ) → o ≡ None → o ≡ Some x → ⊥
 no_some x o none e = none-some x (sym none ∙ e)
 
-pub empty_sound : (keys : Keys) (a : Attributes) → HasNone a.slots → HasNoCrowded a.crowded → IsSound keys a
+pub empty_sound : (keys : Keys) (a : Attributes) → HasNone a.slots → HasNoCrowded a.crowded → IsConsistent keys a
 empty_sound keys a none free = record {
   reached = λ i e. absurd (both_ways (is_free (slot_at a.slots.slots.items i)) e (none i));
   hashed = λ g i m e. absurd (none_taken a.slots g i m none e);
@@ -54,7 +54,7 @@ empty_within keys a others none free = λ s n m e. absurd (no_some m (found_in a
 abbrev pub Extends : Keys → Keys → Type 0
 Extends keys later = (n : ℕ) (key : ℕ × List ℕ) → keys n ≡ Some key → later n ≡ Some key
 
-pub later_sound : (keys later : Keys) (a : Attributes) → IsSound keys a → Extends keys later → IsSound later a
+pub later_sound : (keys later : Keys) (a : Attributes) → IsConsistent keys a → Extends keys later → IsConsistent later a
 later_sound keys later a sound more = record {
   reached = sound.reached;
   hashed = λ g i m e. let h = hash_key keys m g (sound.hashed g i m e) in has_hash later m g h.0 h.1 (more m (h.0, h.1) h.2) h.3;
@@ -62,7 +62,7 @@ later_sound keys later a sound more = record {
   crowded = sound.crowded;
 }
 
-pub later_finds : (keys later : Keys) (a : Attributes) → IsSound keys a → Extends keys later → (s : ℕ) (n : List ℕ) →
+pub later_finds : (keys later : Keys) (a : Attributes) → IsConsistent keys a → Extends keys later → (s : ℕ) (n : List ℕ) →
     found_in a later s n ≡ found_in a keys s n
 later_finds keys later a sound more s n =
     ⊎_elim
@@ -90,7 +90,8 @@ place_free (Taken j m) keys s n i e = absurd (by (is_key (keys m) s n) e)
     by false e = absurd (cc)
 place_free Full keys s n i e = absurd (cc)
 
-pub place_taken : (r : Spot) (keys : Keys) (s : ℕ) (n : List ℕ) (i m : ℕ) → place_of r keys s n ≡ place.Taken i m → (r ≡ Taken i m) × (is_key (keys m) s n ≡ true)
+pub place_taken : (r : Spot) (keys : Keys) (s : ℕ) (n : List ℕ) (i m : ℕ) → place_of r keys s n ≡ place.Taken i m →
+    (r ≡ Taken i m) × (is_key (keys m) s n ≡ true)
 place_taken (Free j) keys s n i m e = absurd (cc)
 place_taken (Taken j x) keys s n i m e = by (is_key (keys x) s n) refl
   where
@@ -130,14 +131,14 @@ hash_is keys m h s n has e =
     let same : (s ≡ k.0) × (n ≡ k.1) = same_pair keys m s k.0 n k.1 e k.2 in
     ap₂ attribute_hash same.0 same.1 ∙ k.3
 
-pub added_free : (keys : Keys) (a b : Attributes) (m h : ℕ) → IsSound keys a → HasHash keys m h → m ≢ FREE → IsAdded a.slots h m b.slots →
+pub added_free : (keys : Keys) (a b : Attributes) (m h : ℕ) → IsConsistent keys a → HasHash keys m h → m ≢ FREE → IsStored a.slots h m b.slots →
     b.crowded ≡ a.crowded → IsAddedTo keys a m b
 added_free keys a b m h sound has number added rest = λ s n key.
     let hash : attribute_hash s n ≡ h = hash_is keys m h s n has key in
     let put : IsPut a.slots added.at (attribute_hash s n) m b.slots = subst (λ g. IsPut a.slots added.at g m b.slots) (sym hash) added.put in
     with_free keys a b s n m added.at sound (ap (spot_of a.slots) hash ∙ added.spot) put rest number key
 
-pub added_crowded : (keys : Keys) (a b : Attributes) (m h t : ℕ) (k : List ℕ) → IsSound keys a → HasHash keys m h → m ≢ FREE → IsNew keys a m →
+pub added_crowded : (keys : Keys) (a b : Attributes) (m h t : ℕ) (k : List ℕ) → IsConsistent keys a → HasHash keys m h → m ≢ FREE → IsNew keys a m →
     ((i : ℕ) → spot_of a.slots h ≡ Free i → ⊥) → b.slots ≡ a.slots → keys m ≡ Some (t, k) → IsWithCrowded a.crowded t k m b.crowded → IsAddedTo keys a m b
 added_crowded keys a b m h t k sound has number new none slots is more = λ s n key.
     let hash : attribute_hash s n ≡ h = hash_is keys m h s n has key in
@@ -150,7 +151,7 @@ added_crowded keys a b m h t k sound has number new none slots is more = λ s n 
 
 -- ---- a value that is inserted, of which values hold no key yet
 
-module _ (keys later : Keys) (a b : Attributes) (s : ℕ) (n : List ℕ) (m : ℕ) (sound : IsSound keys a) (more : Extends keys later)
+module _ (keys later : Keys) (a b : Attributes) (s : ℕ) (n : List ℕ) (m : ℕ) (sound : IsConsistent keys a) (more : Extends keys later)
     (number : m ≢ FREE) (key : later m ≡ Some (s, n)) where
   pub inserted_free : (p : ℕ) → place_in a keys s n ≡ place.Free p → IsPut a.slots p (attribute_hash s n) m b.slots → b.crowded ≡ a.crowded →
       IsWith later a s n m b
@@ -176,7 +177,7 @@ module _ (keys later : Keys) (a b : Attributes) (s : ℕ) (n : List ℕ) (m : �
       (λ i x e is. absurd (there.1 i x e (later_key i x e is)))
 
 -- a value that is inserted after others were moved
-pub inserted_same : (keys : Keys) (old middle new : Attributes) (s : ℕ) (n : List ℕ) (m : ℕ) → IsSound keys old → IsSame keys old middle →
+pub inserted_same : (keys : Keys) (old middle new : Attributes) (s : ℕ) (n : List ℕ) (m : ℕ) → IsConsistent keys old → IsSame keys old middle →
     IsInserted keys middle s n m new → IsInserted keys old s n m new
 inserted_same keys old middle new s n m sound same inserted = λ later more key.
     let with_it = inserted later more key in

@@ -12,9 +12,9 @@ use Rattle.nix_values.specs.declared.slots.Spot.TheVariants.{Free, Taken, Full}
 use Rattle.nix_values.specs.declared.attributes.Attributes.{Attributes}
 use Rattle.nix_values.specs.AttributeHash.{attribute_hash}
 use Rattle.nix_values.specs.Keys.{Keys, is_key}
-use Rattle.nix_values.specs.Slots.{is_free, slot_at, spot_of}
-use Rattle.nix_values.specs.Ordered.{crowded_in}
-use Rattle.nix_values.specs.Attributes.{place_of, number_at, found_in, HasHash, taken_at, IsSound}
+use Rattle.nix_values.specs.HashSlots.{is_free, slot_at, spot_of}
+use Rattle.nix_values.specs.OrderedNames.{crowded_in}
+use Rattle.nix_values.specs.IndexedAttributes.{place_of, number_at, found_in, HasHash, taken_at, IsConsistent}
 use Rattle.nix_values.proofs.SlotLemmas.{Holds, taken_in}
 
 -- ---- names of sets
@@ -63,7 +63,7 @@ taken_is (Taken j x) i m e = let parts : (j ≡ i) × (x ≡ m) = some_pair_part
 taken_is Full i m e = absurd (cc)
 
 -- the search for the hash of a taken slot ends there
-pub reached_at : (keys : Keys) (a : Attributes) (i : ℕ) → IsSound keys a → is_free (slot_at a.slots.slots.items i) ≡ false →
+pub reached_at : (keys : Keys) (a : Attributes) (i : ℕ) → IsConsistent keys a → is_free (slot_at a.slots.slots.items i) ≡ false →
     spot_of a.slots (slot_at a.slots.slots.items i).hash ≡ Taken i (slot_at a.slots.slots.items i).number
 reached_at keys a i sound taken =
     taken_is (spot_of a.slots (slot_at a.slots.slots.items i).hash) i (slot_at a.slots.slots.items i).number (sound.reached i taken)
@@ -115,14 +115,14 @@ module _ (keys : Keys) (a : Attributes) (s : ℕ) (n : List ℕ) where
       rest)
       (spot_cases (spot_at a s n))
 
-pub found_key : (keys : Keys) (a : Attributes) (s : ℕ) (n : List ℕ) (m : ℕ) → IsSound keys a → found_in a keys s n ≡ Some m → keys m ≡ Some (s, n)
+pub found_key : (keys : Keys) (a : Attributes) (s : ℕ) (n : List ℕ) (m : ℕ) → IsConsistent keys a → found_in a keys s n ≡ Some m → keys m ≡ Some (s, n)
 found_key keys a s n m sound e =
     ⊎_elim (λ t. key_is (keys m) s n t.2) (λ c. (sound.named s n m c).0) (found_cases keys a s n m e)
 
 pub not_free : (slot : Slot) → is_free slot ≡ false → slot.number ≢ FREE
 not_free slot e is = both_ways (slot.number == FREE) e (eq-eqb slot.number FREE is)
 
-pub found_number : (keys : Keys) (a : Attributes) (s : ℕ) (n : List ℕ) (m : ℕ) → IsSound keys a → found_in a keys s n ≡ Some m → m ≢ FREE
+pub found_number : (keys : Keys) (a : Attributes) (s : ℕ) (n : List ℕ) (m : ℕ) → IsConsistent keys a → found_in a keys s n ≡ Some m → m ≢ FREE
 found_number keys a s n m sound e =
     ⊎_elim
     (λ t.
@@ -132,7 +132,7 @@ found_number keys a s n m sound e =
     (found_cases keys a s n m e)
 
 -- no crowded one has the hash of a search that ends at a free slot
-pub crowded_none : (keys : Keys) (a : Attributes) (s : ℕ) (n : List ℕ) (i : ℕ) → IsSound keys a → spot_at a s n ≡ Free i → crowded_at a s n ≡ None
+pub crowded_none : (keys : Keys) (a : Attributes) (s : ℕ) (n : List ℕ) (i : ℕ) → IsConsistent keys a → spot_at a s n ≡ Free i → crowded_at a s n ≡ None
 crowded_none keys a s n i sound e = by (crowded_at a s n) refl
   where
     by : (o : Option ℕ) → crowded_at a s n ≡ o → crowded_at a s n ≡ None

@@ -9,15 +9,15 @@ use Rattle.nix_values.specs.declared.slots.Slots.{Slots}
 use Rattle.nix_values.specs.declared.attributes.Attributes.{Attributes}
 use Rattle.nix_values.specs.AttributeHash.{attribute_hash}
 use Rattle.nix_values.specs.Keys.{Keys, is_key}
-use Rattle.nix_values.specs.Slots.{is_free, slot_at, spot_of, first_of, IsPut}
-use Rattle.nix_values.specs.Ordered.{crowded_in, IsWithCrowded, IsSameCrowded}
-use Rattle.nix_values.specs.Attributes.{found_in, HasHash, taken_at, IsSound, IsSame, IsWith}
+use Rattle.nix_values.specs.HashSlots.{is_free, slot_at, spot_of, first_of, IsPut}
+use Rattle.nix_values.specs.OrderedNames.{crowded_in, IsWithCrowded, IsSameCrowded}
+use Rattle.nix_values.specs.IndexedAttributes.{found_in, HasHash, taken_at, IsConsistent, IsSame, IsWith}
 use Rattle.nix_values.proofs.AttributeLemmas.{reached_at, has_hash, same_key, same_is, other_key, spot_at, crowded_at, spot_cases, found_free, found_full, found_taken, found_other, crowded_none, found_same, ends_taken, free_not, taken_place, choose}
 use Rattle.nix_values.proofs.SlotLemmas.{end_of, Holds, taken_in, free_in, same_slot, new_slot, put_same_in, put_free_in, put_again_in, end_inside, spot_put}
 
 -- ---- a value in a slot that was free
 
-module _ (keys : Keys) (a b : Attributes) (s : ℕ) (n : List ℕ) (m p : ℕ) (sound : IsSound keys a)
+module _ (keys : Keys) (a b : Attributes) (s : ℕ) (n : List ℕ) (m p : ℕ) (sound : IsConsistent keys a)
     (ended : spot_at a s n ≡ Free p) (put : IsPut a.slots p (attribute_hash s n) m b.slots) (rest : b.crowded ≡ a.crowded)
     (number : m ≢ FREE) (key : keys m ≡ Some (s, n)) where
   abbrev new_free : Slot
@@ -140,7 +140,7 @@ module _ (keys : Keys) (a b : Attributes) (s : ℕ) (n : List ℕ) (m p : ℕ) (
 
 -- ---- a value in the slot of another one that is the same attribute
 
-module _ (keys : Keys) (a b : Attributes) (s : ℕ) (n : List ℕ) (m p x : ℕ) (sound : IsSound keys a)
+module _ (keys : Keys) (a b : Attributes) (s : ℕ) (n : List ℕ) (m p x : ℕ) (sound : IsConsistent keys a)
     (ended : spot_at a s n ≡ Taken p x) (before : keys x ≡ Some (s, n)) (put : IsPut a.slots p (attribute_hash s n) m b.slots)
     (rest : b.crowded ≡ a.crowded) (number : m ≢ FREE) (key : keys m ≡ Some (s, n)) where
   abbrev new_again : Slot
@@ -233,19 +233,20 @@ module _ (keys : Keys) (a b : Attributes) (s : ℕ) (n : List ℕ) (m p x : ℕ)
 -- ---- a value among the crowded
 
 -- the slots are as they were
-sound_slots : (keys : Keys) (a b : Attributes) → b.slots ≡ a.slots → IsSound keys a →
+sound_slots : (keys : Keys) (a b : Attributes) → b.slots ≡ a.slots → IsConsistent keys a →
     ((t : ℕ) (k : List ℕ) (y : ℕ) → crowded_at b t k ≡ Some y → (keys y ≡ Some (t, k)) × (y ≢ FREE)) →
-    ((t : ℕ) (k : List ℕ) (y i : ℕ) → crowded_at b t k ≡ Some y → spot_at a t k ≡ Free i → ⊥) → IsSound keys b
+    ((t : ℕ) (k : List ℕ) (y i : ℕ) → crowded_at b t k ≡ Some y → spot_at a t k ≡ Free i → ⊥) → IsConsistent keys b
 sound_slots keys a b same sound named crowded = record {
   reached = λ i e.
       let slot : slot_at b.slots.slots.items i ≡ slot_at a.slots.slots.items i = ap (λ x. slot_at x.slots.items i) same in
-      ap taken_at (ap₂ (λ (x : Slots) (y : Slot). spot_of x y.hash) same slot ∙ reached_at keys a i sound (ap is_free (sym slot) ∙ e) ∙ ap (λ x. Taken i x.number) (sym slot));
+      ap taken_at (ap₂ (λ (x : Slots) (y : Slot). spot_of x y.hash) same slot ∙ reached_at keys a i sound (ap is_free (sym slot) ∙ e)
+      ∙ ap (λ x. Taken i x.number) (sym slot));
   hashed = λ g i y e. sound.hashed g i y (sym (ap (λ x. spot_of x g) same) ∙ e);
   named = named;
   crowded = λ t k y i e f. crowded t k y i e (sym (ap (λ x. spot_of x (attribute_hash t k)) same) ∙ f);
 }
 
-module _ (keys : Keys) (a b : Attributes) (s : ℕ) (n : List ℕ) (m : ℕ) (sound : IsSound keys a) (slots : b.slots ≡ a.slots)
+module _ (keys : Keys) (a b : Attributes) (s : ℕ) (n : List ℕ) (m : ℕ) (sound : IsConsistent keys a) (slots : b.slots ≡ a.slots)
     (more : IsWithCrowded a.crowded s n m b.crowded) (number : m ≢ FREE) (key : keys m ≡ Some (s, n))
     (none : (i : ℕ) → spot_at a s n ≡ Free i → ⊥)
     (only : (i x : ℕ) → spot_at a s n ≡ Taken i x → is_key (keys x) s n ≡ true → x ≡ m) where
@@ -304,7 +305,7 @@ module _ (keys : Keys) (a b : Attributes) (s : ℕ) (n : List ℕ) (m : ℕ) (so
   }
 
 -- no value was put among the crowded
-pub same_crowded : (keys : Keys) (a b : Attributes) → IsSound keys a → b.slots ≡ a.slots → IsSameCrowded a.crowded b.crowded → IsSame keys a b
+pub same_crowded : (keys : Keys) (a b : Attributes) → IsConsistent keys a → b.slots ≡ a.slots → IsSameCrowded a.crowded b.crowded → IsSame keys a b
 same_crowded keys a b sound slots same = record {
   sound = sound_slots keys a b slots sound
       (λ t k y e. sound.named t k y (sym (same t k) ∙ e))

@@ -7,7 +7,7 @@ use Rattle.std.proofs.lemmas.Option.{slice_get_past, slice_get_within}
 use Rattle.nix_values.specs.declared.attributes.Attributes.{Attributes}
 use Rattle.nix_values.specs.Keys.{Keys, is_key}
 use Rattle.nix_values.specs.Built.{Built, is_set_found, is_set_at, keys_of, last_of, attribute_of}
-use Rattle.nix_values.specs.Attributes.{found_in, IsSound, IsInserted}
+use Rattle.nix_values.specs.IndexedAttributes.{found_in, IsConsistent, IsInserted}
 use Rattle.nix_values.specs.Index.{IsIndex}
 use Rattle.nix_values.proofs.AttributeInsertLemmas.{Extends, later_sound, later_finds}
 
@@ -79,7 +79,8 @@ pub key_in_set : (values : List Built) (b : Built) (p : ℕ) → b.parent ≡ So
     keys_of (values ++ b ∷ []) (length values) ≡ Some (p, b.name)
 key_in_set values b p inside is_set =
     let before : p < length values = set_within p is_set in
-    let test : (nat_lt p (length values) && is_set_at values p) ≡ true = and_from (nat_lt p (length values)) (is_set_at values p) (lt-ltb p (length values) before) is_set in
+    let test : (nat_lt p (length values) && is_set_at values p) ≡ true = and_from (nat_lt p (length values)) (is_set_at values p)
+    (lt-ltb p (length values) before) is_set in
     key_last values b
     ∙ ap (key_by values (length values) b.name) inside
     ∙ cond-true (nat_lt p (length values) && is_set_at values p) (Some (p, b.name)) None test
@@ -127,7 +128,7 @@ extends values b = λ i key e. key_before values b i (λ is. wrong i key is e) �
 
 -- ---- the index
 
-pub index_empty : (a : Attributes) → IsSound (keys_of []) a → ((s : ℕ) (n : List ℕ) → found_in a (keys_of []) s n ≡ None) → IsIndex [] a
+pub index_empty : (a : Attributes) → IsConsistent (keys_of []) a → ((s : ℕ) (n : List ℕ) → found_in a (keys_of []) s n ≡ None) → IsIndex [] a
 index_empty a sound none = record { sound = sound; finds = none }
 
 -- a value that is no attribute

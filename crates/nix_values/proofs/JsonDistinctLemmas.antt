@@ -10,13 +10,13 @@ use Rattle.nix_values.specs.declared.json_reader.Frame.{Frame}
 use Rattle.nix_values.specs.declared.json_reader.Reading.{Reading}
 use Rattle.nix_values.specs.Contents.{Plain, Entry, entry_of}
 use Rattle.nix_values.specs.FoundKeys.{found_keys}
-use Rattle.nix_values.specs.Attributes.{found_in}
-use Rattle.nix_values.specs.Repeated.{entry_key, entry_keys, HasDistinctNames}
+use Rattle.nix_values.specs.IndexedAttributes.{found_in}
+use Rattle.nix_values.specs.RepeatedNames.{entry_key, entry_keys, HasDistinctNames}
 use Rattle.nix_values.specs.JsonPlaces.{last_frame, set_of, in_set}
 use Rattle.nix_values.specs.JsonReading.{name_of, entries_in, is_value_next, is_colon_next, state_behind, opened, IsInside, IsPlacedIn, IsFree, IsNextFree, IsDistinct, IsNotTaken, IsAdded}
 use Rattle.nix_values.proofs.JsonStateLemmas.{inside_last, one_sort, behind_comma}
 use Rattle.nix_values.proofs.BuiltLemmas.{get_last}
-use Rattle.nix_values.proofs.RepeatedLemmas.{key_front, key_added, key_within}
+use Rattle.nix_values.proofs.RepeatedNameLemmas.{key_front, key_added, key_within}
 use Rattle.nix_values.proofs.JsonPlaceLemmas.{next_key}
 
 -- ---- a value is added
@@ -124,7 +124,8 @@ not_taken r frame name None placed last is = λ other number last_other key.
 pub behind_next : (r : Reading) (s : State) (fs : List Frame) → s ≡ state_behind fs → IsNextFree s r
 behind_next r s fs e = subst (λ t. IsNextFree t r) (sym e) (behind_free fs r)
 
-pub opened_next : (b : Bool) (r : Reading) (s : State) (fs : List Frame) (f : Frame) → s ≡ opened b → f.is_set ≡ b → r.frames.items ≡ fs ++ f ∷ [] → IsNextFree s r
+pub opened_next : (b : Bool) (r : Reading) (s : State) (fs : List Frame) (f : Frame) → s ≡ opened b → f.is_set ≡ b → r.frames.items ≡ fs ++ f ∷ [] →
+    IsNextFree s r
 opened_next b r s fs f e is frames = subst (λ t. IsNextFree t r) (sym e) (opened_free b r fs f is frames)
 
 pub comma_next : (b : Bool) (r : Reading) (s : State) → s ≡ behind_comma b → IsInside b r.frames.items → IsNextFree s r

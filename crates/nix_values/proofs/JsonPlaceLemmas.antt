@@ -12,21 +12,21 @@ use Rattle.nix_values.specs.declared.attributes.Attributes.{Attributes}
 use Rattle.nix_values.specs.Contents.{Entry, entry_of}
 use Rattle.nix_values.specs.Built.{is_set_plain}
 use Rattle.nix_values.specs.FoundKeys.{found_keys}
-use Rattle.nix_values.specs.Attributes.{found_in, IsSound, IsInserted}
+use Rattle.nix_values.specs.IndexedAttributes.{found_in, IsConsistent, IsInserted}
 use Rattle.nix_values.proofs.AttributeLemmas.{found_key, key_yes, same_key}
-use Rattle.nix_values.specs.Repeated.{is_outside, last_outside, is_set_entry, entry_key, entry_keys}
+use Rattle.nix_values.specs.RepeatedNames.{is_outside, last_outside, is_set_entry, entry_key, entry_keys}
 use Rattle.nix_values.specs.declared.json_reader.Reading.{Reading}
 use Rattle.nix_values.specs.JsonReading.{opened_plain, name_of, entries_in, IsPlacedIn, IsTaken, IsAdded}
 use Rattle.nix_values.specs.Attached.{IsAttached}
 use Rattle.nix_values.specs.JsonPlaces.{entries_of, last_frame, set_of, IsPlaced, in_set}
 use Rattle.nix_values.proofs.AttributeInsertLemmas.{Extends, later_sound, later_finds}
 use Rattle.nix_values.proofs.BuiltLemmas.{get_last, get_before}
-use Rattle.nix_values.proofs.RepeatedLemmas.{get_front, outside_below, key_front, key_added, outside_same, outside_added}
+use Rattle.nix_values.proofs.RepeatedNameLemmas.{get_front, outside_below, key_front, key_added, outside_same, outside_added}
 
 -- ---- nothing is read
 
 pub placed_begun : (found : Found) (a : Attributes) (frames : List Frame) → found.items.items ≡ [] → found.places.items ≡ [] → frames ≡ [] →
-    IsSound (found_keys found) a → IsPlaced found a frames
+    IsConsistent (found_keys found) a → IsPlaced found a frames
 placed_begun found a frames items places none sound = record {
   sound = sound;
   count = ap length places ∙ sym (ap length items);
@@ -38,7 +38,8 @@ placed_begun found a frames items places none sound = record {
   where
     keys_none : (i : ℕ) → found_keys found i ≡ None
     keys_none i =
-        ap (λ ps. option_and_then {U = ℕ × List ℕ} (λ place. option_and_then (λ item. option_map (λ s. (s, string_bytes item.name)) place.set) (slice_get found.items.items i))
+        ap (λ ps. option_and_then {U = ℕ × List ℕ} (λ place. option_and_then (λ item. option_map (λ s. (s, string_bytes item.name)) place.set)
+        (slice_get found.items.items i))
         (slice_get ps i)) places
 
     entries_none : (i : ℕ) → entry_keys (entries_of found) i ≡ None
@@ -57,7 +58,8 @@ outside_none es (suc i) = cond-false (is_outside (slice_get es i) 0) (Some i) (l
     by None = refl
     by (Some e) = le-ltb e.depth 0 (omega arith)
 
-pub last_cases : (frames : List Frame) → ((length frames ≡ 0) × (last_frame frames ≡ None)) ⊎ ((frame : Frame) × (last_frame frames ≡ Some frame) × (0 < length frames))
+pub last_cases : (frames : List Frame) → ((length frames ≡ 0) × (last_frame frames ≡ None))
+    ⊎ ((frame : Frame) × (last_frame frames ≡ Some frame) × (0 < length frames))
 last_cases [] = inl (refl, refl)
 last_cases (f ∷ fs) = inr (get_or (f ∷ fs) (length (f ∷ fs) - 1) f, slice_get-get_or (f ∷ fs) (length (f ∷ fs) - 1) f (omega arith), omega arith)
 
@@ -65,7 +67,8 @@ last_cases (f ∷ fs) = inr (get_or (f ∷ fs) (length (f ∷ fs) - 1) f, slice_
 abbrev key_under : List Entry → List ℕ → Option ℕ → Option (ℕ × List ℕ)
 key_under es name parent = option_and_then {U = ℕ × List ℕ} (λ p. if is_set_entry (slice_get es p) then Some (p, name) else None) parent
 
-key_kind : (es : List Entry) (name : List ℕ) (f : Frame) → is_set_entry (slice_get es f.node) ≡ f.is_set → key_under es name (Some f.node) ≡ in_set (set_of (Some f)) name
+key_kind : (es : List Entry) (name : List ℕ) (f : Frame) → is_set_entry (slice_get es f.node) ≡ f.is_set →
+    key_under es name (Some f.node) ≡ in_set (set_of (Some f)) name
 key_kind es name f kind = ap (λ b. cond {A = Option (ℕ × List ℕ)} b (Some (f.node, name)) None) kind ∙ by f.is_set
   where
     by : (b : Bool) → cond {A = Option (ℕ × List ℕ)} b (Some (f.node, name)) None ≡ in_set (cond {A = Option ℕ} b (Some f.node) None) name
@@ -114,12 +117,14 @@ module _ (found new : Found) (a b : Attributes) (frames : List Frame) (item : It
   keys_new : found_keys new (length found.items.items) ≡ in_set (set_of (last_frame frames)) e.name
   keys_new =
       ap₂ key_of
-      (ap (λ x. slice_get x (length found.items.items)) places ∙ ap (slice_get (found.places.items ++ place ∷ [])) (sym placed.count) ∙ get_last found.places.items place)
+      (ap (λ x. slice_get x (length found.items.items)) places ∙ ap (slice_get (found.places.items ++ place ∷ [])) (sym placed.count)
+      ∙ get_last found.places.items place)
       (ap (λ x. slice_get x (length found.items.items)) items ∙ get_last found.items.items item)
       ∙ ap₂ in_set set (ap (λ x. x.name) entry)
 
   keys_past : found_keys found (length found.items.items) ≡ None
-  keys_past = ap (λ p. key_of p (slice_get found.items.items (length found.items.items))) (slice_get_past found.places.items (length found.items.items) (omega (arith, placed.count)))
+  keys_past = ap (λ p. key_of p (slice_get found.items.items (length found.items.items)))
+      (slice_get_past found.places.items (length found.items.items) (omega (arith, placed.count)))
 
   keys_extend : Extends (found_keys found) (found_keys new)
   keys_extend i key is =
@@ -128,13 +133,13 @@ module _ (found new : Found) (a b : Attributes) (frames : List Frame) (item : It
       (λ other. keys_same i other ∙ is)
       (cases_eq i (length found.items.items))
 
-  sound_new : IsSound (found_keys new) b
+  sound_new : IsConsistent (found_keys new) b
   sound_new = by (set_of (last_frame frames)) refl
     where
-      by : (o : Option ℕ) → set_of (last_frame frames) ≡ o → IsSound (found_keys new) b
+      by : (o : Option ℕ) → set_of (last_frame frames) ≡ o → IsConsistent (found_keys new) b
       by None is =
           let same : b ≡ a = subst (λ x. IsAttached (found_keys found) a x e.name (length found.items.items) b) is attached in
-          subst (λ x. IsSound (found_keys new) x) (sym same) (later_sound (found_keys found) (found_keys new) a placed.sound keys_extend)
+          subst (λ x. IsConsistent (found_keys new) x) (sym same) (later_sound (found_keys found) (found_keys new) a placed.sound keys_extend)
       by (Some s) is =
           let inserted : IsInserted (found_keys found) a s e.name (length found.items.items) b =
           subst (λ x. IsAttached (found_keys found) a x e.name (length found.items.items) b) is attached in
@@ -163,7 +168,8 @@ module _ (found new : Found) (a b : Attributes) (frames : List Frame) (item : It
           none-some (length found.items.items)
           (sym none ∙ with_it.finds s n ∙ cond-true (same_key t e.name s n) (Some (length found.items.items)) (found_in a (found_keys new) s n) same))
           (λ apart.
-          before (sym (cond-false (same_key t e.name s n) (Some (length found.items.items)) (found_in a (found_keys new) s n) apart) ∙ sym (with_it.finds s n) ∙ none)
+          before (sym (cond-false (same_key t e.name s n) (Some (length found.items.items)) (found_in a (found_keys new) s n) apart)
+          ∙ sym (with_it.finds s n) ∙ none)
           (λ here. both_ways (same_key t e.name s n) apart
           (key_yes (Some (t, e.name)) s n (sym new_key ∙ ap (found_keys new) (sym here) ∙ key))))
           (cases_Bool (same_key t e.name s n))

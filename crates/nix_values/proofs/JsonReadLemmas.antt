@@ -35,7 +35,8 @@ begun_sound r begun = sound_in r state.Value [] [] begun.is_state begun.no_frame
 -- a token is read
 pub read_token : (found : Option Token) (bytes : List ℕ) (at end next : ℕ) (old new : Reading) → IsReadUpTo bytes at old → at < length bytes →
     is_space (get_or bytes at 0) ≡ false → at < end → token_at (get_or bytes at 0) (drop (at + 1) bytes) ≡ option_map (λ t. (t, end - at)) found →
-    FoundOrNot (Ok tt) old found new → tokens_behind 0 (drop next bytes) ≡ tokens_behind 0 (drop end bytes) → IsReadUpTo bytes next new × IsSound new × IsPlacedIn new × IsDistinct new
+    FoundOrNot (Ok tt) old found new → tokens_behind 0 (drop next bytes) ≡ tokens_behind 0 (drop end bytes) →
+    IsReadUpTo bytes next new × IsSound new × IsPlacedIn new × IsDistinct new
 read_token None bytes at end next old new so_far there solid onward is h space = absurd h
 read_token (Some t) bytes at end next old new so_far there solid onward is takes space = (
   fitting_token (json_values bytes) (parts_left old) (parts_left new) bytes at end next t (entries_in old) takes.added (entries_in new)

@@ -150,7 +150,8 @@ takes_comma old new b sound next inside s_is fs_is name_is es_is placed distinct
 
 -- a colon
 pub takes_colon : (old new : Reading) → is_colon_next old.state ≡ true → new.state ≡ state.Value →
-    new.frames.items ≡ old.frames.items → name_of new.name ≡ name_of old.name → entries_in new ≡ entries_in old → IsPlacedIn new → IsDistinct new → Takes old colon new
+    new.frames.items ≡ old.frames.items → name_of new.name ≡ name_of old.name → entries_in new ≡ entries_in old → IsPlacedIn new → IsDistinct new →
+    Takes old colon new
 takes_colon old new next s_is fs_is name_is es_is placed distinct =
     let fs : List Frame = old.frames.items in
     let name : List ℕ = name_of old.name in

@@ -5,7 +5,7 @@ use Rattle.std.proofs.lemmas.List.{drop_more, drop-drop, drop_all}
 use Rattle.std.proofs.lemmas.Bool.{cond-true, cond-false}
 use Rattle.std.proofs.lemmas.Option.{none-some, same_Some}
 use Rattle.nix_values.specs.Contents.{Entry}
-use Rattle.nix_values.specs.Repeated.{HasRepeatedName}
+use Rattle.nix_values.specs.RepeatedNames.{HasRepeatedName}
 use Rattle.nix_values.specs.JsonReading.{values_with}
 use Rattle.nix_values.specs.Json.{Token, is_space, token_at, tokens_behind, Part, Taken, in_front, parts_from, meaning, values_of}
 
@@ -116,7 +116,8 @@ text_cut all parts more part bytes i es so_far past left =
     so_far ∙ ap (λ l. in_front es (values_of parts l)) (drop_all i bytes past) ∙ ap (λ ps. in_front es (values_of ps [])) left
 
 -- values in front of others
-pub in_front_some : (es found : List Entry) (x : Option (List Entry)) → in_front es x ≡ Some found → (more : List Entry) × (x ≡ Some more) × (es ++ more ≡ found)
+pub in_front_some : (es found : List Entry) (x : Option (List Entry)) → in_front es x ≡ Some found →
+    (more : List Entry) × (x ≡ Some more) × (es ++ more ≡ found)
 in_front_some es found None e = absurd (none-some found e)
 in_front_some es found (Some more) e = (more, refl, same_Some (es ++ more) found e)
 

@@ -15,7 +15,7 @@ pub mod AttributePutLemmas
 pub mod AttributeInsertLemmas
 pub mod AttributeGrowthLemmas
 pub mod BuiltLemmas
-pub mod RepeatedLemmas
+pub mod RepeatedNameLemmas
 pub mod JsonPlaceLemmas
 pub mod JsonRepeatLemmas
 pub mod JsonDistinctLemmas

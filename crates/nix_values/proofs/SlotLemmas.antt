@@ -11,7 +11,7 @@ use Rattle.nix_values.specs.declared.slots.Slot.{Slot}
 use Rattle.nix_values.specs.declared.slots.Spot.{Spot}
 use Rattle.nix_values.specs.declared.slots.Spot.TheVariants.{Free, Taken, Full}
 use Rattle.nix_values.specs.declared.slots.Slots.{Slots}
-use Rattle.nix_values.specs.Slots.{is_free, free_slot, slot_at, spot_from, spot_in, first_of, spot_of, IsPut}
+use Rattle.nix_values.specs.HashSlots.{is_free, free_slot, slot_at, spot_from, spot_in, first_of, spot_of, IsPut}
 
 -- ---- one step of a search
 

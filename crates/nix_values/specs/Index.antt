@@ -1,13 +1,13 @@
 -- The attributes of values that are being read, as they are found.
 use Rattle.std.specs.Prelude.{◌≡◌, ℕ, List, [], ◌∷◌, ◌++◌, Option}
 use Rattle.nix_values.specs.declared.attributes.Attributes.{Attributes}
-use Rattle.nix_values.specs.Attributes.{found_in, IsSound}
+use Rattle.nix_values.specs.IndexedAttributes.{found_in, IsConsistent}
 use Rattle.nix_values.specs.Contents.{Plain}
 use Rattle.nix_values.specs.Built.{Built, keys_of, attribute_of}
 
 -- the attributes that are found are those of some values
 pub record IsIndex (values : List Built) (attributes : Attributes) : Type 0 where
-  pub sound : IsSound (keys_of values) attributes
+  pub sound : IsConsistent (keys_of values) attributes
   pub finds : (set : ℕ) (name : List ℕ) → found_in attributes (keys_of values) set name ≡ attribute_of values set name
 
 -- the same with one more value inside another one, whatever it is

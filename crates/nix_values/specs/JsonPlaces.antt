@@ -5,8 +5,8 @@ use Rattle.nix_values.specs.declared.json_reader.Frame.{Frame}
 use Rattle.nix_values.specs.declared.attributes.Attributes.{Attributes}
 use Rattle.nix_values.specs.Contents.{Entry, entry_of}
 use Rattle.nix_values.specs.FoundKeys.{found_keys}
-use Rattle.nix_values.specs.Attributes.{found_in, IsSound}
-use Rattle.nix_values.specs.Repeated.{last_outside, is_set_entry, entry_keys}
+use Rattle.nix_values.specs.IndexedAttributes.{found_in, IsConsistent}
+use Rattle.nix_values.specs.RepeatedNames.{last_outside, is_set_entry, entry_keys}
 
 abbrev pub entries_of : Found → List Entry
 entries_of found = map entry_of found.items.items
@@ -26,7 +26,7 @@ in_set set name = option_map (λ s. (s, name)) set
 
 -- the attributes of the values are found, and the opening lists and sets are the last values that are outside of those that come next
 pub record IsPlaced (found : Found) (attributes : Attributes) (frames : List Frame) : Type 0 where
-  pub sound : IsSound (found_keys found) attributes
+  pub sound : IsConsistent (found_keys found) attributes
   pub count : length found.places.items ≡ length found.items.items
   pub keys : (number : ℕ) → found_keys found number ≡ entry_keys (entries_of found) number
   pub complete : (number set : ℕ) (name : List ℕ) → found_keys found number ≡ Some (set, name) →

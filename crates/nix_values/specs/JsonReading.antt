@@ -18,7 +18,7 @@ use Rattle.nix_values.specs.declared.json_reader.Reading.{Reading}
 use Rattle.nix_values.specs.Contents.{Plain, list, set, plain_of, Entry, entry_of, contents}
 use Rattle.nix_values.specs.JsonContent.{escape_at}
 use Rattle.nix_values.specs.Json.{Token, opening, closing, comma, colon, string, scalar, word_at, Part, value, first_item, more_items, first_member, more_members, member, named, entry, in_front, parts_from, values_of, json_values, IsJson}
-use Rattle.nix_values.specs.Repeated.{entry_keys, HasRepeatedName, HasDistinctNames}
+use Rattle.nix_values.specs.RepeatedNames.{entry_keys, HasRepeatedName, HasDistinctNames}
 use Rattle.nix_values.specs.FoundKeys.{found_keys}
 use Rattle.nix_values.specs.JsonPlaces.{last_frame, set_of, in_set, IsPlaced}
 
@@ -241,7 +241,8 @@ RepeatsWith r token = (rest : List ℕ) (more : List Entry) → values_with (par
 
 -- a token is taken, or it does not fit
 abbrev pub TakesOrNot : Result (Unit {0}) JsonStop → Reading → Token → Reading → Type 0
-TakesOrNot r old token new = MatchResult r (λ x. Takes old token new) (λ stop. IfStopped stop (parts_from (parts_left old) token ≡ None) (RepeatsWith old token))
+TakesOrNot r old token new = MatchResult r (λ x. Takes old token new)
+    (λ stop. IfStopped stop (parts_from (parts_left old) token ≡ None) (RepeatsWith old token))
 
 -- the same of what the reader found
 abbrev pub FoundOrNot : Result (Unit {0}) JsonStop → Reading → Option Token → Reading → Type 0

@@ -48,12 +48,12 @@ fn is_attribute(found: Option<(usize, &str)>, set: usize, name: &str) -> bool
 }
 
 impl Attributes {
-    ghost use Rattle.nix_values.specs.Attributes.{place_in, found_in, HasHash, IsSound, FindsNone, IsWithin, IsSame, IsInserted, IsNew, IsAddedTo};
-    ghost use Rattle.nix_values.specs.Attributes.{IsFoundAdded, AreSlotsAdded, AreSetsAdded, AreCrowdedAdded};
+    ghost use Rattle.nix_values.specs.IndexedAttributes.{place_in, found_in, HasHash, IsConsistent, FindsNone, IsWithin, IsSame, IsInserted, IsNew, IsAddedTo};
+    ghost use Rattle.nix_values.specs.IndexedAttributes.{IsFoundAdded, AreSlotsAdded, AreSetsAdded, AreCrowdedAdded};
 
     /// Returns no attributes.
     pub fn new(alloc: Global) -> Attributes
-        ensures { (keys : Keys) → IsSound keys result × FindsNone keys result }
+        ensures { (keys : Keys) → IsConsistent keys result × FindsNone keys result }
     {
         Attributes {
             slots: Slots::new(alloc),
@@ -98,7 +98,7 @@ impl Attributes {
         hash: u64,
         number: usize,
     ) -> Result<(), AllocError>
-        requires sound { IsSound (V.keys values.now) self.old }
+        requires sound { IsConsistent (V.keys values.now) self.old }
         requires hash { HasHash (V.keys values.now) number hash }
         requires number { number ≢ usize.MAX }
         requires other { IsNew (V.keys values.now) self.old number }
@@ -119,8 +119,8 @@ impl Attributes {
         values: &V,
         from: &Attributes,
     ) -> Result<(), AllocError>
-        requires sound { IsSound (V.keys values.now) self.old }
-        requires others { IsSound (V.keys values.now) from.now }
+        requires sound { IsConsistent (V.keys values.now) self.old }
+        requires others { IsConsistent (V.keys values.now) from.now }
         requires within { IsWithin (V.keys values.now) self.old from.now }
         ensures { OnOk result (AreSlotsAdded (V.keys values.now) from.now self.new) }
     {
@@ -151,8 +151,8 @@ impl Attributes {
         from: &Attributes,
         number: usize,
     ) -> Result<(), AllocError>
-        requires sound { IsSound (V.keys values.now) self.old }
-        requires others { IsSound (V.keys values.now) from.now }
+        requires sound { IsConsistent (V.keys values.now) self.old }
+        requires others { IsConsistent (V.keys values.now) from.now }
         requires within { IsWithin (V.keys values.now) self.old from.now }
         ensures { OnOk result (IsFoundAdded (V.keys values.now) from.now number self.old self.new) }
     {
@@ -172,8 +172,8 @@ impl Attributes {
         from: &Attributes,
         sets: &BTreeMap<usize, usize>,
     ) -> Result<(), AllocError>
-        requires sound { IsSound (V.keys values.now) self.old }
-        requires others { IsSound (V.keys values.now) from.now }
+        requires sound { IsConsistent (V.keys values.now) self.old }
+        requires others { IsConsistent (V.keys values.now) from.now }
         requires within { IsWithin (V.keys values.now) self.old from.now }
         ensures { OnOk result (AreSetsAdded (V.keys values.now) from.now sets.now self.old self.new) }
     {
@@ -190,8 +190,8 @@ impl Attributes {
         values: &V,
         from: &Attributes,
     ) -> Result<(), AllocError>
-        requires sound { IsSound (V.keys values.now) self.old }
-        requires others { IsSound (V.keys values.now) from.now }
+        requires sound { IsConsistent (V.keys values.now) self.old }
+        requires others { IsConsistent (V.keys values.now) from.now }
         requires within { IsWithin (V.keys values.now) self.old from.now }
         ensures { OnOk result (AreCrowdedAdded (V.keys values.now) from.now self.old self.new) }
     {
@@ -203,7 +203,7 @@ impl Attributes {
 
     // Makes room for twice as many slots that are taken.
     fn grow<V: Values>(&mut self, alloc: Global, values: &V) -> Result<(), AllocError>
-        requires { IsSound (V.keys values.now) self.old }
+        requires { IsConsistent (V.keys values.now) self.old }
         ensures grown { OnOk result (IsSame (V.keys values.now) self.old self.new) }
         ensures kept { OnErr result (self.new ≡ self.old) }
     {
@@ -227,7 +227,7 @@ impl Attributes {
         name: &str,
         number: usize,
     ) -> Result<(), AllocError>
-        requires sound { IsSound (V.keys values.now) self.old }
+        requires sound { IsConsistent (V.keys values.now) self.old }
         requires number { number ≢ usize.MAX }
         ensures inserted { OnOk result (IsInserted (V.keys values.now) self.old set name.now number self.new) }
         ensures kept { OnErr result (IsSame (V.keys values.now) self.old self.new) }
@@ -250,7 +250,7 @@ impl Attributes {
         name: &str,
         number: usize,
     ) -> Result<(), AllocError>
-        requires sound { IsSound (V.keys values.now) self.old }
+        requires sound { IsConsistent (V.keys values.now) self.old }
         requires number { number ≢ usize.MAX }
         ensures inserted { OnOk result (IsInserted (V.keys values.now) self.old set name.now number self.new) }
         ensures kept { OnErr result (IsSame (V.keys values.now) self.old self.new) }

@@ -1,7 +1,7 @@
 //! The values of a JSON text so far.
 
 ghost use Rattle.std.specs.Prelude.{◌≡◌, [], length, OnOk};
-ghost use Rattle.nix_values.specs.Attributes.{IsSound};
+ghost use Rattle.nix_values.specs.IndexedAttributes.{IsConsistent};
 ghost use Rattle.nix_values.specs.FoundKeys.{found_keys};
 ghost use Rattle.nix_values.specs.Attached.{IsAttached};
 
@@ -47,7 +47,7 @@ impl Found {
         set: Option<usize>,
         name: &str,
     ) -> Result<(), AllocError>
-        requires { IsSound (found_keys self.now) attributes.old }
+        requires { IsConsistent (found_keys self.now) attributes.old }
         ensures { OnOk result (IsAttached (found_keys self.now) attributes.old set name.now (length self.now.items.items) attributes.new) }
     {
         match set {

@@ -5,7 +5,7 @@ ghost use Rattle.nix_values.specs.Contents.{plain_of, contents};
 ghost use Rattle.nix_values.specs.Json.{opening, closing, comma, colon, string, scalar, IsJson};
 ghost use Rattle.nix_values.specs.JsonPlaces.{last_frame, set_of};
 ghost use Rattle.nix_values.specs.JsonReading.{opened, opened_plain, IsNoJson, ReadsJson, ReadsDistinct};
-ghost use Rattle.nix_values.specs.Repeated.{HasDistinctNames};
+ghost use Rattle.nix_values.specs.RepeatedNames.{HasDistinctNames};
 
 use crate::attributes::Attributes;
 use crate::data::{Data, Item, Value};

@@ -1,7 +1,7 @@
 //! Attributes in the order of their names.
 
 ghost use Rattle.std.specs.Prelude.{◌≡◌, ℕ, List, OnOk, OnErr};
-ghost use Rattle.nix_values.specs.Ordered.{crowded_in, IsWithCrowded, IsSameCrowded, HasNoCrowded};
+ghost use Rattle.nix_values.specs.OrderedNames.{crowded_in, IsWithCrowded, IsSameCrowded, HasNoCrowded};
 
 use std::alloc::{AllocError, Global};
 use std::collections::BTreeMap;

@@ -34,7 +34,7 @@ pub enum Spot {
 }
 
 impl Slot {
-    ghost use Rattle.nix_values.specs.Slots.{is_free, entry_of};
+    ghost use Rattle.nix_values.specs.HashSlots.{is_free, slot_entry};
 
     /// Whether no number is here.
     pub fn is_free(self) -> bool
@@ -45,7 +45,7 @@ impl Slot {
 
     /// The number that is here, and its hash.
     pub fn entry(self) -> Option<(u64, usize)>
-        ensures { result ≡ entry_of self }
+        ensures { result ≡ slot_entry self }
     {
         if self.is_free() {
             None
@@ -67,7 +67,7 @@ pub struct Slots {
 }
 
 impl Slots {
-    ghost use Rattle.nix_values.specs.Slots.{first_of, spot_of, slot_at, HasNone, IsPut, IsAdded, IsNotAdded};
+    ghost use Rattle.nix_values.specs.HashSlots.{first_of, spot_of, slot_at, HasNone, IsPut, IsStored, IsNotStored};
 
     /// Returns a table of no slots.
     pub fn new(alloc: Global) -> Slots
@@ -157,8 +157,8 @@ impl Slots {
 
     /// Puts a number into the first free slot of its hash, if there is one and no number has this hash. Returns whether it did.
     pub fn add(&mut self, hash: u64, number: usize) -> bool
-        ensures added { IsTrue result → IsAdded self.old hash number self.new }
-        ensures kept { result ≡ false → IsNotAdded self.old hash self.new }
+        ensures added { IsTrue result → IsStored self.old hash number self.new }
+        ensures kept { result ≡ false → IsNotStored self.old hash self.new }
     {
         match self.spot(hash) {
             Spot::Free(at) => {

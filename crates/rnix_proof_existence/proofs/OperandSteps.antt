@@ -29,7 +29,8 @@ argument_no_or : (k : SyntaxKind) → binding_power k ≡ 15 → is_or k ≡ fal
 argument_no_or k h = not_if (is_or k) (implied (λ o. nat_eq (binding_power o) 15) (λ o. if is_or o then false else true) refl k (grind (arith, nat_tests, h)))
 
 -- an item that may not continue an operand between two levels does not continue a tree that allows no tighter one
-not_followed_behind : (min_bp max_bp : ℕ) (x : AnnotatedForest) (ts : List Token) → ((j : SyntaxKind) → head_kind ts ≡ Some j → may_continue min_bp max_bp j ≡ false)
+not_followed_behind : (min_bp max_bp : ℕ) (x : AnnotatedForest) (ts : List Token) →
+    ((j : SyntaxKind) → head_kind ts ≡ Some j → may_continue min_bp max_bp j ≡ false)
     → FollowedTo max_bp x → is_continued min_bp x ts ≡ false
 not_followed_behind min_bp max_bp x [] h w = refl
 not_followed_behind min_bp max_bp x (t ∷ ts) h w = by (follows t.kind x) (nat_le min_bp (binding_power t.kind)) refl refl
@@ -268,6 +269,8 @@ module _ (whole : Outcome) (min_bp max_bp d : ℕ) (x : AnnotatedForest) (n : �
     operand_step [] = settles fs r [] (λ j e. absurd (cc e))
     operand_step (t ∷ ts) = by (may_continue min_bp max_bp t.kind) refl
       where
-        by : (w : Bool) → may_continue min_bp max_bp t.kind ≡ w → IsPreservedBy whole (if w then continue_action t.kind else a.EndOperand) frame fs (t ∷ ts) n gs
-        by true e = let w : Between min_bp max_bp t.kind = between min_bp max_bp t.kind e in goes t.kind (continue_action t.kind) (followed_by t.kind w.0) t ts refl w
+        by : (w : Bool) → may_continue min_bp max_bp t.kind ≡ w →
+            IsPreservedBy whole (if w then continue_action t.kind else a.EndOperand) frame fs (t ∷ ts) n gs
+        by true e = let w : Between min_bp max_bp t.kind = between min_bp max_bp t.kind e in goes t.kind (continue_action t.kind)
+            (followed_by t.kind w.0) t ts refl w
         by false e = settles fs r (t ∷ ts) (λ j h. subst (λ (k : SyntaxKind). may_continue min_bp max_bp k ≡ false) (some_same t.kind j h) e)

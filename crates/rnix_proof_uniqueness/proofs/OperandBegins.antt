@@ -22,7 +22,8 @@ pub goes : (level max_bp : ℕ) (i : SyntaxKind) (x : AnnotatedForest) → Follo
     → more_action level max_bp (Some i) ≡ continue_action i
 goes level max_bp i x b f l =
     let w = (b i).1 f in
-    ap (λ z. if z then continue_action i else a.EndOperand) (all_three (nat_le 1 (binding_power i)) (nat_le level (binding_power i)) (nat_le (binding_power i) max_bp)
+    ap (λ z. if z then continue_action i else a.EndOperand) (all_three (nat_le 1 (binding_power i)) (nat_le level (binding_power i))
+    (nat_le (binding_power i) max_bp)
     (at_most_true 1 (binding_power i) w.0) (at_most_true level (binding_power i) l) (at_most_true (binding_power i) max_bp w.1))
   where
     all_three : (u v w : Bool) → u ≡ true → v ≡ true → w ≡ true → (u && (v && w)) ≡ true

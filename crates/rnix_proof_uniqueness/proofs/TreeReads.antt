@@ -59,7 +59,8 @@ called_or zs x t d n us es one kind follow named tree =
     let v : AnnotatedForest = one_branch NODE_IDENT (one_token (leaf_kind NODE_IDENT t) t) in
     let z : AnnotatedForest = one_branch NODE_APPLY (x ⊕ v) in
     let level : row_level z ≡ 16 = call_level x v true one named in
-    continued zs (t ∷ []) x z t.kind a.ApplyOr 15 d n us es [] follow refl (ap continue_action kind) (first_in x v one) (omega (arith, level, ap binding_power kind))
+    continued zs (t ∷ []) x z t.kind a.ApplyOr 15 d n us es [] follow refl (ap continue_action kind) (first_in x v one)
+    (omega (arith, level, ap binding_power kind))
     (followed_selection z level refl) tree
     (λ level other f fs gs. runs_to (ap (λ w. machine (opened Operand (p.AfterOperand level 15) d z ∷ (f ∷ fs)) us t.end w) (sym (append-nil gs))) here)
 

@@ -1,7 +1,7 @@
 use Rattle.std.proofs.Common.{◌≡◌, ◌∙◌, List, length, map, sym, subst, arith}
 use Rattle.std.proofs.lemmas.List.{length-map}
 use Rattle.nix_values.specs.Built.{Built, built_of, keys_of}
-use Rattle.nix_values.specs.Attributes.{IsInserted}
+use Rattle.nix_values.specs.IndexedAttributes.{IsInserted}
 use Rattle.nix_values.proofs.OrderedLemmas.{on_ok_then}
 use Rattle.nix_values.proofs.BuiltLemmas.{key_outside, key_in_other, key_in_set, index_other, index_inserted}
 use Rattle.nix_values.proofs.builder.attach.Goals as goal

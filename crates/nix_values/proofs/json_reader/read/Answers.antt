@@ -20,7 +20,8 @@ returns-in-Err-clause-read c =
 
 pub loop-at-preserved : goal.loop-at-preserved
 loop-at-preserved c =
-    let step : IsReadUpTo c.args.text.now c.after_space-at-in-Ok-take.result c.take.new.self × IsSound c.take.new.self × IsPlacedIn c.take.new.self × IsDistinct c.take.new.self =
+    let step : IsReadUpTo c.args.text.now c.after_space-at-in-Ok-take.result c.take.new.self × IsSound c.take.new.self
+    × IsPlacedIn c.take.new.self × IsDistinct c.take.new.self =
     read_token (token_of c.in-Ok.cut.token) c.args.text.now c.loop-at.at c.in-Ok.cut.end c.after_space-at-in-Ok-take.result c.loop-at.reading
     c.take.new.self c.loop-at.invariant.left c.loop-at-test.true (c.loop-at.invariant.solid c.loop-at-test.true) c.in-Ok.ensures.1 c.in-Ok.ensures.0
     c.in-Ok-take.ensures c.after_space-at-in-Ok-take.ensures.same in

@@ -4,7 +4,8 @@ use Rattle.nix_values.proofs.attributes.Attributes.add.Goals as goal
 
 pub returns-else-not-add : goal.returns-else-not-add
 returns-else-not-add g c =
-    added_free (g.V.Values.keys c.args.values.now) c.args.self.now (record { slots = c.add.new.self; crowded = c.args.self.now.crowded }) c.args.number c.args.hash
+    added_free (g.V.Values.keys c.args.values.now) c.args.self.now (record { slots = c.add.new.self; crowded = c.args.self.now.crowded })
+    c.args.number c.args.hash
     c.requires.sound c.requires.hash c.requires.number (c.add.ensures.added c.if-not-add.false) refl
 
 pub returns-in_ok-insert : goal.returns-in_ok-insert

@@ -4,7 +4,8 @@ use Rattle.nix_values.proofs.attributes.Attributes.grow.Goals as goal
 
 pub add_slots-requires-clause-sound : goal.add_slots-requires-clause-sound
 add_slots-requires-clause-sound g c =
-    empty_sound (g.V.Values.keys c.args.values.now) (record { slots = c.in_ok-with_room.field-0; crowded = c.new.result }) c.in_ok-with_room.ensures c.new.ensures
+    empty_sound (g.V.Values.keys c.args.values.now) (record { slots = c.in_ok-with_room.field-0; crowded = c.new.result }) c.in_ok-with_room.ensures
+    c.new.ensures
 
 pub add_slots-requires-clause-within : goal.add_slots-requires-clause-within
 add_slots-requires-clause-within g c =

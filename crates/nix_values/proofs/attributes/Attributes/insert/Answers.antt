@@ -1,5 +1,5 @@
 use Rattle.std.proofs.Common.{subst}
-use Rattle.nix_values.specs.Attributes.{IsInserted}
+use Rattle.nix_values.specs.IndexedAttributes.{IsInserted}
 use Rattle.nix_values.proofs.OrderedLemmas.{on_ok_then}
 use Rattle.nix_values.proofs.AttributeInsertLemmas.{inserted_same}
 use Rattle.nix_values.proofs.attributes.Attributes.insert.Goals as goal

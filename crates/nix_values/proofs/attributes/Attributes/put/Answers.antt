@@ -1,5 +1,5 @@
 use Rattle.std.proofs.Common.{◌∙◌, sym, refl, subst}
-use Rattle.nix_values.specs.Slots.{IsPut}
+use Rattle.nix_values.specs.HashSlots.{IsPut}
 use Rattle.nix_values.proofs.OrderedLemmas.{on_err}
 use Rattle.nix_values.proofs.AttributePutLemmas.{same_crowded}
 use Rattle.nix_values.proofs.AttributeInsertLemmas.{inserted_free, inserted_taken, inserted_crowded}

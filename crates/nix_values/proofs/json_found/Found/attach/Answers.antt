@@ -1,5 +1,5 @@
 use Rattle.std.proofs.Common.{◌≡◌, length, sym, subst, arith}
-use Rattle.nix_values.specs.Attributes.{IsInserted}
+use Rattle.nix_values.specs.IndexedAttributes.{IsInserted}
 use Rattle.nix_values.specs.FoundKeys.{found_keys}
 use Rattle.nix_values.specs.Attached.{IsAttached}
 use Rattle.nix_values.proofs.OrderedLemmas.{on_ok_then}

@@ -11,7 +11,8 @@ returns-clause-placed c =
     let old = c.args.self.now in
     let e : Entry = record { depth = c.len-depth.result; name = string_bytes c.match-take.name.0; plain = plain_of c.args.value } in
     let deep : c.len-depth.result ≡ length old.frames.items = omega arith in
-    let named = subst (λ name. IsAttached (found_keys old.found) old.attributes c.innermost_set-set.result name (length old.found.items.items) c.attach.new.attributes)
+    let named = subst (λ name. IsAttached (found_keys old.found) old.attributes c.innermost_set-set.result name (length old.found.items.items)
+    c.attach.new.attributes)
     c.as_str.ensures.value c.in_ok-attach.ensures in
     placed_added old.found (record { items = c.push-2.new.self; places = c.push.new.self }) old.attributes c.attach.new.attributes old.frames.items _ _ e
     c.requires c.in_ok-push-2.ensures.items c.in_ok-push.ensures.items refl deep c.innermost_set-set.ensures

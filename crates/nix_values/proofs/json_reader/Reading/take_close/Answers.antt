@@ -23,4 +23,9 @@ returns c =
     takes_close old _ c.args.is_set c.requires.sound next (subst (λ b. IsInside b old.frames.items) same c.in-Some.ensures.some) c.after_value-self.ensures
     (c.pop-closed.ensures.rest ∙ ap (λ n. take n old.frames.items) len) refl refl
     (placed_closed old.found old.attributes old.frames.items _ (vec_len old.frames - 1) c.requires.placed c.pop-closed.ensures.rest)
-    (record { distinct = c.requires.distinct.distinct; free = behind_next (record old { frames = c.pop-closed.new.self; state = c.after_value-self.result }) c.after_value-self.result c.pop-closed.new.self.items c.after_value-self.ensures })
+    (record {
+      distinct = c.requires.distinct.distinct;
+      free = behind_next
+          (record old { frames = c.pop-closed.new.self; state = c.after_value-self.result }) c.after_value-self.result c.pop-closed.new.self.items
+          c.after_value-self.ensures;
+    })

@@ -20,7 +20,8 @@ returns c =
     let next : is_value_next old.state ≡ true = sym c.is_value_next.ensures ∙ c.if-not-is_value_next.false in
     let room : length old.frames.items < MOST_DEPTH = omega (arith, c.len.ensures, c.if-len-ge-MOST_DEPTH.false) in
     takes_open old c.add.new.self _ c.args.is_set (record { node = c.in_ok-node.node; is_set = c.args.is_set }) c.requires.sound next room
-    (subst (λ p. IsAdded old p c.add.new.self) c.opened_value.ensures c.in_ok-node.ensures.added) refl c.opened-self.ensures c.in_ok-push.ensures.items refl refl
+    (subst (λ p. IsAdded old p c.add.new.self) c.opened_value.ensures c.in_ok-node.ensures.added) refl c.opened-self.ensures
+    c.in_ok-push.ensures.items refl refl
     (placed_open old c.add.new.self c.args.is_set (record { node = c.in_ok-node.node; is_set = c.args.is_set }) _ c.in_ok-node.ensures.placed
     (subst (λ p. IsAdded old p c.add.new.self) c.opened_value.ensures c.in_ok-node.ensures.added) refl c.in_ok-node.ensures.number
     c.in_ok-push.ensures.items)

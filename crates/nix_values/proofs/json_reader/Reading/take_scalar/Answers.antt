@@ -11,14 +11,17 @@ pub returns-then-not-is_value_next : goal.returns-then-not-is_value_next
 returns-then-not-is_value_next c =
     let old = c.args.self.now in
     let next : is_value_next old.state ≡ false = sym c.is_value_next.ensures ∙ c.if-not-is_value_next.true in
-    stopped c.unexpected.result old (scalar (plain_of c.args.value)) (scalar_wrong old.state old.frames.items (name_of old.name) (plain_of c.args.value) next c.requires.sound)
+    stopped c.unexpected.result old (scalar (plain_of c.args.value))
+    (scalar_wrong old.state old.frames.items (name_of old.name) (plain_of c.args.value) next c.requires.sound)
 
 pub returns : goal.returns
 returns c =
     let old = c.args.self.now in
     let next : is_value_next old.state ≡ true = sym c.is_value_next.ensures ∙ c.if-not-is_value_next.false in
-    takes_scalar old c.add.new.self _ (plain_of c.args.value) c.requires.sound next c.in_ok-_number.ensures.added c.after_value-self.ensures refl refl refl c.in_ok-_number.ensures.placed
+    takes_scalar old c.add.new.self _ (plain_of c.args.value) c.requires.sound next c.in_ok-_number.ensures.added c.after_value-self.ensures refl refl
+    refl c.in_ok-_number.ensures.placed
     (record {
       distinct = distinct_added old c.add.new.self (plain_of c.args.value) c.requires.placed c.requires.distinct next c.in_ok-_number.ensures.added;
-      free = behind_next (record c.add.new.self { state = c.after_value-self.result }) c.after_value-self.result c.add.new.self.frames.items c.after_value-self.ensures;
+      free = behind_next (record c.add.new.self { state = c.after_value-self.result }) c.after_value-self.result c.add.new.self.frames.items
+          c.after_value-self.ensures;
     })

@@ -10,7 +10,11 @@ returns c =
     let old = c.args.self.now in
     let next : is_name_next old.state ≡ true = sym c.is_name_next.ensures ∙ c.if-not-is_name_next.false in
     takes_name old _ _ c.requires.sound next refl refl refl refl c.requires.placed
-    (record { distinct = c.requires.distinct.distinct; free = name_free old (string_bytes c.args.text) c.requires.placed (subst (λ name. IsNotTaken old name) c.as_str.ensures.value c.in_default.ensures.free) })
+    (record {
+      distinct = c.requires.distinct.distinct;
+      free = name_free old (string_bytes c.args.text) c.requires.placed
+          (subst (λ name. IsNotTaken old name) c.as_str.ensures.value c.in_default.ensures.free);
+    })
 
 pub returns-then-not-is_name_next : goal.returns-then-not-is_name_next
 returns-then-not-is_name_next c =
@@ -22,5 +26,6 @@ pub returns-in-Some : goal.returns-in-Some
 returns-in-Some c =
     let old = c.args.self.now in
     let next : is_name_next old.state ≡ true = sym c.is_name_next.ensures ∙ c.if-not-is_name_next.false in
-    let taken : IsTaken old c.in-Some.number (string_bytes c.args.text) = subst (λ name. IsTaken old c.in-Some.number name) c.as_str.ensures.value c.in-Some.ensures.taken in
+    let taken : IsTaken old c.in-Some.number (string_bytes c.args.text) = subst (λ name. IsTaken old c.in-Some.number name) c.as_str.ensures.value
+    c.in-Some.ensures.taken in
     (λ other. absurd (other refl), name_repeats old (string_bytes c.args.text) c.in-Some.number c.requires.sound next c.requires.placed taken)

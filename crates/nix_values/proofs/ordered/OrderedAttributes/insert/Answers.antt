@@ -31,7 +31,9 @@ returns-clause-inserted c =
     let old = c.args.self.now in
     let sets = c.insert-2.new.self in
     let named : IsNamed old c.args.name.now sets (record { names = c.insert-3.new.self }) =
-    name_updated old.names c.get_mut.follows.lender-at-none c.insert-3.new.self c.in_ok-from_str.field-0 c.args.name.now sets c.get_mut.follows.holds-at-none c.in_ok-from_str.ensures.ok c.in_ok-insert-3.ensures.updates in
+    name_updated old.names c.get_mut.follows.lender-at-none c.insert-3.new.self c.in_ok-from_str.field-0 c.args.name.now sets
+    c.get_mut.follows.holds-at-none c.in_ok-from_str.ensures.ok c.in_ok-insert-3.ensures.updates in
     with_sets old (record { names = c.insert-3.new.self }) c.args.set c.args.name.now c.args.value sets named
     (λ s. sets_updated c.new-sets.result sets c.args.set c.args.value s c.in_ok-insert-2.ensures.updates
-    ∙ ap (λ o. cond (c.args.set == s) (Some c.args.value) o) (ap (λ es. lookup (is_at (nat_cmp s)) es) c.new-sets.ensures.empty ∙ ap (λ o. option_and_then (λ m. get nat_cmp m s) o) c.in_default.ensures.value))
+    ∙ ap (λ o. cond (c.args.set == s) (Some c.args.value) o) (ap (λ es. lookup (is_at (nat_cmp s)) es) c.new-sets.ensures.empty
+    ∙ ap (λ o. option_and_then (λ m. get nat_cmp m s) o) c.in_default.ensures.value))

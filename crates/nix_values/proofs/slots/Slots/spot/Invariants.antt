@@ -1,6 +1,6 @@
 use Rattle.std.proofs.Common.{◌≡◌, ◌+◌, ◌-◌}
 use Rattle.nix_values.specs.declared.slots.TheConstants.{WINDOW}
-use Rattle.nix_values.specs.Slots.{spot_of, spot_from}
+use Rattle.nix_values.specs.HashSlots.{spot_of, spot_from}
 use Rattle.nix_values.proofs.slots.Slots.spot.Given as goal
 
 abbrev pub invariant-loop-step : goal.invariant-loop-step

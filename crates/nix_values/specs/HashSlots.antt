@@ -11,8 +11,8 @@ abbrev pub is_free : Slot → Bool
 is_free slot = slot.number == FREE
 
 -- the number that a slot holds, and its hash
-abbrev pub entry_of : Slot → Option (ℕ × ℕ)
-entry_of slot = if is_free slot then None else Some (slot.hash, slot.number)
+abbrev pub slot_entry : Slot → Option (ℕ × ℕ)
+slot_entry slot = if is_free slot then None else Some (slot.hash, slot.number)
 
 abbrev pub free_slot : Slot
 free_slot = record { hash = 0; number = FREE }
@@ -50,12 +50,12 @@ pub record IsPut (old : Slots) (at hash number : ℕ) (new : Slots) : Type 0 whe
   pub mask : new.mask ≡ old.mask
 
 -- a number is put into the slot at which the search for its hash ends
-pub record IsAdded (old : Slots) (hash number : ℕ) (new : Slots) : Type 0 where
+pub record IsStored (old : Slots) (hash number : ℕ) (new : Slots) : Type 0 where
   pub at : ℕ
   pub spot : spot_of old hash ≡ Free at
   pub put : IsPut old at hash number new
 
 -- the search for a hash ends at no free slot, and a table is as it was
-pub record IsNotAdded (old : Slots) (hash : ℕ) (new : Slots) : Type 0 where
+pub record IsNotStored (old : Slots) (hash : ℕ) (new : Slots) : Type 0 where
   pub spot : (at : ℕ) → spot_of old hash ≡ Free at → ⊥
   pub same : new ≡ old

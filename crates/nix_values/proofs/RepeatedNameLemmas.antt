@@ -5,7 +5,7 @@ use Rattle.std.proofs.lemmas.Bool.{cases_Bool, cond-true, cond-false, le-ltb, lt
 use Rattle.std.proofs.lemmas.List.{length-append}
 use Rattle.std.proofs.lemmas.Option.{none-some, same_Some, option_and_then_some, slice_get_within}
 use Rattle.nix_values.specs.Contents.{Entry}
-use Rattle.nix_values.specs.Repeated.{is_outside, last_outside, is_set_entry, entry_key, entry_keys, HasRepeatedName}
+use Rattle.nix_values.specs.RepeatedNames.{is_outside, last_outside, is_set_entry, entry_key, entry_keys, HasRepeatedName}
 use Rattle.nix_values.proofs.BuiltLemmas.{get_last}
 
 -- ---- values that others follow
@@ -35,7 +35,8 @@ outside_below xs (suc i) depth p e =
 
 key_front_at : (xs ys : List Entry) (i : ℕ) (entry : Entry) → i ≤ length xs → entry_key (xs ++ ys) i entry ≡ entry_key xs i entry
 key_front_at xs ys i entry inside =
-    ap (λ o. option_and_then {U = ℕ × List ℕ} (λ p. if is_set_entry (slice_get (xs ++ ys) p) then Some (p, entry.name) else None) o) (outside_front xs ys i entry.depth inside)
+    ap (λ o. option_and_then {U = ℕ × List ℕ} (λ p. if is_set_entry (slice_get (xs ++ ys) p) then Some (p, entry.name) else None) o)
+    (outside_front xs ys i entry.depth inside)
     ∙ by (last_outside xs i entry.depth) refl
   where
     by : (o : Option ℕ) → last_outside xs i entry.depth ≡ o →
@@ -82,7 +83,8 @@ repeated xs ys entry i s n less one other = record {
 }
 
 -- the value that is outside of a value that is added
-pub outside_same : (xs : List Entry) (entry : Entry) (depth : ℕ) → depth ≤ entry.depth → last_outside (xs ++ entry ∷ []) (length xs + 1) depth ≡ last_outside xs (length xs) depth
+pub outside_same : (xs : List Entry) (entry : Entry) (depth : ℕ) → depth ≤ entry.depth →
+    last_outside (xs ++ entry ∷ []) (length xs + 1) depth ≡ last_outside xs (length xs) depth
 outside_same xs entry depth deep =
     let count : length xs + 1 ≡ suc (length xs) = omega arith in
     ap (λ n. last_outside (xs ++ entry ∷ []) n depth) count
@@ -90,7 +92,8 @@ outside_same xs entry depth deep =
     (ap (λ e. is_outside e depth) (get_last xs entry) ∙ le-ltb entry.depth depth deep)
     ∙ outside_front xs (entry ∷ []) (length xs) depth (omega arith)
 
-pub outside_added : (xs : List Entry) (entry : Entry) (depth : ℕ) → entry.depth < depth → last_outside (xs ++ entry ∷ []) (length xs + 1) depth ≡ Some (length xs)
+pub outside_added : (xs : List Entry) (entry : Entry) (depth : ℕ) → entry.depth < depth →
+    last_outside (xs ++ entry ∷ []) (length xs + 1) depth ≡ Some (length xs)
 outside_added xs entry depth shallow =
     let count : length xs + 1 ≡ suc (length xs) = omega arith in
     ap (λ n. last_outside (xs ++ entry ∷ []) n depth) count

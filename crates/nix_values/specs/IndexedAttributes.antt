@@ -9,8 +9,8 @@ use Rattle.nix_values.specs.declared.attributes.Place.{Place}
 use Rattle.nix_values.specs.declared.attributes.Place.TheVariants as place
 use Rattle.nix_values.specs.declared.attributes.Attributes.{Attributes}
 use Rattle.nix_values.specs.AttributeHash.{attribute_hash}
-use Rattle.nix_values.specs.Slots.{is_free, slot_at, spot_of}
-use Rattle.nix_values.specs.Ordered.{crowded_in, IsOneOf}
+use Rattle.nix_values.specs.HashSlots.{is_free, slot_at, spot_of}
+use Rattle.nix_values.specs.OrderedNames.{crowded_in, IsOneOf}
 use Rattle.nix_values.specs.Keys.{Keys, is_key}
 
 -- where the attribute of a set that has a name is, by where the search for its hash ends
@@ -44,7 +44,7 @@ taken_at _ = None
 
 -- attributes are where they are looked for: a search for the hash of each taken slot ends there; numbers in slots and among the crowded are those
 -- of attributes, with the hash of the slot and with the name; and no search for the hash of a crowded one ends at a free slot
-pub record IsSound (keys : Keys) (attributes : Attributes) : Type 0 where
+pub record IsConsistent (keys : Keys) (attributes : Attributes) : Type 0 where
   pub reached : (i : ℕ) → is_free (slot_at attributes.slots.slots.items i) ≡ false →
       taken_at (spot_of attributes.slots (slot_at attributes.slots.slots.items i).hash) ≡ Some (i, (slot_at attributes.slots.slots.items i).number)
   pub hashed : (hash at number : ℕ) → spot_of attributes.slots hash ≡ Taken at number → HasHash keys number hash
@@ -64,12 +64,12 @@ IsWithin keys attributes others =
 
 -- the same attributes are found
 pub record IsSame (keys : Keys) (old new : Attributes) : Type 0 where
-  pub sound : IsSound keys new
+  pub sound : IsConsistent keys new
   pub finds : (set : ℕ) (name : List ℕ) → found_in new keys set name ≡ found_in old keys set name
 
 -- a value is found as the attribute of a set that has a name, and others as before
 pub record IsWith (keys : Keys) (old : Attributes) (set : ℕ) (name : List ℕ) (number : ℕ) (new : Attributes) : Type 0 where
-  pub sound : IsSound keys new
+  pub sound : IsConsistent keys new
   pub finds : (s : ℕ) (n : List ℕ) → found_in new keys s n ≡ (if set == s && bytes_eq name n then Some number else found_in old keys s n)
 
 -- the same, of any values that are the same attributes as before, and this one
@@ -79,14 +79,15 @@ IsInserted keys old set name number new = (later : Keys) → ((n : ℕ) (key : �
 
 -- an attribute is added, of which no other value is found
 abbrev pub IsNew : Keys → Attributes → ℕ → Type 0
-IsNew keys attributes number = (set : ℕ) (name : List ℕ) (other : ℕ) → keys number ≡ Some (set, name) → found_in attributes keys set name ≡ Some other → other ≡ number
+IsNew keys attributes number = (set : ℕ) (name : List ℕ) (other : ℕ) → keys number ≡ Some (set, name) →
+    found_in attributes keys set name ≡ Some other → other ≡ number
 
 abbrev pub IsAddedTo : Keys → Attributes → ℕ → Attributes → Type 0
 IsAddedTo keys old number new = (set : ℕ) (name : List ℕ) → keys number ≡ Some (set, name) → IsWith keys old set name number new
 
 -- the attributes of the slots of others are found
 pub record AreSlotsAdded (keys : Keys) (others new : Attributes) : Type 0 where
-  pub sound : IsSound keys new
+  pub sound : IsConsistent keys new
   pub within : IsWithin keys new others
   pub all : (i set : ℕ) (name : List ℕ) → is_free (slot_at others.slots.slots.items i) ≡ false →
       keys (slot_at others.slots.slots.items i).number ≡ Some (set, name) →
@@ -94,14 +95,14 @@ pub record AreSlotsAdded (keys : Keys) (others new : Attributes) : Type 0 where
 
 -- a value that is found as an attribute in others is found
 pub record IsFoundAdded (keys : Keys) (others : Attributes) (number : ℕ) (old new : Attributes) : Type 0 where
-  pub sound : IsSound keys new
+  pub sound : IsConsistent keys new
   pub within : IsWithin keys new others
   pub kept : IsWithin keys old new
   pub all : (set : ℕ) (name : List ℕ) → found_in others keys set name ≡ Some number → found_in new keys set name ≡ Some number
 
 -- some values that are found as attributes in others are found
 pub record AreSetsAdded (keys : Keys) (others : Attributes) (sets : BTreeMap ℕ ℕ) (old new : Attributes) : Type 0 where
-  pub sound : IsSound keys new
+  pub sound : IsConsistent keys new
   pub within : IsWithin keys new others
   pub kept : IsWithin keys old new
   pub all : (set : ℕ) (name : List ℕ) (number : ℕ) → IsOneOf (values sets) number → found_in others keys set name ≡ Some number →
@@ -109,7 +110,7 @@ pub record AreSetsAdded (keys : Keys) (others : Attributes) (sets : BTreeMap ℕ
 
 -- the crowded attributes of others are found
 pub record AreCrowdedAdded (keys : Keys) (others old new : Attributes) : Type 0 where
-  pub sound : IsSound keys new
+  pub sound : IsConsistent keys new
   pub within : IsWithin keys new others
   pub kept : IsWithin keys old new
   pub all : (set : ℕ) (name : List ℕ) (number : ℕ) → crowded_in others.crowded set name ≡ Some number → found_in others keys set name ≡ Some number →
