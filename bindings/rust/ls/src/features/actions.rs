@@ -17,6 +17,14 @@ use rnix::{Edits, Root, SyntaxKind, SyntaxNode, TextRange, TextSize};
 /// An answer has at most this many quick fixes for errors, and as many for unused names, since each of them is tried out.
 const MOST: usize = 20;
 
+/// For each error for which a fix is tried, the text is parsed a few times. The texts of these errors have at most this many bytes in all, but for one.
+const MOST_BYTES: usize = 2_000_000;
+
+// For how many errors of a text an answer tries fixes.
+fn most_corrections(text: &str) -> usize {
+    (MOST_BYTES / text.len().max(1)).clamp(1, MOST)
+}
+
 // A range with the white space after it, or its whole lines if nothing else is in them.
 fn with_space(text: &str, range: TextRange) -> TextRange {
     let (start, end) = (usize::from(range.start()), usize::from(range.end()));
@@ -147,7 +155,7 @@ fn corrections(request: &Request, range: TextRange) -> Vec<Value> {
         let fix = correction(analysis, text, number)?;
         Some(shown(request, Some(error(request.document, found)), &fix))
     };
-    in_range.take(MOST).filter_map(action).collect()
+    in_range.take(most_corrections(text)).filter_map(action).collect()
 }
 
 // The quick fixes for the unused names in a range.
@@ -192,6 +200,12 @@ mod tests {
             edits.replace(range, new).unwrap();
         }
         Some(edits.apply())
+    }
+
+    #[test]
+    fn fixes_are_tried_for_fewer_errors_in_long_texts() {
+        let counts = [0, 100_000, 1_000_000, 10_000_000].map(|len| most_corrections(&"a".repeat(len)));
+        assert_eq!(counts, [20, 20, 2, 1]);
     }
 
     #[test]
