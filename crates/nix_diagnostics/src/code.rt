@@ -60,7 +60,7 @@ impl Code {
         }
     }
 
-    /// Returns how serious what it stands for is.
+    /// Returns how serious it is.
     pub fn severity(self) -> Severity
         ensures { result ≡ severity_of self }
     {

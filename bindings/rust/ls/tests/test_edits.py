@@ -1,4 +1,4 @@
-"""What rnix-ls says after edits: the semantic tokens that have changed, and which answers come too late."""
+"""What rnix-ls says after edits: the semantic tokens that have changed, and which responses come too late."""
 
 import random
 import re
