@@ -223,7 +223,7 @@ pub record Takes (old : Reading) (token : Token) (new : Reading) : Type 0 where
   pub placed : IsPlacedIn new
   pub distinct : IsDistinct new
 
--- what a refusal says of a text: unless it is for a name that an object has twice, and in any case
+-- a text is refused: unless the reason is a repeated name, the first holds of it; in any case the second does
 abbrev pub IfWrong : JsonError → Type 0 → Type 0 → Type 0
 IfWrong error none repeats = (error.reason ≢ Repeated → none) × repeats
 
