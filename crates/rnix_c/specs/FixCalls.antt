@@ -21,6 +21,10 @@ WritesFix text errors answer was is old new =
     ((answer ≡ pos 0) × (is ≡ was) × (new ≡ old))
     ⊎ ((answer ≡ pos 1) × ((fix : Fix) × IsFix text errors fix × (is ≡ fix_written fix) × (new ≡ filled (string_bytes fix.text) old)))
 
+-- memory is refused, and nothing is written, or something else holds
+abbrev pub RefusedOr : ℤ → RnixFix → RnixFix → List ℕ → List ℕ → Type 0 → Type 0
+RefusedOr answer was is old new other = ((answer ≡ no_memory) × (is ≡ was) × (new ≡ old)) ⊎ other
+
 -- no diagnostic has the number, or what is written is for the one that has it
 abbrev pub WritesFixAt : List ℕ → Tree → List Fault → ℕ → ℤ → RnixFix → RnixFix → List ℕ → List ℕ → Type 0
 WritesFixAt text tree faults number answer was is old new =
@@ -31,5 +35,5 @@ WritesFixAt text tree faults number answer was is old new =
 -- memory is refused, and nothing is written, or what is written is for a diagnostic of the tree and the errors of a text
 abbrev pub WritesFixIn : List ℕ → ℕ → ℤ → RnixFix → RnixFix → List ℕ → List ℕ → Type 0
 WritesFixIn text number answer was is old new =
-    ((answer ≡ no_memory) × (is ≡ was) × (new ≡ old))
-    ⊎ ((tree : Tree) × (faults : List Fault) × IsParsed (tokens_of text) tree faults × WritesFixAt text tree faults number answer was is old new)
+    RefusedOr answer was is old new
+    ((tree : Tree) × (faults : List Fault) × IsParsed (tokens_of text) tree faults × WritesFixAt text tree faults number answer was is old new)

@@ -1,8 +1,8 @@
 //! Fixes of errors.
 
-ghost use Rattle.std.specs.Prelude.{◌≡◌, ◌⊎◌, length, string_bytes};
-ghost use Rattle.rnix_c.specs.Answers.{no_memory, filled, Answers};
-ghost use Rattle.rnix_c.specs.FixCalls.{fix_written, WritesFix, WritesFixAt, WritesFixIn};
+ghost use Rattle.std.specs.Prelude.{◌≡◌, length, string_bytes};
+ghost use Rattle.rnix_c.specs.Answers.{filled, Answers};
+ghost use Rattle.rnix_c.specs.FixCalls.{fix_written, RefusedOr, WritesFix, WritesFixAt, WritesFixIn};
 
 use crate::answers::{NO_MEMORY, NONE_SUCH, checked, fill};
 use nix_diagnostics::{Diagnostic, diagnostics};
@@ -47,8 +47,8 @@ fn write_fix_of(
     fix: &mut RnixFix,
     buffer: &mut [u8],
 ) -> i64
-    ensures { ((result ≡ no_memory) × (fix.new ≡ fix.old) × (buffer.new ≡ buffer.old))
-        ⊎ WritesFix text.now (length read.now.faults) result fix.old fix.new buffer.old buffer.new }
+    ensures { RefusedOr result fix.old fix.new buffer.old buffer.new
+        (WritesFix text.now (length read.now.faults) result fix.old fix.new buffer.old buffer.new) }
 {
     match fix_of(alloc, read, text, diagnostic) {
         Ok(Some(found)) => {
@@ -69,8 +69,8 @@ fn write_fix_at(
     fix: &mut RnixFix,
     buffer: &mut [u8],
 ) -> i64
-    ensures { ((result ≡ no_memory) × (fix.new ≡ fix.old) × (buffer.new ≡ buffer.old))
-        ⊎ WritesFixAt text.now read.now.tree read.now.faults number result fix.old fix.new buffer.old buffer.new }
+    ensures { RefusedOr result fix.old fix.new buffer.old buffer.new
+        (WritesFixAt text.now read.now.tree read.now.faults number result fix.old fix.new buffer.old buffer.new) }
 {
     let Ok(all) = diagnostics(alloc, read) else {
         return NO_MEMORY;
