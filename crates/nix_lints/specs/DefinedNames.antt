@@ -1,5 +1,5 @@
 -- The names that the entries of sets and of `let` define, one after the other.
-use Rattle.std.specs.Prelude.{ℕ, Bool, true, false, List, [], ◌∷◌, map, flat_map, Option, Some, None, is_some, option_map, if◌then◌else◌}
+use Rattle.std.specs.Prelude.{◌≡◌, ◌++◌, ℕ, Bool, true, false, List, [], ◌∷◌, map, flat_map, Option, Some, None, is_some, option_map, if◌then◌else◌}
 use Rattle.std.specs.Cow.{cow_str_bytes}
 use Rattle.rnix_kinds.specs.declared.kinds.SyntaxKind.TheVariants as k
 use Rattle.rnix_green.specs.Equality.{same_kind}
@@ -51,6 +51,10 @@ name_from definition = named (option_map cow_str_bytes definition.text) (site_of
 abbrev pub item_from : Item → Written
 item_from (item.Definition definition) = name (name_from definition)
 item_from (item.Value own) = value own.set own.name
+
+-- some names and values are added after others
+abbrev pub AddsItems : List Item → List Item → List Written → Type 0
+AddsItems old new added = map item_from new ≡ map item_from old ++ added
 
 -- where a node begins
 abbrev pub start_of : Located → ℕ

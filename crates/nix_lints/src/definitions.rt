@@ -1,6 +1,6 @@
 //! The names that the entries of a text define, one after the other.
 
-ghost use Rattle.std.specs.Prelude.{◌≡◌, ◌++◌, ◌∷◌, [], Some, map, option_map, IfOk, IfSome, OnOk};
+ghost use Rattle.std.specs.Prelude.{◌≡◌, ◌∷◌, [], Some, map, option_map, IfOk, IfSome, OnOk};
 ghost use Rattle.std.specs.Cow.{cow_str_bytes};
 ghost use Rattle.rnix_kinds.specs.declared.kinds.SyntaxKind.TheVariants as k;
 ghost use Rattle.rnix_green.specs.Equality.{same_kind};
@@ -8,7 +8,7 @@ ghost use Rattle.rnix_base.specs.Select.{child_of, nodes_of};
 ghost use Rattle.rnix.specs.AttrName.{inside_of, static_name, without_parens};
 ghost use Rattle.rnix.specs.NodeKinds.{is_attr, is_expr};
 ghost use Rattle.rnix.specs.Sums.{attr_node};
-ghost use Rattle.nix_lints.specs.DefinedNames.{item_from, start_of, set_of, value_set, definition_at, inherited_at, values_at};
+ghost use Rattle.nix_lints.specs.DefinedNames.{item_from, AddsItems, start_of, set_of, value_set, definition_at, inherited_at, values_at};
 ghost use Rattle.nix_lints.specs.DefinedNames.{names_of, path_items, items_at, items_in};
 
 use rnix::ast::{AstNode, Attr, Attrpath, AttrpathValue, Expr, Inherit};
@@ -141,8 +141,7 @@ fn add_name<'t>(
     is_open: bool,
     items: &mut Vec<Item<'t>>,
 ) -> Result<(), AllocError>
-    ensures { OnOk result (map item_from items.new.items
-        ≡ map item_from items.old.items ++ definition_at owner continues is_open (attr_node attr.now) ∷ []) }
+    ensures { OnOk result (AddsItems items.old.items items.new.items (definition_at owner continues is_open (attr_node attr.now) ∷ [])) }
 {
     items.push(Item::Definition(Definition {
         text: text_of(alloc, attr)?,
@@ -162,7 +161,7 @@ fn add_value<'t>(
     value: &Option<SyntaxNode<'t>>,
     items: &mut Vec<Item<'t>>,
 ) -> Result<(), AllocError>
-    ensures { OnOk result (map item_from items.new.items ≡ map item_from items.old.items ++ values_at name value.now) }
+    ensures { OnOk result (AddsItems items.old.items items.new.items (values_at name value.now)) }
 {
     if let Some(set) = value {
         items.push(Item::Value(Value {
@@ -181,7 +180,7 @@ fn add_path<'t>(
     path: &Attrpath<'t>,
     items: &mut Vec<Item<'t>>,
 ) -> Result<(), AllocError>
-    ensures { OnOk result (map item_from items.new.items ≡ map item_from items.old.items ++ names_of set value.now (nodes_of is_attr path.now)) }
+    ensures { OnOk result (AddsItems items.old.items items.new.items (names_of set value.now (nodes_of is_attr path.now))) }
 {
     let mut attrs = path.attrs();
     let Some(mut last) = attrs.next() else {
@@ -207,7 +206,7 @@ fn add_inherited<'t>(
     inherit: &Inherit<'t>,
     items: &mut Vec<Item<'t>>,
 ) -> Result<(), AllocError>
-    ensures { OnOk result (map item_from items.new.items ≡ map item_from items.old.items ++ map (inherited_at set) (nodes_of is_attr inherit.now)) }
+    ensures { OnOk result (AddsItems items.old.items items.new.items (map (inherited_at set) (nodes_of is_attr inherit.now))) }
 {
     for attr in inherit.attrs() {
         add_name(alloc, &attr, set, false, false, items)?;
@@ -222,8 +221,8 @@ fn add_entry<'t>(
     entry: &AttrpathValue<'t>,
     items: &mut Vec<Item<'t>>,
 ) -> Result<(), AllocError>
-    ensures { OnOk result (map item_from items.new.items ≡ map item_from items.old.items
-        ++ path_items set (value_set (child_of is_expr 0 entry.now)) (child_of (same_kind k.NODE_ATTRPATH) 0 entry.now)) }
+    ensures { OnOk result (AddsItems items.old.items items.new.items
+        (path_items set (value_set (child_of is_expr 0 entry.now)) (child_of (same_kind k.NODE_ATTRPATH) 0 entry.now))) }
 {
     match entry.attrpath() {
         Some(path) => add_path(alloc, set, &value_set(entry), &path, items),
@@ -237,7 +236,7 @@ fn add_items<'t>(
     node: SyntaxNode<'t>,
     items: &mut Vec<Item<'t>>,
 ) -> Result<(), AllocError>
-    ensures { OnOk result (map item_from items.new.items ≡ map item_from items.old.items ++ items_at node.entry) }
+    ensures { OnOk result (AddsItems items.old.items items.new.items (items_at node.entry)) }
 {
     let Some(set) = node.parent() else {
         return Ok(());

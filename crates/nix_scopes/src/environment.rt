@@ -99,7 +99,8 @@ fn leave_scopes<'t>(
     ends: &mut Vec<usize>,
     bindings: &[Binding<'t>],
 ) -> Result<(), AllocError>
-    ensures { OnOk result ((root : Located) → (n : ℕ) → (scopes : List Located) → SeesScopes root bindings.now sight.old ends.old.items n scopes →
+    ensures { OnOk result ((root : Located) → (n : ℕ) → (scopes : List Located) →
+        SeesScopes root bindings.now sight.old ends.old.items n scopes →
         SeesScopes root bindings.now sight.new ends.new.items n (still_open root left scopes)) }
 {
     while has_ended(ends, left) {

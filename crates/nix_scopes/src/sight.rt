@@ -280,8 +280,8 @@ fn show_hidden<'t>(
     hidden: &[Option<usize>],
     numbers: &mut BTreeMap<Key<'t>, usize>,
 ) -> Result<(), AllocError>
-    ensures { OnOk result ((outer : List ℕ → Option ℕ) → IsHidden outer (map bound_of bindings.now) numbers.old hidden.now scope → (text : List ℕ) →
-        IsShownAgain outer (map bound_of bindings.now) scope.first scope.end numbers.old numbers.new text) }
+    ensures { OnOk result ((outer : List ℕ → Option ℕ) → IsHidden outer (map bound_of bindings.now) numbers.old hidden.now scope →
+        (text : List ℕ) → IsShownAgain outer (map bound_of bindings.now) scope.first scope.end numbers.old numbers.new text) }
 {
     for number in scope.first..scope.end {
         show_binding(number, bindings, hidden, numbers)?;

@@ -1,10 +1,14 @@
 -- The values of JSON strings (RFC 8259, section 7). A text is the list of its bytes.
-use Rattle.std.specs.Prelude.{ℕ, zero, suc, ◌+◌, ◌-◌, ◌*◌, ◌==◌, nat_lt, nat_le, Bool, ◌&&◌, List, [], ◌∷◌, ◌++◌, drop, slice_index, Option, Some, None, option_map, option_and_then, if◌then◌else◌}
+use Rattle.std.specs.Prelude.{◌≡◌, ◌<◌, ℕ, zero, suc, ◌+◌, ◌-◌, ◌*◌, ◌==◌, nat_lt, nat_le, Bool, true, ◌&&◌, List, [], ◌∷◌, ◌++◌, drop, slice_index, Option, Some, None, option_map, option_and_then, if◌then◌else◌}
 use Rattle.std.specs.Char.{digit_value, is_digit, encode_utf8}
 
 -- the value of the hexadecimal digit at a place
 abbrev pub hex_at : List ℕ → ℕ → ℕ
 hex_at text i = digit_value (slice_index text i)
+
+-- a byte of a text is a hexadecimal digit of this value
+abbrev pub IsHexAt : List ℕ → ℕ → ℕ → Type 0
+IsHexAt text i value = (is_digit (slice_index text i) 16 ≡ true) × (value ≡ hex_at text i) × (value < 16)
 
 -- whether four hexadecimal digits come first
 abbrev pub begins_hex : List ℕ → Bool

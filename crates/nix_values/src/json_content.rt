@@ -2,7 +2,7 @@
 
 ghost use Rattle.std.specs.Prelude.{◌≡◌, ◌≢◌, ◌-◌, ◌<◌, ◌≤◌, ◌⊎◌, true, false, length, slice_index, Some, None, IfSome, IfOk, string_bytes};
 ghost use Rattle.std.specs.Char.{is_digit};
-ghost use Rattle.nix_values.specs.JsonContent.{hex_at, code_unit, is_high, low_half, paired, escaped_unit, numbered, short_escape, escape_at, content};
+ghost use Rattle.nix_values.specs.JsonContent.{IsHexAt, code_unit, is_high, low_half, paired, escaped_unit, numbered, short_escape, escape_at, content};
 ghost use Rattle.nix_values.specs.JsonReading.{EndsAscii, Finds, Reads, IsRun, IsEscape};
 
 use crate::bytes::{byte_at, bytes_from};
@@ -13,7 +13,7 @@ use std::alloc::{AllocError, Global};
 // The value of the hexadecimal digit at an index.
 fn hex_at(text: &[u8], index: usize) -> Option<u32>
     ensures none { result ≡ None → is_digit (slice_index text.now index) 16 ≡ false }
-    ensures some { IfSome result (λ value. (is_digit (slice_index text.now index) 16 ≡ true) × (value ≡ hex_at text.now index) × (value < 16)) }
+    ensures some { IfSome result (IsHexAt text.now index) }
 {
     char::from(byte_at(text, index)).to_digit(16)
 }
