@@ -393,6 +393,3 @@ pub fn layout_of(alloc: Global, root: &SyntaxNode<'_>) -> Result<Layout, AllocEr
     }
     Ok(collector.finish())
 }
-
-#[cfg(test)]
-mod tests;

@@ -177,6 +177,3 @@ impl Measures {
 fn last_width(piece: &Piece) -> usize {
     piece.last_width.unwrap_or(piece.width)
 }
-
-#[cfg(test)]
-pub mod tests;

@@ -1,30 +1,17 @@
-//! Tests of data: JSON is read and written, and data are built, as a model does it in the simplest form, Nix is written letter by letter, and paths
-//! lead to what their names say.
+//! Tests of data: the outcomes for many JSON texts and for data of many forms are those that the digests store, and paths lead to what their names say.
 #![tactic(auto)]
 
 #[cfg(test)]
-mod builds_alike;
-#[cfg(test)]
-mod builds_chosen_alike;
-#[cfg(test)]
-mod builds_crowded;
+mod built_data;
 #[cfg(test)]
 mod data_paths;
 #[cfg(test)]
-mod floats_alike;
+mod digest;
 #[cfg(test)]
-mod letter_writer;
+mod json_objects;
 #[cfg(test)]
-mod model;
+mod json_pieces;
 #[cfg(test)]
-mod quoted_letters;
+mod sample_data;
 #[cfg(test)]
-mod reads_alike;
-#[cfg(test)]
-mod reads_sets_alike;
-#[cfg(test)]
-mod strings_alike;
-#[cfg(test)]
-mod written_json;
-#[cfg(test)]
-mod written_nix;
+mod written_data;

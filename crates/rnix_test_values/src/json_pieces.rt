@@ -1,7 +1,6 @@
-//! JSON is read and written as its model reads and writes it.
+//! JSON texts of all pieces, alone and in one another: what they are read as, or which error is reported where.
 
-use crate::model::{json_reader, json_writer};
-use nix_values::{Data, data_of_json, json_of};
+use crate::digest::{START, with_json};
 use std::alloc::{AllocError, Global};
 use std::test::Fail;
 
@@ -44,30 +43,7 @@ const PIECES: [&str; COUNT] = [
     "\u{e9}",
 ];
 
-/// Returns whether two data are the same and are written alike.
-pub fn are_alike(alloc: Global, one: &Data, other: &Data) -> Result<bool, AllocError> {
-    let written = json_of(alloc, one)?;
-    let expected = json_writer::json_of(alloc, other)?;
-    let is_written_alike = match (&written, &expected) {
-        (Some(written), Some(expected)) => written.as_str() == expected.as_str(),
-        (None, None) => true,
-        _ => false,
-    };
-    Ok(is_written_alike && one.is_same(other))
-}
-
-/// Returns whether a text is read alike, and the data of it written alike.
-pub fn is_read_alike(alloc: Global, text: &str) -> Result<bool, AllocError> {
-    let read = data_of_json(alloc, text)?;
-    let expected = json_reader::data_of_json(alloc, text)?;
-    match (&read, &expected) {
-        (Ok(data), Ok(expected)) => are_alike(alloc, data, expected),
-        (Err(error), Err(expected)) => Ok(*error == *expected),
-        _ => Ok(false),
-    }
-}
-
-// The pieces that the digits of a number choose.
+// Returns the pieces that the digits of a number choose.
 fn joined(alloc: Global, number: usize, digits: usize) -> Result<String, AllocError> {
     let mut text = String::new(alloc);
     let mut left = number;
@@ -79,34 +55,37 @@ fn joined(alloc: Global, number: usize, digits: usize) -> Result<String, AllocEr
 }
 
 #[test]
-fn reads_pieces(rt: HostRuntime) -> Result<(), Fail> {
+fn rows_of_pieces_are_read_as_stored(rt: HostRuntime) -> Result<(), Fail> {
+    let mut digest = START;
     for (digits, count) in [(0, 1), (1, 32), (2, 1024), (3, 32_768)] {
         for number in 0..count {
             let text = joined(rt.alloc(), number, digits)?;
-            let text = text.as_str();
-            assert!(rt; is_read_alike(rt.alloc(), text)?, "{text}");
+            digest = with_json(rt.alloc(), digest, text.as_str())?;
         }
     }
+    assert!(rt; digest == 0x5258_e9c5_2483_c220, "{digest}");
     Ok(())
 }
 
 #[test]
-fn reads_longer_rows_of_pieces(rt: HostRuntime) -> Result<(), Fail> {
+fn longer_rows_of_pieces_are_read_as_stored(rt: HostRuntime) -> Result<(), Fail> {
+    let mut digest = START;
     for ones in 0..256 {
         for others in 0..256 {
             let (alloc, half) = (rt.alloc(), COUNT / 2);
             let one = joined(alloc, ones / half * COUNT + ones % half, 2)?;
             let other = joined(alloc, others / half * COUNT + others % half, 2)?;
             let text = format!(in alloc; "{one}{other}")?;
-            let text = text.as_str();
-            assert!(rt; is_read_alike(alloc, text)?, "{text}");
+            digest = with_json(alloc, digest, text.as_str())?;
         }
     }
+    assert!(rt; digest == 0x8f27_a762_7be8_0c97, "{digest}");
     Ok(())
 }
 
 #[test]
-fn reads_pieces_in_lists_and_objects(rt: HostRuntime) -> Result<(), Fail> {
+fn pieces_in_lists_and_objects_are_read_as_stored(rt: HostRuntime) -> Result<(), Fail> {
+    let mut digest = START;
     for (digits, count) in [(1, 1024), (2, 8192)] {
         for number in 0..count {
             let alloc = rt.alloc();
@@ -119,11 +98,47 @@ fn reads_pieces_in_lists_and_objects(rt: HostRuntime) -> Result<(), Fail> {
                 format!(in alloc; "{{\"a\":1,\"a\":{one}}}")?,
                 format!(in alloc; "{{{other}:{one}}}")?,
             ] {
-                let text = text.as_str();
-                assert!(rt; is_read_alike(alloc, text)?, "{text}");
+                digest = with_json(alloc, digest, text.as_str())?;
             }
         }
     }
+    assert!(rt; digest == 0x8d3a_1fcb_feb6_c4ed, "{digest}");
+    Ok(())
+}
+
+// Characters and escapes that end, begin or are parts of strings.
+const PARTS: [&str; 17] = [
+    "",
+    "a",
+    "\"",
+    "\\",
+    "/",
+    "u",
+    "\u{e9}",
+    "\u{1f600}",
+    "\n",
+    "\0",
+    "\u{8}",
+    "\u{1f}",
+    " ",
+    "\u{7f}",
+    "\\u00e9",
+    "\\ud83d",
+    "\\ude00",
+];
+
+#[test]
+fn strings_are_read_as_stored(rt: HostRuntime) -> Result<(), Fail> {
+    let mut digest = START;
+    for one in PARTS {
+        for two in PARTS {
+            for three in PARTS {
+                let text = format!(in rt.alloc(); "\"{one}{two}{three}\"")?;
+                digest = with_json(rt.alloc(), digest, text.as_str())?;
+            }
+        }
+    }
+    assert!(rt; digest == 0xa560_b730_0021_f8e8, "{digest}");
     Ok(())
 }
 
@@ -160,15 +175,16 @@ const AROUND: [(&str, &str); 7] = [
 ];
 
 #[test]
-fn reads_nested_texts(rt: HostRuntime) -> Result<(), Fail> {
+fn nested_texts_are_read_as_stored(rt: HostRuntime) -> Result<(), Fail> {
+    let mut digest = START;
     for times in [0, 1, 2, 256, 511, 512, 513] {
         for around in AROUND {
             for inside in ["", "1", "{\"a\":[]}", "\""] {
                 let text = nested(rt.alloc(), times, around, inside)?;
-                let is_alike = is_read_alike(rt.alloc(), text.as_str())?;
-                assert!(rt; is_alike, "{inside} in {times} of {}", around.0);
+                digest = with_json(rt.alloc(), digest, text.as_str())?;
             }
         }
     }
+    assert!(rt; digest == 0x934e_a88e_7e01_c8a1, "{digest}");
     Ok(())
 }

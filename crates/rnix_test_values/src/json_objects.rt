@@ -1,6 +1,6 @@
-//! Objects with few and many names are read and written as their model reads and writes them.
+//! JSON objects with few and many names, which are repeated or not: what they are read as, or which name is the first that an object has twice.
 
-use crate::reads_alike::is_read_alike;
+use crate::digest::{START, with_json};
 use std::alloc::{AllocError, Global};
 use std::test::Fail;
 
@@ -26,34 +26,34 @@ fn object(alloc: Global, begin: &str, count: usize, last: &str) -> Result<String
     Ok(text)
 }
 
-// Whether an object is read alike, alone and among others.
-fn is_object_read_alike(alloc: Global, text: &str, other: &str) -> Result<bool, AllocError> {
+// Adds an object to a digest, alone and among others.
+fn with_object(alloc: Global, digest: u64, text: &str, other: &str) -> Result<u64, AllocError> {
     let list = format!(in alloc; "[{other},{text},{text}]")?;
     let set = format!(in alloc; "{{\"k0\":{other},\"k1\":{{\"k0\":{text}}},\"k2\":0}}")?;
-    Ok(
-        is_read_alike(alloc, text)?
-            && is_read_alike(alloc, list.as_str())?
-            && is_read_alike(alloc, set.as_str())?,
-    )
+    let digest = with_json(alloc, digest, text)?;
+    let digest = with_json(alloc, digest, list.as_str())?;
+    with_json(alloc, digest, set.as_str())
 }
 
 #[test]
-fn reads_objects(rt: HostRuntime) -> Result<(), Fail> {
+fn objects_are_read_as_stored(rt: HostRuntime) -> Result<(), Fail> {
+    let mut digest = START;
     for begin in ["k", "a-name-of-more-than-thirty-two-bytes-"] {
         for count in COUNTS {
             let other = object(rt.alloc(), begin, count, "\"k\":[]")?;
             for last in ["\"k\":{}", "\"k\":{\"k0\":{}},\"k\":0", ""] {
                 let text = object(rt.alloc(), begin, count, last)?;
-                let is_alike = is_object_read_alike(rt.alloc(), text.as_str(), other.as_str())?;
-                assert!(rt; is_alike, "{count} attributes and {last}");
+                digest = with_object(rt.alloc(), digest, text.as_str(), other.as_str())?;
             }
         }
     }
+    assert!(rt; digest == 0x831d_9a7a_bf9c_39a5, "{digest}");
     Ok(())
 }
 
 #[test]
-fn reads_repeated_names(rt: HostRuntime) -> Result<(), Fail> {
+fn repeated_names_are_refused_as_stored(rt: HostRuntime) -> Result<(), Fail> {
+    let mut digest = START;
     for (begin, names) in [("k", "k"), ("\\u006b", "k"), ("\\u00e9", "\u{e9}")] {
         for count in COUNTS {
             let other = object(rt.alloc(), "k", count, "\"k\":1.5")?;
@@ -61,10 +61,10 @@ fn reads_repeated_names(rt: HostRuntime) -> Result<(), Fail> {
                 let name = name_of(attribute);
                 let last = format!(in rt.alloc(); "\"{begin}{name}\":null,\"k\":[]")?;
                 let text = object(rt.alloc(), names, count, last.as_str())?;
-                let is_alike = is_object_read_alike(rt.alloc(), text.as_str(), other.as_str())?;
-                assert!(rt; is_alike, "{begin}{name} behind {count} attributes");
+                digest = with_object(rt.alloc(), digest, text.as_str(), other.as_str())?;
             }
         }
     }
+    assert!(rt; digest == 0xdfa9_47b0_d1ef_8a9d, "{digest}");
     Ok(())
 }

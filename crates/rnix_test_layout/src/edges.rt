@@ -1,9 +1,9 @@
 //! Texts whose groups just fit on their lines, or just do not, and texts of few items.
 
-use super::digests::{
+use crate::digests::{
     NAMED_DIGESTS, NESTED_DIGESTS, PARENTHESES_DIGESTS, QUOTED_DIGESTS, START, TEXTS_DIGEST,
 };
-use super::{check, filled};
+use crate::formatted::{add_formatted, filled};
 use std::alloc::{AllocError, Global};
 use std::process::Abort;
 use std::test::Fail;
@@ -144,7 +144,7 @@ fn repeated(alloc: Global, letter: char, count: usize) -> Result<String, AllocEr
     Ok(text)
 }
 
-// Compares the layouts of expressions with words of some letters, 20 lengths from the given one on, and the digest of the texts of each with a stored one.
+// Compares the digest of expressions with words of some letters, of 20 lengths from the given one on, with the stored one of each.
 fn check_widths(
     rt: &(impl Abort + AllocGlobal),
     outers: &[&str],
@@ -158,7 +158,7 @@ fn check_widths(
             let count = least.saturating_add(more);
             let word = repeated(rt.alloc(), letter, count)?;
             let text = filled(rt.alloc(), outer, word.as_str())?;
-            digest = check(rt, text.as_str(), digest)?;
+            digest = add_formatted(rt, text.as_str(), digest)?;
         }
         assert!(rt; digest == *stored, "{outer}: {digest}");
     }
@@ -174,8 +174,8 @@ fn nested(alloc: Global, outer: &str, inner: &str, levels: usize) -> Result<Stri
     Ok(text)
 }
 
-// Compares the layouts of an expression that is nested, at five numbers of levels. Returns the digest of the texts.
-fn check_levels(rt: &(impl Abort + AllocGlobal), outer: &str) -> Result<u64, AllocError> {
+// Returns the digest of an expression that is nested, at five numbers of levels.
+fn digest_of_levels(rt: &(impl Abort + AllocGlobal), outer: &str) -> Result<u64, AllocError> {
     let mut text = nested(
         rt.alloc(),
         outer,
@@ -185,38 +185,38 @@ fn check_levels(rt: &(impl Abort + AllocGlobal), outer: &str) -> Result<u64, All
     let mut digest = START;
     for _ in 0..5 {
         text = filled(rt.alloc(), outer, text.as_str())?;
-        digest = check(rt, text.as_str(), digest)?;
+        digest = add_formatted(rt, text.as_str(), digest)?;
     }
     Ok(digest)
 }
 
 #[test]
-fn widths_are_the_same(rt: HostRuntime) -> Result<(), Fail> {
+fn words_around_the_end_of_a_line_are_formatted_as_stored(rt: HostRuntime) -> Result<(), Fail> {
     check_widths(&rt, &NAMED, 'a', 82, &NAMED_DIGESTS)?;
     check_widths(&rt, &QUOTED, 'ä', 82, &QUOTED_DIGESTS)?;
     Ok(())
 }
 
 #[test]
-fn parentheses_are_the_same(rt: HostRuntime) -> Result<(), Fail> {
+fn parentheses_of_half_a_line_are_formatted_as_stored(rt: HostRuntime) -> Result<(), Fail> {
     check_widths(&rt, &PARENTHESES, 'a', 25, &PARENTHESES_DIGESTS)?;
     Ok(())
 }
 
 #[test]
-fn levels_are_the_same(rt: HostRuntime) -> Result<(), Fail> {
+fn deep_levels_are_formatted_as_stored(rt: HostRuntime) -> Result<(), Fail> {
     for (outer, stored) in NESTED.iter().zip(&NESTED_DIGESTS) {
-        let digest = check_levels(&rt, outer)?;
+        let digest = digest_of_levels(&rt, outer)?;
         assert!(rt; digest == *stored, "{outer}: {digest}");
     }
     Ok(())
 }
 
 #[test]
-fn texts_are_the_same(rt: HostRuntime) -> Result<(), Fail> {
+fn comments_and_small_texts_are_formatted_as_stored(rt: HostRuntime) -> Result<(), Fail> {
     let mut digest = START;
     for text in TEXTS {
-        digest = check(&rt, text, digest)?;
+        digest = add_formatted(&rt, text, digest)?;
     }
     assert!(rt; digest == TEXTS_DIGEST, "{digest}");
     Ok(())

@@ -1,0 +1,11 @@
+//! Tests of the layout: texts of many kinds are formatted as their stored digests say, and stay the same when they are formatted again.
+#![tactic(auto)]
+
+#[cfg(test)]
+mod digests;
+#[cfg(test)]
+mod edges;
+#[cfg(test)]
+mod formatted;
+#[cfg(test)]
+mod nested;

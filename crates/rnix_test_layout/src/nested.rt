@@ -1,0 +1,92 @@
+//! Expressions of all kinds inside one another.
+
+use crate::digests::{OUTER_DIGESTS, START};
+use crate::formatted::{add_formatted, filled};
+use std::alloc::AllocError;
+use std::process::Abort;
+use std::test::Fail;
+
+// Expressions in which `%` stands for another one.
+const OUTER: [&str; 29] = [
+    "%",
+    "{a=%;b=%;}",
+    "{\ta\r=  %;\t\tb\r\n=%;}",
+    "f (- ./a) [ % http://a.b/c % ]",
+    "{ a = %; b = %; }",
+    "rec { inherit (%) a b; a.${%} = %; }",
+    "{\n\n  # c\n  a =\n    %; # d\n\n\n  /* e */ b = %;\n  # f\n}",
+    "[ % % ]",
+    "[\n  % # c\n  /* d */ %\n]",
+    "(%)",
+    "f % (%) { }",
+    "% + % * %",
+    "a // % // { b = %; }",
+    "if % then % else if % then % else %",
+    "let a = %; inherit b; in %",
+    "let { a = %; body = %; }",
+    "with %; %",
+    "assert %; %",
+    "x: %",
+    "x: y: %",
+    "{ a, b ? %, ... }@c: %",
+    "{\n  a # c\n  , b\n  , c\n}: %",
+    "\"a ${%} b\"",
+    "''\n  a\n    ${%}\n   b\n''",
+    "''\n\n      a ${%}\n  \n    '' + %",
+    "./a${%}/b",
+    "a.b or %",
+    "!% -> -% ? a.${%}",
+    "f\n  %\n  (x: %)\n  [ % ]",
+];
+
+// Expressions without other ones.
+const INNER: [&str; 13] = [
+    "1",
+    "\"ä\"",
+    "{ }",
+    "[ ]",
+    "{\n}",
+    "\"a\nä\"",
+    "''a''",
+    "''\n  a\n  ''",
+    "''\n\ta\n''",
+    "a: a",
+    "<a/b>",
+    "/* a\n   € */ b",
+    "# ä\n http://a.b/c",
+];
+
+// Returns the digest of the expressions of a kind, with each kind of expression in their places, and inside these one of the last kind.
+fn digest_of(
+    rt: &(impl Abort + AllocGlobal),
+    outer: &str,
+    next_inner: &mut usize,
+) -> Result<u64, AllocError> {
+    let mut digest = START;
+    for middle in OUTER {
+        let inner = match INNER.get(*next_inner) {
+            Some(inner) => {
+                *next_inner = next_inner.saturating_add(1);
+                *inner
+            }
+            None => {
+                *next_inner = 0;
+                "a"
+            }
+        };
+        let inside = filled(rt.alloc(), middle, inner)?;
+        let text = filled(rt.alloc(), outer, inside.as_str())?;
+        digest = add_formatted(rt, text.as_str(), digest)?;
+    }
+    Ok(digest)
+}
+
+#[test]
+fn nested_expressions_are_formatted_as_stored(rt: HostRuntime) -> Result<(), Fail> {
+    let mut next_inner = 0;
+    for (outer, stored) in OUTER.iter().zip(&OUTER_DIGESTS) {
+        let digest = digest_of(&rt, outer, &mut next_inner)?;
+        assert!(rt; digest == *stored, "{outer}: {digest}");
+    }
+    Ok(())
+}
