@@ -1,6 +1,6 @@
 -- How many diagnostics a text has.
-use Rattle.std.proofs.Common.{◌≡◌, ◌∙◌, ℕ, ◌+◌, ◌<◌, Bool, true, false, List, [], ◌∷◌, ◌++◌, length, map, sym, ap, arith, refl}
-use Rattle.std.proofs.lemmas.List.{length_push, length-map}
+use Rattle.std.proofs.Common.{◌≡◌, ◌∙◌, ℕ, ◌+◌, ◌<◌, ◌≤◌, take, Bool, true, false, List, [], ◌∷◌, ◌++◌, length, map, sym, ap, arith, refl}
+use Rattle.std.proofs.lemmas.List.{length_push, length-map, take-take}
 use Rattle.std.proofs.Common.{length-append}
 use Rattle.rnix_kinds.specs.Lexical.Tokens.{tokens_of}
 use Rattle.rnix_green.specs.Tree.{Tree, Located}
@@ -99,3 +99,7 @@ each_found root faults found each = record { each = λ _. each; shown = λ never
 pub runs_found : (root : Located) (faults : List Fault) (found : List Diagnostic) → Shows root faults faults found → CoverRuns root faults found →
     AreErrors false root faults found
 runs_found root faults found are cover = record { each = λ never. cc; shown = λ _. are; runs = λ _. cover }
+
+-- the first of some diagnostics up to a limit are those of the first ones up to a larger one
+pub first_take : (limit most : ℕ) (all first : List Diagnostic) → limit ≤ most → first ≡ take most all → take limit first ≡ take limit all
+first_take limit most all first fits is = ap (take limit) is ∙ take-take limit most all fits

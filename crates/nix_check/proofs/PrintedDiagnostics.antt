@@ -45,20 +45,21 @@ take_limited xs limit =
           )
     ]
 
--- the diagnostics up to the limit and the line on the others
-pub all_printed : (style : Style) (name text : List ℕ) (earlier : ℕ) (found : List Diagnostic) (more : ℕ) (old mid new : Option (List ℕ)) →
-    more ≡ length found - style.limit → Prints (AreFormed style name text earlier (take (length found - more) found)) old mid →
-    Appends mid new (more_line name more) → Prints (ArePrinted style name text earlier found) old new
-all_printed style name text earlier found more old mid new left shown rest =
-    let first : take (length found - more) found ≡ take style.limit found =
-    ap (λ n. take (length found - n) found) left ∙ take_limited found style.limit in (
+-- the diagnostics up to the limit, of some that begin with these, and the line on the others
+pub all_printed : (style : Style) (name text : List ℕ) (earlier : ℕ) (first all : List Diagnostic) (rest more : ℕ) (old mid new : Option (List ℕ)) →
+    rest ≡ length first - style.limit → take style.limit first ≡ take style.limit all → more ≡ length all - style.limit →
+    Prints (AreFormed style name text earlier (take (length first - rest) first)) old mid → Appends mid new (more_line name more) →
+    Prints (ArePrinted style name text earlier all) old new
+all_printed style name text earlier first all rest more old mid new behind begins left shown line =
+    let same : take (length first - rest) first ≡ take style.limit all =
+    ap (λ n. take (length first - n) first) behind ∙ take_limited first style.limit ∙ begins in (
       shown.0 ++ more_line name more,
       record {
         shown = shown.0;
-        are_shown = subst (λ (ds : List Diagnostic). AreFormed style name text earlier ds shown.0) first shown.1;
+        are_shown = subst (λ (ds : List Diagnostic). AreFormed style name text earlier ds shown.0) same shown.1;
         whole = ap (λ n. shown.0 ++ more_line name n) left;
       },
-      Appends-trans old mid new shown.0 (more_line name more) shown.2 rest,
+      Appends-trans old mid new shown.0 (more_line name more) shown.2 line,
     )
 
 -- a text whose diagnostics are printed is checked
@@ -78,7 +79,7 @@ some_checked style name text earlier old new tree faults found count read are is
 none_printed_of : (style : Style) (name text : List ℕ) (earlier : ℕ) (found : List Diagnostic) (old : Option (List ℕ)) → length found ≡ 0 →
     Prints (ArePrinted style name text earlier found) old old
 none_printed_of style name text earlier [] old none =
-    all_printed style name text earlier [] 0 old old old (omega arith) ([], none_listed, Appends-nil old) (Appends-nil old)
+    all_printed style name text earlier [] [] 0 0 old old old (omega arith) refl (omega arith) ([], none_listed, Appends-nil old) (Appends-nil old)
 none_printed_of style name text earlier (d ∷ found) old none = absurd (omega (arith, none))
 
 -- a text without diagnostics is checked

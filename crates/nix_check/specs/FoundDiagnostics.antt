@@ -1,9 +1,10 @@
 -- The diagnostics of a text, and how many there are.
-use Rattle.std.specs.Prelude.{◌≡◌, ◌↔◌, ℕ, Bool, true, false, List, [], length, map}
+use Rattle.std.specs.Prelude.{◌≡◌, ◌↔◌, ℕ, Bool, true, false, List, [], length, take, map}
 use Rattle.rnix_kinds.specs.Lexical.Tokens.{tokens_of}
 use Rattle.rnix_green.specs.Tree.{Tree, Located}
 use Rattle.rnix_grammar.specs.{Fault.Fault, Parsed.IsParsed}
 use Rattle.nix_diagnostics.specs.declared.diagnostic.Diagnostic.{Diagnostic}
+use Rattle.nix_diagnostics.specs.declared.diagnostic.FirstDiagnostics.{FirstDiagnostics}
 use Rattle.nix_diagnostics.specs.Shown.{ShowsEach, AreShown, CoverRuns}
 use Rattle.nix_lints.specs.Repeated.{repeated_in}
 use Rattle.nix_check.specs.Lints.{finding_of, repeated_findings}
@@ -18,6 +19,19 @@ pub record AreErrors (is_each : Bool) (root : Located) (faults : List Fault) (fo
 pub record AreFound (is_each : Bool) (root : Located) (faults : List Fault) (found : List Diagnostic) : Type 0 where
   pub errors : ¬ (faults ≡ []) → AreErrors is_each root faults found
   pub repeated : faults ≡ [] → map finding_of found ≡ repeated_findings root
+
+-- the first of some diagnostics, at least up to a limit, and the number of all
+pub record AreFirstUpTo (limit : ℕ) (all : List Diagnostic) (found : FirstDiagnostics) : Type 0 where
+  pub first : take limit found.first.items ≡ take limit all
+  pub count : found.count ≡ length all
+
+-- the first of the diagnostics of the errors of a tree, and their number
+abbrev pub AreFirstErrors : Bool → ℕ → Located → List Fault → FirstDiagnostics → Type 0
+AreFirstErrors is_each limit root faults found = (all : List Diagnostic) × AreErrors is_each root faults all × AreFirstUpTo limit all found
+
+-- the first of the diagnostics of a tree, and their number
+abbrev pub AreFirstFound : Bool → ℕ → Located → List Fault → FirstDiagnostics → Type 0
+AreFirstFound is_each limit root faults found = (all : List Diagnostic) × AreFound is_each root faults all × AreFirstUpTo limit all found
 
 -- the diagnostics of a text, and their number, which is 0 exactly if the text has no errors and defines no attribute again
 pub record AreCounted (is_each : Bool) (text : List ℕ) (found : List Diagnostic) (count : ℕ) : Type 0 where

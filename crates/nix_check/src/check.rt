@@ -1,10 +1,11 @@
 //! What is found in one text: finding and printing its diagnostics.
 
-ghost use Rattle.std.specs.Prelude.{◌≡◌, ◌+◌, ◌==◌, IfOk, OnOk};
+ghost use Rattle.std.specs.Prelude.{◌≡◌, ◌+◌, ◌==◌, ◌<◌, ◌≤◌, List, take, length, IfOk, OnOk};
 ghost use Rattle.std.specs.Io.KnownBytes.{Appends};
 ghost use Rattle.rnix.specs.ParseResult.{root_of};
+ghost use Rattle.nix_diagnostics.specs.declared.diagnostic.Diagnostic.{Diagnostic};
 ghost use Rattle.nix_cli.specs.MessagePlaces.{IsIndexed};
-ghost use Rattle.nix_check.specs.FoundDiagnostics.{AreErrors, AreFound};
+ghost use Rattle.nix_check.specs.FoundDiagnostics.{AreFirstErrors, AreFirstFound};
 ghost use Rattle.nix_check.specs.Listed.{Prints};
 ghost use Rattle.nix_check.specs.Printed.{more_line, IsPrinted, AreFormed, ArePrinted, IsChecked};
 
@@ -14,32 +15,56 @@ use crate::sarif::write_separated;
 use crate::style::{Format, Style};
 use crate::text::write_text;
 use nix_cli::Source;
-use nix_diagnostics::{Diagnostic, all_diagnostics, diagnostics};
+use nix_diagnostics::{Diagnostic, FirstDiagnostics, all_diagnostics, first_diagnostics};
 use rnix::{Parse, Root};
 use rnix_text::{ColumnUnit, LineIndex};
 use std::alloc::{AllocError, Global};
 use std::io::{self, Write};
 
-// The diagnostics of the errors of a parsed text: of each error, or of each mistake.
-fn find_errors(alloc: Global, read: &Parse, is_each: bool) -> Result<Vec<Diagnostic>, AllocError>
-    ensures { IfOk result (λ found. AreErrors is_each (root_of read.now) read.now.faults found.items) }
+// A number, or 1 in place of 0.
+fn at_least_one(number: usize) -> usize
+    ensures some { 0 < result }
+    ensures least { number ≤ result }
+{
+    if number == 0 { 1 } else { number }
+}
+
+// The first diagnostics of the errors of a parsed text, at least up to a limit: of each error, or of each mistake.
+fn find_errors(
+    alloc: Global,
+    read: &Parse,
+    is_each: bool,
+    limit: usize,
+) -> Result<FirstDiagnostics, AllocError>
+    ensures { IfOk result (AreFirstErrors is_each limit (root_of read.now) read.now.faults) }
 {
     if is_each {
-        let each = all_diagnostics(alloc, read)?;
-        return Ok(each);
+        let first = all_diagnostics(alloc, read)?;
+        return Ok(FirstDiagnostics {
+            count: first.len(),
+            first,
+        });
     }
-    let found = diagnostics(alloc, read)?;
+    let found = first_diagnostics(alloc, read, at_least_one(limit))?;
     Ok(found)
 }
 
-// The diagnostics of a parsed text: of its errors, or if it has none, of the attributes that are defined again.
-fn find(alloc: Global, read: &Parse, is_each: bool) -> Result<Vec<Diagnostic>, AllocError>
-    ensures { IfOk result (λ found. AreFound is_each (root_of read.now) read.now.faults found.items) }
+// The first diagnostics of a parsed text, at least up to a limit: of its errors, or if it has none, of the attributes that are defined again.
+fn find(
+    alloc: Global,
+    read: &Parse,
+    is_each: bool,
+    limit: usize,
+) -> Result<FirstDiagnostics, AllocError>
+    ensures { IfOk result (AreFirstFound is_each limit (root_of read.now) read.now.faults) }
 {
-    let errors = find_errors(alloc, read, is_each)?;
-    if errors.is_empty() {
-        let repeated = repetitions(alloc, &read.syntax())?;
-        return Ok(repeated);
+    let errors = find_errors(alloc, read, is_each, limit)?;
+    if errors.count == 0 {
+        let first = repetitions(alloc, &read.syntax())?;
+        return Ok(FirstDiagnostics {
+            count: first.len(),
+            first,
+        });
     }
     Ok(errors)
 }
@@ -105,21 +130,22 @@ fn write_more<W: Write>(name: &str, more: usize, out: &mut W) -> io::Result<()>
     }
 }
 
-// Writes diagnostics up to the limit, and a line on the others.
+// Writes the first diagnostics up to the limit, and a line on the others.
 fn write_found<W: Write>(
     source: &Source<'_>,
-    found: &[Diagnostic],
+    found: &FirstDiagnostics,
     style: Style,
     earlier: usize,
     out: &mut W,
 ) -> io::Result<()>
     requires { IsIndexed source.now }
-    ensures { OnOk result
-        (Prints (ArePrinted style source.now.name.now source.now.text.now earlier found.now) (W.contents out.old) (W.contents out.new)) }
+    ensures { OnOk result ((all : List Diagnostic) → take style.limit found.now.first.items ≡ take style.limit all → found.now.count ≡ length all →
+        Prints (ArePrinted style source.now.name.now source.now.text.now earlier all) (W.contents out.old) (W.contents out.new)) }
 {
-    let more = found.len().saturating_sub(style.limit);
-    write_first(source, &found[..found.len() - more], style, earlier, out)?;
-    write_more(source.name, more, out)
+    let first = found.first.as_slice();
+    let rest = first.len().saturating_sub(style.limit);
+    write_first(source, &first[..first.len() - rest], style, earlier, out)?;
+    write_more(source.name, found.count.saturating_sub(style.limit), out)
 }
 
 /// Writes the diagnostics of a text, up to the limit, after `earlier` diagnostics of other texts, and returns their number. Columns count
@@ -135,8 +161,8 @@ pub fn check_text<W: Write>(
     ensures { IfOk result (IsChecked style name.now text.now earlier (W.contents out.old) (W.contents out.new)) }
 {
     let read = Root::parse(alloc, text)?;
-    let found = find(alloc, &read, style.is_each)?;
-    if found.is_empty() {
+    let found = find(alloc, &read, style.is_each, style.limit)?;
+    if found.count == 0 {
         return Ok(0);
     }
     let index = LineIndex::new(alloc, text, ColumnUnit::Chars)?;
@@ -146,5 +172,5 @@ pub fn check_text<W: Write>(
         index: &index,
     };
     write_found(&source, &found, style, earlier, out)?;
-    Ok(found.len())
+    Ok(found.count)
 }

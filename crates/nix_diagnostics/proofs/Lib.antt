@@ -7,3 +7,4 @@ pub mod LostLemmas
 pub mod FollowingLemmas
 pub mod FollowingExamples
 pub mod ShownLemmas
+pub mod FirstShownLemmas

@@ -92,7 +92,7 @@ pub record IsLastRun (root : Located) (all faults : List Fault) (before : List D
   pub first : d.first_error ≡ length earlier
 
 -- the last diagnostic covers a run of errors, and those before it show the others
-last_run : (root : Located) (all faults : List Fault) (ds before : List Diagnostic) (d : Diagnostic) → Shows root all faults ds → ds ≡ before ++ d ∷ [] →
+pub last_run : (root : Located) (all faults : List Fault) (ds before : List Diagnostic) (d : Diagnostic) → Shows root all faults ds → ds ≡ before ++ d ∷ [] →
     IsLastRun root all faults before d
 last_run root all _ _ before d none is = absurd (omega (arith, ap length is ∙ length_push before d))
 last_run root all _ _ before d (shown earlier more ds fault own are new follow at worded code first end) is =

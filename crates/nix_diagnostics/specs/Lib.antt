@@ -9,3 +9,4 @@ pub mod Following
 pub mod Known
 pub mod Codes
 pub mod Shown
+pub mod FirstShown

@@ -6,6 +6,7 @@ ghost use Rattle.rnix_grammar.specs.Fault.{fault_of};
 ghost use Rattle.rnix.specs.ParseResult.{root_of};
 ghost use Rattle.nix_diagnostics.specs.Places.{end_of_items, error_range, own_range, place_of};
 ghost use Rattle.nix_diagnostics.specs.Shown.{IsFolded, IsSingle, ShowsEach, AreShown, CoverRuns};
+ghost use Rattle.nix_diagnostics.specs.FirstShown.{AreFirst};
 
 use crate::brackets::match_brackets;
 use crate::code::Code;
@@ -34,6 +35,15 @@ pub struct Diagnostic {
     pub end_error: usize,
     /// Notes that may help: what is not closed, where something is missing, what was meant.
     pub notes: Vec<Note>,
+}
+
+/// The first diagnostics of a text.
+#[derive(Drop)]
+pub struct FirstDiagnostics {
+    /// The first diagnostics, in order.
+    pub first: Vec<Diagnostic>,
+    /// The number of all diagnostics of the text.
+    pub count: usize,
 }
 
 // The range of the first error node that ends at an offset: it holds the expressions that are nested too deep.
@@ -127,19 +137,51 @@ pub fn all_diagnostics(alloc: Global, read: &Parse) -> Result<Vec<Diagnostic>, A
     Ok(found)
 }
 
-/// Returns the diagnostics of a text, in the order of its errors. Errors that follow from an earlier one share its diagnostic.
-pub fn diagnostics(alloc: Global, read: &Parse) -> Result<Vec<Diagnostic>, AllocError>
-    ensures shown { IfOk result (λ found. AreShown (root_of read.now) read.now.faults found.items) }
-    ensures runs { IfOk result (λ found. CoverRuns (root_of read.now) read.now.faults found.items) }
+impl FirstDiagnostics {
+    ghost use Rattle.nix_diagnostics.specs.FirstShown.{IsCountFolded, IsCountAdded};
+
+    // Makes the last diagnostic cover one more error, if it is among the first.
+    fn fold(&mut self, number: usize) -> Result<(), AllocError>
+        requires some { 0 < self.old.count }
+        requires room { number + 1 < 2 ^ 64 }
+        ensures { OnOk result (IsCountFolded number self.old self.new) }
+    {
+        if self.first.len() == self.count {
+            fold(&mut self.first, number)?;
+        }
+        Ok(())
+    }
+
+    // Counts one more diagnostic, which is among the first if it was made.
+    fn add(&mut self, alone: Option<Diagnostic>) -> Result<(), AllocError>
+        requires { self.old.count + 1 < 2 ^ 64 }
+        ensures { OnOk result (IsCountAdded alone self.old self.new) }
+    {
+        if let Some(alone) = alone {
+            self.first.push(alone)?;
+        }
+        self.count += 1;
+        Ok(())
+    }
+}
+
+/// Returns the first diagnostics of a text, at most so many, and the number of all. Errors that follow from an earlier one share its diagnostic. No
+/// message is made for what is only counted.
+pub fn first_diagnostics(
+    alloc: Global,
+    read: &Parse,
+    most: usize,
+) -> Result<FirstDiagnostics, AllocError>
+    requires { 0 < most }
+    ensures { IfOk result (AreFirst (root_of read.now) read.now.faults most) }
 {
-    let mut found = Vec::new(alloc);
+    let mut found = FirstDiagnostics {
+        first: Vec::new(alloc),
+        count: 0,
+    };
     let errors = read.errors();
     if errors.is_empty() {
         return Ok(found);
-    }
-    if errors.len() == 1 {
-        let single = all_diagnostics(alloc, read)?;
-        return Ok(single);
     }
     let root = read.syntax();
     let (matching, semicolons) = match_brackets(alloc, &root)?;
@@ -151,13 +193,27 @@ pub fn diagnostics(alloc: Global, read: &Parse) -> Result<Vec<Diagnostic>, Alloc
         let error = &errors[number];
         let range = place_of(error, &root, end);
         let node = error_node(&root, &mut earlier, error);
-        let folds = folding.folds(&root, error, &node, range);
-        if folds {
-            fold(&mut found, number)?;
-        } else {
+        if folding.folds(&root, error, &node, range) {
+            found.fold(number)?;
+        } else if found.first.len() < most {
             let alone = single(alloc, number, error, &root, node, range, &mut finder)?;
-            found.push(alone)?;
+            found.add(Some(alone))?;
+        } else {
+            found.add(None)?;
         }
     }
     Ok(found)
+}
+
+/// Returns the diagnostics of a text, in the order of its errors. Errors that follow from an earlier one share its diagnostic.
+pub fn diagnostics(alloc: Global, read: &Parse) -> Result<Vec<Diagnostic>, AllocError>
+    ensures shown { IfOk result (λ found. AreShown (root_of read.now) read.now.faults found.items) }
+    ensures runs { IfOk result (λ found. CoverRuns (root_of read.now) read.now.faults found.items) }
+{
+    if read.errors().len() == 1 {
+        let single = all_diagnostics(alloc, read)?;
+        return Ok(single);
+    }
+    let found = first_diagnostics(alloc, read, usize::MAX)?;
+    Ok(found.first)
 }

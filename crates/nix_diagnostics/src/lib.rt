@@ -20,6 +20,8 @@ mod unwanted;
 mod words;
 
 pub use code::{Code, Severity};
-pub use diagnostic::{Diagnostic, all_diagnostics, diagnostics};
+pub use diagnostic::{
+    Diagnostic, FirstDiagnostics, all_diagnostics, diagnostics, first_diagnostics,
+};
 pub use notes::Note;
 pub use replacement::Replacement;

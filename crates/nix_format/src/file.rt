@@ -6,7 +6,7 @@ ghost use Rattle.nix_format.specs.Outcomes.{changed_name, input_text, writes, Pr
 
 use crate::unified::unified_diff;
 use nix_cli::{Program, place_of, read_text, replace_text, replaceable, shown_name};
-use nix_diagnostics::diagnostics;
+use nix_diagnostics::first_diagnostics;
 use nix_formatting::{Formatting, formatted};
 use rnix::Root;
 use std::alloc::Global;
@@ -61,9 +61,10 @@ struct Change<'a> {
 
 // Prints the first errors of a text.
 fn write_errors(rt: &HostRuntime, program: &Program, name: &str, text: &str) -> io::Result<()> {
-    let found = diagnostics(rt.alloc(), &Root::parse(rt.alloc(), text)?)?;
+    let read = Root::parse(rt.alloc(), text)?;
+    let found = first_diagnostics(rt.alloc(), &read, LIMIT)?;
     let shown = shown_name(name);
-    for diagnostic in found.iter().take(LIMIT) {
+    for diagnostic in &found.first {
         let (line, column) = place_of(text, diagnostic.range.start());
         let message = diagnostic.message.as_str();
         eprintln!(rt;
@@ -71,7 +72,7 @@ fn write_errors(rt: &HostRuntime, program: &Program, name: &str, text: &str) -> 
             program.name
         )?;
     }
-    if found.len() > LIMIT {
+    if found.count > LIMIT {
         eprintln!(rt;
             "{}: {shown}: more errors (nix-check shows them)",
             program.name

@@ -2,7 +2,7 @@
 
 use nix_cli::{shown_name, write_excerpt};
 use nix_data::NoData;
-use nix_diagnostics::{Diagnostic, diagnostics};
+use nix_diagnostics::{Diagnostic, first_diagnostics};
 use rnix::{Parse, TextRange};
 use rnix_text::{ColumnUnit, LineIndex};
 use std::io::{self, BufWriter, Write};
@@ -63,7 +63,7 @@ pub fn report_errors(rt: &HostRuntime, name: &str, text: &str, parse: &Parse) ->
         index: &index,
     };
     let mut out = BufWriter::new(rt.alloc(), rt.stderr())?;
-    for diagnostic in diagnostics(rt.alloc(), parse)?.iter().take(LIMIT) {
+    for diagnostic in &first_diagnostics(rt.alloc(), parse, LIMIT)?.first {
         write_diagnostic(source, diagnostic, &mut out)?;
     }
     out.flush()

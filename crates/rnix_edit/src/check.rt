@@ -19,13 +19,13 @@ const CLOSING_STEPS: usize = 2;
 pub fn is_around(root: &SyntaxNode<'_>, old: Place, other: &SyntaxNode<'_>, new: Place) -> bool
     ensures { Decides result (IsAround root.now old other.now new) }
 {
-    let mut events = root.preorder_with_tokens();
-    let mut others = other.preorder_with_tokens();
-    if !are_same_before(&mut events, old, &mut others, new) {
+    let mut old_walk = root.preorder_with_tokens();
+    let mut new_walk = other.preorder_with_tokens();
+    if !are_same_before(&mut old_walk, old, &mut new_walk, new) {
         return false;
     }
-    skip_node(&mut events, old);
-    skip_node(&mut others, new) && are_same_walks(others, events)
+    skip_node(&mut old_walk, old);
+    skip_node(&mut new_walk, new) && are_same_walks(new_walk, old_walk)
 }
 
 /// Returns whether `other` is `root` without the node at `old` and the next `comments` comments.
@@ -37,13 +37,13 @@ pub fn is_without(
 ) -> bool
     ensures { Decides result (IsWithout root.now old comments other.now) }
 {
-    let mut rest = root.preorder_with_tokens();
-    let mut events = other.preorder_with_tokens();
-    if takes_before(&mut events, &mut rest, old).is_none() {
+    let mut old_walk = root.preorder_with_tokens();
+    let mut new_walk = other.preorder_with_tokens();
+    if takes_before(&mut new_walk, &mut old_walk, old).is_none() {
         return false;
     }
-    skip_node(&mut rest, old);
-    takes_comments(&mut rest, comments) && are_same_walks(events, rest)
+    skip_node(&mut old_walk, old);
+    takes_comments(&mut old_walk, comments) && are_same_walks(new_walk, old_walk)
 }
 
 // Returns the number of steps before the node at `new` in `other`, if `other` without this node is `root`.
@@ -51,10 +51,10 @@ fn steps_before_new(root: &SyntaxNode<'_>, other: &SyntaxNode<'_>, new: Place) -
     ensures { MatchOption result (¬ IsWith root.now other.now new)
         (λ count. IsWith root.now other.now new × (count ≡ length (steps_before new other.now))) }
 {
-    let mut events = root.preorder_with_tokens();
-    let mut rest = other.preorder_with_tokens();
-    let count = takes_before(&mut events, &mut rest, new)?;
-    if skip_node(&mut rest, new) && are_same_walks(events, rest) {
+    let mut old_walk = root.preorder_with_tokens();
+    let mut new_walk = other.preorder_with_tokens();
+    let count = takes_before(&mut old_walk, &mut new_walk, new)?;
+    if skip_node(&mut new_walk, new) && are_same_walks(old_walk, new_walk) {
         return Some(count);
     }
     None
@@ -71,9 +71,9 @@ pub fn is_after(
 ) -> bool
     ensures { Decides result (IsAfter root.now old comments other.now new) }
 {
-    let mut rest = root.preorder_with_tokens();
-    let through = steps_through(&mut rest, old);
-    if !takes_comments(&mut rest, comments) {
+    let mut old_walk = root.preorder_with_tokens();
+    let through = steps_through(&mut old_walk, old);
+    if !takes_comments(&mut old_walk, comments) {
         return false;
     }
     match steps_before_new(root, other, new) {
@@ -87,13 +87,13 @@ pub fn is_after(
 pub fn is_inside(root: &SyntaxNode<'_>, old: Place, other: &SyntaxNode<'_>, new: Place) -> bool
     ensures { Decides result (IsLastIn root.now old other.now new) }
 {
-    let mut rest = other.preorder_with_tokens();
-    skip_node(&mut rest, new);
-    if !takes_closing(&mut rest) {
+    let mut new_walk = other.preorder_with_tokens();
+    skip_node(&mut new_walk, new);
+    if !takes_closing(&mut new_walk) {
         return false;
     }
-    let mut events = root.preorder_with_tokens();
-    let through = steps_through(&mut events, old);
+    let mut old_walk = root.preorder_with_tokens();
+    let through = steps_through(&mut old_walk, old);
     match steps_before_new(root, other, new) {
         Some(count) => count + CLOSING_STEPS == through,
         None => false,

@@ -1,17 +1,23 @@
-use Rattle.std.proofs.Common.{rules, ◌≡◌, length, map, subst}
+use Rattle.std.proofs.Common.{◌≡◌, ◌∙◌, length, map, subst, sym, refl, rules, arith}
 use Rattle.rnix_green.specs.Tree.{Located}
 use Rattle.rnix.specs.ParseResult.{root_of}
 use Rattle.nix_check.{specs.Lints.{finding_of, repeated_findings}, proofs.CountedDiagnostics.{errors_found, repeated_found}}
 use Rattle.nix_check.proofs.check.find.Goals as goal
 
-pub returns-then-is_empty : goal.returns-then-is_empty
-returns-then-is_empty c =
+pub returns-then-count-eq0 : goal.returns-then-count-eq0
+returns-then-count-eq0 c =
     let read = c.args.read.now in
-    let none : length c.in_ok-errors.errors.items ≡ 0 = search rules in
-    repeated_found c.args.is_each (root_of read) read.faults c.in_ok-errors.errors.items c.in_ok-repeated.repeated.items c.in_ok-errors.ensures none
-    (subst (λ (root : Located). map finding_of c.in_ok-repeated.repeated.items ≡ repeated_findings root) c.syntax.ensures c.in_ok-repeated.ensures)
+    let errors = c.in_ok-errors.ensures in
+    let found = c.in_ok-first.first.items in
+    let none : length errors.0 ≡ 0 = sym errors.2.count ∙ c.if-count-eq0.true in (
+      found,
+      repeated_found c.args.is_each (root_of read) read.faults errors.0 found errors.1 none
+          (subst (λ (root : Located). map finding_of found ≡ repeated_findings root) c.syntax.ensures c.in_ok-first.ensures),
+      record { first = refl; count = omega (arith, c.len.ensures) },
+    )
 
 pub returns : goal.returns
 returns c =
     let read = c.args.read.now in
-    errors_found c.args.is_each (root_of read) read.faults c.in_ok-errors.errors.items c.in_ok-errors.ensures (λ none. search rules)
+    let errors = c.in_ok-errors.ensures in
+    (errors.0, errors_found c.args.is_each (root_of read) read.faults errors.0 errors.1 (λ none. c.if-count-eq0.false (errors.2.count ∙ none)), errors.2)

@@ -14,14 +14,14 @@ returns-then-takes_comments c =
     let rest = steps_of c.takes_comments.new.events in
     let some : is_some c.takes_before.result ≡ true = c.is_none.ensures ∙ ap not c.if-is_none.false in
     let entered = if_some c.takes_before.result c.takes_before.ensures.entered some
-    ∙ ap (events_inside c.args.old) c.preorder_with_tokens-rest.ensures.walk in
+    ∙ ap (events_inside c.args.old) c.preorder_with_tokens-old_walk.ensures.walk in
     let comes : AreCommentsTaken c.takes_comments.result c.args.comments (steps_after c.args.old root) rest =
     subst (λ steps. AreCommentsTaken c.takes_comments.result c.args.comments steps rest)
     (after_entered c.args.old root _ _ entered c.skip_node.ensures.rest) c.takes_comments.ensures in
     let taken : IsTaken c.takes_before.result before all left =
-    subst (λ es. IsTaken c.takes_before.result before (steps_of es) left) c.preorder_with_tokens-events.ensures.walk
-    (subst (λ es. IsTaken c.takes_before.result (steps_of (events_before c.args.old es)) (steps_of c.preorder_with_tokens-events.result) left)
-    c.preorder_with_tokens-rest.ensures.walk c.takes_before.ensures.taken) in
+    subst (λ es. IsTaken c.takes_before.result before (steps_of es) left) c.preorder_with_tokens-new_walk.ensures.walk
+    (subst (λ es. IsTaken c.takes_before.result (steps_of (events_before c.args.old es)) (steps_of c.preorder_with_tokens-new_walk.result) left)
+    c.preorder_with_tokens-old_walk.ensures.walk c.takes_before.ensures.taken) in
     without_tested root c.args.old c.args.comments c.args.other.now rest _ _ comes c.if-takes_comments.true
     (taken_tested _ _ before all left rest taken some c.are_same_walks.ensures)
 
@@ -30,7 +30,7 @@ returns-else-takes_comments c =
     let root = c.args.root.now in
     let some : is_some c.takes_before.result ≡ true = c.is_none.ensures ∙ ap not c.if-is_none.false in
     let entered = if_some c.takes_before.result c.takes_before.ensures.entered some
-    ∙ ap (events_inside c.args.old) c.preorder_with_tokens-rest.ensures.walk in
+    ∙ ap (events_inside c.args.old) c.preorder_with_tokens-old_walk.ensures.walk in
     let rest = steps_of c.takes_comments.new.events in
     let comes : AreCommentsTaken c.takes_comments.result c.args.comments (steps_after c.args.old root) rest =
     subst (λ steps. AreCommentsTaken c.takes_comments.result c.args.comments steps rest)

@@ -8,12 +8,12 @@ use Rattle.rnix_edit.proofs.check.steps_before_new.Goals.{else-skip_node-via-the
 pub returns-then-are_same_walks : goal.returns-then-are_same_walks
 returns-then-are_same_walks c =
     let other = c.args.other.now in
-    let entered = c.in_ok-count.ensures.entered ∙ ap (events_inside c.args.new) c.preorder_with_tokens-rest.ensures.walk in
+    let entered = c.in_ok-count.ensures.entered ∙ ap (events_inside c.args.new) c.preorder_with_tokens-new_walk.ensures.walk in
     let left = steps_of c.takes_before.new.events in
     let taken : IsTaken (Some c.in_ok-count.count) (steps_before c.args.new other) (steps_in c.args.root.now) left =
-    subst (λ es. IsTaken (Some c.in_ok-count.count) (steps_before c.args.new other) (steps_of es) left) c.preorder_with_tokens-events.ensures.walk
-    (subst (λ es. IsTaken (Some c.in_ok-count.count) (steps_of (events_before c.args.new es)) (steps_of c.preorder_with_tokens-events.result) left)
-    c.preorder_with_tokens-rest.ensures.walk c.in_ok-count.ensures.taken) in
+    subst (λ es. IsTaken (Some c.in_ok-count.count) (steps_before c.args.new other) (steps_of es) left) c.preorder_with_tokens-old_walk.ensures.walk
+    (subst (λ es. IsTaken (Some c.in_ok-count.count) (steps_of (events_before c.args.new es)) (steps_of c.preorder_with_tokens-old_walk.result) left)
+    c.preorder_with_tokens-new_walk.ensures.walk c.in_ok-count.ensures.taken) in
     with_so c.args.root.now other c.args.new _ c.in_ok-count.count left _ taken
     (left_entered c.args.new other _ _ entered c.skip_node.ensures.found) c.if-skip_node.true
     (after_entered c.args.new other _ _ entered c.skip_node.ensures.rest) (c.are_same_walks.ensures.0 c.if-are_same_walks.true)
@@ -21,12 +21,12 @@ returns-then-are_same_walks c =
 pub returns : goal.returns
 returns c =
     let other = c.args.other.now in
-    let entered = c.in_ok-count.ensures.entered ∙ ap (events_inside c.args.new) c.preorder_with_tokens-rest.ensures.walk in
+    let entered = c.in_ok-count.ensures.entered ∙ ap (events_inside c.args.new) c.preorder_with_tokens-new_walk.ensures.walk in
     let left = steps_of c.takes_before.new.events in
     let taken : IsTaken (Some c.in_ok-count.count) (steps_before c.args.new other) (steps_in c.args.root.now) left =
-    subst (λ es. IsTaken (Some c.in_ok-count.count) (steps_before c.args.new other) (steps_of es) left) c.preorder_with_tokens-events.ensures.walk
-    (subst (λ es. IsTaken (Some c.in_ok-count.count) (steps_of (events_before c.args.new es)) (steps_of c.preorder_with_tokens-events.result) left)
-    c.preorder_with_tokens-rest.ensures.walk c.in_ok-count.ensures.taken) in
+    subst (λ es. IsTaken (Some c.in_ok-count.count) (steps_before c.args.new other) (steps_of es) left) c.preorder_with_tokens-old_walk.ensures.walk
+    (subst (λ es. IsTaken (Some c.in_ok-count.count) (steps_of (events_before c.args.new es)) (steps_of c.preorder_with_tokens-old_walk.result) left)
+    c.preorder_with_tokens-new_walk.ensures.walk c.in_ok-count.ensures.taken) in
     elim c.else-skip_node.branch [
       | else-skip_node-via-then-skip_node+else-are_same_walks w ↦
           not_with c.args.root.now other c.args.new c.in_ok-count.count left _ taken
