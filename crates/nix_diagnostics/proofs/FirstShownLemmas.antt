@@ -1,6 +1,5 @@
 -- The first of the diagnostics that show some errors, and one error more.
 use Rattle.std.proofs.Common.{◌≡◌, ◌∙◌, ℕ, zero, suc, ◌+◌, ◌<◌, ◌≤◌, true, false, take, List, [], ◌∷◌, ◌++◌, length, map, Some, None, sym, ap, subst, arith, refl, inl, inr}
-
 use Rattle.std.proofs.lemmas.{List.{length_push, length-append, length-take-le, take_all, take-append-le, append-nil}, Bool.cases_lt}
 use Rattle.rnix_green.specs.declared.range.TextRange.{TextRange}
 use Rattle.rnix_green.specs.Range.{bounds_of}

@@ -210,7 +210,8 @@ pub fn diagnostics(alloc: Global, read: &Parse) -> Result<Vec<Diagnostic>, Alloc
     ensures shown { IfOk result (λ found. AreShown (root_of read.now) read.now.faults found.items) }
     ensures runs { IfOk result (λ found. CoverRuns (root_of read.now) read.now.faults found.items) }
 {
-    if read.errors().len() == 1 {
+    let errors = read.errors();
+    if errors.len() == 1 {
         let single = all_diagnostics(alloc, read)?;
         return Ok(single);
     }
