@@ -68,7 +68,8 @@ folded_behind : (root : Located) (all faults more : List Fault) (most number : �
 folded_behind root all faults more most number old new fault are less kept same_count does counts is =
     let last = has_last are.ds (omega (arith, less)) in
     let d = last.d in
-    let next : Diagnostic = record { code = d.code; range = d.range; message = d.message; first_error = d.first_error; end_error = number + 1; notes = d.notes } in
+    let next : Diagnostic =
+    record { code = d.code; range = d.range; message = d.message; first_error = d.first_error; end_error = number + 1; notes = d.notes } in
     let folded : IsFolded number are.ds (last.before ++ next ∷ []) =
     record { before = last.before; d = d; next = next; was = last.is; is = refl; range = refl; message = refl; code = refl; first = refl; end = refl } in
     let inside : most ≤ length last.before = omega (arith, less, ap length last.is, length_push last.before d) in
