@@ -1,15 +1,16 @@
--- Which elements of a tree the errors are of, and the ranges of both.
+-- Which elements of a tree the errors are of, and what an error says of its element: its range, where it is and what it holds.
 use Rattle.std.specs.Prelude.{◌≡◌, ℕ, ◌+◌, Bool, true, false, ◌||◌, List, [], ◌∷◌, ◌++◌, Option, Some, None, if◌then◌else◌}
 use Rattle.rnix_kinds.specs.declared.kinds.SyntaxKind.{SyntaxKind}
-use Rattle.rnix_kinds.specs.declared.kinds.SyntaxKind.TheVariants.{NODE_ERROR, NODE_IDENT, NODE_PAT_ENTRY}
+use Rattle.rnix_kinds.specs.declared.kinds.SyntaxKind.TheVariants.{NODE_ERROR, NODE_IDENT, NODE_PATTERN, NODE_PAT_ENTRY}
 use Rattle.rnix_green.specs.Forest.{Forest, empty, leaf, node, element_count}
 use Rattle.rnix_green.specs.Range.{Extent}
 use Rattle.rnix_green.specs.Tree.{Tree, Located, forest_of, item, item_of, extent_of, text_at}
 use Rattle.rnix_green.specs.Walk.{Event, preorder_of}
-use Rattle.rnix_green.specs.Relatives.{IsNodeIn, IsTokenIn}
+use Rattle.rnix_green.specs.Relatives.{IsNodeIn, IsTokenIn, IsChild}
 use Rattle.rnix_grammar.specs.Fault.{Fault, unexpected_at, extra, unwanted, double_bind, unexpected_eof, unexpected_eof_wanted, duplicated_args}
 use Rattle.rnix_grammar.specs.Shape.{name_if, with_name}
 use Rattle.rnix_grammar.specs.Tables.{is_among}
+use Rattle.rnix_grammar.specs.Rules.{is_one_of}
 
 -- the error is that of an error node: not of the end of the text, and not of a repeated name
 abbrev pub is_of_node : Fault → Bool
@@ -92,15 +93,35 @@ pub record BeginsWith (tree : Tree) (m : ℕ) (kind : SyntaxKind) : Type 0 where
   pub parent : (item tree (m + 1)).parent ≡ Some m
   pub kind_is : (item tree (m + 1)).kind ≡ kind
 
--- the kind of a token in an error is that of the element's first token
-abbrev pub IsKindOf : Tree → Fault → ℕ → Type 0
-IsKindOf tree (unwanted kind range kinds) m = BeginsWith tree m kind
-IsKindOf tree e m = Unit {0}
+-- each child of the element is a token, of none of the kinds
+abbrev pub HasOtherTokens : Tree → ℕ → List SyntaxKind → Type 0
+HasOtherTokens tree m kinds =
+    (n : ℕ) → IsChild (record { tree = tree; number = m }) n → IsTokenIn tree n × (is_one_of kinds (item tree n).kind ≡ false)
 
--- an error is that of the element: of an entry, for a repeated name, and else of an error node, with its range and the kind of its first token
+-- the element's parent is of the kind
+pub record HasParent (tree : Tree) (m : ℕ) (kind : SyntaxKind) : Type 0 where
+  pub parent : ℕ
+  pub is_parent : (item tree m).parent ≡ Some parent
+  pub kind_is : (item tree parent).kind ≡ kind
+
+-- Where tokens are wanted, the element begins with a token of the kind that the error names, and its children are tokens of none of the wanted kinds; that of
+-- extra tokens is a child of the root, and that of a second name one of a pattern.
+abbrev pub HasFormOf : Tree → Fault → ℕ → Type 0
+HasFormOf tree (unwanted kind range wanted) m = BeginsWith tree m kind × HasOtherTokens tree m wanted
+HasFormOf tree (extra range) m = (item tree m).parent ≡ Some 0
+HasFormOf tree (double_bind range) m = HasParent tree m NODE_PATTERN
+HasFormOf tree e m = Unit {0}
+
+-- the error is that of an error node, with its range and its form
+pub record IsOfErrorNode (tree : Tree) (e : Fault) (m : ℕ) : Type 0 where
+  pub kind_is : (item tree m).kind ≡ NODE_ERROR
+  pub range_is : IsRangeOf (range_in e) record { tree = tree; number = m }
+  pub form : HasFormOf tree e m
+
+-- an error is that of the element: of an entry, for a repeated name, and else of an error node
 abbrev pub IsErrorOf : Tree → Fault → ℕ → Type 0
 IsErrorOf tree (duplicated_args range name) m = IsEntryName tree m range name
-IsErrorOf tree e m = ((item tree m).kind ≡ NODE_ERROR) × IsRangeOf (range_in e) record { tree = tree; number = m } × IsKindOf tree e m
+IsErrorOf tree e m = IsOfErrorNode tree e m
 
 -- as many errors as elements, each of its element
 abbrev pub AreErrorsOf : Tree → List Fault → List ℕ → Type 0

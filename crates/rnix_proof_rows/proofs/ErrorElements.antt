@@ -1,8 +1,12 @@
--- The errors of error nodes and of repeated entries are those of their elements: they have their ranges, and the kinds of the tokens that these begin with.
-use Rattle.std.proofs.Common.{◌≡◌, ℕ, ◌+◌, true, List, [], ◌∷◌, ◌++◌, length, Some, refl, ap, sym, ◌∙◌, arith, Bool, false, None, subst, append-nil}
-use Rattle.rnix_kinds.specs.{declared.kinds.SyntaxKind.{SyntaxKind, TheVariants.{NODE_ERROR, NODE_IDENT, NODE_PAT_ENTRY}}, SyntaxKind.is_trivia}
-use Rattle.{rnix_green.specs.{Forest.{text_of, node}, Tree.{Tree, Item, item, extent_of}}, rnix_grammar.specs.{Fault.Fault, AnnotatedForest.{Note, Stray}}}
-use Rattle.rnix_grammar.specs.AnnotatedForest.{Unwanted, Extra, DoubleBind, TooDeep, AnnotatedForest, token, tokens_in, forget, is_some, HaveLeafKinds}
+-- The errors of error nodes and of repeated entries are those of their elements: these have their ranges and their forms.
+use Rattle.std.proofs.Common.{◌≡◌, ℕ, zero, suc, ◌+◌, ◌-◌, ◌<◌, true, List, [], ◌∷◌, ◌++◌, length, Some, refl, ap, sym, ◌∙◌, arith, Bool, false, None, subst}
+use Rattle.std.proofs.Common.{Option, append-nil}
+use Rattle.rnix_kinds.specs.{declared.kinds.SyntaxKind.{SyntaxKind, TheVariants.{NODE_ERROR, NODE_IDENT, NODE_PAT_ENTRY, NODE_ROOT}}, SyntaxKind.is_trivia}
+use Rattle.rnix_green.proofs.{InsideLemmas.{IsBelow, below_parent}, NestLemmas.at}
+use Rattle.rnix_grammar.specs.{Rules.is_one_of, Tables.{operand_kinds, wanted_kinds}, Ranges.{HasOtherTokens, IsOfErrorNode}}
+use Rattle.rnix_proof_rows.proofs.ErrorForms.{AreOthers, IsFormed, AreFormed}
+use Rattle.{rnix_green.specs.{Forest.{text_of, node, element_count}, Tree.{Tree, Item, item, extent_of}}, rnix_grammar.specs.{Fault.{Fault, unwanted}, AnnotatedForest.{Note, Stray}}}
+use Rattle.rnix_grammar.specs.AnnotatedForest.{Unwanted, Extra, DoubleBind, TooDeep, AnnotatedForest, token, fault, tokens_in, forget, is_some, HaveLeafKinds}
 use Rattle.rnix_grammar.specs.{AnnotatedForest.{extent_of as place_of, Token, blank, branch, without_trivia, token_if}, Reports.{first_kind, report}}
 use Rattle.rnix_grammar.specs.{Reports.{only_token, entry_name}, Named.begins_with_token, Trim.{AreNamesSingleTokens, is_single_token, begins_with_node}, Ranges.BeginsWith}
 use Rattle.{rnix_grammar.specs.Ranges.{IsErrorOf, AreErrorsOf, IsEntryName}, rnix_proof_lemmas.proofs.Basics.{true_is_not_false, some_same}}
@@ -22,6 +26,12 @@ pub record IsSound (q : SyntaxKind) (s : ℕ) (f : AnnotatedForest) : Type 0 whe
   pub leaf_kind : HaveLeafKinds q f
   pub bare : AreNamesSingleTokens f
   pub marked : HaveFaultTokens f
+  pub formed : AreFormed q f
+
+-- the node of the number p, in which a row is, is of the kind q, and no other node than the first is a root
+pub record IsRowOf (t : Tree) (p : ℕ) (q : SyntaxKind) : Type 0 where
+  pub kind_is : (item t p).kind ≡ q
+  pub root : q ≡ NODE_ROOT → p ≡ 0
 
 -- the first token of an error node
 first_token : (t : Tree) (m s : ℕ) (c : AnnotatedForest) → IsRowIn t (m + 1) s (Some m) (forget c) → HaveLeafKinds NODE_ERROR c → begins_with_token c ≡ true
@@ -35,11 +45,42 @@ first_token t m s (token k x f) h o b =
     }
 first_token t m s _ h o b = absurd (true_is_not_false (sym b))
 
--- the error of an error node is of the element that has the kind and the place of the node
-pub report_error : (t : Tree) (m s : ℕ) (n : Note) (c : AnnotatedForest) → HasTokens n c → IsRowIn t (m + 1) s (Some m) (forget c) → IsSound NODE_ERROR s c
-    → (item t m).kind ≡ NODE_ERROR → (item t m).start ≡ s → (item t m).end ≡ s + length (text_of (forget c)) → IsErrorOf t (report n (tokens_in c)) m
-report_error t m s n c some h w k a b = by n some
+-- each element of a row of such tokens is one
+other_at : (kinds : List SyntaxKind) (n s : ℕ) (p : Option ℕ) (c : AnnotatedForest) (i : ℕ) → i < element_count (forget c) → AreOthers kinds c
+    → ((at n s p (forget c) i).is_node ≡ false) × (is_one_of kinds (at n s p (forget c) i).kind ≡ false)
+other_at kinds n s p blank i l h = absurd (omega arith)
+other_at kinds n s p (token k x f) zero l h = (refl, h.0)
+other_at kinds n s p (token k x f) (suc i) l h = other_at kinds (n + 1) (s + length x.text) p f i (omega arith) h.1
+other_at kinds n s p _ i l h = absurd h
+
+-- so is each child of their node
+other_tokens : (t : Tree) (m s : ℕ) (kinds : List SyntaxKind) (c : AnnotatedForest) → IsRowIn t (m + 1) s (Some m) (forget c)
+    → (item t m).below ≡ element_count (forget c) → AreOthers kinds c → HasOtherTokens t m kinds
+other_tokens t m s kinds c h b o = λ n child.
+    let inside : IsBelow t m n = below_parent t n m child.is_there child.parent in
+    let number : m + 1 + (n - (m + 1)) ≡ n = omega (arith, inside.low) in
+    let less : n - (m + 1) < element_count (forget c) = omega (arith, inside.low, inside.high, b) in
+    let here : item t n ≡ at (m + 1) s (Some m) (forget c) (n - (m + 1)) = sym (ap (item t) number) ∙ h.items (n - (m + 1)) less in
+    let other = other_at kinds (m + 1) s (Some m) c (n - (m + 1)) less o in (
+      record { is_there = child.is_there; is_token = ap (λ (i : Item). i.is_node) here ∙ other.0 },
+      ap (λ (i : Item). is_one_of kinds i.kind) here ∙ other.1,
+    )
+
+-- the error of an error node is of the element that stands for the node
+pub report_error : (t : Tree) (q : SyntaxKind) (p m s : ℕ) (n : Note) (c f : AnnotatedForest) → HasTokens n c → IsFormed n q c → IsRowOf t p q
+    → item t m ≡ at m s (Some p) (forget (fault n c f)) 0
+    → IsRowIn t (m + 1) s (Some m) (forget c) → IsSound NODE_ERROR s c → IsErrorOf t (report n (tokens_in c)) m
+report_error t q p m s n c f some form under first h w = by n some form
   where
+    kind : (item t m).kind ≡ NODE_ERROR
+    kind = ap (λ (i : Item). i.kind) first
+
+    parent : (item t m).parent ≡ Some p
+    parent = ap (λ (i : Item). i.parent) first
+
+    below : (item t m).below ≡ element_count (forget c)
+    below = ap (λ (i : Item). i.below) first
+
     same : (u v w x : ℕ) → u ≡ w → v ≡ x → between w x ≡ between u v
     same u v w x e g = cc
 
@@ -48,14 +89,27 @@ report_error t m s n c some h w k a b = by n some
     begins_some _ h = absurd (true_is_not_false (sym h))
 
     position : is_some (tokens_in c) ≡ true → place_of (tokens_in c) ≡ extent_of record { tree = t; number = m }
-    position some = row_extent s c some w.placed ∙ same (item t m).start (item t m).end s (s + length (text_of (forget c))) a b
+    position some = row_extent s c some w.placed
+        ∙ same (item t m).start (item t m).end s (s + length (text_of (forget c))) (ap (λ (i : Item). i.start) first) (ap (λ (i : Item). i.end) first)
 
-    by : (n : Note) → HasTokens n c → IsErrorOf t (report n (tokens_in c)) m
-    by TooDeep some = (k, tt, tt)
-    by Stray some = (k, position (begins_some c some), first_token t m s c h w.leaf_kind some)
-    by (Unwanted until) some = (k, position (begins_some c some), first_token t m s c h w.leaf_kind some)
-    by Extra some = (k, position some, tt)
-    by DoubleBind some = (k, position some, tt)
+    unwanted_error : (kinds : List SyntaxKind) → begins_with_token c ≡ true → AreOthers kinds c
+        → IsOfErrorNode t (unwanted (first_kind (tokens_in c)) (place_of (tokens_in c)) kinds) m
+    unwanted_error kinds some form = record {
+      kind_is = kind;
+      range_is = position (begins_some c some);
+      form = (first_token t m s c h w.leaf_kind some, other_tokens t m s kinds c h below form);
+    }
+
+    by : (n : Note) → HasTokens n c → IsFormed n q c → IsErrorOf t (report n (tokens_in c)) m
+    by TooDeep some form = record { kind_is = kind; range_is = tt; form = tt }
+    by Stray some form = unwanted_error operand_kinds some form
+    by (Unwanted until) some form = unwanted_error (wanted_kinds until) some form
+    by Extra some form = record { kind_is = kind; range_is = position some; form = parent ∙ ap Some (under.root form) }
+    by DoubleBind some form = record {
+      kind_is = kind;
+      range_is = position some;
+      form = record { parent = p; is_parent = parent; kind_is = under.kind_is ∙ form };
+    }
 
 -- nothing is no token
 pub none_some : {A : Type 0} (x : Token) → None ≡ Some x → A

@@ -13,14 +13,14 @@ abbrev is_text_end : Row → Bool
 is_text_end (TextEnd · r) = true
 is_text_end r = false
 
-ends_root : {i : SyntaxKind} → IsKnown i (TextEnd · done) → i ≡ NODE_ROOT
+pub ends_root : {i : SyntaxKind} → IsKnown i (TextEnd · done) → i ≡ NODE_ROOT
 ends_root {i} k = where_one true refl (each_known (λ i r. Where (is_text_end r) (i ≡ NODE_ROOT)) (λ i. tt) (assumption) i (TextEnd · done) k)
 
-ends_pattern : {i : SyntaxKind} → IsKnown i (BoundAlready · done) → i ≡ NODE_PATTERN
+pub ends_pattern : {i : SyntaxKind} → IsKnown i (BoundAlready · done) → i ≡ NODE_PATTERN
 ends_pattern {i} k = where_one true refl (each_known (λ i r. Where (is_bound r) (i ≡ NODE_PATTERN)) (λ i. tt) (assumption) i (BoundAlready · done) k)
 
 -- an error node over tokens holds what it may
-holds : (note : Note) (i : SyntaxKind) (d : ℕ) (q r : Row) (ts vs : List Token) → IsWrong note d q r ts vs → IsKnown i q → IsErrorNode note i ts
+pub holds : (note : Note) (i : SyntaxKind) (d : ℕ) (q r : Row) (ts vs : List Token) → IsWrong note d q r ts vs → IsKnown i q → IsErrorNode note i ts
 holds Stray i d q r ts vs w h = w.0
 holds (Unwanted until) i d q r ts vs w h = (w.0, subst (AreUnwanted until) (sym w.1) (parted until (ts ++ vs)).unwanted)
 holds Extra i d q r ts vs w h = (w.0, ends_root (subst (IsKnown i) w.2 h))

@@ -28,7 +28,7 @@ node_errors t (unexpected_eof_wanted kinds ∷ es) ms h = node_errors t es ms h
 node_errors t (duplicated_args range name ∷ es) [] h = absurd h
 node_errors t (duplicated_args range name ∷ es) (m ∷ ms) h = rw h.0.entry_is (node_errors t es ms h.1)
 node_errors t (_ ∷ es) [] h = absurd h
-node_errors t (_ ∷ es) (m ∷ ms) h = rw h.0.0 (h.0, node_errors t es ms h.1)
+node_errors t (_ ∷ es) (m ∷ ms) h = rw h.0.kind_is (h.0, node_errors t es ms h.1)
 
 -- the error nodes that are left by some steps
 abbrev errors_at : Tree → List Step → List ℕ

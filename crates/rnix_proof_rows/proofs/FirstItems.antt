@@ -178,7 +178,7 @@ led_known p q k c f ts l h = operand_known q k c ts (subst (λ (g : SyntaxKind).
     by NODE_SELECT l h = h
     by _ l h = absurd (true_is_not_false (sym l))
 
-abbrev is_argument : Row → Bool
+abbrev pub is_argument : Row → Bool
 is_argument (Argument · r) = true
 is_argument r = false
 
@@ -304,7 +304,7 @@ called_known (Argument · r) k c n ts a e x = by (is_or_row (one_branch k c)) re
 called_known _ k c n ts a e x = absurd (true_is_not_false (sym a))
 
 -- the level depends on the row alone, but before an argument
-level_alone : (q : Row) (x : AnnotatedForest) → is_argument q ≡ false → level_at q x ≡ level_at q blank
+pub level_alone : (q : Row) (x : AnnotatedForest) → is_argument q ≡ false → level_at q x ≡ level_at q blank
 level_alone (Argument · r) x h = absurd (true_is_not_false h)
 level_alone _ x h = refl
 

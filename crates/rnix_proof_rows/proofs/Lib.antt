@@ -27,3 +27,4 @@ pub mod FirstItems
 pub mod RowsWithoutAttrpath
 pub mod NamedRows
 pub mod ErrorNodeRows
+pub mod ErrorForms

@@ -141,7 +141,7 @@ none_named q (branch k c f) h = absurd h
 none_named q (fault note c f) h = none_named (after_error q note) f h
 
 -- behind the first tree a row does not begin with a node that is there whenever its node is
-where_none : (P : Type 0) (w : Bool) → w ≡ false → Where w P
+pub where_none : (P : Type 0) (w : Bool) → w ≡ false → Where w P
 where_none P true e = absurd (true_is_not_false e)
 where_none P false e = tt
 

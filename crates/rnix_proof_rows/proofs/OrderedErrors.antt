@@ -9,7 +9,7 @@ use Rattle.rnix_grammar.specs.Ranges.{is_error_node, IsEntryName, is_among_if, i
 use Rattle.rnix_proof_lemmas.proofs.{LayoutLemmas.without_trivia-⊕, EntryNames.{name_of_items, has_branch, has-⊕, if_not}}
 use Rattle.rnix_proof_rows.proofs.{TreeShapes.{Lists, without_trivia_name, repeats_named, text_in as name_of}, PlacedTokens.{ArePlaced, text_in, placed_first}}
 use Rattle.rnix_proof_rows.proofs.{PlacedTokens.{placed_rest, forget-length}, RowsIn.{IsRowIn, row_first, row_inside, row_behind_leaf, row_behind_node}}
-use Rattle.rnix_proof_rows.proofs.ErrorElements.{errors-++, IsSound, report_error, row_name, none_some}
+use Rattle.rnix_proof_rows.proofs.ErrorElements.{errors-++, IsSound, IsRowOf, report_error, row_name, none_some}
 
 -- one or the other
 swapped : (x y : Bool) → (if x then true else (if y then true else false)) ≡ (if y then true else x)
@@ -83,53 +83,58 @@ node_error t n names b k c e o l h =
     (entry_error t n names b (name_of_items k (without_trivia c)) l (λ x g. (let w = named_entry k (without_trivia c) x g in h x w.0 w.1))))
 
 -- the errors of a row are those of its elements
-pub row_errors : (t : Tree) (q : SyntaxKind) (n s : ℕ) (p : Option ℕ) (b : AnnotatedForest) (names : List (List ℕ)) (f : AnnotatedForest)
-    → IsRowIn t n s p (forget f) → IsSound q s f → Lists names (without_trivia b)
+pub row_errors : (t : Tree) (q : SyntaxKind) (n s p : ℕ) (b : AnnotatedForest) (names : List (List ℕ)) (f : AnnotatedForest)
+    → IsRowIn t n s (Some p) (forget f) → IsRowOf t p q → IsSound q s f → Lists names (without_trivia b)
     → AreErrorsOf t (reports_within b f) (at_fault_from n names (forget f))
-row_errors t q n s p b names blank h a l = tt
-row_errors t q n s p b names (token k x f) h a l =
-    row_errors t q (n + 1) (s + length x.text) p (b ⊕ one_token k x) names f (row_behind_leaf t n s p k x.text (forget f) h)
-    (record { placed = a.placed.2; leaf_kind = a.leaf_kind.1; bare = a.bare; marked = a.marked }) (lists_token names b k x l)
-row_errors t q n s p b names (branch k c f) h a l =
-    let first : item t n ≡ _ = row_first t n s p (forget (branch k c f)) h (omega arith) in
+row_errors t q n s p b names blank h u a l = tt
+row_errors t q n s p b names (token k x f) h u a l =
+    row_errors t q (n + 1) (s + length x.text) p (b ⊕ one_token k x) names f (row_behind_leaf t n s (Some p) k x.text (forget f) h) u
+    (record { placed = a.placed.2; leaf_kind = a.leaf_kind.1; bare = a.bare; marked = a.marked; formed = a.formed }) (lists_token names b k x l)
+row_errors t q n s p b names (branch k c f) h u a l =
+    let first : item t n ≡ _ = row_first t n s (Some p) (forget (branch k c f)) h (omega arith) in
     let size : s + length (text_in (tokens_in c)) ≡ s + length (text_of (forget c)) = omega (arith, forget-length c) in
-    let inside : IsRowIn t (n + 1) s (Some n) (forget c) = row_inside t n s p k (forget c) (forget f) h in
+    let inside : IsRowIn t (n + 1) s (Some n) (forget c) = row_inside t n s (Some p) k (forget c) (forget f) h in
+    let under : IsRowOf t n k = record { kind_is = ap (λ (i : Item). i.kind) first; root = λ e. absurd (a.formed.0 e) } in
     let placed : ArePlaced s (tokens_in c) = placed_first s (tokens_in c) (tokens_in f) a.placed in
     errors-++ t (reports_within blank c) _ (at_fault_from (n + 1) [] (forget c)) _
-    (row_errors t k (n + 1) s (Some n) blank [] c inside (record { placed = placed; leaf_kind = a.leaf_kind.0; bare = a.bare.1; marked = a.marked.1 })
-    (λ name. refl))
+    (row_errors t k (n + 1) s n blank [] c inside under
+    (record { placed = placed; leaf_kind = a.leaf_kind.0; bare = a.bare.1; marked = a.marked.1; formed = a.formed.1 }) (λ name. refl))
     (errors-++ t (repeats k (without_trivia b) (without_trivia c)) _ (if is_at_fault k (forget c) names then n ∷ [] else []) _
     (node_error t n names (without_trivia b) k c a.marked.0 a.leaf_kind.0 l
     (λ x e g. row_name t n s c x (ap (λ (i : Item). i.kind) first ∙ e) inside placed a.bare.1 (a.bare.0.1 e) g))
     (row_errors t q (n + 1 + element_count (forget c)) (s + length (text_of (forget c))) p (b ⊕ one_branch k c) (with_name (name_if k (forget c)) names) f
-    (row_behind_node t n s p k (forget c) (forget f) h)
+    (row_behind_node t n s (Some p) k (forget c) (forget f) h) u
     (record {
       placed = placed_rest s (s + length (text_of (forget c))) (tokens_in c) (tokens_in f) size a.placed;
       leaf_kind = a.leaf_kind.1;
       bare = a.bare.2;
       marked = a.marked.2;
+      formed = a.formed.2;
     })
     (lists_branch names b k c a.leaf_kind.0 l)))
-row_errors t q n s p b names (fault m c f) h a l =
-    let first : item t n ≡ _ = row_first t n s p (forget (fault m c f)) h (omega arith) in
+row_errors t q n s p b names (fault m c f) h u a l =
+    let first : item t n ≡ _ = row_first t n s (Some p) (forget (fault m c f)) h (omega arith) in
     let size : s + length (text_in (tokens_in c)) ≡ s + length (text_of (forget c)) = omega (arith, forget-length c) in
-    let inside : IsRowIn t (n + 1) s (Some n) (forget c) = row_inside t n s p NODE_ERROR (forget c) (forget f) h in
+    let inside : IsRowIn t (n + 1) s (Some n) (forget c) = row_inside t n s (Some p) NODE_ERROR (forget c) (forget f) h in
+    let under : IsRowOf t n NODE_ERROR = record { kind_is = ap (λ (i : Item). i.kind) first; root = λ e. absurd (cc) } in
     let sound : IsSound NODE_ERROR s c = record {
       placed = placed_first s (tokens_in c) (tokens_in f) a.placed;
       leaf_kind = a.leaf_kind.0;
       bare = a.bare.0;
       marked = a.marked.1;
+      formed = a.formed.1;
     } in
     errors-++ t (reports_within blank c) _ (at_fault_from (n + 1) [] (forget c)) _
-    (row_errors t NODE_ERROR (n + 1) s (Some n) blank [] c inside sound (λ name. refl)) (
-      report_error t n s m c a.marked.0 inside sound (ap (λ (i : Item). i.kind) first) (ap (λ (i : Item). i.start) first) (ap (λ (i : Item). i.end) first),
+    (row_errors t NODE_ERROR (n + 1) s n blank [] c inside under sound (λ name. refl)) (
+      report_error t q p n s m c f a.marked.0 a.formed.0 u first inside sound,
       row_errors t q (n + 1 + element_count (forget c)) (s + length (text_of (forget c))) p (b ⊕ one_fault m c) names f
-          (row_behind_node t n s p NODE_ERROR (forget c) (forget f) h)
+          (row_behind_node t n s (Some p) NODE_ERROR (forget c) (forget f) h) u
           (record {
             placed = placed_rest s (s + length (text_of (forget c))) (tokens_in c) (tokens_in f) size a.placed;
             leaf_kind = a.leaf_kind.1;
             bare = a.bare.1;
             marked = a.marked.2;
+            formed = a.formed.2;
           })
           (lists_fault names b m c l),
     )

@@ -4,7 +4,7 @@ use Rattle.{rnix_kinds.specs.{declared.kinds.SyntaxKind.TheVariants.NODE_ROOT, L
 use Rattle.rnix_grammar.specs.{Fault.Fault, AnnotatedForest.{AnnotatedForest, blank, forget, without_trivia}, Repaired.others, Reads.ReadsRoot}
 use Rattle.rnix_grammar.specs.{Parsed.IsParsed, Ranges.{of_nodes, error_nodes, at_fault_from, at_fault, AreErrorsOf}}
 use Rattle.rnix_proof_rows.proofs.{ReadsFilled.{reads_fault_tokens, fault_tokens_without_trivia}, PlacedTokens.{ArePlaced, placed_all}, RowsIn.{IsRowIn, row_of_tree, row_inside}}
-use Rattle.rnix_proof_rows.proofs.{ErrorElements.IsSound, ErrorsOfWalk.{node_errors, walk_errors}, OrderedErrors.row_errors}
+use Rattle.rnix_proof_rows.proofs.{ErrorForms.{root_forms, forms_with_trivia}, ErrorElements.IsSound, ErrorsOfWalk.{node_errors, walk_errors}, OrderedErrors.row_errors}
 
 -- the tree of a forest
 abbrev pub tree_of : AnnotatedForest → Tree
@@ -22,6 +22,7 @@ root_sound {tokens = tokens} h stands = record {
   leaf_kind = h.leaf_kind;
   bare = h.bare;
   marked = fault_tokens_without_trivia h.reading.annotated (reads_fault_tokens stands);
+  formed = forms_with_trivia NODE_ROOT h.reading.annotated h.leaf_kind (root_forms stands);
 }
 
 -- the elements at fault of a tree are those below its root
@@ -36,7 +37,7 @@ parsed_order {tree = tree} {faults = faults} h stands =
     subst (λ z. AreErrorsOf z (others faults) (at_fault z)) (sym h.reading.tree_is)
     (subst (AreErrorsOf (tree_of f) (others faults)) (sym (fault_below f))
     (subst (λ z. AreErrorsOf (tree_of f) z (at_fault_from 1 [] (forget f))) (sym h.paired)
-    (row_errors (tree_of f) NODE_ROOT 1 0 (Some 0) blank [] f (row_below f) (root_sound h stands) (λ name. refl))))
+    (row_errors (tree_of f) NODE_ROOT 1 0 0 blank [] f (row_below f) (record { kind_is = refl; root = λ e. refl }) (root_sound h stands) (λ name. refl))))
 
 -- the errors of error nodes are, one by one, of the error nodes that a walk over the tree leaves
 pub parsed_nodes : {tokens : List Lexeme} {tree : Tree} {faults : List Fault} → (h : IsParsed tokens tree faults)
