@@ -9,7 +9,7 @@ use Rattle.rnix_green.specs.Walk.{Event, preorder_of}
 use Rattle.rnix_green.specs.Relatives.{IsNodeIn, IsTokenIn, IsChild}
 use Rattle.rnix_grammar.specs.Fault.{Fault, unexpected_at, extra, unwanted, double_bind, unexpected_eof, unexpected_eof_wanted, duplicated_args}
 use Rattle.rnix_grammar.specs.Shape.{name_if, with_name}
-use Rattle.rnix_grammar.specs.Tables.{is_among}
+use Rattle.rnix_grammar.specs.Tables.{is_among, operand_kinds}
 use Rattle.rnix_grammar.specs.Rules.{is_one_of}
 
 -- the error is that of an error node: not of the end of the text, and not of a repeated name
@@ -104,10 +104,11 @@ pub record HasParent (tree : Tree) (m : ℕ) (kind : SyntaxKind) : Type 0 where
   pub is_parent : (item tree m).parent ≡ Some parent
   pub kind_is : (item tree parent).kind ≡ kind
 
--- Where tokens are wanted, the element begins with a token of the kind that the error names, and its children are tokens of none of the wanted kinds; that of
--- extra tokens is a child of the root, and that of a second name one of a pattern.
+-- Where tokens are wanted, the element begins with a token of the kind that the error names, and its children are tokens of none of the wanted kinds; where
+-- an operand is, it has one child. The element of extra tokens is a child of the root, and that of a second name one of a pattern.
 abbrev pub HasFormOf : Tree → Fault → ℕ → Type 0
-HasFormOf tree (unwanted kind range wanted) m = BeginsWith tree m kind × HasOtherTokens tree m wanted
+HasFormOf tree (unwanted kind range wanted) m =
+    BeginsWith tree m kind × HasOtherTokens tree m wanted × (wanted ≡ operand_kinds → (item tree m).below ≡ 1)
 HasFormOf tree (extra range) m = (item tree m).parent ≡ Some 0
 HasFormOf tree (double_bind range) m = HasParent tree m NODE_PATTERN
 HasFormOf tree e m = Unit {0}

@@ -3,6 +3,7 @@ use Rattle.std.proofs.Common.{◌≡◌, ℕ, zero, suc, ◌+◌, ◌-◌, ◌<�
 use Rattle.std.proofs.Common.{Option, append-nil}
 use Rattle.rnix_kinds.specs.{declared.kinds.SyntaxKind.{SyntaxKind, TheVariants.{NODE_ERROR, NODE_IDENT, NODE_PAT_ENTRY, NODE_ROOT}}, SyntaxKind.is_trivia}
 use Rattle.rnix_green.proofs.{InsideLemmas.{IsBelow, below_parent}, NestLemmas.at}
+use Rattle.rnix_grammar.specs.declared.expected_set.ExpectedSet.{ExpectedSet, TheVariants.RParen}
 use Rattle.rnix_grammar.specs.{Rules.is_one_of, Tables.{operand_kinds, wanted_kinds}, Ranges.{HasOtherTokens, IsOfErrorNode}}
 use Rattle.rnix_proof_rows.proofs.ErrorForms.{AreOthers, IsFormed, AreFormed}
 use Rattle.{rnix_green.specs.{Forest.{text_of, node, element_count}, Tree.{Tree, Item, item, extent_of}}, rnix_grammar.specs.{Fault.{Fault, unwanted}, AnnotatedForest.{Note, Stray}}}
@@ -58,13 +59,24 @@ other_tokens : (t : Tree) (m s : ℕ) (kinds : List SyntaxKind) (c : AnnotatedFo
     → (item t m).below ≡ element_count (forget c) → AreOthers kinds c → HasOtherTokens t m kinds
 other_tokens t m s kinds c h b o = λ n child.
     let inside : IsBelow t m n = below_parent t n m child.is_there child.parent in
-    let number : m + 1 + (n - (m + 1)) ≡ n = omega (arith, inside.low) in
-    let less : n - (m + 1) < element_count (forget c) = omega (arith, inside.low, inside.high, b) in
+    let number : m + 1 + (n - (m + 1)) ≡ n = omega (arith, inside) in
+    let less : n - (m + 1) < element_count (forget c) = omega (arith, inside, b) in
     let here : item t n ≡ at (m + 1) s (Some m) (forget c) (n - (m + 1)) = sym (ap (item t) number) ∙ h.items (n - (m + 1)) less in
     let other = other_at kinds (m + 1) s (Some m) c (n - (m + 1)) less o in (
       record { is_there = child.is_there; is_token = ap (λ (i : Item). i.is_node) here ∙ other.0 },
       ap (λ (i : Item). is_one_of kinds i.kind) here ∙ other.1,
     )
+
+-- a row of such tokens has as many elements
+tokens_counted : (kinds : List SyntaxKind) (c : AnnotatedForest) → AreOthers kinds c → element_count (forget c) ≡ length (tokens_in c)
+tokens_counted kinds blank h = refl
+tokens_counted kinds (token k x f) h = let more = tokens_counted kinds f h.1 in omega (arith, more)
+tokens_counted kinds _ h = absurd h
+
+-- where a run stops, never those kinds are wanted that begin an operand
+no_operand : (until : ExpectedSet) → wanted_kinds until ≡ operand_kinds → ⊥
+no_operand RParen e = cc
+no_operand _ e = cc
 
 -- the error of an error node is of the element that stands for the node
 pub report_error : (t : Tree) (q : SyntaxKind) (p m s : ℕ) (n : Note) (c f : AnnotatedForest) → HasTokens n c → IsFormed n q c → IsRowOf t p q
@@ -92,18 +104,18 @@ report_error t q p m s n c f some form under first h w = by n some form
     position some = row_extent s c some w.placed
         ∙ same (item t m).start (item t m).end s (s + length (text_of (forget c))) (ap (λ (i : Item). i.start) first) (ap (λ (i : Item). i.end) first)
 
-    unwanted_error : (kinds : List SyntaxKind) → begins_with_token c ≡ true → AreOthers kinds c
+    unwanted_error : (kinds : List SyntaxKind) → begins_with_token c ≡ true → AreOthers kinds c → (kinds ≡ operand_kinds → length (tokens_in c) ≡ 1)
         → IsOfErrorNode t (unwanted (first_kind (tokens_in c)) (place_of (tokens_in c)) kinds) m
-    unwanted_error kinds some form = record {
+    unwanted_error kinds some form one = record {
       kind_is = kind;
       range_is = position (begins_some c some);
-      form = (first_token t m s c h w.leaf_kind some, other_tokens t m s kinds c h below form);
+      form = (first_token t m s c h w.leaf_kind some, other_tokens t m s kinds c h below form, λ e. below ∙ tokens_counted kinds c form ∙ one e);
     }
 
     by : (n : Note) → HasTokens n c → IsFormed n q c → IsErrorOf t (report n (tokens_in c)) m
     by TooDeep some form = record { kind_is = kind; range_is = tt; form = tt }
-    by Stray some form = unwanted_error operand_kinds some form
-    by (Unwanted until) some form = unwanted_error (wanted_kinds until) some form
+    by Stray some form = unwanted_error operand_kinds some form.0 (λ e. form.1)
+    by (Unwanted until) some form = unwanted_error (wanted_kinds until) some form (λ e. absurd (no_operand until e))
     by Extra some form = record { kind_is = kind; range_is = position some; form = parent ∙ ap Some (under.root form) }
     by DoubleBind some form = record {
       kind_is = kind;

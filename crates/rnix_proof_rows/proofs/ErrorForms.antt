@@ -1,14 +1,14 @@
--- In a row that is read, the error node of a single item or of a run holds tokens alone, none of a kind that its error names as wanted; the items behind
--- a whole text stand in the root, and a second name in its pattern.
+-- In a row that is read, the error node for an operand or for a run holds items alone, none of a kind that its error names as wanted; the items behind a
+-- whole text stand in the root, and a second name in its pattern.
 use Rattle.std.{specs.List.list_all, proofs.Common.{◌≡◌, ℕ, Bool, true, false, List, [], ◌∷◌, ◌++◌, length, Option, Some, None, refl, ap, sym, ◌∙◌, subst, append-nil}}
 use Rattle.{std.proofs.{Common.{append_assoc, if◌then◌else◌, ◌&&◌, arith}, lemmas.Bool.and_from}, rnix_kinds.specs.declared.kinds.SyntaxKind.SyntaxKind}
 use Rattle.rnix_kinds.specs.declared.kinds.SyntaxKind.TheVariants.{TOKEN_AT, TOKEN_COLON, TOKEN_IDENT, TOKEN_L_BRACE, TOKEN_L_BRACK, TOKEN_L_PAREN, TOKEN_REC}
 use Rattle.rnix_kinds.specs.declared.kinds.SyntaxKind.TheVariants.{TOKEN_STRING_START, NODE_APPLY, NODE_BIN_OP, NODE_ERROR, NODE_HAS_ATTR, NODE_IDENT, NODE_LITERAL}
 use Rattle.rnix_kinds.specs.declared.kinds.SyntaxKind.TheVariants.{NODE_PATTERN, NODE_ROOT, NODE_SELECT}
-use Rattle.rnix_kinds.{specs.SyntaxKind.is_trivia, proofs.AllKinds.{all_kinds, every, implied}}
-use Rattle.rnix_grammar.specs.{declared.{rules.Part.TheVariants.{Atom, First, Argument}, expected_set.ExpectedSet.{ExpectedSet, TheVariants.RParen}}, Fault.Fault}
+use Rattle.rnix_kinds.proofs.AllKinds.{all_kinds, every, implied}
+use Rattle.rnix_grammar.specs.{declared.{rules.Part.TheVariants.{Atom, First, Argument}, expected_set.ExpectedSet.ExpectedSet}, Fault.Fault}
 use Rattle.rnix_grammar.specs.AnnotatedForest.{Token, Note, Stray, Unwanted, Extra, DoubleBind, TooDeep, AnnotatedForest, blank, token, branch, fault, one_branch}
-use Rattle.rnix_grammar.specs.AnnotatedForest.{one_fault, row_of, tokens_in, without_trivia, token_if, HaveLeafKinds, leaf_kind, head_kind}
+use Rattle.rnix_grammar.specs.AnnotatedForest.{one_fault, row_of, tokens_in, leaf_kind, head_kind}
 use Rattle.rnix_grammar.specs.{Begins.{second_kind, is_pattern}, Beginnings.{first_kind_of_name, first_kind, BeginsAs, IsOperandOf}, ErrorNodes.AreUnwanted}
 use Rattle.rnix_grammar.specs.{Operands.first_tree, Tables.{is_cur_pos, operand_kinds, wanted_kinds}, TreeLevels.is_or_row, Ranges.is_error_node}
 use Rattle.rnix_grammar.specs.{Levels.selection_level, Rules.{Row, ◌·◌, row, after, missing, run_at, level_at, is_one_of}}
@@ -38,50 +38,50 @@ name_leads text (Some TOKEN_COLON) = refl
 name_leads text (Some TOKEN_AT) = refl
 name_leads text next = choice (λ k. may_lead (is_error_node k) TOKEN_IDENT ≡ true) (is_cur_pos text) refl refl
 
-leads : (level : ℕ) (kind : SyntaxKind) (text : List ℕ) (next later : Option SyntaxKind)
+item_leads : (level : ℕ) (kind : SyntaxKind) (text : List ℕ) (next later : Option SyntaxKind)
     → may_lead (is_error_node (first_kind level kind text next later)) kind ≡ true
-leads level TOKEN_L_PAREN text next later = refl
-leads level TOKEN_REC text next later = refl
-leads level TOKEN_L_BRACE text next later = choice (λ k. may_lead (is_error_node k) TOKEN_L_BRACE ≡ true) (is_pattern next later) refl refl
-leads level TOKEN_L_BRACK text next later = refl
-leads level TOKEN_STRING_START text next later = refl
-leads level TOKEN_IDENT text next later = name_leads text next
-leads level kind text next later = others_lead (is_error_node (first_kind level kind text next later)) kind refl
+item_leads level TOKEN_L_PAREN text next later = refl
+item_leads level TOKEN_REC text next later = refl
+item_leads level TOKEN_L_BRACE text next later = choice (λ k. may_lead (is_error_node k) TOKEN_L_BRACE ≡ true) (is_pattern next later) refl refl
+item_leads level TOKEN_L_BRACK text next later = refl
+item_leads level TOKEN_STRING_START text next later = refl
+item_leads level TOKEN_IDENT text next later = name_leads text next
+item_leads level kind text next later = others_lead (is_error_node (first_kind level kind text next later)) kind refl
 
 -- an operand begins with what may lead its first tree
 operand_leads : (level : ℕ) (x : AnnotatedForest) (ts : List Token) → BeginsAs level x ts → MayLead (first_tree x) ts
 operand_leads level x [] h = tt
 operand_leads level x (t ∷ ts) h =
-    subst (λ (k : SyntaxKind). may_lead (is_error_node k) t.kind ≡ true) h (leads level t.kind t.text (head_kind ts) (second_kind ts))
+    subst (λ (k : SyntaxKind). may_lead (is_error_node k) t.kind ≡ true) h (item_leads level t.kind t.text (head_kind ts) (second_kind ts))
 
 -- a row begins with the first operand of an operator, of a call or of a selection
-abbrev begins_with_operand : Row → Bool
-begins_with_operand (Atom · r) = true
-begins_with_operand (First n · r) = true
-begins_with_operand r = false
+abbrev first_is_operand : Row → Bool
+first_is_operand (Atom · r) = true
+first_is_operand (First n · r) = true
+first_is_operand r = false
 
 -- there the first item may lead the first tree
 abbrev Leads : Row → AnnotatedForest → List Token → Type 0
-Leads q f ts = Where (begins_with_operand q) (MayLead (first_tree f) ts)
+Leads q f ts = Where (first_is_operand q) (MayLead (first_tree f) ts)
 
 -- no other position begins so: behind a child
 later_leads : {p : SyntaxKind} (q : Row) (k : SyntaxKind) (f : AnnotatedForest) (ts : List Token) → IsKnown p q → Leads (after q k) f ts
-later_leads {p} q k f ts i = where_none _ (begins_with_operand (after q k))
-    (not_if (begins_with_operand (after q k)) (every (λ k. if begins_with_operand (after q k) then false else true)
-    (every_known (λ p q. list_all (λ k. if begins_with_operand (after q k) then false else true) all_kinds) (λ p. refl) refl p q i) k))
+later_leads {p} q k f ts i = where_none _ (first_is_operand (after q k))
+    (not_if (first_is_operand (after q k)) (every (λ k. if first_is_operand (after q k) then false else true)
+    (every_known (λ p q. list_all (λ k. if first_is_operand (after q k) then false else true) all_kinds) (λ p. refl) refl p q i) k))
 
 -- behind what is missing, and behind a run
 abbrev begins_later : {A : Type 0} → Option (A × Row) → Bool
 begins_later None = false
-begins_later (Some w) = begins_with_operand w.1
+begins_later (Some w) = first_is_operand w.1
 
 missing_leads : {p : SyntaxKind} {q r : Row} {e : Fault} (f : AnnotatedForest) (ts : List Token) → IsKnown p q → missing q ≡ Some (e, r) → Leads r f ts
-missing_leads {p} {q} {r} f ts i m = where_none _ (begins_with_operand r) (sym (ap begins_later m)
+missing_leads {p} {q} {r} f ts i m = where_none _ (first_is_operand r) (sym (ap begins_later m)
     ∙ not_if (begins_later (missing q)) (every_known (λ p q. if begins_later (missing q) then false else true) (λ p. refl) refl p q i))
 
 run_leads : {p : SyntaxKind} {q r : Row} {kinds : List SyntaxKind} (f : AnnotatedForest) (ts : List Token) → IsKnown p q → run_at q ≡ Some (kinds, r)
     → Leads r f ts
-run_leads {p} {q} {r} f ts i m = where_none _ (begins_with_operand r) (sym (ap begins_later m)
+run_leads {p} {q} {r} f ts i m = where_none _ (first_is_operand r) (sym (ap begins_later m)
     ∙ not_if (begins_later (run_at q)) (every_known (λ p q. if begins_later (run_at q) then false else true) (λ p. refl) refl p q i))
 
 -- behind an error node
@@ -94,7 +94,7 @@ wrong_leads DoubleBind d q r ts vs us f i w = absurd w
 wrong_leads TooDeep d q r ts vs us f i w = subst (λ z. Leads z f us) w.3 (later_leads q NODE_LITERAL f us i)
 
 -- the first tree of a node whose row begins so is that of its first child
-first_inside : (k : SyntaxKind) (c f : AnnotatedForest) → begins_with_operand (row k) ≡ true → first_tree (branch k c f) ≡ first_tree c
+first_inside : (k : SyntaxKind) (c f : AnnotatedForest) → first_is_operand (row k) ≡ true → first_tree (branch k c f) ≡ first_tree c
 first_inside NODE_SELECT c f h = refl
 first_inside NODE_HAS_ATTR c f h = refl
 first_inside NODE_APPLY c f h = refl
@@ -102,27 +102,27 @@ first_inside NODE_BIN_OP c f h = refl
 first_inside _ c f h = absurd (true_is_not_false (sym h))
 
 -- an argument that is no operand is the name `or`, whose row does not begin so
-called_or : {A : Type 0} (q : Row) (k : SyntaxKind) (c : AnnotatedForest) → is_argument q ≡ true → begins_with_operand (row k) ≡ true
+called_or : {A : Type 0} (q : Row) (k : SyntaxKind) (c : AnnotatedForest) → is_argument q ≡ true → first_is_operand (row k) ≡ true
     → level_at q (one_branch k c) ≡ None → A
 called_or (Argument · r) k c a e g = by k e g
   where
-    by : {A : Type 0} (k : SyntaxKind) → begins_with_operand (row k) ≡ true → (if is_or_row (one_branch k c) then None else Some selection_level) ≡ None → A
+    by : {A : Type 0} (k : SyntaxKind) → first_is_operand (row k) ≡ true → (if is_or_row (one_branch k c) then None else Some selection_level) ≡ None → A
     by NODE_IDENT e g = absurd (true_is_not_false (sym e))
     by _ e g = absurd (cc)
 called_or _ k c a e g = absurd (true_is_not_false (sym a))
 
 -- where no level is asked for, a node whose row begins so is the first operand of another
 abbrev holds_operands : Row → Bool
-holds_operands q = list_all (λ k. if is_viable (after q k) && begins_with_operand (row k) then begins_with_operand q else true) all_kinds
+holds_operands q = list_all (λ k. if is_viable (after q k) && first_is_operand (row k) then first_is_operand q else true) all_kinds
 
 first_operand : {p : SyntaxKind} (q : Row) (k : SyntaxKind) (c : AnnotatedForest) → IsKnown p q → is_viable (after q k) ≡ true
-    → begins_with_operand (row k) ≡ true
-    → level_at q (one_branch k c) ≡ None → begins_with_operand q ≡ true
+    → first_is_operand (row k) ≡ true
+    → level_at q (one_branch k c) ≡ None → first_is_operand q ≡ true
 first_operand {p} q k c i l e g = by (is_argument q) refl
   where
-    by : (w : Bool) → is_argument q ≡ w → begins_with_operand q ≡ true
+    by : (w : Bool) → is_argument q ≡ w → first_is_operand q ≡ true
     by true a = called_or q k c a e g
-    by false a = implied (λ k. is_viable (after q k) && begins_with_operand (row k)) (λ k. begins_with_operand q)
+    by false a = implied (λ k. is_viable (after q k) && first_is_operand (row k)) (λ k. first_is_operand q)
         (sym (ap (λ w. if w then holds_operands q else true) (ap is_free (sym (level_alone q (one_branch k c) a) ∙ g)))
         ∙ every_known (λ p q. if is_free (level_at q blank) then holds_operands q else true) (λ p. refl) refl p q i) k (and_from _ _ l e)
 
@@ -130,9 +130,9 @@ first_operand {p} q k c i l e g = by (is_argument q) refl
 inner_leads : {p : SyntaxKind} (q : Row) (k : SyntaxKind) (c f : AnnotatedForest) (vs : List Token) → IsKnown p q → is_viable (after q k) ≡ true
     → IsOperandOf (level_at q (one_branch k c)) (one_branch k c) vs
     → Leads q (branch k c f) (tokens_in c ++ vs) → Leads (row k) c (tokens_in c ++ vs)
-inner_leads q k c f vs i l o h = by (begins_with_operand (row k)) refl (level_at q (one_branch k c)) refl o
+inner_leads q k c f vs i l o h = by (first_is_operand (row k)) refl (level_at q (one_branch k c)) refl o
   where
-    by : (w : Bool) → begins_with_operand (row k) ≡ w → (o : Option ℕ) → level_at q (one_branch k c) ≡ o → IsOperandOf o (one_branch k c) vs
+    by : (w : Bool) → first_is_operand (row k) ≡ w → (o : Option ℕ) → level_at q (one_branch k c) ≡ o → IsOperandOf o (one_branch k c) vs
         → Where w (MayLead (first_tree c) (tokens_in c ++ vs))
     by false e o g w = tt
     by true e (Some level) g w =
@@ -140,7 +140,7 @@ inner_leads q k c f vs i l o h = by (begins_with_operand (row k)) refl (level_at
         (subst (λ (j : SyntaxKind). MayLead j (tokens_in (one_branch k c) ++ vs)) (first_inside k c blank e)
         (operand_leads level (one_branch k c) (tokens_in (one_branch k c) ++ vs) w.1))
     by true e None g w =
-        subst (λ (j : SyntaxKind). MayLead j (tokens_in c ++ vs)) (first_inside k c f e) (where_one (begins_with_operand q) (first_operand q k c i l e g) h)
+        subst (λ (j : SyntaxKind). MayLead j (tokens_in c ++ vs)) (first_inside k c f e) (where_one (first_is_operand q) (first_operand q k c i l e g) h)
 
 -- tokens alone, and none of one of the kinds
 abbrev pub AreOthers : List SyntaxKind → AnnotatedForest → Type 0
@@ -154,17 +154,18 @@ others_row until [] h = tt
 others_row until (t ∷ ts) h = (h.0, others_row until ts h.1)
 
 -- a single item where no level is asked for is the first operand of another
-stray_first : {p : SyntaxKind} (q : Row) → IsKnown p q → is_viable (after q NODE_LITERAL) ≡ true → level_at q blank ≡ None → begins_with_operand q ≡ true
-stray_first {p} q i l g = sym (ap (λ w. if w then begins_with_operand q else true) (and_from _ _ l (ap is_free g)))
-    ∙ every_known (λ p q. if is_viable (after q NODE_LITERAL) && is_free (level_at q blank) then begins_with_operand q else true) (λ p. refl) refl p q i
+stray_first : {p : SyntaxKind} (q : Row) → IsKnown p q → is_viable (after q NODE_LITERAL) ≡ true → level_at q blank ≡ None → first_is_operand q ≡ true
+stray_first {p} q i l g = sym (ap (λ w. if w then first_is_operand q else true) (and_from _ _ l (ap is_free g)))
+    ∙ every_known (λ p q. if is_viable (after q NODE_LITERAL) && is_free (level_at q blank) then first_is_operand q else true) (λ p. refl) refl p q i
 
 -- so it begins no operand
 stray_other : {p : SyntaxKind} (q : Row) (ts us : List Token) (f : AnnotatedForest) → IsKnown p q → is_viable (after q NODE_LITERAL) ≡ true → length ts ≡ 1
     → IsOperandOf (level_at q blank) (one_fault Stray (row_of ts)) (tokens_in f ++ us)
-    → Leads q (fault Stray (row_of ts) f) ((tokens_in (row_of ts) ++ tokens_in f) ++ us) → AreOthers operand_kinds (row_of ts)
+    → Leads q (fault Stray (row_of ts) f) ((tokens_in (row_of ts) ++ tokens_in f) ++ us)
+    → AreOthers operand_kinds (row_of ts) × (length (tokens_in (row_of ts)) ≡ 1)
 stray_other q [] us f i l n o h = absurd (omega (arith, n))
 stray_other q (t ∷ (u ∷ ts)) us f i l n o h = absurd (omega (arith, n))
-stray_other q (t ∷ []) us f i l n o h = (by (level_at q blank) refl o, tt)
+stray_other q (t ∷ []) us f i l n o h = ((by (level_at q blank) refl o, tt), refl)
   where
     none : may_lead true t.kind ≡ true → is_one_of operand_kinds t.kind ≡ false
     none e = not_if (is_one_of operand_kinds t.kind) e
@@ -172,12 +173,12 @@ stray_other q (t ∷ []) us f i l n o h = (by (level_at q blank) refl o, tt)
     by : (o : Option ℕ) → level_at q blank ≡ o → IsOperandOf o (one_fault Stray (row_of (t ∷ []))) (tokens_in f ++ us)
         → is_one_of operand_kinds t.kind ≡ false
     by (Some level) e w = none (operand_leads level (one_fault Stray (row_of (t ∷ []))) (t ∷ (tokens_in f ++ us)) w.1)
-    by None e w = none (where_one (begins_with_operand q) (stray_first q i l e) h)
+    by None e w = none (where_one (first_is_operand q) (stray_first q i l e) h)
 
--- In a node of the kind, an error node for an operand or for a run holds others than are wanted; one for what is behind a whole text is in the root, and one
--- for a second name in a pattern.
+-- In a node of the kind, an error node for an operand or for a run holds others than are wanted, and for an operand one; one for what is behind a whole text
+-- is in the root, and one for a second name in a pattern.
 abbrev pub IsFormed : Note → SyntaxKind → AnnotatedForest → Type 0
-IsFormed Stray parent c = AreOthers operand_kinds c
+IsFormed Stray parent c = AreOthers operand_kinds c × (length (tokens_in c) ≡ 1)
 IsFormed (Unwanted until) parent c = AreOthers (wanted_kinds until) c
 IsFormed Extra parent c = parent ≡ NODE_ROOT
 IsFormed DoubleBind parent c = parent ≡ NODE_PATTERN
@@ -234,45 +235,3 @@ forms {q = q} {us = us} (inner {k = k} {c = c} {f = f} o s y x j z t) i l h =
 -- each error node of a whole text
 pub root_forms : {f : AnnotatedForest} {es : List Fault} → ReadsRoot f es → AreFormed NODE_ROOT f
 root_forms s = forms s (known_row NODE_ROOT) refl tt
-
--- no kind of trivia is wanted
-not_trivia : (kinds : List SyntaxKind) → list_all (λ k. if is_trivia k then (if is_one_of kinds k then false else true) else true) all_kinds ≡ true
-    → (k : SyntaxKind) → is_trivia k ≡ true → is_one_of kinds k ≡ false
-not_trivia kinds h k e = not_if (is_one_of kinds k) (implied is_trivia (λ k. if is_one_of kinds k then false else true) h k e)
-
-trivia_unwanted : (until : ExpectedSet) (k : SyntaxKind) → is_trivia k ≡ true → is_one_of (wanted_kinds until) k ≡ false
-trivia_unwanted RParen = not_trivia (wanted_kinds RParen) refl
-trivia_unwanted until = not_trivia (wanted_kinds until) refl
-
--- so trivia between such tokens change nothing
-others_if : (kinds : List SyntaxKind) → ((k : SyntaxKind) → is_trivia k ≡ true → is_one_of kinds k ≡ false) → (w : Bool) (k : SyntaxKind) (t : Token)
-    (f g : AnnotatedForest) → is_trivia t.kind ≡ w → k ≡ t.kind → (AreOthers kinds g → AreOthers kinds f) → AreOthers kinds (token_if w k t g)
-    → (is_one_of kinds k ≡ false) × AreOthers kinds f
-others_if kinds none true k t f g e o more h = (ap (is_one_of kinds) o ∙ none t.kind e, more h)
-others_if kinds none false k t f g e o more h = (h.0, more h.1)
-
-others_with_trivia : (kinds : List SyntaxKind) → ((k : SyntaxKind) → is_trivia k ≡ true → is_one_of kinds k ≡ false) → (c : AnnotatedForest)
-    → HaveLeafKinds NODE_ERROR c → AreOthers kinds (without_trivia c) → AreOthers kinds c
-others_with_trivia kinds none blank o h = tt
-others_with_trivia kinds none (token k t f) o h =
-    others_if kinds none (is_trivia t.kind) k t f (without_trivia f) refl o.0 (others_with_trivia kinds none f o.1) h
-others_with_trivia kinds none _ o h = absurd h
-
-form_with_trivia : (n : Note) (parent : SyntaxKind) (c : AnnotatedForest) → HaveLeafKinds NODE_ERROR c → IsFormed n parent (without_trivia c)
-    → IsFormed n parent c
-form_with_trivia Stray parent c o h = others_with_trivia operand_kinds (not_trivia operand_kinds refl) c o h
-form_with_trivia (Unwanted until) parent c o h = others_with_trivia (wanted_kinds until) (trivia_unwanted until) c o h
-form_with_trivia _ parent c o h = h
-
-formed_if : (w : Bool) (parent k : SyntaxKind) (t : Token) (f : AnnotatedForest) → AreFormed parent (token_if w k t f) → AreFormed parent f
-formed_if true parent k t f h = h
-formed_if false parent k t f h = h
-
--- so it is of a row with its trivia if it is of the row without
-pub forms_with_trivia : (parent : SyntaxKind) (f : AnnotatedForest) → HaveLeafKinds parent f → AreFormed parent (without_trivia f) → AreFormed parent f
-forms_with_trivia parent blank o h = tt
-forms_with_trivia parent (token k t f) o h =
-    forms_with_trivia parent f o.1 (formed_if (is_trivia t.kind) parent k t (without_trivia f) h)
-forms_with_trivia parent (branch k c f) o h = (h.0, forms_with_trivia k c o.0 h.1, forms_with_trivia parent f o.1 h.2)
-forms_with_trivia parent (fault n c f) o h =
-    (form_with_trivia n parent c o.0 h.0, forms_with_trivia NODE_ERROR c o.0 h.1, forms_with_trivia parent f o.1 h.2)

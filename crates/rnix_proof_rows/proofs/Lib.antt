@@ -28,3 +28,5 @@ pub mod RowsWithoutAttrpath
 pub mod NamedRows
 pub mod ErrorNodeRows
 pub mod ErrorForms
+pub mod ErrorFormExamples
+pub mod WithTriviaForms

@@ -4,7 +4,7 @@ use Rattle.{rnix_kinds.specs.{declared.kinds.SyntaxKind.TheVariants.NODE_ROOT, L
 use Rattle.rnix_grammar.specs.{Fault.Fault, AnnotatedForest.{AnnotatedForest, blank, forget, without_trivia}, Repaired.others, Reads.ReadsRoot}
 use Rattle.rnix_grammar.specs.{Parsed.IsParsed, Ranges.{of_nodes, error_nodes, at_fault_from, at_fault, AreErrorsOf}}
 use Rattle.rnix_proof_rows.proofs.{ReadsFilled.{reads_fault_tokens, fault_tokens_without_trivia}, PlacedTokens.{ArePlaced, placed_all}, RowsIn.{IsRowIn, row_of_tree, row_inside}}
-use Rattle.rnix_proof_rows.proofs.{ErrorForms.{root_forms, forms_with_trivia}, ErrorElements.IsSound, ErrorsOfWalk.{node_errors, walk_errors}, OrderedErrors.row_errors}
+use Rattle.rnix_proof_rows.proofs.{ErrorForms.root_forms, WithTriviaForms.forms_with_trivia, ErrorElements.IsSound, ErrorsOfWalk.{node_errors, walk_errors}, OrderedErrors.row_errors}
 
 -- the tree of a forest
 abbrev pub tree_of : AnnotatedForest → Tree
@@ -22,7 +22,7 @@ root_sound {tokens = tokens} h stands = record {
   leaf_kind = h.leaf_kind;
   bare = h.bare;
   marked = fault_tokens_without_trivia h.reading.annotated (reads_fault_tokens stands);
-  formed = forms_with_trivia NODE_ROOT h.reading.annotated h.leaf_kind (root_forms stands);
+  formed = forms_with_trivia NODE_ROOT h.reading.annotated h.leaf_kind h.trimmed (root_forms stands);
 }
 
 -- the elements at fault of a tree are those below its root
