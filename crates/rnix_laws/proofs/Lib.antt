@@ -1,1 +1,2 @@
 pub mod PrefixTexts
+pub mod FewSteps

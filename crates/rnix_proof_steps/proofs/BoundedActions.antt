@@ -9,7 +9,6 @@ use Rattle.rnix_grammar.specs.declared.slot_table.TheConstants.{SLOTS, PATTERN, 
 use Rattle.rnix_grammar.specs.{Slots.slot_at, Actions.{expected_set_of, name_action, attr_action, names_action, pieces_action, piece_action, more_attrs_action, formals_action, end_or_action, bound_action, close_action, is_not, continue_action, may_continue, slot_action, action_at}}
 use Rattle.rnix_proof_lemmas.specs.Measures.{measure}
 use Rattle.rnix_proof_lemmas.proofs.{Basics.choice, EachKind.each_kind, EachIndex.each_index}
-use Rattle.rnix_proof_size.proofs.NodeBounds.{both_answers}
 use Rattle.rnix_proof_steps.proofs.StepBounds.{are_at_most, AreAtMost, they_are, last, closing_in, closing_next, behind_path, operand, closes, moves, pushes, opens, reads, applies}
 use Rattle.rnix_grammar.specs.declared.position.Position.TheVariants as p
 use Rattle.rnix_grammar.specs.declared.rules.Part.TheVariants as r
@@ -144,15 +143,19 @@ past_end i e d = subst (λ s. EachAction (λ action. keeps (p.Left i) action ≡
 keeps_at : (i : ℕ) → KeepsAt i
 keeps_at = each_index KeepsAt (assumption) past_end
 
+-- the operand behind an operator
+behind_operator : (level : ℕ) (any : Bool)
+    → (are_at_most (reads false any false (p.Right level) (p.Left BIN_OP_END)) && are_at_most (reads true any false (p.Right level) (p.Left BIN_OP_END))) ≡ true
+behind_operator level true = refl
+behind_operator level false = refl
+
 -- so at each position
 kept : (x : Position) (kind : SyntaxKind) (touches : Bool) → keeps x (action_at x (Some kind) touches) ≡ true
 kept (p.Left i) kind touches = acted (λ action. keeps (p.Left i) action ≡ true) (slot_at i) i kind touches (keeps_at i)
 kept (p.AfterOperand min_bp max_bp) kind touches =
     choice (λ action. keeps (p.AfterOperand min_bp max_bp) action ≡ true) (may_continue min_bp max_bp kind)
     (every (λ k. keeps (p.AfterOperand min_bp max_bp) (continue_action k)) refl kind) refl
-kept (p.Right level) kind touches =
-    both_answers (λ any. are_at_most (reads false any false (p.Right level) (p.Left BIN_OP_END))
-    && are_at_most (reads true any false (p.Right level) (p.Left BIN_OP_END))) refl (nat_eq level 0)
+kept (p.Right level) kind touches = behind_operator level (nat_eq level 0)
 
 kept_by : (levels : Bool) (x : Position) (action : Action) → keeps x action ≡ true → AreAtMost (bounds levels x action)
 kept_by false x action h = they_are (bounds false x action) (and_parts (are_at_most (bounds false x action)) (are_at_most (bounds true x action)) h).0

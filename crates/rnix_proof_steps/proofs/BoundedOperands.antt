@@ -6,7 +6,6 @@ use Rattle.rnix_kinds.specs.declared.kinds.SyntaxKind.TheVariants.{TOKEN_L_PAREN
 use Rattle.rnix_grammar.specs.declared.{begin.Begin.Begin, slot_table.TheConstants.{PAREN, LIST, SET, REC_SET, STRING, PATH_ABS, PATH_REL, PATH_HOME, WITH, ASSERT, IF_ELSE, INVERSION, NEGATION, LEGACY_LET, LAMBDA, BOUND_PATTERN, PATTERN}}
 use Rattle.rnix_grammar.specs.{Tables.is_cur_pos, Begins.{is_pattern, begin_name, begin_let, begin_of}}
 use Rattle.rnix_proof_lemmas.proofs.Basics.{choice}
-use Rattle.rnix_proof_size.proofs.NodeBounds.{both_answers}
 use Rattle.rnix_proof_steps.proofs.StepBounds.{per_item, are_at_most, AreAtMost, they_are, one_frame, two_frames, three_frames}
 use Rattle.rnix_grammar.specs.declared.position.Position.TheVariants as p
 use Rattle.rnix_grammar.specs.declared.begin.Begin.TheVariants as b
@@ -26,7 +25,8 @@ fits any begin = are_at_most (begun_bounds false any begin) && are_at_most (begu
 
 -- what fits at each level
 anywhere : (begin : Begin) → (fits false begin && fits true begin) ≡ true → (any : Bool) → fits any begin ≡ true
-anywhere begin h any = both_answers (λ any. fits any begin) h any
+anywhere begin h true = (and_parts (fits false begin) (fits true begin) h).1
+anywhere begin h false = (and_parts (fits false begin) (fits true begin) h).0
 
 -- what begins at the lowest level alone
 at_lowest : (begin : Begin) → fits true begin ≡ true → (any : Bool) → fits any (if any then begin else b.Stray) ≡ true

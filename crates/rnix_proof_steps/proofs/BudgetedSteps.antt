@@ -6,15 +6,20 @@ use Rattle.rnix_grammar.specs.{Fault.Fault, Tables.{stops, is_wanted, depth_limi
 use Rattle.rnix_grammar.specs.{AnnotatedForest.{Token, AnnotatedForest, blank, head_kind, touches}, Layout.{items, tail_of}}
 use Rattle.rnix_proof_lemmas.specs.Machine.{Head, Node, Operand, Frame, Machine, put, opened, with_leading, after_item, run_rest, dropped, min_bp_of, closed as completed}
 use Rattle.rnix_proof_lemmas.specs.Machine.{entry_closed, limited, operand_on, reading, perform}
-use Rattle.rnix_proof_lemmas.specs.{Measures.measure, FrameKinds.{IsStackedOn, frame_kind}, Allowed.{Allowed, IsNext, is_there}}
+use Rattle.rnix_proof_lemmas.specs.{Measures.measure, FrameKinds.{FrameKind, Root, IsStackedOn, frame_kind}, Allowed.{Allowed, IsNext, is_there}}
 use Rattle.rnix_proof_lemmas.proofs.{Basics.true_is_not_false, AllowedLemmas.allowed, StackedFrames.begin_inner, LayoutLemmas.items-from_item}
 use Rattle.rnix_proof_lemmas.proofs.{UnwantedRuns.{dropped_all, run_begins}, WithoutTriviaLemmas.{items_behind, run_prefix, all_prefix, run_bared}}
-use Rattle.rnix_reader.{specs.Performed.is_finish, proofs.FrameKindLemmas.is_root}
-use Rattle.rnix_proof_steps.proofs.StepBounds.{per_item, per_level, room, room_inside, held, closing, last, AreAtMost, closes, operand, operand_last, operand_closed, reads, applies}
+use Rattle.rnix_proof_steps.specs.StepCount.{is_finish}
+use Rattle.rnix_proof_steps.proofs.StepBounds.{per_item, per_level, room, room_inside, held, closing, last, AreAtMost, closes, operand, operand_closed, reads, applies}
 use Rattle.rnix_proof_steps.proofs.{BoundedActions.{bounds, bounded}, BoundedOperands.begun_bounded, Budgets.{ends, pays, IsEnough, Enough, measure_some, closed_enough, moved_enough, pushed_enough, opened_enough}}
 use Rattle.rnix_proof_steps.proofs.BudgetedOperands.{Awaits, begun_enough}
 use Rattle.rnix_grammar.specs.declared.position.Position.TheVariants as p
 use Rattle.rnix_grammar.specs.declared.action.Action.TheVariants as a
+
+-- the root's places
+abbrev pub is_root : FrameKind → Bool
+is_root Root = true
+is_root s = false
 
 -- a run takes an item at least
 dropped_pays : (levels : Bool) (run us : List Token) → pays levels (dropped run us) ≤ pays levels us

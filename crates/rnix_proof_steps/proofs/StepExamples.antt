@@ -1,20 +1,15 @@
 -- How many steps some texts need, by computation: the first three as many as they may.
-use Rattle.std.proofs.Common.{◌≡◌, ℕ, zero, suc, Bool, true, false, List, [], ◌∷◌, if◌then◌else◌, codes, refl}
+use Rattle.std.proofs.Common.{◌≡◌, ℕ, zero, suc, true, List, [], ◌∷◌, if◌then◌else◌, codes, refl}
 use Rattle.rnix_kinds.specs.Lexical.Tokens.{Lexeme}
 use Rattle.rnix_kinds.specs.declared.kinds.SyntaxKind.TheVariants.{TOKEN_WHITESPACE, TOKEN_LET, TOKEN_INTERPOL_START, TOKEN_STRING_START, TOKEN_IDENT, TOKEN_PATH_REL}
-use Rattle.rnix_grammar.specs.{AnnotatedForest.{Token, placed_from, head_kind}, Layout.items, Actions.action_at}
-use Rattle.rnix_proof_lemmas.specs.Machine.{Frame, Machine, begins, step}
-use Rattle.rnix_reader.specs.Performed.{is_finish}
-
--- the root is complete
-abbrev is_finished : List Frame → List Token → Bool
-is_finished [] ts = false
-is_finished (f ∷ fs) ts = is_finish (action_at f.position (head_kind (items ts)) false)
+use Rattle.rnix_grammar.specs.AnnotatedForest.{placed_from}
+use Rattle.rnix_proof_lemmas.specs.Machine.{Machine, begins, step}
+use Rattle.rnix_proof_steps.specs.StepCount.{is_finished}
 
 -- the steps of a machine until the root is complete, or so many
 abbrev steps_until : ℕ → Machine → ℕ
 steps_until zero m = 0
-steps_until (suc n) m = if is_finished m.frames m.left then 0 else suc (steps_until n (step true m))
+steps_until (suc n) m = if is_finished true m then 0 else suc (steps_until n (step true m))
 
 abbrev steps_for : List Lexeme → ℕ
 steps_for tokens = steps_until 100 (begins (placed_from 0 tokens))

@@ -7,7 +7,8 @@ use Rattle.rnix_proof_lemmas.specs.Document.{IsRead}
 use Rattle.rnix_grammar.specs.AnnotatedForest.{Token, placed_from, forget, head_kind}
 use Rattle.rnix_proof_lemmas.specs.Allowed.{Allowed}
 use Rattle.rnix_proof_lemmas.specs.FrameKinds.{frame_kind, IsStackedOn}
-use Rattle.rnix_proof_lemmas.specs.Machine.{Frame, Machine, machine, begins, with_leading, Runs}
+use Rattle.rnix_proof_lemmas.specs.Machine.{Frame, Machine, machine, begins, with_leading}
+use Rattle.rnix_proof_steps.specs.StepCount.{ComesIn}
 use Rattle.{rnix_proof_lemmas.proofs.StackedFrames.{head_root, root_alone}, rnix_reader.specs.{declared.mark.Mark.Mark, State.{State, pushed}, Erase.{erase, mark_at}, Holds.{IsReadTo, IsThrough}}}
 use Rattle.rnix_reader.proofs.{FrameKindLemmas.head_sort, StateLemmas.state_is, SkippedRuns.no_items}
 use Rattle.rnix_grammar.specs.declared.position.Position.TheVariants as p
@@ -42,11 +43,13 @@ tree_is_node t f e =
     ∙ ap (λ x. let y : Tree = record { kind = NODE_ROOT; children = x } in y) trees
 
 -- at the end of the text the root alone is open
-abbrev pub root_through : {from : Machine} (f : Frame) (fs : List Frame) (ts : List Token) (n : ℕ) (es : List Fault) → Runs true from (machine (f ∷ fs) ts n es)
+abbrev pub root_through : {steps : ℕ} {from : Machine} (f : Frame) (fs : List Frame) (ts : List Token) (n : ℕ) (es : List Fault)
+    → ComesIn steps from (machine (f ∷ fs) ts n es)
     → IsStackedOn f.head f.position fs → Allowed f.position (head_kind (items ts)) a.Finish → IsThrough from
-root_through f fs ts n es runs fit ends = record {
+root_through {steps} {from} f fs ts n es comes fit ends = record {
   last = machine (f ∷ fs) ts n es;
-  runs = runs;
+  steps = steps;
+  comes = comes;
   root = f;
   alone = ap (λ x. f ∷ x) (root_alone f.head f.position fs fit (ap frame_kind ends.0));
   head = head_root f.head (head_sort f.head f.position fs fit ∙ ap frame_kind ends.0);
@@ -60,7 +63,7 @@ pub read_of : (ls : List Lexeme) (t : IsThrough (begins (placed_from 0 ls))) (tr
 read_of ls t tree faults e f = record {
   root = t.root;
   last = t.last;
-  runs = t.runs;
+  runs = t.comes.runs;
   alone = t.alone;
   head = t.head;
   position = t.position;
@@ -70,10 +73,10 @@ read_of ls t tree faults e f = record {
 }
 
 -- and so with what the reader holds
-pub read_made : (ls : List Lexeme) (ts : List Token) (s : State) (tree : Tree) → ts ≡ placed_from 0 ls → IsReadTo ts s → forest_of tree ≡ s.trees
-    → IsRead ls tree s.faults
-read_made ls ts s tree e r t =
-    let all : IsReadTo (placed_from 0 ls) s = subst (λ x. IsReadTo x s) e r in
+pub read_made : {Counted : ℕ → Type 0} (ls : List Lexeme) (ts : List Token) (s : State) (tree : Tree) → ts ≡ placed_from 0 ls → IsReadTo Counted ts s
+    → forest_of tree ≡ s.trees → IsRead ls tree s.faults
+read_made {Counted} ls ts s tree e r t =
+    let all : IsReadTo Counted (placed_from 0 ls) s = subst (λ x. IsReadTo Counted x s) e r in
     read_of ls all.through tree s.faults (tree_is_node tree (forget (with_leading true all.through.root.row all.through.last.left)) (t ∙ all.trees)) all.faults
 
 -- one more mark leaves the tokens

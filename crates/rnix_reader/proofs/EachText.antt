@@ -1,5 +1,5 @@
 -- The steps read each list of tokens to its end.
-use Rattle.std.proofs.Common.{◌≡◌, ◌<◌, ℕ, zero, suc, Bool, true, false, List, [], ◌∷◌, refl, sym, subst, arith}
+use Rattle.std.proofs.Common.{◌≡◌, ◌<◌, ◌+◌, ℕ, zero, suc, Bool, true, false, List, [], ◌∷◌, refl, sym, subst, arith}
 use Rattle.{rnix_kinds.specs.{declared.kinds.SyntaxKind.TheVariants.NODE_ROOT, Lexical.Tokens.Lexeme}, rnix_green.specs.Tree.Tree}
 use Rattle.rnix_grammar.specs.{declared.action.Action.Action, Fault.Fault, AnnotatedForest.{Token, placed_from, forget, head_kind, touches}, Layout.items}
 use Rattle.rnix_grammar.specs.Actions.{action_at}
@@ -9,9 +9,9 @@ use Rattle.rnix_proof_lemmas.specs.Machine.{rest as here}
 use Rattle.rnix_proof_lemmas.proofs.Basics.{true_is_not_false}
 use Rattle.rnix_proof_lemmas.specs.Allowed.{Allowed}
 use Rattle.rnix_proof_lemmas.specs.Document.{IsRead}
-use Rattle.rnix_proof_lemmas.specs.Machine.{then as further}
 use Rattle.rnix_proof_lemmas.proofs.{StackedFrames.{step_stacked, begins_stacked}, AllowedLemmas.allowed}
-use Rattle.rnix_reader.{specs.{Performed.is_finish, Holds.IsThrough}, proofs.{DocumentLemmas.{root_through, read_of}, WorkLemmas.{cost_of, perform_less}}}
+use Rattle.rnix_proof_steps.{specs.StepCount.is_finish, proofs.BudgetedRuns.comes_before}
+use Rattle.rnix_reader.{specs.Holds.IsThrough, proofs.{DocumentLemmas.{root_through, read_of}, WorkLemmas.{cost_of, perform_less}}}
 use Rattle.rnix_grammar.specs.declared.action.Action.TheVariants as a
 
 finish_is : (action : Action) → is_finish action ≡ true → action ≡ a.Finish
@@ -39,14 +39,15 @@ through (suc c) (f ∷ fs) ts n es l k = by (λ hs us m gs x y. through c hs us 
     by again true e =
         let ends : Allowed f.position (head_kind (items ts)) a.Finish =
         subst (λ (x : Action). Allowed f.position (head_kind (items ts)) x) (finish_is action e) may in
-        root_through f fs ts n es here k ends
+        root_through f fs ts n es (record { runs = here; needed = tt; count = refl }) k ends
     by again false e =
         let less : cost_of next < cost_of (machine (f ∷ fs) ts n es) = perform_less f fs ts n es k action may e in
         let rest : IsThrough next =
         again next.frames next.left next.prev_end next.faults (omega (arith, less, l)) (step_stacked true (machine (f ∷ fs) ts n es) k) in
         record {
           last = rest.last;
-          runs = further rest.runs;
+          steps = rest.steps + 1;
+          comes = comes_before rest.steps (machine (f ∷ fs) ts n es) rest.last e rest.comes;
           root = rest.root;
           alone = rest.alone;
           head = rest.head;
@@ -54,14 +55,13 @@ through (suc c) (f ∷ fs) ts n es l k = by (λ hs us m gs x y. through c hs us 
           nothing = rest.nothing;
         }
 
--- each list of tokens is read as a tree with errors
-pub each_read : (ls : List Lexeme) → (tree : Tree) × ((faults : List Fault) × IsRead ls tree faults)
-each_read ls = by (through (suc (cost_of (begins ts))) (begins ts).frames ts 0 [] (omega arith) (begins_stacked ts))
-  where
-    ts : List Token
-    ts = placed_from 0 ls
+-- each list of tokens is read to its end
+pub each_through : (ts : List Token) → IsThrough (begins ts)
+each_through ts = through (suc (cost_of (begins ts))) (begins ts).frames ts 0 [] (omega arith) (begins_stacked ts)
 
-    by : IsThrough (begins ts) → (tree : Tree) × ((faults : List Fault) × IsRead ls tree faults)
-    by t =
-        let tree : Tree = record { kind = NODE_ROOT; children = forget (with_leading true t.root.row t.last.left) } in
-        (tree, (t.last.faults, read_of ls t tree t.last.faults refl refl))
+-- as a tree with errors
+pub each_read : (ls : List Lexeme) → (tree : Tree) × ((faults : List Fault) × IsRead ls tree faults)
+each_read ls =
+    let t : IsThrough (begins (placed_from 0 ls)) = each_through (placed_from 0 ls) in
+    let tree : Tree = record { kind = NODE_ROOT; children = forget (with_leading true t.root.row t.last.left) } in
+    (tree, (t.last.faults, read_of ls t tree t.last.faults refl refl))

@@ -8,7 +8,7 @@ use Rattle.rnix_proof_lemmas.specs.Machine.{Node, Frame, machine, closed, perfor
 use Rattle.{rnix_proof_lemmas.proofs.Basics.true_is_not_false, rnix_reader.specs.{declared.pattern_names.{NameSet.NameSet, Names.Names}, PatternNames.{has_name, entries_in}}}
 use Rattle.rnix_reader.specs.{PatternNames.{entry_at, EntryClosed, Entered}, State.{State, ended, failed}, Erase.{erase, popped}, Performed.{EntryReported, reported_if}}
 use Rattle.rnix_reader.{specs.Holds.{IsBegun, AreNamed, named_by, name_of, entries_of, TopSet, AreOpenSets, AreOpenSetsOn}, proofs.{EraseLemmas.closes, FrameKindLemmas.is_operand_frame}}
-use Rattle.rnix_reader.proofs.FrameKindLemmas.{is_root, head_sort, head_entry, head_pattern, holds_entry}
+use Rattle.{rnix_proof_steps.proofs.BudgetedSteps.is_root, rnix_reader.proofs.FrameKindLemmas.{head_sort, head_entry, head_pattern, holds_entry}}
 use Rattle.rnix_grammar.specs.declared.action.Action.TheVariants as a
 
 -- a pattern has the last of the sets

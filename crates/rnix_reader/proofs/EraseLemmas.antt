@@ -7,7 +7,8 @@ use Rattle.rnix_proof_lemmas.specs.Machine.{Head, Node, SecondBind, Operand, Fra
 use Rattle.rnix_proof_lemmas.proofs.{Basics.true_is_not_false, LayoutLemmas.{from_item-from_item, items-from_item}, AnnotatedForestLemmas.forget-⊕}
 use Rattle.rnix_proof_lemmas.specs.FrameKinds.{OperandFrame, frame_kind, frame_kind_of_head, IsStackedOn}
 use Rattle.rnix_reader.specs.{declared.mark.Mark.Mark, State.{State, eaten, taken, bumped, skipped, started_here, started, started_at, ended, failed, pushed}}
-use Rattle.rnix_reader.{specs.{Erase.{trees_of, marks_of, mark_at, erase, erase_with, popped}, FrameSteps.{node_here, operand_here, leaf_node_made}, Reported.error_over}, proofs.FrameKindLemmas.{is_operand_frame, is_root, node_not_operand, head_operand}}
+use Rattle.rnix_reader.{specs.{Erase.{trees_of, marks_of, mark_at, erase, erase_with, popped}, FrameSteps.{node_here, operand_here, leaf_node_made}, Reported.error_over}, proofs.FrameKindLemmas.{is_operand_frame, node_not_operand, head_operand}}
+use Rattle.rnix_proof_steps.proofs.BudgetedSteps.{is_root}
 use Rattle.rnix_reader.proofs.StateLemmas.{state_is, eaten-settled}
 
 -- more in a row

@@ -3,16 +3,11 @@ use Rattle.{std.proofs.Common.{◌≡◌, Bool, true, false, List, [], ◌∷◌
 use Rattle.rnix_kinds.specs.declared.kinds.SyntaxKind.TheVariants.{NODE_ROOT, NODE_IDENT, NODE_CUR_POS, NODE_PATTERN, NODE_PAT_ENTRY}
 use Rattle.rnix_grammar.specs.{declared.position.Position.Position, AnnotatedForest.{Token, one_token, leaf_kind_as}}
 use Rattle.rnix_proof_lemmas.specs.Machine.{Head, Node, SecondBind, Operand, Frame}
-use Rattle.rnix_proof_lemmas.specs.FrameKinds.{FrameKind, Root, Pattern, Entry, SecondBindFrame, OperandFrame, Name, frame_kind, frame_kind_in, frame_kind_of_head, frame_kind_of_node}
+use Rattle.rnix_proof_lemmas.specs.FrameKinds.{FrameKind, Pattern, Entry, SecondBindFrame, OperandFrame, Name, frame_kind, frame_kind_in, frame_kind_of_head, frame_kind_of_node}
 use Rattle.rnix_proof_lemmas.specs.Machine.{kind_of, leaf_in}
 use Rattle.rnix_proof_lemmas.proofs.{Basics.true_is_not_false, EachIndex.each_index}
 use Rattle.rnix_proof_lemmas.specs.FrameKinds.{may_hold, IsStackedOn}
 use Rattle.rnix_grammar.specs.declared.position.Position.TheVariants as p
-
--- the root's places
-abbrev pub is_root : FrameKind → Bool
-is_root Root = true
-is_root s = false
 
 -- those of a pattern
 abbrev pub is_pattern : FrameKind → Bool

@@ -1,5 +1,5 @@
 -- Reading step by step: the machine goes with the reader.
-use Rattle.std.proofs.{Common.{◌≡◌, ◌<◌, ℕ, Bool, true, false, Option, Some, None, List, [], ◌∷◌, ◌++◌, length, refl, ap, sym, ◌∙◌, subst, arith}, lemmas.List.same_from_push}
+use Rattle.std.proofs.{Common.{◌≡◌, ◌<◌, ◌+◌, ℕ, true, false, Option, Some, None, List, [], ◌∷◌, ◌++◌, length, refl, ap, sym, ◌∙◌, subst, arith}, lemmas.List.same_from_push}
 use Rattle.{std.{proofs.lemmas.Bool.false≢true, specs.Prelude.if◌then◌else◌}, rnix_kinds.specs.declared.kinds.{SyntaxKind.SyntaxKind, SyntaxKind.TheVariants.TOKEN_DOT}}
 use Rattle.{rnix_kinds.specs.declared.kinds.SyntaxKind.TheVariants.NODE_ROOT, rnix_green.specs.{Forest.{empty, node}, Draft.wrapped-join}}
 use Rattle.rnix_grammar.specs.{declared.{slot_table.TheConstants.ROOT, action.Action.Action, position.Position.Position}, AnnotatedForest.{Token, AnnotatedForest, blank}}
@@ -7,31 +7,30 @@ use Rattle.rnix_grammar.specs.Actions.{continue_action, may_continue, more_actio
 use Rattle.rnix_grammar.specs.{AnnotatedForest.{forget, head_kind, touches}, Layout.{items, from_item}, Fault.Fault}
 use Rattle.rnix_proof_lemmas.specs.Allowed.{Allowed}
 use Rattle.rnix_proof_lemmas.specs.FrameKinds.{AreStacked}
-use Rattle.rnix_proof_lemmas.specs.Machine.{Head, Node, Machine, opened, with_leading, machine, begins, step, Runs}
-use Rattle.rnix_proof_lemmas.specs.Machine.{rest as here, then as further}
+use Rattle.rnix_proof_lemmas.specs.Machine.{Head, Node, Machine, opened, with_leading, machine, begins, step}
+use Rattle.rnix_proof_lemmas.specs.Machine.{rest as here}
+use Rattle.rnix_proof_steps.{specs.StepCount.{is_finish, ComesIn}, proofs.BudgetedRuns.{comes_on, by_items, by_levels}}
 use Rattle.{rnix_proof_lemmas.proofs.{StackedFrames.step_stacked, AllowedLemmas.allowed}, rnix_reader.specs.declared.mark.Mark.Mark}
 use Rattle.rnix_reader.specs.{declared.pattern_names.Names.Names, Placed.AreInOrder, PatternNames.entries_in, State.{State, items_left, with_marks, eaten, ended}, Erase.marks_of}
 use Rattle.rnix_reader.specs.{Erase.{mark_of, erase, erase_with, popped}, Holds.{IsGoing, IsThrough, IsReadTo, work}, Performed.{Performed, NamesAfter, IsReady}}
-use Rattle.rnix_reader.{specs.Performed.{action_of, is_continuation, is_finish}, proofs.{StateLemmas.state_is, DocumentLemmas.root_through, EraseLemmas.erase-eaten}}
+use Rattle.rnix_reader.{specs.Performed.{action_of, is_continuation}, proofs.{StateLemmas.state_is, DocumentLemmas.root_through, EraseLemmas.erase-eaten}}
 use Rattle.rnix_reader.proofs.{StepsOfReader.{ready, performs}, GoesLemmas.Goes, PerformLemmas.perform_goes, WorkLemmas.{work_is, perform_less}}
 use Rattle.rnix_grammar.specs.declared.position.Position.TheVariants as p
 use Rattle.rnix_grammar.specs.declared.action.Action.TheVariants as a
 
--- one more step
-runs_on : (trivia : Bool) (a m : Machine) → Runs trivia a m → Runs trivia a (step trivia m)
-runs_on trivia a m here = further here
-runs_on trivia a m (further r) = further (runs_on trivia (step trivia a) m r)
-
 -- the text is about to be read
-pub starts : (s : State) (names : Names) → s ≡ erase (begins s.rest) → AreInOrder 0 s.rest → names.sets.items ≡ [] → entries_in names ≡ []
-    → IsGoing s.rest s names
-starts s names e o k t = record {
+pub starts : (Counted : ℕ → Type 0) (s : State) (names : Names) → Counted 0 → s ≡ erase (begins s.rest) → AreInOrder 0 s.rest
+    → names.sets.items ≡ [] → entries_in names ≡ []
+    → IsGoing Counted s.rest s names
+starts Counted s names n e o k t = record {
+  steps = 0;
+  counted = n;
   top = opened (Node NODE_ROOT) (p.Left ROOT) 0 blank;
   under = [];
   left = s.rest;
   prev_end = 0;
   faults = [];
-  runs = here;
+  comes = record { runs = here; needed = tt; count = refl };
   state = e;
   well = record { fit = (refl, refl); range = tt; order = o };
   named = record { begun = (tt, tt); sets = k; entries = t };
@@ -74,14 +73,14 @@ unfolding ended
 root_ended h position d row ts n es e = rw e (state_is refl (wrapped-join NODE_ROOT empty (forget row)) refl refl refl refl)
 
 -- what follows where the innermost mark is taken: an action may be performed, and it leaves less to do, or the text is read
-pub record Turn (first : List Token) (s : State) (names : Names) (mark : Mark) (s1 : State) (action : Action) : Type 0 where
+pub record Turn (Counted : ℕ → Type 0) (steps : ℕ) (first : List Token) (s : State) (names : Names) (mark : Mark) (s1 : State) (action : Action) : Type 0 where
   pub ready : IsReady action mark s1 names
-  pub goes : (s' : State) (names' : Names) → (action ≡ a.Finish → ⊥) → Performed action mark s1 names s' names' → NamesAfter action mark s1 names names'
-      → IsGoing first s' names' × (work s' < work s)
+  pub goes : Counted (steps + 1) → (s' : State) (names' : Names) → (action ≡ a.Finish → ⊥) → Performed action mark s1 names s' names'
+      → NamesAfter action mark s1 names names' → IsGoing Counted first s' names' × (work s' < work s)
   pub root : action ≡ a.Finish → 0 < length s1.open_nodes
-  pub finished : (s' : State) → action ≡ a.Finish → s' ≡ ended (eaten s1) → IsReadTo first s'
+  pub finished : Counted (steps + 1) → (s' : State) → action ≡ a.Finish → s' ≡ ended (eaten s1) → IsReadTo Counted first s'
 
-module _ {first : List Token} {s : State} {names : Names} (g : IsGoing first s names) where
+module _ {Before : ℕ → Type 0} {first : List Token} {s : State} {names : Names} (g : IsGoing Before first s names) (Counted : ℕ → Type 0) where
   abbrev before : Machine
   before = machine (g.top ∷ g.under) g.left g.prev_end g.faults
 
@@ -92,9 +91,10 @@ module _ {first : List Token} {s : State} {names : Names} (g : IsGoing first s n
   may = allowed g.top.position (head_kind (items g.left)) (touches g.prev_end (items g.left))
 
   -- a step is taken
-  going : (s' : State) (names' : Names) → (action ≡ a.Finish → ⊥) → Performed action (mark_of g.top g.under) (popped before) names s' names'
-      → NamesAfter action (mark_of g.top g.under) (popped before) names names' → IsGoing first s' names' × (work s' < work s)
-  going s' names' other d k =
+  going : Counted (g.steps + 1) → (s' : State) (names' : Names) → (action ≡ a.Finish → ⊥)
+      → Performed action (mark_of g.top g.under) (popped before) names s' names'
+      → NamesAfter action (mark_of g.top g.under) (popped before) names names' → IsGoing Counted first s' names' × (work s' < work s)
+  going n s' names' other d k =
       let q : is_finish action ≡ false = not_finish action other in
       let after : Machine = step true before in
       let done : Goes after names' = perform_goes g.top g.under g.left g.prev_end names g.named g.well action g.faults names' may q k in
@@ -102,12 +102,14 @@ module _ {first : List Token} {s : State} {names : Names} (g : IsGoing first s n
       ap (λ x. machine x after.left after.prev_end after.faults) done.frames in
       let state : s' ≡ erase after = performs g.top g.under g.left g.prev_end g.faults names g.well action s' names' g.named may q d in (
         record {
+          steps = g.steps + 1;
+          counted = n;
           top = done.top;
           under = done.under;
           left = after.left;
           prev_end = after.prev_end;
           faults = after.faults;
-          runs = subst (Runs true (begins first)) whole (runs_on true (begins first) before g.runs);
+          comes = subst (ComesIn (g.steps + 1) (begins first)) whole (comes_on g.steps (begins first) before g.comes q);
           state = state ∙ ap erase whole;
           well = record { fit = subst AreStacked done.frames (step_stacked true before g.well.fit); range = done.range; order = done.order };
           named = done.named;
@@ -121,23 +123,38 @@ module _ {first : List Token} {s : State} {names : Names} (g : IsGoing first s n
       )
 
   -- the text is read
-  read : (s' : State) → action ≡ a.Finish → s' ≡ ended (eaten (popped before)) → IsReadTo first s'
-  read s' q e =
+  read : Counted (g.steps + 1) → (s' : State) → action ≡ a.Finish → s' ≡ ended (eaten (popped before)) → IsReadTo Counted first s'
+  read n s' q e =
       let end : Allowed g.top.position (head_kind (items g.left)) a.Finish = subst (Allowed g.top.position (head_kind (items g.left))) q may in
-      let through : IsThrough (begins first) = root_through g.top g.under g.left g.prev_end g.faults g.runs g.well.fit end in
+      let through : IsThrough (begins first) = root_through g.top g.under g.left g.prev_end g.faults g.comes g.well.fit end in
       let state = e ∙ ap (λ x. ended (eaten (popped (machine x g.left g.prev_end g.faults)))) through.alone
       ∙ ap ended (erase-eaten [] g.top [] g.left g.prev_end g.faults)
       ∙ root_ended g.top.head g.top.position g.top.depth (with_leading true g.top.row g.left) (from_item g.left) g.prev_end g.faults through.head in
-      record { through = through; trees = ap (λ x. x.trees) state; nodes = ap (λ x. x.open_nodes) state; faults = ap (λ x. x.faults) state }
+      record {
+        through = through;
+        turns = g.steps + 1;
+        counted = n;
+        each_step = refl;
+        few = omega (arith, by_items g.steps first before g.comes);
+        few_in_levels = omega (arith, by_levels g.steps first before g.comes);
+        trees = ap (λ x. x.trees) state;
+        nodes = ap (λ x. x.open_nodes) state;
+        faults = ap (λ x. x.faults) state;
+      }
 
-  concrete : Turn first s names (mark_of g.top g.under) (popped before) action
+  concrete : Turn Counted g.steps first s names (mark_of g.top g.under) (popped before) action
   concrete =
       let needs : IsReady action (mark_of g.top g.under) (popped before) names = ready g.top g.under g.left g.prev_end g.faults names g.well action may in
-      record { ready = needs; goes = going; root = λ e. subst (λ x. IsReady x (mark_of g.top g.under) (popped before) names) e needs; finished = read }
+      record {
+        ready = needs;
+        goes = going;
+        root = λ e. subst (λ x. IsReady x (mark_of g.top g.under) (popped before) names) e needs;
+        finished = read;
+      }
 
   -- so it is for the mark that is taken
   pub turn : (ms : List Mark) (mark : Mark) (x : Action) → s.marks ≡ ms ++ mark ∷ [] → x ≡ action_of mark.position (with_marks ms s)
-      → Turn first s names mark (with_marks ms s) x
+      → Turn Counted g.steps first s names mark (with_marks ms s) x
   turn ms mark x e k =
       let two = same_from_push ms (marks_of g.under) mark (mark_of g.top g.under) (sym e ∙ ap (λ x. x.marks) g.state) in
       let same : with_marks ms s ≡ popped before = ap (with_marks ms) g.state ∙ ap (λ x. with_marks x (erase before)) two.0 in

@@ -14,7 +14,8 @@ use Rattle.rnix_proof_lemmas.specs.Allowed.{is_there}
 use Rattle.rnix_proof_lemmas.proofs.{WithoutTriviaLemmas.{leaf_without_trivia, item_end_items, run_prefix, all_prefix, run_bared}, LayoutLemmas.first_item}
 use Rattle.{rnix_proof_lemmas.proofs.LayoutLemmas.without_trivia-trivia, rnix_reader.specs.{declared.pattern_names.Names.Names, PatternNames.{PatternClosed, EntryClosed, EntryNamed}}}
 use Rattle.rnix_reader.specs.{Placed.AreInOrder, Erase.{mark_of, popped}, State.{pushed, started_at}, Holds.{IsBegun, AreNamed, IsWell}, Performed.NamesAfter}
-use Rattle.rnix_reader.{specs.Performed.{DoubleBindOpened, is_finish}, proofs.{FrameKindLemmas.{head_operand, is_root, head_sort, head_pattern}, EntryLemmas.entry_there}}
+use Rattle.rnix_proof_steps.{specs.StepCount.is_finish, proofs.BudgetedSteps.is_root}
+use Rattle.rnix_reader.{specs.Performed.DoubleBindOpened, proofs.{FrameKindLemmas.{head_operand, head_sort, head_pattern}, EntryLemmas.entry_there}}
 use Rattle.rnix_reader.proofs.{OrderLemmas.{order_from, order_behind, reach_least, order_run, order_all}, RowLemmas.{HasNoEntry, no_entry_leaf, no_entry_fault}}
 use Rattle.rnix_reader.proofs.{RowLemmas.{begun_more, range_more}, OpenNames.{has_no_names, moved_on, grow_trivia, grow_behind, push_node, push_second, push_entry}}
 use Rattle.rnix_reader.proofs.{OpenNames.{instead, pop, pop_pattern, pop_entry}, GoesLemmas.{Goes, goes, goes_open, holder_open, stays, reading_goes}}

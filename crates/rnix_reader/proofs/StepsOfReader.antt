@@ -10,8 +10,9 @@ use Rattle.rnix_proof_lemmas.proofs.Basics.{true_is_not_false}
 use Rattle.rnix_proof_lemmas.specs.Allowed.{Allowed}
 use Rattle.rnix_proof_lemmas.specs.FrameKinds.{SecondBindFrame, OperandFrame, frame_kind, frame_kind_of_head}
 use Rattle.rnix_reader.specs.{declared.pattern_names.Names.Names, State.{State, bumped, started_at, ended, failed, pushed}, Reported.error_over, FrameSteps.{node_started, node_here, node_wrapped, leaf_node_made}, Holds.{HasRange, IsWell, AreNamed}}
-use Rattle.rnix_reader.specs.{Erase.{trees_of, nodes_of, mark_of, opened_on, erase, popped}, Performed.{Performed, IsReady, IsCheckpoint, expression_read, is_finish}}
-use Rattle.rnix_reader.proofs.{FrameKindLemmas.{is_operand_frame, is_root, is_name, head_operand, head_second_bind, head_sort, place_named, own_leaf}, BegunLemmas.expression_is, SkippedRuns.run_all, EntryLemmas.done_entry}
+use Rattle.rnix_reader.specs.{Erase.{trees_of, nodes_of, mark_of, opened_on, erase, popped}, Performed.{Performed, IsReady, IsCheckpoint, expression_read}}
+use Rattle.rnix_proof_steps.{specs.StepCount.is_finish, proofs.BudgetedSteps.is_root}
+use Rattle.rnix_reader.proofs.{FrameKindLemmas.{is_operand_frame, is_name, head_operand, head_second_bind, head_sort, place_named, own_leaf}, BegunLemmas.expression_is, SkippedRuns.run_all, EntryLemmas.done_entry}
 use Rattle.rnix_reader.proofs.EraseLemmas.{erase-eaten, erase-bumped, erase-next, erase-node_started, erase-leaf_node_made, erase-first, erase-over, erase-wrapped, erase-closed, closes, settles, closed_failed}
 use Rattle.rnix_grammar.specs.declared.position.Position.TheVariants as p
 use Rattle.rnix_grammar.specs.declared.action.Action.TheVariants as a

@@ -13,16 +13,14 @@ use Rattle.rnix_proof_lemmas.specs.FrameKinds.{IsStackedOn}
 use Rattle.rnix_proof_lemmas.specs.Measures.{measure, begin_measure_in, begin_measure}
 use Rattle.rnix_proof_lemmas.proofs.{Basics.true_is_not_false, LayoutLemmas.items-from_item, WithoutTriviaLemmas.{items_behind, run_prefix, all_prefix, run_bared}}
 use Rattle.rnix_proof_lemmas.proofs.{UnwantedRuns.{dropped_all, run_begins}, AllowedLemmas.{sort_by, sort_there, measure_there}}
-use Rattle.rnix_reader.{specs.{declared.mark.Mark.Mark, Erase.{marks_of, mark_of, erase}, Performed.is_finish, Holds.{places_on, measures, begin_measure_at, cost, work}}, proofs.FrameKindLemmas.is_root}
+use Rattle.rnix_proof_steps.{specs.StepCount.is_finish, proofs.{Budgets.measure_some, BudgetedSteps.is_root}}
+use Rattle.rnix_reader.specs.{declared.mark.Mark.Mark, Erase.{marks_of, mark_of, erase}, Holds.{places_on, measures, begin_measure_at, cost, work}}
 use Rattle.rnix_grammar.specs.declared.position.Position.TheVariants as p
 use Rattle.rnix_grammar.specs.declared.action.Action.TheVariants as a
 use Rattle.rnix_grammar.specs.declared.rules.Part.TheVariants as r
 use Rattle.rnix_grammar.specs.declared.begin.Begin.TheVariants as b
 
--- weights are small, and not nothing
-measure_some : (position : Position) → 1 ≤ measure position
-measure_some position = leb-true 1 (measure position) (measure_there position).1
-
+-- weights are small
 measure_most : (position : Position) → measure position ≤ 7
 measure_most position = leb-true (measure position) 7 (measure_there position).2
 

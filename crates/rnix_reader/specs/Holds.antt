@@ -8,7 +8,8 @@ use Rattle.rnix_grammar.specs.declared.position.Position.{Position}
 use Rattle.rnix_grammar.specs.declared.position.Position.TheVariants as p
 use Rattle.rnix_grammar.specs.AnnotatedForest.{Token, AnnotatedForest, tokens_in, without_trivia, forget, extent_of}
 use Rattle.rnix_grammar.specs.Layout.{items}
-use Rattle.rnix_proof_lemmas.specs.Machine.{Head, Node, SecondBind, Frame, Machine, machine, begins, with_leading, Runs}
+use Rattle.rnix_proof_lemmas.specs.Machine.{Head, Node, SecondBind, Frame, Machine, machine, begins, with_leading}
+use Rattle.rnix_proof_steps.specs.StepCount.{ComesIn}
 use Rattle.rnix_grammar.specs.Reports.{entry_name, has_entry}
 use Rattle.rnix_grammar.specs.Fault.{Fault}
 use Rattle.rnix_proof_lemmas.specs.FrameKinds.{IsStackedOn}
@@ -86,14 +87,16 @@ pub record AreNamed (f : Frame) (fs : List Frame) (names : Names) : Type 0 where
   pub sets : AreOpenSets (f ∷ fs) names.sets.items
   pub entries : entries_in names ≡ entries_of (f ∷ fs)
 
--- the machine has come as far as the reader
-pub record IsGoing (first : List Token) (s : State) (names : Names) : Type 0 where
+-- the machine has come as far as the reader, in as many steps as turns are counted
+pub record IsGoing (Counted : ℕ → Type 0) (first : List Token) (s : State) (names : Names) : Type 0 where
+  pub steps : ℕ
+  pub counted : Counted steps
   pub top : Frame
   pub under : List Frame
   pub left : List Token
   pub prev_end : ℕ
   pub faults : List Fault
-  pub runs : Runs true (begins first) (machine (top ∷ under) left prev_end faults)
+  pub comes : ComesIn steps (begins first) (machine (top ∷ under) left prev_end faults)
   pub state : s ≡ erase (machine (top ∷ under) left prev_end faults)
   pub well : IsWell top under left prev_end names.second
   pub named : AreNamed top under names
@@ -101,16 +104,23 @@ pub record IsGoing (first : List Token) (s : State) (names : Names) : Type 0 whe
 -- some steps lead to where the root alone is open and nothing is left
 pub record IsThrough (from : Machine) : Type 0 where
   pub last : Machine
-  pub runs : Runs true from last
+  pub steps : ℕ
+  pub comes : ComesIn steps from last
   pub root : Frame
   pub alone : last.frames ≡ root ∷ []
   pub head : root.head ≡ Node NODE_ROOT
   pub position : root.position ≡ p.Left (ROOT + 1)
   pub nothing : items last.left ≡ []
 
--- a whole text is read
-pub record IsReadTo (ts : List Token) (s : State) : Type 0 where
+-- a whole text is read, and as many turns are counted: one for each step and one more, at most fifteen for two items and two more, and at most four for
+-- each item, seven for each level of nesting, and two more
+pub record IsReadTo (Counted : ℕ → Type 0) (ts : List Token) (s : State) : Type 0 where
   pub through : IsThrough (begins ts)
+  pub turns : ℕ
+  pub counted : Counted turns
+  pub each_step : turns ≡ through.steps + 1
+  pub few : 2 * turns ≤ 15 * length (items ts) + 4
+  pub few_in_levels : turns ≤ 4 * length (items ts) + 3586
   pub trees : s.trees ≡ node NODE_ROOT (forget (with_leading true through.root.row through.last.left)) empty
   pub nodes : s.open_nodes ≡ []
   pub faults : s.faults ≡ through.last.faults

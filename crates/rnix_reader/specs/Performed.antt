@@ -98,11 +98,6 @@ Performed action m s n s' n' = s' ≡ performed action m n.second s
 abbrev pub action_of : Position → State → Action
 action_of position s = action_at position (head_kind (items_left s)) (touches s.prev_end (items_left s))
 
--- the text is read
-abbrev pub is_finish : Action → Bool
-is_finish a.Finish = true
-is_finish action = false
-
 -- the action goes on with an operand
 abbrev pub is_continuation : Action → Bool
 is_continuation (a.Wrap k inside max_bp) = true

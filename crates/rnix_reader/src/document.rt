@@ -8,6 +8,7 @@ use crate::cursor::Cursor;
 use crate::parser::Parser;
 use crate::pattern_names::Names;
 use crate::reading::read_all;
+use crate::turns::Uncounted;
 use rnix_grammar::{ParseError, Position, ROOT};
 use rnix_green::{GreenNode, TextBuilder};
 use rnix_kinds::{SyntaxKind, Tokenizer};
@@ -36,11 +37,12 @@ pub fn read_tokens(
         marks: Vec::new(alloc),
     };
     let mut names = Names::new(alloc);
+    let mut turns = Uncounted;
     let at = p.here();
     p.builder.start_node(SyntaxKind::NODE_ROOT)?;
     p.mark(Position::Left(ROOT), 0, at)?;
     p.ordered();
-    read_all(&mut p, &mut names)?;
+    read_all(&mut p, &mut names, &mut turns)?;
     let Parser {
         cursor,
         builder,

@@ -12,5 +12,6 @@ mod pattern_names;
 mod reading;
 mod runs;
 mod steps;
+mod turns;
 
 pub use document::read_tokens;

@@ -17,6 +17,7 @@ use crate::entries::{close_double_bind, close_entry, open_double_bind, open_entr
 use crate::mark::Mark;
 use crate::parser::Parser;
 use crate::pattern_names::Names;
+use crate::turns::Turns;
 use rnix_grammar::{
     APPLICATION_LEVEL, APPLIED, Action, BIN_OP_END, BOUND_PATTERN, Begin, EXPRESSION_LEVEL,
     ExpectedSet, LEGACY_LET, NO_LEVEL, PATTERN, Position, SELECTION_LEVEL, action_at,
@@ -327,16 +328,22 @@ fn action_in_row(p: &Parser<'_>, left: u8) -> Action
     action_at(position, p.peek(), p.touches())
 }
 
-/// Reads until the root is complete.
+/// Reads until the root is complete, and counts the turns: at most fifteen for two items, and two more.
 // The position is matched first: this saves a test at each step, and two table look-ups after an operand or an operator.
-pub(crate) fn read_all<'t>(p: &mut Parser<'t>, names: &mut Names<'t>) -> Result<(), AllocError>
+pub(crate) fn read_all<'t, T: Turns>(
+    p: &mut Parser<'t>,
+    names: &mut Names<'t>,
+    turns: &mut T,
+) -> Result<(), AllocError>
     requires state { state p.old ≡ erase (begins (state p.old).rest) }
     requires order { AreInOrder 0 (state p.old).rest }
     requires sets { names.old.sets.items ≡ [] }
     requires entries { entries_in names.old ≡ [] }
-    ensures { OnOk result (IsReadTo (state p.old).rest (state p.new)) }
+    requires none { T.counted turns.old 0 }
+    ensures { OnOk result (IsReadTo (T.counted turns.new) (state p.old).rest (state p.new)) }
 {
     while let Some(mark) = p.marks.pop() {
+        turns.turn();
         match mark.position {
             Position::AfterOperand(min_bp, max_bp) => {
                 after_operand(p, names, mark, min_bp, max_bp)?;

@@ -1,5 +1,5 @@
 use Rattle.{std.proofs.Common.[], rnix_kinds.{proofs.LexicalLemmas.Laws.AreSound-tokens_under, specs.Lexical.Tokens.tokens_of}}
-use Rattle.rnix_proof_steps.proofs.BudgetedRuns.{read_by_items, read_by_levels}
+use Rattle.rnix_laws.proofs.FewSteps.{read_by_items, read_by_levels}
 use Rattle.rnix_laws.proofs.step_count.steps.Goals as goal
 
 pub returns-clause-items : goal.returns-clause-items

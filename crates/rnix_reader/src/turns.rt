@@ -1,0 +1,24 @@
+//! Who counts the turns of the reader's loop.
+
+ghost use Rattle.std.specs.Prelude.{ℕ, ◌+◌};
+
+/// Counts the turns of a loop.
+pub(crate) trait Turns {
+    // So many turns are counted.
+    ghost counted: { Self → ℕ → Type 0 };
+
+    /// Counts one more.
+    fn turn(&mut self)
+        ensures { (turns : ℕ) → counted self.old turns → counted self.new (turns + 1) };
+}
+
+/// Does not count.
+#[derive(Drop)]
+pub(crate) struct Uncounted;
+
+impl Turns for Uncounted {
+    ghost counted = { λ _ _. Unit {0} };
+
+    #[inline(always)]
+    fn turn(&mut self) {}
+}
