@@ -3,7 +3,7 @@
 ghost use Rattle.std.specs.Prelude.{◌≡◌, Bool, Option, true};
 ghost use Rattle.rnix_kinds.specs.declared.kinds.SyntaxKind.{SyntaxKind};
 ghost use Rattle.rnix_grammar.specs.declared.action.Action.TheVariants.{Close};
-ghost use Rattle.rnix_grammar.specs.Actions.{close_action, continue_action, may_continue, more_action, left_action, action_at};
+ghost use Rattle.rnix_grammar.specs.Actions.{close_action, continue_action, may_continue, left_action};
 
 use crate::expected_set::ExpectedSet;
 use crate::level::{
@@ -11,7 +11,7 @@ use crate::level::{
 };
 use crate::part_action::part_action;
 use crate::position::Position;
-use crate::slot_table::{BIN_OP_END, HAS_ATTR, SELECT, Slot, slot_at};
+use crate::slot_table::{HAS_ATTR, SELECT, Slot, slot_at};
 use rnix_kinds::SyntaxKind;
 
 /// One step of the reader. The last position is where the row is resumed after it.
@@ -113,25 +113,9 @@ pub fn may_continue(min_bp: u8, max_bp: u8, kind: SyntaxKind) -> bool
     level != NO_LEVEL && min_bp <= level && level <= max_bp
 }
 
-// The step after an operand after which operators of the levels from `min_bp` to `max_bp` may follow.
-fn more_action(min_bp: u8, max_bp: u8, next: Option<SyntaxKind>) -> Action
-    ensures { result ≡ more_action min_bp max_bp next }
-{
-    match next {
-        None => Action::EndOperand,
-        Some(kind) => {
-            if may_continue(min_bp, max_bp, kind) {
-                continue_action(kind)
-            } else {
-                Action::EndOperand
-            }
-        }
-    }
-}
-
-// What is done at a position of a row.
+/// Returns what the reader does at a position of a row, by the next token that is not trivia, and by whether it touches the one before.
 #[inline(always)]
-fn left_action(left: u8, next: Option<SyntaxKind>, touches: bool) -> Action
+pub fn left_action(left: u8, next: Option<SyntaxKind>, touches: bool) -> Action
     ensures { result ≡ left_action left next touches }
 {
     match slot_at(left) {
@@ -154,28 +138,11 @@ fn is_plain_end(kind: SyntaxKind) -> bool
 
 /// Returns whether a row is complete at the position, and nothing but the end of its node is to be done.
 #[inline(always)]
-pub fn is_past(position: Position) -> bool
-    ensures { (next : Option SyntaxKind) (touches : Bool) → result ≡ true → action_at position next touches ≡ Close }
+pub fn is_past(left: u8) -> bool
+    ensures { (next : Option SyntaxKind) (touches : Bool) → result ≡ true → left_action left next touches ≡ Close }
 {
-    match position {
-        Position::Left(left) => {
-            match slot_at(left) {
-                Some(Slot::End(kind)) => is_plain_end(kind),
-                _ => false,
-            }
-        }
+    match slot_at(left) {
+        Some(Slot::End(kind)) => is_plain_end(kind),
         _ => false,
-    }
-}
-
-/// Returns what the reader does at a position, by the next token that is not trivia, and by whether it touches the one before.
-#[inline(always)]
-pub fn action_at(position: Position, next: Option<SyntaxKind>, touches: bool) -> Action
-    ensures { result ≡ action_at position next touches }
-{
-    match position {
-        Position::Left(left) => left_action(left, next, touches),
-        Position::AfterOperand(min_bp, max_bp) => more_action(min_bp, max_bp, next),
-        Position::Right(level) => Action::Read(level, false, BIN_OP_END),
     }
 }

@@ -11,7 +11,7 @@ mod position;
 mod rules;
 mod slot_table;
 
-pub use action::{Action, action_at, continue_action, is_past, may_continue};
+pub use action::{Action, continue_action, is_past, left_action, may_continue};
 pub use begin::{Begin, begin_of};
 pub use error::ParseError;
 pub use expected_set::{ExpectedSet, operand_kinds, stops, wanted_kinds};

@@ -1,5 +1,5 @@
 -- Heads by the frame kinds of their positions.
-use Rattle.{std.proofs.Common.{◌≡◌, Bool, true, false, List, [], ◌∷◌, refl, ap, sym, ◌∙◌}, rnix_kinds.specs.declared.kinds.SyntaxKind.SyntaxKind}
+use Rattle.{std.proofs.Common.{◌≡◌, ℕ, Bool, true, false, List, [], ◌∷◌, refl, ap, sym, ◌∙◌}, rnix_kinds.specs.declared.kinds.SyntaxKind.SyntaxKind}
 use Rattle.rnix_kinds.specs.declared.kinds.SyntaxKind.TheVariants.{NODE_ROOT, NODE_IDENT, NODE_CUR_POS, NODE_PATTERN, NODE_PAT_ENTRY}
 use Rattle.rnix_grammar.specs.{declared.position.Position.Position, AnnotatedForest.{Token, one_token, leaf_kind_as}}
 use Rattle.rnix_proof_lemmas.specs.Machine.{Head, Node, SecondBind, Operand, Frame}
@@ -74,6 +74,11 @@ pub place_named : (position : Position) → is_name (frame_kind position) ≡ fa
 place_named (p.Left i) = each_index (λ i. is_name (frame_kind (p.Left i)) ≡ false) (assumption) (λ i e d. ap (λ ss. is_name (frame_kind_in ss)) d) i
 place_named (p.AfterOperand min_bp max_bp) = refl
 place_named (p.Right level) = refl
+
+-- at a position of a row no operand is open
+pub row_not_operand : (left : ℕ) → is_operand_frame (frame_kind (p.Left left)) ≡ false
+row_not_operand left =
+    each_index (λ i. is_operand_frame (frame_kind (p.Left i)) ≡ false) (assumption) (λ i e d. ap (λ ss. is_operand_frame (frame_kind_in ss)) d) left
 
 leaf_kept : (k j : SyntaxKind) → is_name (frame_kind_of_node k) ≡ false → leaf_kind_as k j ≡ j
 leaf_kept NODE_IDENT j e = cc

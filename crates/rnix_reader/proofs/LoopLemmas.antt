@@ -6,14 +6,14 @@ use Rattle.rnix_grammar.specs.{declared.{slot_table.TheConstants.ROOT, action.Ac
 use Rattle.rnix_grammar.specs.Actions.{continue_action, may_continue, more_action}
 use Rattle.rnix_grammar.specs.{AnnotatedForest.{forget, head_kind, touches}, Layout.{items, from_item}, Fault.Fault}
 use Rattle.rnix_proof_lemmas.specs.Allowed.{Allowed}
-use Rattle.rnix_proof_lemmas.specs.FrameKinds.{AreStacked}
+use Rattle.rnix_proof_lemmas.{specs.FrameKinds.{OperandFrame, frame_kind, AreStacked}, proofs.Basics.true_is_not_false}
 use Rattle.rnix_proof_lemmas.specs.Machine.{Head, Node, Machine, opened, with_leading, machine, begins, step}
 use Rattle.rnix_proof_lemmas.specs.Machine.{rest as here}
 use Rattle.rnix_proof_steps.{specs.StepCount.{is_finish, ComesIn}, proofs.BudgetedRuns.{comes_on, by_items, by_levels}}
 use Rattle.{rnix_proof_lemmas.proofs.{StackedFrames.step_stacked, AllowedLemmas.allowed}, rnix_reader.specs.declared.mark.Mark.Mark}
 use Rattle.rnix_reader.specs.{declared.pattern_names.Names.Names, Placed.AreInOrder, PatternNames.entries_in, State.{State, items_left, with_marks, eaten, ended}, Erase.marks_of}
 use Rattle.rnix_reader.specs.{Erase.{mark_of, erase, erase_with, popped}, Holds.{IsGoing, IsThrough, IsReadTo, work}, Performed.{Performed, NamesAfter, IsReady}}
-use Rattle.rnix_reader.{specs.Performed.{action_of, is_continuation}, proofs.{StateLemmas.state_is, DocumentLemmas.root_through, EraseLemmas.erase-eaten}}
+use Rattle.rnix_reader.{specs.Performed.{action_of, is_continuation, is_row_action}, proofs.{FrameKindLemmas.{is_operand_frame, row_not_operand}, StateLemmas.state_is, DocumentLemmas.root_through, EraseLemmas.erase-eaten}}
 use Rattle.rnix_reader.proofs.{StepsOfReader.{ready, performs}, GoesLemmas.Goes, PerformLemmas.perform_goes, WorkLemmas.{work_is, perform_less}}
 use Rattle.rnix_grammar.specs.declared.position.Position.TheVariants as p
 use Rattle.rnix_grammar.specs.declared.action.Action.TheVariants as a
@@ -65,6 +65,20 @@ pub operand_goes : (position : Position) (min_bp max_bp : ℕ) (s : State) → p
 operand_goes position min_bp max_bp s is end =
     false≢true (sym (more_goes min_bp max_bp (head_kind (items_left s))) ∙ ap is_finish (sym (ap (λ q. action_of q s) is) ∙ end))
 
+-- at a position of a row no operand goes on or is complete
+no_operand : (position : Position) (left : ℕ) → position ≡ p.Left left → frame_kind position ≡ OperandFrame → ⊥
+no_operand position left e h =
+    true_is_not_false (sym (ap is_operand_frame h) ∙ ap (λ q. is_operand_frame (frame_kind q)) e ∙ row_not_operand left)
+
+row_action : (position : Position) (next : Option SyntaxKind) (action : Action) (left : ℕ) → position ≡ p.Left left → Allowed position next action
+    → (action ≡ a.Finish → ⊥) → is_row_action action ≡ true
+row_action position next a.Finish left e al other = absurd (other refl)
+row_action position next a.EndOperand left e al other = absurd (no_operand position left e al)
+row_action position next (a.Wrap k inside max_bp) left e al other = absurd (no_operand position left e al.1)
+row_action position next a.Apply left e al other = absurd (no_operand position left e al.1)
+row_action position next a.ApplyOr left e al other = absurd (no_operand position left e al.1)
+row_action position next action left e al other = refl
+
 -- the root over all trees
 root_ended : (h : Head) (position : Position) (d : ℕ) (row : AnnotatedForest) (ts : List Token) (n : ℕ) (es : List Fault) → h ≡ Node NODE_ROOT
     → ended (erase_with [] (machine (opened h position d row ∷ []) ts n es))
@@ -75,6 +89,7 @@ root_ended h position d row ts n es e = rw e (state_is refl (wrapped-join NODE_R
 -- what follows where the innermost mark is taken: an action may be performed, and it leaves less to do, or the text is read
 pub record Turn (Counted : ℕ → Type 0) (steps : ℕ) (first : List Token) (s : State) (names : Names) (mark : Mark) (s1 : State) (action : Action) : Type 0 where
   pub ready : IsReady action mark s1 names
+  pub row : (left : ℕ) → mark.position ≡ p.Left left → (action ≡ a.Finish → ⊥) → is_row_action action ≡ true
   pub goes : Counted (steps + 1) → (s' : State) (names' : Names) → (action ≡ a.Finish → ⊥) → Performed action mark s1 names s' names'
       → NamesAfter action mark s1 names names' → IsGoing Counted first s' names' × (work s' < work s)
   pub root : action ≡ a.Finish → 0 < length s1.open_nodes
@@ -147,6 +162,7 @@ module _ {Before : ℕ → Type 0} {first : List Token} {s : State} {names : Nam
       let needs : IsReady action (mark_of g.top g.under) (popped before) names = ready g.top g.under g.left g.prev_end g.faults names g.well action may in
       record {
         ready = needs;
+        row = λ left e other. row_action g.top.position (head_kind (items g.left)) action left e may other;
         goes = going;
         root = λ e. subst (λ x. IsReady x (mark_of g.top g.under) (popped before) names) e needs;
         finished = read;

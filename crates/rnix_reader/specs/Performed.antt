@@ -105,6 +105,15 @@ is_continuation a.Apply = true
 is_continuation a.ApplyOr = true
 is_continuation action = false
 
+-- the action is done at a position of a row, and does not end the text
+abbrev pub is_row_action : Action → Bool
+is_row_action a.Finish = false
+is_row_action a.EndOperand = false
+is_row_action (a.Wrap k inside max_bp) = false
+is_row_action a.Apply = false
+is_row_action a.ApplyOr = false
+is_row_action action = true
+
 -- a node may be opened where the mark begins
 abbrev pub IsCheckpoint : Mark → State → Type 0
 IsCheckpoint m s = IsTrue (is_checkpoint_of record { finished = s.trees; open_nodes = s.open_nodes } m.at)

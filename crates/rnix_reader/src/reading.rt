@@ -7,7 +7,7 @@ ghost use Rattle.rnix_proof_lemmas.specs.Machine.{begins, min_bp_of};
 ghost use Rattle.rnix_reader.specs.Erase.{erase};
 ghost use Rattle.rnix_reader.specs.Holds.{IsReadTo};
 ghost use Rattle.rnix_reader.specs.PatternNames.{entries_in, PatternOpened};
-ghost use Rattle.rnix_reader.specs.Performed.{ArgumentNames, IsCheckpoint, IsReady, NamesAfter, NamesFor, PartNames, Performed, action_of, argument_read, begun_as, is_continuation, expression_read, opens_in, opens_on, opens_pattern, operand_read, part_read};
+ghost use Rattle.rnix_reader.specs.Performed.{ArgumentNames, IsCheckpoint, IsReady, NamesAfter, NamesFor, PartNames, Performed, action_of, argument_read, begun_as, is_continuation, is_row_action, expression_read, opens_in, opens_on, opens_pattern, operand_read, part_read};
 ghost use Rattle.rnix_reader.specs.Placed.{token_of, AreInOrder};
 ghost use Rattle.rnix_reader.specs.State.{state, items_left, IsNextItem};
 ghost use Rattle.rnix_reader.specs.FrameSteps.{bound_lambda_begun, legacy_let_begun, pattern_lambda_begun};
@@ -19,9 +19,9 @@ use crate::parser::Parser;
 use crate::pattern_names::Names;
 use crate::turns::Turns;
 use rnix_grammar::{
-    APPLICATION_LEVEL, APPLIED, Action, BIN_OP_END, BOUND_PATTERN, Begin, EXPRESSION_LEVEL,
-    ExpectedSet, LEGACY_LET, NO_LEVEL, PATTERN, Position, SELECTION_LEVEL, action_at,
-    continue_action, is_past, may_continue,
+    APPLICATION_LEVEL, APPLIED, Action, BIN_OP_END, BOUND_PATTERN, Begin, ExpectedSet, LEGACY_LET,
+    NO_LEVEL, PATTERN, Position, SELECTION_LEVEL, continue_action, is_past, left_action,
+    may_continue,
 };
 use rnix_kinds::SyntaxKind;
 use std::alloc::AllocError;
@@ -179,16 +179,6 @@ fn read<'t>(
     Ok(operand(p, names, level, depth + 1)?)
 }
 
-// The lowest level of an operator that may continue an operand.
-fn min_bp_of(position: Position) -> u8
-    ensures { result ≡ min_bp_of position }
-{
-    match position {
-        Position::AfterOperand(min_bp, _) => min_bp,
-        _ => EXPRESSION_LEVEL,
-    }
-}
-
 // Reads an operand of a node's row, and continues the row after it.
 #[inline(always)]
 fn read_part<'t>(
@@ -227,7 +217,7 @@ fn apply<'t>(
     Ok(())
 }
 
-// Takes one step in the innermost node or operand.
+// Takes one step in the innermost node.
 #[inline(always)]
 fn step<'t>(
     p: &mut Parser<'t>,
@@ -235,7 +225,8 @@ fn step<'t>(
     mark: Mark,
     action: Action,
 ) -> Result<(), AllocError>
-    requires { IsReady action mark (state p.old) names.old }
+    requires row { is_row_action action ≡ true }
+    requires ready { IsReady action mark (state p.old) names.old }
     ensures state { OnOk result (Performed action mark (state p.old) names.old (state p.new) names.new) }
     ensures names { OnOk result (NamesAfter action mark (state p.old) names.old names.new) }
 {
@@ -247,8 +238,6 @@ fn step<'t>(
         }
         Action::CloseEntry => close_entry(p, names)?,
         Action::CloseDoubleBind => close_double_bind(p, names.second)?,
-        Action::Finish => {}
-        Action::EndOperand => {}
         Action::Extra => p.extra_run(mark)?,
         Action::Take(after) => p.take(mark, after)?,
         Action::Miss(after) => p.miss(mark, after)?,
@@ -260,9 +249,11 @@ fn step<'t>(
         Action::Entry(after) => open_entry(p, names, mark, after)?,
         Action::DoubleBind(after) => open_double_bind(p, names, mark, after)?,
         Action::Read(level, counted, after) => read_part(p, names, mark, level, counted, after)?,
-        Action::Wrap(_, _, _) | Action::Apply | Action::ApplyOr => {
-            continue_operand(p, names, mark, min_bp_of(mark.position), action)?;
-        }
+        Action::Finish
+        | Action::EndOperand
+        | Action::Wrap(_, _, _)
+        | Action::Apply
+        | Action::ApplyOr => unreachable!(),
     }
     Ok(())
 }
@@ -321,11 +312,10 @@ fn after_operand<'t>(
 fn action_in_row(p: &Parser<'_>, left: u8) -> Action
     ensures { result ≡ action_of (Left left) (state p.now) }
 {
-    let position = Position::Left(left);
-    if is_past(position) {
+    if is_past(left) {
         return Action::Close;
     }
-    action_at(position, p.peek(), p.touches())
+    left_action(left, p.peek(), p.touches())
 }
 
 /// Reads until the root is complete, and counts the turns: at most fifteen for two items, and two more.

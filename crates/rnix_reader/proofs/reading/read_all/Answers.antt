@@ -69,8 +69,14 @@ returns-in-Finish g c =
     t.finished (c.turn.ensures _ c.loop-mark.invariant.counted) _
     c.in-Finish.is (c.in_ok-finish_node-in-Left.ensures ∙ ap ended c.in_ok-eat_trivia-in-Left.ensures.state)
 
-pub step-requires : goal.step-requires
-step-requires g c =
+pub step-requires-clause-row : goal.step-requires-clause-row
+step-requires-clause-row g c =
+    let s = with_marks c.pop.new.self.items (state c.loop-mark.p) in
+    (turn c.loop-mark.invariant (g.T.Turns.counted c.turn.new.self) c.pop.new.self.items c.in-Some.mark c.action_in_row-action.result c.in-Some.ensures.items
+    (c.action_in_row-action.ensures ∙ ap (λ q. action_of q s) (sym c.in-Left.is))).row c.in-Left.left c.in-Left.is c.in_default-action.not-Finish
+
+pub step-requires-clause-ready : goal.step-requires-clause-ready
+step-requires-clause-ready g c =
     let s = with_marks c.pop.new.self.items (state c.loop-mark.p) in
     (turn c.loop-mark.invariant (g.T.Turns.counted c.turn.new.self) c.pop.new.self.items c.in-Some.mark c.action_in_row-action.result c.in-Some.ensures.items
     (c.action_in_row-action.ensures ∙ ap (λ q. action_of q s) (sym c.in-Left.is))).ready
