@@ -1,11 +1,12 @@
 -- What Nix refuses in a text without syntax errors, as diagnostics.
-use Rattle.std.specs.Prelude.{ℕ, List, [], ◌∷◌, map, Option, Some, None, codes, string_bytes}
+use Rattle.std.specs.Prelude.{◌≡◌, ℕ, List, [], ◌∷◌, length, map, take, Option, Some, None, codes, string_bytes}
 use Rattle.rnix_green.specs.declared.range.TextRange.{TextRange}
 use Rattle.rnix_green.specs.Range.{Extent, bounds_of}
 use Rattle.rnix_green.specs.Tree.{Located}
 use Rattle.nix_diagnostics.specs.declared.code.Code.{Code}
 use Rattle.nix_diagnostics.specs.declared.code.Code.TheVariants.{RepeatedAttribute}
 use Rattle.nix_diagnostics.specs.declared.diagnostic.Diagnostic.{Diagnostic}
+use Rattle.nix_diagnostics.specs.declared.diagnostic.FirstDiagnostics.{FirstDiagnostics}
 use Rattle.nix_diagnostics.specs.declared.notes.Note.{Note}
 use Rattle.nix_lints.specs.Repeated.{Repetition, repeated_in}
 
@@ -45,3 +46,10 @@ finding_at repetition = record {
 -- the findings of a text without errors: the attributes that are defined again
 abbrev pub repeated_findings : Located → List Finding
 repeated_findings root = map finding_at (repeated_in root)
+
+-- the first of the diagnostics of the attributes that are defined again, at most so many, and the number of all of these
+pub record AreFirstRepeated (root : Located) (most : ℕ) (found : FirstDiagnostics) : Type 0 where
+  pub all : List Diagnostic
+  pub are : map finding_of all ≡ repeated_findings root
+  pub first : found.first.items ≡ take most all
+  pub count : found.count ≡ length all

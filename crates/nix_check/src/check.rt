@@ -60,11 +60,8 @@ fn find(
 {
     let errors = find_errors(alloc, read, is_each, limit)?;
     if errors.count == 0 {
-        let first = repetitions(alloc, &read.syntax())?;
-        return Ok(FirstDiagnostics {
-            count: first.len(),
-            first,
-        });
+        let repeated = repetitions(alloc, &read.syntax(), at_least_one(limit))?;
+        return Ok(repeated);
     }
     Ok(errors)
 }

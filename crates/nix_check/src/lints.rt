@@ -1,10 +1,10 @@
 //! What Nix refuses in a text without syntax errors, as diagnostics.
 
-ghost use Rattle.std.specs.Prelude.{◌≡◌, IfOk, map};
+ghost use Rattle.std.specs.Prelude.{◌≡◌, ◌<◌, IfOk};
 ghost use Rattle.nix_lints.specs.Repeated.{repetition_of};
-ghost use Rattle.nix_check.specs.Lints.{finding_of, finding_at, repeated_findings};
+ghost use Rattle.nix_check.specs.Lints.{finding_of, finding_at, AreFirstRepeated};
 
-use nix_diagnostics::{Code, Diagnostic, Note};
+use nix_diagnostics::{Code, Diagnostic, FirstDiagnostics, Note};
 use nix_lints::{Repeated, repeated_attributes};
 use rnix::SyntaxNode;
 use std::alloc::{AllocError, Global};
@@ -29,15 +29,24 @@ fn diagnostic_of(alloc: Global, repeated: Repeated) -> Result<Diagnostic, AllocE
     })
 }
 
-/// Returns a diagnostic for each attribute of a text without errors that is defined again.
-pub fn repetitions(alloc: Global, root: &SyntaxNode<'_>) -> Result<Vec<Diagnostic>, AllocError>
-    ensures { IfOk result (λ found. map finding_of found.items ≡ repeated_findings root.now) }
+/// Returns the first diagnostics of attributes of a text without errors that are defined again, at most so many, and the number of all. None is made
+/// for what is only counted.
+pub fn repetitions(
+    alloc: Global,
+    root: &SyntaxNode<'_>,
+    most: usize,
+) -> Result<FirstDiagnostics, AllocError>
+    requires { 0 < most }
+    ensures { IfOk result (AreFirstRepeated root.now most) }
 {
     let repeated = repeated_attributes(alloc, root)?;
-    let mut found = Vec::new(alloc);
-    for number in 0..repeated.len() {
+    let mut first = Vec::new(alloc);
+    for number in 0..repeated.len().min(most) {
         let diagnostic = diagnostic_of(alloc, repeated[number])?;
-        found.push(diagnostic)?;
+        first.push(diagnostic)?;
     }
-    Ok(found)
+    Ok(FirstDiagnostics {
+        first,
+        count: repeated.len(),
+    })
 }

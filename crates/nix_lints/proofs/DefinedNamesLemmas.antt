@@ -1,49 +1,75 @@
--- What entries write, one after the other.
-use Rattle.std.proofs.Common.{◌≡◌, ℕ, zero, suc, ◌-◌, ◌<◌, List, [], ◌∷◌, ◌++◌, map, Bool, true, false, Option, Some, None, refl, ap, sym, ◌∙◌, subst, arith}
-use Rattle.std.{proofs.lemmas.List.{append_assoc, append-nil}, specs.Prelude.{flat_map, is_some}}
+-- The names of entries, one after the other.
+use Rattle.std.proofs.Common.{◌≡◌, ℕ, zero, suc, ◌-◌, ◌<◌, List, [], ◌∷◌, ◌++◌, map, Bool, true, false, Option, Some, None, refl, ap, sym, ◌∙◌, arith}
+use Rattle.std.specs.Prelude.{flat_map, if◌then◌else◌}
 use Rattle.rnix.specs.AttrName.{inside_of, next_inside, inside_parens}
-use Rattle.{rnix_green.specs.Tree.Located, nix_lints.specs.DefinedNames.{Written, start_of, definition_at, inherited_at, values_at, names_from, names_of}}
+use Rattle.rnix_kinds.specs.declared.kinds.SyntaxKind.TheVariants as k
+use Rattle.rnix_base.specs.Select.{child_of, nodes_of}
+use Rattle.rnix.specs.NodeKinds.{is_attr, is_expr}
+use Rattle.rnix_green.specs.{Equality.{same_kind}, Relatives.{parent_of}, Tree.{Located, item_of}}
+use Rattle.nix_lints.specs.DefinedNames.{Name, start_of, value_start, definition_at, inherited_at, names_at, names_below, names_from, names_of, path_names}
+use Rattle.nix_lints.specs.{Attributes.AddsNames, declared.attributes.Attributes.Attributes}
+use Rattle.nix_lints.proofs.RepeatedLemmas.{AddsSome, adds_begun, adds_next, adds_all, adds_none}
 
--- one more of the nodes is listed
-pub listing_next : {X : Type 0} (f : Located → List X) (so_far new all : List X) (before after : List Located) (e same : Located) →
-    so_far ++ flat_map f before ≡ all → before ≡ e ∷ after → same ≡ e → new ≡ so_far ++ f same → new ++ flat_map f after ≡ all
-listing_next f so_far new all before after e same is first same_is added =
-    subst (λ xs. xs ++ flat_map f after ≡ all) (sym (added ∙ ap (λ x. so_far ++ f x) same_is))
-    (append_assoc so_far (f e) _ ∙ subst (λ es. so_far ++ flat_map f es ≡ all) first is)
+-- a node that is no entry defines no names
+pub no_entry : (e one two : Located) → one ≡ e → two ≡ e → false ≡ same_kind k.NODE_INHERIT (item_of one).kind →
+    false ≡ same_kind k.NODE_ATTRPATH_VALUE (item_of two).kind → names_at e ≡ []
+no_entry e one two is also no_inherit no_value =
+    below (parent_of e) (ap (λ x. same_kind k.NODE_INHERIT (item_of x).kind) (sym is) ∙ sym no_inherit)
+    (ap (λ x. same_kind k.NODE_ATTRPATH_VALUE (item_of x).kind) (sym also) ∙ sym no_value)
+  where
+    below : (parent : Option Located) → same_kind k.NODE_INHERIT (item_of e).kind ≡ false → same_kind k.NODE_ATTRPATH_VALUE (item_of e).kind ≡ false →
+        names_below parent e ≡ []
+    below None inherits binds = refl
+    below (Some set) inherits binds =
+        let path = path_names (start_of set) (value_start (child_of is_expr 0 e)) (child_of (same_kind k.NODE_ATTRPATH) 0 e) in
+        ap (λ b. if b then map (inherited_at (start_of set)) (nodes_of is_attr e) else (if same_kind k.NODE_ATTRPATH_VALUE (item_of e).kind then path else []))
+        inherits ∙ ap (λ b. if b then path else []) binds
 
--- one more name of a path, which another one follows
-pub names_next : (so_far new all : List Written) (owner : ℕ) (continues : Bool) (set : Option Located) (e next : Located) (before after : List Located) →
-    so_far ++ names_from owner continues set e before ≡ all → before ≡ next ∷ after → new ≡ so_far ++ definition_at owner continues true e ∷ [] →
-    new ++ names_from (start_of e) true set next after ≡ all
-names_next so_far new all owner continues set e next before after is first added =
-    subst (λ xs. xs ++ names_from (start_of e) true set next after ≡ all) (sym added)
-    (append_assoc so_far (definition_at owner continues true e ∷ []) _ ∙ subst (λ es. so_far ++ names_from owner continues set e es ≡ all) first is)
-
--- the last name of a path, and the value
-pub names_end : (so_far named new all : List Written) (owner : ℕ) (continues : Bool) (set : Option Located) (e : Located) (left : List Located) →
-    so_far ++ names_from owner continues set e left ≡ all → left ≡ [] → named ≡ so_far ++ definition_at owner continues (is_some set) e ∷ [] →
-    new ≡ named ++ values_at (start_of e) set → new ≡ all
-names_end so_far named new all owner continues set e left is none last added =
-    added ∙ ap (λ xs. xs ++ values_at (start_of e) set) last ∙ append_assoc so_far (definition_at owner continues (is_some set) e ∷ []) _
-    ∙ subst (λ es. so_far ++ names_from owner continues set e es ≡ all) none is
+-- one more node
+pub node_next : (old mid new : Attributes) (all : List Name) (before after : List Located) (e : Located) →
+    AddsSome old mid (flat_map names_at before) all → before ≡ e ∷ after → AddsNames mid new (names_at e) → AddsSome old new (flat_map names_at after) all
+node_next old mid new all before after e some first more =
+    adds_next old mid new (flat_map names_at before) (names_at e) (flat_map names_at after) all some (ap (flat_map names_at) first) more
 
 -- one more name that is inherited
-pub inherited_next : (set : ℕ) (so_far new all : List Written) (before after : List Located) (e : Located) →
-    so_far ++ map (inherited_at set) before ≡ all → before ≡ e ∷ after → new ≡ so_far ++ inherited_at set e ∷ [] →
-    new ++ map (inherited_at set) after ≡ all
-inherited_next set so_far new all before after e is first added =
-    subst (λ xs. xs ++ map (inherited_at set) after ≡ all) (sym added)
-    (append_assoc so_far (inherited_at set e ∷ []) _ ∙ subst (λ es. so_far ++ map (inherited_at set) es ≡ all) first is)
+pub inherited_next : (owner : ℕ) (old mid new : Attributes) (all : List Name) (before after : List Located) (e : Located) →
+    AddsSome old mid (map (inherited_at owner) before) all → before ≡ e ∷ after → AddsNames mid new (inherited_at owner e ∷ []) →
+    AddsSome old new (map (inherited_at owner) after) all
+inherited_next owner old mid new all before after e some first more =
+    adds_next old mid new (map (inherited_at owner) before) (inherited_at owner e ∷ []) (map (inherited_at owner) after) all some
+    (ap (map (inherited_at owner)) first) more
+
+-- one more name of a path, which another one follows
+pub path_next : (old mid new : Attributes) (all : List Name) (owner start : ℕ) (continues : Bool) (set : Option ℕ) (e next : Located)
+    (before after : List Located) → start ≡ start_of e → AddsSome old mid (names_from owner continues set e before) all → before ≡ next ∷ after →
+    AddsNames mid new (definition_at owner continues (Some start) e ∷ []) → AddsSome old new (names_from start true set next after) all
+path_next old mid new all owner start continues set e next before after at some first more =
+    adds_next old mid new (names_from owner continues set e before) (definition_at owner continues (Some start) e ∷ [])
+    (names_from start true set next after) all some
+    (ap (names_from owner continues set e) first
+    ∙ ap (λ n. definition_at owner continues (Some n) e ∷ names_from n true set next after) (sym at))
+    more
+
+-- the last name of a path
+pub path_end : (old mid new : Attributes) (all : List Name) (owner : ℕ) (continues : Bool) (set : Option ℕ) (e : Located) (left : List Located) →
+    AddsSome old mid (names_from owner continues set e left) all → left ≡ [] → AddsNames mid new (definition_at owner continues set e ∷ []) →
+    AddsNames old new all
+path_end old mid new all owner continues set e left some none more =
+    adds_all old new [] all
+    (adds_next old mid new (names_from owner continues set e left) (definition_at owner continues set e ∷ []) [] all some
+    (ap (names_from owner continues set e) none) more)
+    refl
 
 -- a path begins with its first name
-pub path_begins : (so_far : List Written) (owner : ℕ) (set : Option Located) (attrs whole after : List Located) (e : Located) →
-    whole ≡ attrs → whole ≡ e ∷ after → so_far ++ names_from owner false set e after ≡ so_far ++ names_of owner set attrs
-path_begins so_far owner set attrs whole after e is first = ap (λ es. so_far ++ names_of owner set es) (sym first ∙ is)
+pub path_begins : (attributes : Attributes) (owner : ℕ) (set : Option ℕ) (attrs whole after : List Located) (e : Located) →
+    whole ≡ attrs → whole ≡ e ∷ after → AddsSome attributes attributes (names_from owner false set e after) (names_of owner set attrs)
+path_begins attributes owner set attrs whole after e is first =
+    adds_begun attributes (names_from owner false set e after) (names_of owner set attrs) (ap (names_of owner set) (sym first ∙ is))
 
--- a path without names has none to list
-pub path_empty : (so_far : List Written) (owner : ℕ) (set : Option Located) (attrs whole : List Located) →
-    whole ≡ attrs → whole ≡ [] → so_far ≡ so_far ++ names_of owner set attrs
-path_empty so_far owner set attrs whole is none = sym (append-nil so_far) ∙ ap (λ es. so_far ++ names_of owner set es) (sym none ∙ is)
+-- a path without names adds none
+pub path_empty : (attributes : Attributes) (owner : ℕ) (set : Option ℕ) (attrs whole : List Located) →
+    whole ≡ attrs → whole ≡ [] → AddsNames attributes attributes (names_of owner set attrs)
+path_empty attributes owner set attrs whole is none = adds_none attributes (names_of owner set attrs) (ap (names_of owner set) (sym is ∙ none))
 
 -- what is inside the outer parentheses is inside the others
 pub parens_next : (count : ℕ) (e inner : Located) → 0 < count → inside_of e ≡ Some inner → inside_parens count e ≡ inside_parens (count - 1) inner

@@ -1,45 +1,82 @@
--- The items that were passed, and the repetitions among those that are left.
-use Rattle.std.proofs.Common.{◌≡◌, ℕ, List, [], ◌∷◌, ◌++◌, map, length, ap, sym, ◌∙◌, subst, arith}
-use Rattle.std.{proofs.lemmas.List.{append_assoc, append-nil}, specs.BTreeMap.BTreeMap}
-use Rattle.nix_lints.specs.{Attributes.{FirstNames, IsTable}, Repeated.{Known, nothing, with_written, repetition_of, repetition_at, repetitions_after}}
+-- Names that are added one after the other, and the repetitions among them.
+use Rattle.std.proofs.Common.{◌≡◌, List, [], ◌∷◌, ◌++◌, map, Option, Some, None, refl, ap, sym, ◌∙◌, subst}
+use Rattle.std.proofs.lemmas.List.{append_assoc, append-nil}
+use Rattle.std.specs.Option.{option_to_list}
+use Rattle.nix_lints.specs.Attributes.{AddsNames, IsEmpty, IsTable}
+use Rattle.nix_lints.specs.Repeated.{Known, nothing, earlier, repetition, repetition_of, repetitions_after, with_name, with_names}
+use Rattle.nix_lints.specs.DefinedNames.{Name}
+use Rattle.nix_lints.specs.declared.{attributes.Attributes.Attributes, repeated.Repeated.Repeated}
 use Rattle.nix_lints.proofs.TableLemmas.{empty_table}
-use Rattle.nix_lints.specs.{DefinedNames.{Written, item_from}, declared.definitions.Item.Item, declared.repeated.Repeated.Repeated}
 
--- what is known of the items that were passed, and that the repetitions found so far and those of the items that are left are all
-pub record ArePassed (all : List Written) (found : List Repeated) (left : List Item) (attributes : BTreeMap ℕ ℕ) (firsts : FirstNames)
-    : Type 0 where
-  pub known : Known
-  pub table : IsTable known attributes firsts
-  pub listing : map repetition_of found ++ repetitions_after known (map item_from left) ≡ repetitions_after nothing all
+-- names after others
+with_names_after : (known : Known) (names more : List Name) → with_names known (names ++ more) ≡ with_names (with_names known names) more
+with_names_after known [] more = refl
+with_names_after known (own ∷ names) more = with_names_after (with_name known own) names more
 
--- one more item
-pub passed_next : (all : List Written) (found new : List Repeated) (left after : List Item) (item : Item) (attributes more : BTreeMap ℕ ℕ)
-    (firsts added : FirstNames) → ArePassed all found left attributes firsts → left ≡ item ∷ after →
-    ((known : Known) → IsTable known attributes firsts → IsTable (with_written known (item_from item)) more added) →
-    ((known : Known) → IsTable known attributes firsts → map repetition_of new ≡ map repetition_of found ++ repetition_at known (item_from item)) →
-    ArePassed all new after more added
-passed_next all found new left after item attributes more firsts added passed first table listing =
-    let known = passed.known in
-    let next = with_written known (item_from item) in
-    record {
-      known = next;
-      table = table known passed.table;
-      listing = subst (λ xs. xs ++ repetitions_after next (map item_from after) ≡ repetitions_after nothing all) (sym (listing known passed.table))
-          (append_assoc (map repetition_of found) (repetition_at known (item_from item)) _
-          ∙ subst (λ items. map repetition_of found ++ repetitions_after known (map item_from items) ≡ repetitions_after nothing all) first passed.listing);
-    }
+-- the repetitions among names after others
+repetitions_behind : (known : Known) (names more : List Name) →
+    repetitions_after known (names ++ more) ≡ repetitions_after known names ++ repetitions_after (with_names known names) more
+repetitions_behind known [] more = refl
+repetitions_behind known (own ∷ names) more =
+    ap (λ found. repetition (earlier known own) own.site ++ found) (repetitions_behind (with_name known own) names more)
+    ∙ sym (append_assoc (repetition (earlier known own) own.site) (repetitions_after (with_name known own) names) _)
 
--- no item was passed
-pub passed_none : (all : List Written) (found : List Repeated) (left : List Item) (attributes : BTreeMap ℕ ℕ) (firsts : FirstNames) →
-    map item_from left ≡ all → found ≡ [] → attributes.entries ≡ [] → firsts.entries ≡ [] → ArePassed all found left attributes firsts
-passed_none all found left attributes firsts is none no_attribute no_first = record {
-  known = nothing;
-  table = empty_table attributes firsts no_attribute no_first;
-  listing = ap (λ (xs : List Repeated). map repetition_of xs ++ repetitions_after nothing (map item_from left)) none ∙ ap (repetitions_after nothing) is;
+-- no names are added
+pub adds_none : (attributes : Attributes) (names : List Name) → names ≡ [] → AddsNames attributes attributes names
+adds_none attributes names none = subst (AddsNames attributes attributes) (sym none) record {
+  table = λ known table. table;
+  repeated = λ known table. sym (append-nil (map repetition_of attributes.repeated.items));
 }
 
--- no item is left
-pub passed_all : (all : List Written) (found : List Repeated) (left : List Item) (attributes : BTreeMap ℕ ℕ) (firsts : FirstNames) →
-    ArePassed all found left attributes firsts → length left ≡ 0 → map repetition_of found ≡ repetitions_after nothing all
-passed_all all found [] attributes firsts passed none = sym (append-nil (map repetition_of found)) ∙ passed.listing
-passed_all all found (item ∷ left) attributes firsts passed none = absurd (omega (arith, none))
+-- names are added, and then others
+pub adds_both : (old mid new : Attributes) (names more : List Name) → AddsNames old mid names → AddsNames mid new more → AddsNames old new (names ++ more)
+adds_both old mid new names more one two = record {
+  table = λ known table. subst (λ k. IsTable k new.attributes new.firsts) (sym (with_names_after known names more))
+      (two.table (with_names known names) (one.table known table));
+  repeated = λ known table. two.repeated (with_names known names) (one.table known table)
+      ∙ ap (λ found. found ++ repetitions_after (with_names known names) more) (one.repeated known table)
+      ∙ append_assoc (map repetition_of old.repeated.items) (repetitions_after known names) _
+      ∙ ap (λ found. map repetition_of old.repeated.items ++ found) (sym (repetitions_behind known names more));
+}
+
+-- the repetition that one more name is, if it is one
+pub one_repeated : (known : Known) (own : Name) (old new : List Repeated) (found : Option Repeated) → new ≡ old ++ option_to_list found →
+    map repetition_of (option_to_list found) ≡ repetition (earlier known own) own.site →
+    map repetition_of new ≡ map repetition_of old ++ repetitions_after known (own ∷ [])
+one_repeated known own old new found is are =
+    ap (map repetition_of) is ∙ map_after old (option_to_list found)
+    ∙ ap (λ more. map repetition_of old ++ more) (are ∙ sym (append-nil (repetition (earlier known own) own.site)))
+  where
+    map_after : (xs ys : List Repeated) → map repetition_of (xs ++ ys) ≡ map repetition_of xs ++ map repetition_of ys
+    map_after [] ys = refl
+    map_after (x ∷ xs) ys = ap (λ found. repetition_of x ∷ found) (map_after xs ys)
+
+-- some of all names were added, and others are left
+pub record AddsSome (old new : Attributes) (left all : List Name) : Type 0 where
+  pub done : List Name
+  pub are : AddsNames old new done
+  pub whole : done ++ left ≡ all
+
+-- no names were added yet
+pub adds_begun : (attributes : Attributes) (left all : List Name) → left ≡ all → AddsSome attributes attributes left all
+adds_begun attributes left all is = record { done = []; are = adds_none attributes [] refl; whole = is }
+
+-- the next names are added
+pub adds_next : (old mid new : Attributes) (left names after all : List Name) → AddsSome old mid left all → left ≡ names ++ after →
+    AddsNames mid new names → AddsSome old new after all
+adds_next old mid new left names after all some first more = record {
+  done = some.done ++ names;
+  are = adds_both old mid new some.done names some.are more;
+  whole = append_assoc some.done names after ∙ ap (λ rest. some.done ++ rest) (sym first) ∙ some.whole;
+}
+
+-- no names are left
+pub adds_all : (old new : Attributes) (left all : List Name) → AddsSome old new left all → left ≡ [] → AddsNames old new all
+adds_all old new left all some none =
+    subst (AddsNames old new) (sym (append-nil some.done) ∙ ap (λ rest. some.done ++ rest) (sym none) ∙ some.whole) some.are
+
+-- after all names, the repetitions are those of the text
+pub found_all : (old new : Attributes) (all : List Name) → IsEmpty old → AddsNames old new all → map repetition_of new.repeated.items ≡ repetitions_after nothing all
+found_all old new all empty are =
+    are.repeated nothing (empty_table old.attributes old.firsts empty.attributes empty.firsts)
+    ∙ ap (λ (found : List Repeated). map repetition_of found ++ repetitions_after nothing all) empty.repeated

@@ -6,9 +6,9 @@ use Rattle.std.specs.{Option.{option_or, unwrap_or}, Str.bytes_eq, Ordering.{is_
 use Rattle.std.specs.{BTreeMap.{BTreeMap, get, get_by, is_at}, Map.lookup, Cmp.{tied_then, unsigned_tied}, Cmp.Lexicographic.slice_cmp, declared.cmp.Ordering.Ordering}
 use Rattle.std.specs.declared.borrow.CowStr.TheVariants.{Borrowed}
 use Rattle.nix_lints.specs.Attributes.{Key, FirstNames, compare_key, attribute_by, first_by, IsTable}
-use Rattle.nix_lints.specs.Repeated.{Known, nothing, earlier, attribute_from, with_name, with_value, is_called}
+use Rattle.nix_lints.specs.Repeated.{Known, nothing, earlier, attribute_from, with_name, is_called}
 use Rattle.nix_lints.specs.DefinedNames.{Site, named, site_of}
-use Rattle.nix_lints.specs.declared.definitions.Place.{Place}
+use Rattle.nix_lints.specs.declared.definition.Place.{Place}
 
 -- nothing after an option
 or_none : {X : Type 0} (o : Option X) → option_or o None ≡ o
@@ -57,21 +57,26 @@ first_at firsts key home text is_home is_text =
     ap (λ n. get_by (λ (k : Key). ordering_then (nat_cmp n k.0) (slice_cmp nat_cmp (cow_str_bytes key.1) (cow_str_bytes k.1))) firsts) is_home
     ∙ ap (λ bytes. get_by (λ (k : Key). ordering_then (nat_cmp home k.0) (slice_cmp nat_cmp bytes (cow_str_bytes k.1))) firsts) is_text
 
--- one place has another attribute
-pub attribute_updated : (attributes new : BTreeMap ℕ ℕ) (key put start attribute : ℕ) → key ≡ start → put ≡ attribute →
-    ((query : ℕ) → get nat_cmp new query ≡ cond (is_eq (nat_cmp key query)) (Some put) (get nat_cmp attributes query)) → (other : ℕ) →
-    attribute_by new other ≡ (if start == other then attribute else attribute_by attributes other)
-attribute_updated attributes new key put start attribute is_start is_attribute updates other =
-    ap (λ o. unwrap_or o other)
-    (updates other ∙ ap (λ k. cond (is_eq (nat_cmp k other)) (Some put) (get nat_cmp attributes other)) is_start
-    ∙ ap (λ v. cond (is_eq (nat_cmp start other)) (Some v) (get nat_cmp attributes other)) is_attribute
-    ∙ ap (λ e. cond e (Some attribute) (get nat_cmp attributes other)) (unsigned_tied start other))
-    ∙ chosen (start == other)
+-- the names inside an open name have another attribute
+pub inner_updated : (attributes new : BTreeMap ℕ ℕ) (is_open : Bool) (inner attribute : ℕ) → is_open ≡ true →
+    ((query : ℕ) → get nat_cmp new query ≡ cond (is_eq (nat_cmp inner query)) (Some attribute) (get nat_cmp attributes query)) → (owner : ℕ) →
+    attribute_by new owner ≡ (if is_open && (inner == owner) then attribute else attribute_by attributes owner)
+inner_updated attributes new is_open inner attribute does updates owner =
+    ap (λ o. unwrap_or o owner)
+    (updates owner ∙ ap (λ e. cond e (Some attribute) (get nat_cmp attributes owner)) (unsigned_tied inner owner))
+    ∙ chosen (inner == owner)
+    ∙ ap (λ o. if o && (inner == owner) then attribute else attribute_by attributes owner) (sym does)
   where
-    chosen : (b : Bool) → unwrap_or (cond b (Some attribute) (get nat_cmp attributes other)) other
-        ≡ (if b then attribute else unwrap_or (get nat_cmp attributes other) other)
+    chosen : (b : Bool) → unwrap_or (cond b (Some attribute) (get nat_cmp attributes owner)) owner
+        ≡ (if true && b then attribute else unwrap_or (get nat_cmp attributes owner) owner)
     chosen true = refl
     chosen false = refl
+
+-- those inside a closed name keep theirs
+pub inner_kept : (attributes : BTreeMap ℕ ℕ) (is_open : Bool) (inner attribute : ℕ) → is_open ≡ false → (owner : ℕ) →
+    attribute_by attributes owner ≡ (if is_open && (inner == owner) then attribute else attribute_by attributes owner)
+inner_kept attributes is_open inner attribute does owner =
+    ap (λ o. if o && (inner == owner) then attribute else attribute_by attributes owner) (sym does)
 
 -- empty maps say what is known before the first name
 pub empty_table : (attributes : BTreeMap ℕ ℕ) (firsts : FirstNames) → attributes.entries ≡ [] → firsts.entries ≡ [] → IsTable nothing attributes firsts
@@ -80,22 +85,11 @@ empty_table attributes firsts no_attribute no_first = record {
   firsts_are = λ home text. ap (λ es. option_map site_of (lookup (is_at (compare_key home text)) es)) no_first;
 }
 
--- a set that is a value is added
-pub value_added : (known : Known) (attributes new : BTreeMap ℕ ℕ) (firsts : FirstNames) (set start : ℕ) →
-    ((other : ℕ) → attribute_by new other ≡ (if set == other then attribute_by attributes start else attribute_by attributes other)) →
-    IsTable known attributes firsts → IsTable (with_value known set start) new firsts
-value_added known attributes new firsts set start updated table = record {
-  attributes_are = λ other. updated other
-      ∙ ap (λ a. if set == other then a else attribute_by attributes other) (table.attributes_are start)
-      ∙ ap (λ a. if set == other then known.attribute start else a) (table.attributes_are other);
-  firsts_are = table.firsts_are;
-}
-
 -- a name is added that must be evaluated
 pub unknown_added : (known : Known) (attributes : BTreeMap ℕ ℕ) (firsts : FirstNames) (own : Site) →
     IsTable known attributes firsts → IsTable (with_name known (named None own)) attributes firsts
 unknown_added known attributes firsts own table = record {
-  attributes_are = λ start. table.attributes_are start ∙ sym (same_both (own.extent.start == start) (known.attribute start));
+  attributes_are = λ owner. table.attributes_are owner ∙ sym (same_both (own.is_open && (own.inner == owner)) (known.attribute owner));
   firsts_are = λ home text. table.firsts_are home text ∙ sym (none (known.attribute own.owner == home) (known.first home text));
 }
   where
@@ -135,8 +129,8 @@ first_added known attributes old new text place table none updated =
     subst (λ n. known.first n text ≡ None) home_is
     (sym (table.firsts_are (attribute_by attributes place.owner) text) ∙ ap (option_map site_of) none) in
     record {
-      attributes_are = λ start. table.attributes_are start ∙ sym (same_both (place.range.start == start) (known.attribute start))
-          ∙ ap (λ o. if place.range.start == start then attribute_from (known.attribute start) o else known.attribute start) (sym absent);
+      attributes_are = λ owner. table.attributes_are owner ∙ sym (same_both (place.is_open && (place.inner == owner)) (known.attribute owner))
+          ∙ ap (λ o. if place.is_open && (place.inner == owner) then attribute_from (known.attribute owner) o else known.attribute owner) (sym absent);
       firsts_are = λ h t. first_kept ((known.attribute place.owner == h) && bytes_eq text t) (first_by new h t) (first_by old h t) (known.first h t) place
           (updated h t ∙ ap (λ n. cond ((n == h) && bytes_eq text t) (Some place) (first_by old h t)) home_is) (table.firsts_are h t)
           (at_same known (known.attribute place.owner) h text t None absent);
@@ -145,7 +139,7 @@ first_added known attributes old new text place table none updated =
 -- a name is added that defines an attribute again
 pub again_added : (known : Known) (old new : BTreeMap ℕ ℕ) (firsts : FirstNames) (text : List ℕ) (first place : Place) →
     IsTable known old firsts → first_by firsts (attribute_by old place.owner) text ≡ Some first →
-    ((other : ℕ) → attribute_by new other ≡ (if place.range.start == other then first.range.start else attribute_by old other)) →
+    ((owner : ℕ) → attribute_by new owner ≡ (if place.is_open && (place.inner == owner) then first.inner else attribute_by old owner)) →
     IsTable (with_name known (named (Some text) (site_of place))) new firsts
 again_added known old new firsts text first place table some updated =
     let home_is : attribute_by old place.owner ≡ known.attribute place.owner = table.attributes_are place.owner in
@@ -153,9 +147,9 @@ again_added known old new firsts text first place table some updated =
     subst (λ n. known.first n text ≡ Some (site_of first)) home_is
     (sym (table.firsts_are (attribute_by old place.owner) text) ∙ ap (option_map site_of) some) in
     record {
-      attributes_are = λ start. updated start
-          ∙ ap (λ a. if place.range.start == start then first.range.start else a) (table.attributes_are start)
-          ∙ ap (λ o. if place.range.start == start then attribute_from (known.attribute start) o else known.attribute start) (sym present);
+      attributes_are = λ owner. updated owner
+          ∙ ap (λ a. if place.is_open && (place.inner == owner) then first.inner else a) (table.attributes_are owner)
+          ∙ ap (λ o. if place.is_open && (place.inner == owner) then attribute_from (known.attribute owner) o else known.attribute owner) (sym present);
       firsts_are = λ h t. table.firsts_are h t
           ∙ first_stays ((known.attribute place.owner == h) && bytes_eq text t) (known.first h t) (site_of first) (site_of place)
           (at_same known (known.attribute place.owner) h text t (Some (site_of first)) present);

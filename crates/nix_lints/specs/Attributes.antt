@@ -1,5 +1,5 @@
 -- What the program keeps of the names that it has passed.
-use Rattle.std.specs.Prelude.{◌≡◌, ℕ, List, Option, Some, None, option_map}
+use Rattle.std.specs.Prelude.{◌≡◌, ◌++◌, ℕ, List, [], map, Option, Some, None, option_map}
 use Rattle.std.specs.Option.{unwrap_or}
 use Rattle.std.specs.BTreeMap.{BTreeMap, get, get_by}
 use Rattle.std.specs.Cmp.Lexicographic.{slice_cmp}
@@ -8,9 +8,10 @@ use Rattle.std.specs.Ordering.{nat_cmp, ordering_then}
 use Rattle.std.specs.declared.alloc.Global.{Global}
 use Rattle.std.specs.declared.borrow.CowStr.{CowStr}
 use Rattle.std.specs.declared.cmp.Ordering.{Ordering}
-use Rattle.nix_lints.specs.Repeated.{Known}
-use Rattle.nix_lints.specs.DefinedNames.{site_of}
-use Rattle.nix_lints.specs.declared.definitions.Place.{Place}
+use Rattle.nix_lints.specs.Repeated.{Known, with_names, repetition_of, repetitions_after}
+use Rattle.nix_lints.specs.DefinedNames.{Name, site_of}
+use Rattle.nix_lints.specs.declared.attributes.Attributes.{Attributes}
+use Rattle.nix_lints.specs.declared.definition.Place.{Place}
 
 -- an attribute or a set, and a name of an attribute that it has
 abbrev pub Key : Type 0
@@ -36,3 +37,15 @@ first_by firsts home text = get_by (compare_key home text) firsts
 pub record IsTable (known : Known) (attributes : BTreeMap ℕ ℕ) (firsts : FirstNames) : Type 0 where
   pub attributes_are : (start : ℕ) → attribute_by attributes start ≡ known.attribute start
   pub firsts_are : (home : ℕ) (text : List ℕ) → option_map site_of (first_by firsts home text) ≡ known.first home text
+
+-- no name is known
+pub record IsEmpty (new : Attributes) : Type 0 where
+  pub attributes : new.attributes.entries ≡ []
+  pub firsts : new.firsts.entries ≡ []
+  pub repeated : new.repeated.items ≡ []
+
+-- names are added, and the repetitions among them
+pub record AddsNames (old new : Attributes) (names : List Name) : Type 0 where
+  pub table : (known : Known) → IsTable known old.attributes old.firsts → IsTable (with_names known names) new.attributes new.firsts
+  pub repeated : (known : Known) → IsTable known old.attributes old.firsts →
+      map repetition_of new.repeated.items ≡ map repetition_of old.repeated.items ++ repetitions_after known names

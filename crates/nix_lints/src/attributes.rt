@@ -1,20 +1,30 @@
 //! The attributes that the names of a text have defined so far.
 
-ghost use Rattle.std.specs.Prelude.{◌≡◌, ◌++◌, Some, IfOk, OnOk, map};
+ghost use Rattle.std.specs.Prelude.{◌≡◌, ◌==◌, ◌&&◌, ◌∷◌, ℕ, [], Some, IfOk, OnOk, map, if◌then◌else◌};
 ghost use Rattle.std.specs.Cow.{cow_str_bytes};
 ghost use Rattle.std.specs.Option.{option_to_list};
-ghost use Rattle.nix_lints.specs.DefinedNames.{site_of, named, name_from, item_from};
-ghost use Rattle.nix_lints.specs.Attributes.{FirstNames, attribute_by, IsTable};
-ghost use Rattle.nix_lints.specs.Repeated.{Known, with_name, with_value, with_written, extends, earlier, repetition, repetition_of, repetition_at};
+ghost use Rattle.nix_lints.specs.DefinedNames.{site_of, named, name_from};
+ghost use Rattle.nix_lints.specs.Attributes.{FirstNames, attribute_by, IsTable, IsEmpty, AddsNames};
+ghost use Rattle.nix_lints.specs.Repeated.{Known, with_name, extends, earlier, repetition, repetition_of};
 
-use crate::definitions::{Definition, Item, Place, Value};
+use crate::definition::{Definition, Place};
 use crate::repeated::Repeated;
-use std::alloc::AllocError;
+use std::alloc::{AllocError, Global};
 use std::borrow::CowStr;
 use std::collections::BTreeMap;
 
 /// Of each attribute, by the attribute or the set that has it and by its name, the place of the first name that defines it.
-pub type Firsts<'t> = BTreeMap<(usize, CowStr<'t>), Place>;
+type Firsts<'t> = BTreeMap<(usize, CowStr<'t>), Place>;
+
+/// The attributes that the names so far define.
+#[derive(Drop)]
+pub struct Attributes<'t> {
+    // The attribute of what begins at an offset, where an earlier name defines it.
+    attributes: BTreeMap<usize, usize>,
+    firsts: Firsts<'t>,
+    /// The names that define one again which cannot be defined again, in order.
+    pub repeated: Vec<Repeated>,
+}
 
 // Returns the attribute of what begins at an offset: the place itself, if the map has no other.
 fn attribute_of(attributes: &BTreeMap<usize, usize>, start: usize) -> usize
@@ -46,13 +56,19 @@ fn repetition(first: Place, own: Place) -> Option<Repeated>
     })
 }
 
-// Adds a set that is a value.
-fn add_value(own: Value, attributes: &mut BTreeMap<usize, usize>) -> Result<(), AllocError>
-    ensures { OnOk result ((known : Known) (firsts : FirstNames) → IsTable known attributes.old firsts →
-        IsTable (with_value known own.set own.name) attributes.new firsts) }
+// Adds that the names inside a name are those of the attribute that another name defines first, if others may add names there.
+fn add_inner(
+    first: Place,
+    own: Place,
+    attributes: &mut BTreeMap<usize, usize>,
+) -> Result<(), AllocError>
+    ensures { OnOk result ((start : ℕ) →
+        attribute_by attributes.new start ≡ (if own.is_open && (own.inner == start) then first.inner else attribute_by attributes.old start)) }
 {
-    let attribute = attribute_of(attributes, own.name);
-    attributes.insert(own.set, attribute)?;
+    if !own.is_open {
+        return Ok(());
+    }
+    attributes.insert(own.inner, first.inner)?;
     Ok(())
 }
 
@@ -72,7 +88,7 @@ fn add_text<'t>(
     let key = (attribute_of(attributes, own.owner), text);
     match firsts.get(&key).copied() {
         Some(first) => {
-            attributes.insert(own.range.start(), first.range.start())?;
+            add_inner(first, own, attributes)?;
             Ok(repetition(first, own))
         }
         None => {
@@ -100,25 +116,25 @@ fn add_name<'t>(
     }
 }
 
-/// Adds an item, and the repetition that it is, if it is one.
-pub fn add_item<'t>(
-    item: Item<'t>,
-    attributes: &mut BTreeMap<usize, usize>,
-    firsts: &mut Firsts<'t>,
-    found: &mut Vec<Repeated>,
-) -> Result<(), AllocError>
-    ensures table { OnOk result ((known : Known) → IsTable known attributes.old firsts.old →
-        IsTable (with_written known (item_from item.entry)) attributes.new firsts.new) }
-    ensures found { OnOk result ((known : Known) → IsTable known attributes.old firsts.old →
-        map repetition_of found.new.items ≡ map repetition_of found.old.items ++ repetition_at known (item_from item.entry)) }
-{
-    match item {
-        Item::Value(own) => add_value(own, attributes),
-        Item::Definition(definition) => {
-            if let Some(repeated) = add_name(definition, attributes, firsts)? {
-                found.push(repeated)?;
-            }
-            Ok(())
+impl<'t> Attributes<'t> {
+    /// Returns those of no names.
+    pub fn new(alloc: Global) -> Attributes<'t>
+        ensures { IsEmpty result }
+    {
+        Attributes {
+            attributes: BTreeMap::new(alloc),
+            firsts: BTreeMap::new(alloc),
+            repeated: Vec::new(alloc),
         }
+    }
+
+    /// Adds a name.
+    pub fn add(&mut self, definition: Definition<'t>) -> Result<(), AllocError>
+        ensures { OnOk result (AddsNames self.old self.new (name_from definition.entry ∷ [])) }
+    {
+        if let Some(repeated) = add_name(definition, &mut self.attributes, &mut self.firsts)? {
+            self.repeated.push(repeated)?;
+        }
+        Ok(())
     }
 }

@@ -2,7 +2,8 @@
 #![tactic(auto)]
 
 mod attributes;
-mod definitions;
+mod definition;
+mod entries;
 mod repeated;
 
 pub use repeated::{Repeated, repeated_attributes};

@@ -1,23 +1,19 @@
-use Rattle.std.proofs.Common.{rules, ◌≡◌, ◌∙◌, ◌++◌, map, ℕ, Option, Some, None, ap, refl, sym, subst, ◌==◌}
-use Rattle.std.specs.{Option.option_to_list, Cow.cow_str_bytes, Prelude.if◌then◌else◌}
-use Rattle.nix_lints.specs.{Attributes.{attribute_by, first_by, IsTable}, DefinedNames.{named, site_of}}
-use Rattle.nix_lints.specs.Repeated.{Known, with_name, repetition, repetition_of}
-use Rattle.nix_lints.proofs.TableLemmas.{first_at, attribute_updated, again_added, key_updated, first_added, earlier_found}
+use Rattle.std.proofs.Common.{rules, ◌≡◌, ◌∙◌, ℕ, Some, None, ap, refl, sym}
+use Rattle.std.specs.Cow.{cow_str_bytes}
+use Rattle.nix_lints.specs.{Attributes.{attribute_by, first_by}, DefinedNames.site_of, Repeated.repetition}
+use Rattle.nix_lints.proofs.TableLemmas.{first_at, again_added, key_updated, first_added, earlier_found}
 use Rattle.nix_lints.proofs.attributes.add_text.Goals as goal
 
-pub returns-in_ok-insert-in-Some-clause-table : goal.returns-in_ok-insert-in-Some-clause-table
-returns-in_ok-insert-in-Some-clause-table c = λ known table.
+pub returns-in_ok-add_inner-in-Some-clause-table : goal.returns-in_ok-add_inner-in-Some-clause-table
+returns-in_ok-add_inner-in-Some-clause-table c = λ known table.
     let found : first_by c.args.firsts.now (attribute_by c.args.attributes.now c.args.own.owner) (cow_str_bytes c.args.text) ≡ Some c.in-Some.first =
     sym (first_at c.args.firsts.now (c.attribute_of.result, c.args.text) _ _ c.attribute_of.ensures refl) ∙ sym c.get.ensures.value ∙ sym c.copied.ensures
     ∙ c.in-Some.is in
-    let updated : (other : ℕ) → attribute_by c.insert.new.self other
-    ≡ (if c.args.own.range.start == other then c.in-Some.first.range.start else attribute_by c.args.attributes.now other) =
-    attribute_updated c.args.attributes.now c.insert.new.self c.start.result c.start-in-Some.result _ _ c.start.ensures
-    c.start-in-Some.ensures c.in_ok-insert-in-Some.ensures.updates.0 in
-    again_added known c.args.attributes.now c.insert.new.self c.args.firsts.now (cow_str_bytes c.args.text) c.in-Some.first c.args.own table found updated
+    again_added known c.args.attributes.now c.add_inner.new.attributes c.args.firsts.now (cow_str_bytes c.args.text) c.in-Some.first c.args.own table found
+    c.in_ok-add_inner-in-Some.ensures
 
-pub returns-in_ok-insert-in-Some-clause-found : goal.returns-in_ok-insert-in-Some-clause-found
-returns-in_ok-insert-in-Some-clause-found c = λ known table.
+pub returns-in_ok-add_inner-in-Some-clause-found : goal.returns-in_ok-add_inner-in-Some-clause-found
+returns-in_ok-add_inner-in-Some-clause-found c = λ known table.
     let found : first_by c.args.firsts.now (attribute_by c.args.attributes.now c.args.own.owner) (cow_str_bytes c.args.text) ≡ Some c.in-Some.first =
     sym (first_at c.args.firsts.now (c.attribute_of.result, c.args.text) _ _ c.attribute_of.ensures refl) ∙ sym c.get.ensures.value ∙ sym c.copied.ensures
     ∙ c.in-Some.is in
@@ -30,7 +26,7 @@ returns-in_ok-insert-in-None-clause-table c = λ known table.
     let absent : first_by c.args.firsts.now (attribute_by c.args.attributes.now c.args.own.owner) (cow_str_bytes c.args.text) ≡ None =
     sym (first_at c.args.firsts.now (c.attribute_of.result, c.args.text) _ _ c.attribute_of.ensures refl) ∙ sym c.get.ensures.value ∙ sym c.copied.ensures
     ∙ c.in-None.is in
-    first_added known c.args.attributes.now c.args.firsts.now c.insert-in-None.new.self (cow_str_bytes c.args.text) c.args.own table absent
+    first_added known c.args.attributes.now c.args.firsts.now c.insert.new.self (cow_str_bytes c.args.text) c.args.own table absent
     (key_updated (c.attribute_of.result, c.args.text) _ _ _ _ _ c.attribute_of.ensures refl c.in_ok-insert-in-None.ensures.updates.0)
 
 pub returns-in_ok-insert-in-None-clause-found : goal.returns-in_ok-insert-in-None-clause-found

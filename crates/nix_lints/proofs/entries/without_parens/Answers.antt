@@ -1,6 +1,6 @@
 use Rattle.std.proofs.Common.{rules, ◌≡◌, ◌∙◌, sym, ap, arith}
 use Rattle.nix_lints.proofs.DefinedNamesLemmas.{parens_next, parens_none, parens_zero}
-use Rattle.nix_lints.proofs.definitions.without_parens.Goals as goal
+use Rattle.nix_lints.proofs.entries.without_parens.Goals as goal
 
 pub loop-count-preserved : goal.loop-count-preserved
 loop-count-preserved c =

@@ -1,0 +1,202 @@
+//! The names that the entries of a text define, one after the other.
+
+ghost use Rattle.std.specs.Prelude.{◌≡◌, ◌∷◌, [], Some, map, option_map, IfOk, IfSome, OnOk};
+ghost use Rattle.std.specs.Cow.{cow_str_bytes};
+ghost use Rattle.rnix_kinds.specs.declared.kinds.SyntaxKind.TheVariants as k;
+ghost use Rattle.rnix_green.specs.Equality.{same_kind};
+ghost use Rattle.rnix_base.specs.Select.{child_of, nodes_of};
+ghost use Rattle.rnix.specs.AttrName.{inside_of, static_name, without_parens};
+ghost use Rattle.rnix.specs.NodeKinds.{is_attr, is_expr};
+ghost use Rattle.rnix.specs.Sums.{attr_node};
+ghost use Rattle.nix_lints.specs.Attributes.{AddsNames};
+ghost use Rattle.nix_lints.specs.DefinedNames.{start_of, set_of, value_start, definition_at, inherited_at, names_of, path_names, names_at};
+
+use crate::attributes::Attributes;
+use crate::definition::{Definition, Place};
+use rnix::ast::{AstNode, Attr, Attrpath, AttrpathValue, Expr, Inherit};
+use rnix::{SyntaxKind, SyntaxNode};
+use rnix_base::child_at;
+use std::alloc::{AllocError, Global};
+use std::borrow::CowStr;
+
+// Returns where a node begins.
+fn start_of(node: &SyntaxNode<'_>) -> usize
+    ensures { result ≡ start_of node.now }
+{
+    node.text_range().start()
+}
+
+// Returns the expression that is in parentheses, if a node is that.
+fn inside_of<'t>(node: &SyntaxNode<'t>) -> Option<SyntaxNode<'t>>
+    ensures { result ≡ inside_of node.now }
+{
+    if node.kind() != SyntaxKind::NODE_PAREN {
+        return None;
+    }
+    Some(child_at::<Expr<'t>>(node, 0)?.syntax().clone())
+}
+
+// Returns an expression without the parentheses around it.
+fn without_parens<'t>(expr: &SyntaxNode<'t>) -> SyntaxNode<'t>
+    ensures { result ≡ without_parens expr.now }
+{
+    let mut inner = expr.clone();
+    let mut count = expr.inside_count();
+    while count > 0 {
+        match inside_of(&inner) {
+            Some(next) => inner = next,
+            None => return inner,
+        }
+        count -= 1;
+    }
+    inner
+}
+
+// Returns the set that an expression is, perhaps in parentheses.
+fn set_of<'t>(expr: &SyntaxNode<'t>) -> Option<SyntaxNode<'t>>
+    ensures { result ≡ set_of expr.now }
+{
+    let inner = without_parens(expr);
+    if inner.kind() == SyntaxKind::NODE_ATTR_SET {
+        Some(inner)
+    } else {
+        None
+    }
+}
+
+// Returns where the set begins that is the value of an entry.
+fn value_start<'t>(entry: &AttrpathValue<'t>) -> Option<usize>
+    ensures { result ≡ value_start (child_of is_expr 0 entry.now) }
+{
+    let value = entry.value()?;
+    let set = set_of(value.syntax())?;
+    Some(start_of(&set))
+}
+
+// Returns what a name is, if it is an identifier.
+fn written_text<'t>(node: &SyntaxNode<'t>) -> Option<&'t str>
+    ensures { IfSome result (λ text. static_name node.now ≡ Some text.now) }
+{
+    match node.kind() {
+        SyntaxKind::NODE_IDENT => Some(node.text()),
+        _ => None,
+    }
+}
+
+// Returns what a name is, where the text alone says so. Only one that is no identifier takes memory.
+fn text_of<'t>(alloc: Global, attr: &Attr<'t>) -> Result<Option<CowStr<'t>>, AllocError>
+    ensures { IfOk result (λ text. option_map cow_str_bytes text ≡ static_name (attr_node attr.now)) }
+{
+    if let Some(text) = written_text(attr.syntax()) {
+        return Ok(Some(CowStr::Borrowed(text)));
+    }
+    match attr.static_name(alloc)? {
+        Some(text) => Ok(Some(CowStr::Owned(text))),
+        None => Ok(None),
+    }
+}
+
+// Adds a name. If other entries may add names to its attribute, `inner` is the owner of these.
+fn add_name<'t>(
+    alloc: Global,
+    attr: &Attr<'t>,
+    owner: usize,
+    continues: bool,
+    inner: Option<usize>,
+    attributes: &mut Attributes<'t>,
+) -> Result<(), AllocError>
+    ensures { OnOk result (AddsNames attributes.old attributes.new (definition_at owner continues inner (attr_node attr.now) ∷ [])) }
+{
+    let text = text_of(alloc, attr)?;
+    let range = attr.syntax().text_range();
+    attributes.add(Definition {
+        text,
+        place: Place {
+            range,
+            owner,
+            inner: inner.unwrap_or(range.start()),
+            continues,
+            is_open: inner.is_some(),
+        },
+    })
+}
+
+// Adds the names of a path whose entry has a set as its value that begins at `set`, if there is one.
+fn add_path<'t>(
+    alloc: Global,
+    owner: usize,
+    set: Option<usize>,
+    path: &Attrpath<'t>,
+    attributes: &mut Attributes<'t>,
+) -> Result<(), AllocError>
+    ensures { OnOk result (AddsNames attributes.old attributes.new (names_of owner set (nodes_of is_attr path.now))) }
+{
+    let mut attrs = path.attrs();
+    let Some(mut last) = attrs.next() else {
+        return Ok(());
+    };
+    let mut before = owner;
+    let mut continues = false;
+    for attr in attrs {
+        let start = start_of(last.syntax());
+        add_name(alloc, &last, before, continues, Some(start), attributes)?;
+        before = start;
+        continues = true;
+        last = attr;
+    }
+    add_name(alloc, &last, before, continues, set, attributes)
+}
+
+// Adds the names that are inherited.
+fn add_inherited<'t>(
+    alloc: Global,
+    owner: usize,
+    inherit: &Inherit<'t>,
+    attributes: &mut Attributes<'t>,
+) -> Result<(), AllocError>
+    ensures { OnOk result (AddsNames attributes.old attributes.new (map (inherited_at owner) (nodes_of is_attr inherit.now))) }
+{
+    for attr in inherit.attrs() {
+        add_name(alloc, &attr, owner, false, None, attributes)?;
+    }
+    Ok(())
+}
+
+// Adds the names of an entry with a value.
+fn add_entry<'t>(
+    alloc: Global,
+    owner: usize,
+    entry: &AttrpathValue<'t>,
+    attributes: &mut Attributes<'t>,
+) -> Result<(), AllocError>
+    ensures { OnOk result (AddsNames attributes.old attributes.new
+        (path_names owner (value_start (child_of is_expr 0 entry.now)) (child_of (same_kind k.NODE_ATTRPATH) 0 entry.now))) }
+{
+    match entry.attrpath() {
+        Some(path) => add_path(alloc, owner, value_start(entry), &path, attributes),
+        None => Ok(()),
+    }
+}
+
+/// Adds the names of a node, if it is an entry of a set or a `let`.
+pub fn add_names<'t>(
+    alloc: Global,
+    node: SyntaxNode<'t>,
+    attributes: &mut Attributes<'t>,
+) -> Result<(), AllocError>
+    ensures { OnOk result (AddsNames attributes.old attributes.new (names_at node.entry)) }
+{
+    if let Some(inherit) = Inherit::cast(node.clone()) {
+        return match node.parent() {
+            Some(set) => add_inherited(alloc, start_of(&set), &inherit, attributes),
+            None => Ok(()),
+        };
+    }
+    if let Some(entry) = AttrpathValue::cast(node.clone()) {
+        return match node.parent() {
+            Some(set) => add_entry(alloc, start_of(&set), &entry, attributes),
+            None => Ok(()),
+        };
+    }
+    Ok(())
+}
