@@ -159,19 +159,6 @@ added_behind root all faults more most old new fault range are added some full d
       count = added.count ∙ ap (λ n. n + 1) are.count ∙ sym (length_push are.ds d);
     }
 
--- a text without errors has no diagnostics
-pub none_first : (root : Located) (errors : List ParseError) (faults : List Fault) (most : ℕ) (found : FirstDiagnostics) → length errors ≡ 0 →
-    map fault_of errors ≡ faults → found.first.items ≡ [] → found.count ≡ 0 → AreFirst root faults most found
-none_first root errors faults most found no_error is no_ds no_count =
-    let are : Shows root faults faults [] = no_errors root errors faults [] no_error is refl in
-    record {
-      all = [];
-      shown = are;
-      runs = covers_runs root faults [] are;
-      first = no_ds ∙ sym (take_all most [] (omega arith));
-      count = no_count;
-    }
-
 -- at the end all errors are shown
 pub all_first : (root : Located) (errors : List ParseError) (faults : List Fault) (n most : ℕ) (found : FirstDiagnostics) →
     map fault_of errors ≡ faults → length errors ≤ n → AreFirstOf root (map fault_of errors) (map fault_of (take n errors)) most found →

@@ -8,3 +8,4 @@ pub mod FollowingLemmas
 pub mod FollowingExamples
 pub mod ShownLemmas
 pub mod FirstShownLemmas
+pub mod RepeatedArgumentLemmas

@@ -7,3 +7,8 @@ abbrev pub is_slip : Fault → Bool
 is_slip (extra range) = false
 is_slip (duplicated_args range name) = false
 is_slip fault = true
+
+-- the error is about a name that a pattern repeats
+abbrev pub is_repeated_name : Fault → Bool
+is_repeated_name (duplicated_args range name) = true
+is_repeated_name fault = false

@@ -287,6 +287,20 @@ pub struct Matching {
 }
 
 impl Matching {
+    /// That of an empty text.
+    pub fn none(alloc: Global) -> Matching {
+        Matching {
+            mismatch: Mismatch {
+                unclosed: None,
+                extra: None,
+                inherit: None,
+            },
+            end: 0,
+            last: None,
+            patterns: Vec::new(alloc),
+        }
+    }
+
     /// Whether the braces that start at an offset are those of a pattern, since `:` or `@` follows them.
     pub fn is_pattern(&self, start: usize) -> bool {
         self.patterns.binary_search(&start).is_ok()

@@ -1,12 +1,14 @@
 //! Diagnostics: where errors are shown, and what is reported of them.
 
-ghost use Rattle.std.specs.Prelude.{◌≡◌, ◌+◌, ◌^◌, ◌<◌, length, option_map, IfOk, OnOk};
+ghost use Rattle.std.specs.Prelude.{◌≡◌, ◌+◌, ◌^◌, ◌<◌, length, map, option_map, true, IfOk, OnOk};
+ghost use Rattle.std.specs.List.{list_all};
 ghost use Rattle.rnix_green.specs.Range.{bounds_of};
 ghost use Rattle.rnix_grammar.specs.Fault.{fault_of};
 ghost use Rattle.rnix.specs.ParseResult.{root_of};
 ghost use Rattle.nix_diagnostics.specs.Places.{end_of_items, error_range, own_range, place_of};
 ghost use Rattle.nix_diagnostics.specs.Shown.{IsFolded, IsSingle, ShowsEach, AreShown, CoverRuns};
 ghost use Rattle.nix_diagnostics.specs.FirstShown.{AreFirst};
+ghost use Rattle.nix_diagnostics.specs.Slips.{is_repeated_name};
 
 use crate::brackets::match_brackets;
 use crate::code::Code;
@@ -14,6 +16,7 @@ use crate::folding::Folding;
 use crate::message::message;
 use crate::notes::{Note, NoteFinder};
 use crate::place::error_node;
+use crate::slips::are_repeated_names;
 use rnix::{Parse, ParseError, SyntaxKind, SyntaxNode, TextRange};
 use std::alloc::{AllocError, Global};
 
@@ -165,6 +168,33 @@ impl FirstDiagnostics {
     }
 }
 
+// The first diagnostics of errors that are all about repeated names, at most so many, and their number. None of these follows from another, and no
+// note on them needs the brackets of the text.
+fn first_repeated_names(
+    alloc: Global,
+    root: &SyntaxNode<'_>,
+    errors: &[ParseError],
+    most: usize,
+) -> Result<FirstDiagnostics, AllocError>
+    requires some { 0 < most }
+    requires names { list_all (λ error. is_repeated_name (fault_of error)) errors.now ≡ true }
+    ensures { IfOk result (AreFirst root.now (map fault_of errors.now) most) }
+{
+    let mut found = FirstDiagnostics {
+        first: Vec::new(alloc),
+        count: 0,
+    };
+    let mut finder = NoteFinder::of_names(alloc);
+    for number in 0..errors.len().min(most) {
+        let error = &errors[number];
+        let range = error.range().unwrap_or(TextRange::empty(0));
+        let alone = single(alloc, number, error, root, None, range, &mut finder)?;
+        found.add(Some(alone))?;
+    }
+    found.count = errors.len();
+    Ok(found)
+}
+
 /// Returns the first diagnostics of a text, at most so many, and the number of all. Errors that follow from an earlier one share its diagnostic. No
 /// message is made for what is only counted.
 pub fn first_diagnostics(
@@ -175,15 +205,15 @@ pub fn first_diagnostics(
     requires { 0 < most }
     ensures { IfOk result (AreFirst (root_of read.now) read.now.faults most) }
 {
+    let errors = read.errors();
+    let root = read.syntax();
+    if are_repeated_names(errors) {
+        return first_repeated_names(alloc, &root, errors, most);
+    }
     let mut found = FirstDiagnostics {
         first: Vec::new(alloc),
         count: 0,
     };
-    let errors = read.errors();
-    if errors.is_empty() {
-        return Ok(found);
-    }
-    let root = read.syntax();
     let (matching, semicolons) = match_brackets(alloc, &root)?;
     let end = matching.end;
     let mut folding = Folding::new(&root, errors, &matching, semicolons);

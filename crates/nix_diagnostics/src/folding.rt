@@ -19,6 +19,7 @@ use crate::brackets::Matching;
 use crate::ends::{ends_closed, ends_in_string, is_from, lost_from};
 use crate::near::are_close;
 use crate::openings::{closes, opens};
+use crate::slips::is_slip;
 use SyntaxKind::*;
 use rnix::{NodeOrToken, ParseError, SyntaxKind, SyntaxNode, SyntaxToken, TextRange};
 
@@ -131,16 +132,6 @@ fn has_no_range(error: &ParseError) -> bool
         Some(_range) => false,
         None => true,
     }
-}
-
-// Whether an error is about an unexpected or a missing token.
-fn is_slip(error: &ParseError) -> bool
-    ensures { result ≡ is_slip (fault_of error.now) }
-{
-    !matches!(
-        error,
-        ParseError::UnexpectedExtra(_) | ParseError::DuplicatedArgs(..)
-    )
 }
 
 // Whether an error says that tokens follow the expression.

@@ -16,6 +16,7 @@ mod openings;
 mod place;
 mod proposals;
 mod replacement;
+mod slips;
 mod unwanted;
 mod words;
 

@@ -171,6 +171,11 @@ impl NoteFinder {
         }
     }
 
+    /// Returns a finder for errors about repeated names, whose notes need no brackets.
+    pub fn of_names(alloc: Global) -> NoteFinder {
+        NoteFinder::new(Matching::none(alloc))
+    }
+
     /// Returns the notes on an error, given its error node and the place where it is shown.
     pub fn notes(
         &mut self,

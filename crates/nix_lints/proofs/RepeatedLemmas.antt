@@ -76,7 +76,8 @@ adds_all old new left all some none =
     subst (AddsNames old new) (sym (append-nil some.done) ∙ ap (λ rest. some.done ++ rest) (sym none) ∙ some.whole) some.are
 
 -- after all names, the repetitions are those of the text
-pub found_all : (old new : Attributes) (all : List Name) → IsEmpty old → AddsNames old new all → map repetition_of new.repeated.items ≡ repetitions_after nothing all
+pub found_all : (old new : Attributes) (all : List Name) → IsEmpty old → AddsNames old new all →
+    map repetition_of new.repeated.items ≡ repetitions_after nothing all
 found_all old new all empty are =
     are.repeated nothing (empty_table old.attributes old.firsts empty.attributes empty.firsts)
     ∙ ap (λ (found : List Repeated). map repetition_of found ++ repetitions_after nothing all) empty.repeated

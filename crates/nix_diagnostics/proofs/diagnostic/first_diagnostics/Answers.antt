@@ -1,15 +1,19 @@
-use Rattle.std.proofs.Common.{◌≡◌, ◌∙◌, ◌+◌, ◌<◌, ◌^◌, rules, arith, sym, subst, map, [], take, Some, None, refl}
+use Rattle.std.proofs.Common.{IfOk, ◌≡◌, ◌∙◌, ◌+◌, ◌<◌, ◌^◌, rules, arith, sym, subst, map, [], take, Some, None, refl}
 use Rattle.rnix_grammar.specs.Fault.{fault_of}
 use Rattle.nix_diagnostics.specs.Known.{Knows}
 use Rattle.nix_diagnostics.specs.Shown.{IsSingle}
 use Rattle.nix_diagnostics.specs.FirstShown.{AreFirst, IsCountFolded, IsCountAdded}
 use Rattle.nix_diagnostics.proofs.ShownLemmas.{count_before, up_to}
-use Rattle.nix_diagnostics.proofs.FirstShownLemmas.{nothing_first, none_first, few_counted, some_counted, folded_one, added_first, added_behind, all_first}
+use Rattle.nix_diagnostics.proofs.FirstShownLemmas.{nothing_first, few_counted, some_counted, folded_one, added_first, added_behind, all_first}
 use Rattle.nix_diagnostics.proofs.diagnostic.first_diagnostics.Goals.{then-folds+in_ok-fold, else-folds+then-len-most+in_ok-alone+in_ok-add, else-folds+else-len-most+in_ok-add-2}
 use Rattle.nix_diagnostics.proofs.diagnostic.first_diagnostics.Goals as goal
 
-pub returns-then-is_empty : goal.returns-then-is_empty
-returns-then-is_empty c = none_first _ c.errors-errors.result.now _ _ _ (search rules) c.errors-errors.ensures c.new.ensures.items refl
+pub returns-then-are_repeated_names : goal.returns-then-are_repeated_names
+returns-then-are_repeated_names c =
+    let found = c.first_repeated_names.result in
+    let most = c.args.most in
+    subst (λ r. IfOk found (AreFirst r c.args.read.now.faults most)) c.syntax-root.ensures
+    (subst (λ faults. IfOk found (AreFirst c.syntax-root.result faults most)) c.errors-errors.ensures c.first_repeated_names.ensures)
 
 pub loop-number-init : goal.loop-number-init
 loop-number-init c = record { first = nothing_first _ _ [] _ _ refl c.new.ensures.items refl; known = search rules; earlier = search rules }

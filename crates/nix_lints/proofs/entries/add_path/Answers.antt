@@ -16,6 +16,6 @@ loop-attr-preserved c = record {
 pub returns : goal.returns
 returns c =
     on_ok_weaker c.add_name-2.result
-    (λ e. path_end c.args.attributes.now c.loop-attr.attributes c.add_name-2.new.attributes (names_of c.args.owner c.args.set (nodes_of is_attr c.args.path.now))
-    c.loop-attr.before c.loop-attr.continues c.args.set (attr_node c.loop-attr.last) (those_of is_attr c.loop-attr.attr-iterator)
-    c.loop-attr.invariant.some c.in-None.ensures.steps.0 e) c.add_name-2.ensures
+    (λ e. path_end c.args.attributes.now c.loop-attr.attributes c.add_name-2.new.attributes
+    (names_of c.args.owner c.args.set (nodes_of is_attr c.args.path.now)) c.loop-attr.before c.loop-attr.continues c.args.set
+    (attr_node c.loop-attr.last) (those_of is_attr c.loop-attr.attr-iterator) c.loop-attr.invariant.some c.in-None.ensures.steps.0 e) c.add_name-2.ensures

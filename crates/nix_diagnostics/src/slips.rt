@@ -1,0 +1,29 @@
+//! What errors are about.
+
+ghost use Rattle.std.specs.Prelude.{◌≡◌};
+ghost use Rattle.std.specs.List.{list_all};
+ghost use Rattle.rnix_grammar.specs.Fault.{fault_of};
+ghost use Rattle.nix_diagnostics.specs.Slips.{is_slip, is_repeated_name};
+
+use rnix::ParseError;
+
+/// Whether an error is about an unexpected or a missing token.
+pub fn is_slip(error: &ParseError) -> bool
+    ensures { result ≡ is_slip (fault_of error.now) }
+{
+    !matches!(
+        error,
+        ParseError::UnexpectedExtra(_) | ParseError::DuplicatedArgs(..)
+    )
+}
+
+/// Whether all errors are about names that a pattern repeats.
+pub fn are_repeated_names(errors: &[ParseError]) -> bool
+    ensures { result ≡ list_all (λ error. is_repeated_name (fault_of error)) errors.now }
+{
+    errors.iter().all(
+        |error: &ParseError| -> bool
+            ensures { result ≡ is_repeated_name (fault_of error.now) }
+        { matches!(error, ParseError::DuplicatedArgs(..)) },
+    )
+}
