@@ -1,12 +1,12 @@
 -- Tests of several facts.
-use Rattle.std.proofs.Common.{◌≡◌, ℕ, ◌+◌, ◌≤◌, ◌<◌, ◌^◌, Bool, true, false, Option, Some, None, List, ◌++◌, length, drop, ap, sym, subst, ◌∙◌, arith}
+use Rattle.std.proofs.Common.{◌≡◌, ℕ, ◌+◌, ◌≤◌, ◌<◌, ◌^◌, Bool, true, false, Some, List, ◌++◌, length, drop, ap, sym, subst, ◌∙◌, arith}
 use Rattle.std.proofs.{Common.{length-append, Fits, w64}, lemmas.{Bool.{Decides.{Decides-like, Decides-eqb}, false≢true}, List.{append_cancel_left, drop-drop, length-drop}}}
 use Rattle.std.proofs.Math.Seq.{drop-append_seam}
-use Rattle.std.specs.{Prelude.{◌==◌, is_some, IfSome}, Bool.{Decides}}
+use Rattle.std.specs.{Prelude.{◌==◌}, Bool.{Decides}}
 use Rattle.rnix_green.specs.{Tree.{Located}, Walk.{Event, preorder_of}}
 use Rattle.rnix_edit.specs.declared.place.Place.{Place}
 use Rattle.rnix_edit.specs.Steps.{Step, steps_of, has_node, steps_in, steps_before, steps_after, events_inside, events_after, is_left}
-use Rattle.rnix_edit.specs.Steps.{IsTaken, AreComments, AreCommentsTaken, IsClosing}
+use Rattle.rnix_edit.specs.Steps.{IsTaken, AreTaken, AreComments, AreCommentsTaken, IsClosing}
 use Rattle.rnix_edit.specs.Edited.{IsAround, IsWith, IsWithout, IsAfter, IsLastIn}
 use Rattle.rnix_edit.proofs.{PassedLemmas.{passed, left_or_not}, StepLemmas.few_steps}
 
@@ -20,11 +20,6 @@ pub left_entered : (place : Place) (root : Located) (inside : List Event) (found
     found ≡ is_left place inside → found ≡ has_node place root
 left_entered place root inside found entered left =
     left ∙ ap (is_left place) entered ∙ sym (passed place root).left ∙ left_or_not place root
-
--- P holds where a number is found
-pub if_some : {P : Type 0} (found : Option ℕ) → IfSome found (λ _. P) → is_some found ≡ true → P
-if_some (Some n) holds is = holds
-if_some None holds is = absurd (false≢true is)
 
 -- the tests of a tree around a place, where a node is there
 pub around_tested : (root other : Located) (old new : Place) (there rest : Bool) (after afters : List Step) →
@@ -40,16 +35,11 @@ pub none_around : (root other : Located) (old new : Place) (there : Bool) → th
 none_around root other old new there is fails =
     (λ holds. absurd (false≢true (sym fails ∙ holds)), λ h. is ∙ h.is_there)
 
--- steps were taken
-taken_first : (taken : Option ℕ) (first all left : List Step) → IsTaken taken first all left → is_some taken ≡ true → all ≡ first ++ left
-taken_first (Some count) first all left comes is = comes.passed.0
-taken_first None first all left comes is = absurd (false≢true is)
-
 -- steps are some first ones, which were taken, and the rest just if the rest is left
-pub taken_tested : (taken : Option ℕ) (same : Bool) (first all left rest : List Step) → IsTaken taken first all left → is_some taken ≡ true →
+pub begun_tested : (taken same : Bool) (first all left rest : List Step) → AreTaken taken first all left → taken ≡ true →
     Decides same (left ≡ rest) → Decides same (all ≡ first ++ rest)
-taken_tested taken same first all left rest comes is tested =
-    let so : all ≡ first ++ left = taken_first taken first all left comes is in
+begun_tested taken same first all left rest comes is tested =
+    let so : all ≡ first ++ left = comes.passed is in
     Decides-like same (λ same_rest. so ∙ ap (λ steps. first ++ steps) same_rest)
     (λ whole. append_cancel_left first left rest (sym so ∙ whole)) tested
 

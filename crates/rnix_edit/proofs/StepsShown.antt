@@ -1,10 +1,13 @@
 -- The steps of a walk, by what its events show.
-use Rattle.std.proofs.Common.{◌≡◌, ◌≤◌, ℕ, List, [], ◌∷◌, ◌++◌, length, map, flat_map, Bool, true, false, refl, ap, sym, ◌∙◌, arith, length-append}
-use Rattle.std.proofs.lemmas.{List.append_cancel_left, Grind.flat_map-append}
-use Rattle.std.specs.Prelude.{if◌then◌else◌}
-use Rattle.rnix_green.specs.{Tree.{item_of, text_at}, Walk.{Event, from_leaving}}
-use Rattle.rnix_tree.specs.WalksAlike.{Shown, shown_event, shown_of, PassAlike}
-use Rattle.rnix_edit.specs.Steps.{Step, node_step, token_steps, step_at, steps_of, GoOnAlike}
+use Rattle.std.proofs.Common.{◌≡◌, ◌≤◌, ◌<◌, ◌-◌, ◌==◌, ℕ, zero, suc, List, [], ◌∷◌, ◌++◌, length, get_or, map, flat_map, Bool, true, false, Option, Some, None, refl, ap, sym, ◌∙◌, subst, arith, append_assoc, length-append, inl, inr}
+use Rattle.std.proofs.lemmas.{List.append_cancel_left, Grind.flat_map-append, List.Elements.{All-nil, All-head, All-tail}, Bool.{cases_lt, Decides.nat_tests}}
+use Rattle.std.specs.{Prelude.{if◌then◌else◌, ◌&&◌}, List.All}
+use Rattle.rnix_green.specs.{Equality.same_kind, Tree.{Located, Item, items_of, item_of, text_at, forest_of, no_item}, Walk.Event}
+use Rattle.rnix_green.proofs.{StartLemmas.in_text, InsideLemmas.elements_in_all}
+use Rattle.rnix_tree.specs.WalksAlike.{Shown, shown_event, shown_of, EndsBefore, PassesAlike}
+use Rattle.rnix_edit.specs.declared.place.Place.{Place}
+use Rattle.rnix_edit.specs.Steps.{Step, node_step, token_steps, step_at, steps_of, enters, events_before, events_inside, ArePassed}
+use Rattle.rnix_edit.proofs.StepLemmas.{GoesOn}
 
 -- the step of an event that shows this
 abbrev steps_shown : Shown → List Step
@@ -25,23 +28,171 @@ all_shown : (events : List Event) → steps_of events ≡ flat_map steps_shown (
 all_shown [] = refl
 all_shown (event ∷ events) = ap (λ steps. steps ++ steps_of events) (step_shown event) ∙ ap (λ steps. steps_shown (shown_of event) ++ steps) (all_shown events)
 
--- the steps of events of which some are passed first
-passed_first : (events left : List Event) (passed : List Shown) → map shown_of events ≡ passed ++ map shown_of left
-    → steps_of events ≡ flat_map steps_shown passed ++ steps_of left
-passed_first events left passed e =
-    all_shown events ∙ ap (flat_map steps_shown) e ∙ flat_map-append steps_shown passed (map shown_of left)
-    ∙ ap (λ steps. flat_map steps_shown passed ++ steps) (sym (all_shown left))
+-- events that show the same have the same steps
+same_steps : (passed twins : List Event) → map shown_of passed ≡ map shown_of twins → steps_of passed ≡ steps_of twins
+same_steps passed twins e = all_shown passed ∙ ap (flat_map steps_shown) e ∙ sym (all_shown twins)
 
--- walks that pass alike events go on by the same steps
-pub goes_on_alike : (a b a_left b_left : List Event) → PassAlike a b → a_left ≡ from_leaving 0 a → b_left ≡ from_leaving 0 b
+-- the same steps come first in two walks, and these are left
+pub record GoOnAlike (a b a_left b_left : List Step) : Type 0 where
+  pub front : List Step
+  pub first : a ≡ front ++ a_left
+  pub second : b ≡ front ++ b_left
+
+-- what is left of them is the same just if all was, and no more is left of each
+pub alike_there : (a b a_left b_left : List Step) → GoOnAlike a b a_left b_left → a_left ≡ b_left → a ≡ b
+alike_there a b a_left b_left h rests = h.first ∙ ap (λ steps. h.front ++ steps) rests ∙ sym h.second
+
+pub alike_back : (a b a_left b_left : List Step) → GoOnAlike a b a_left b_left → a ≡ b → a_left ≡ b_left
+alike_back a b a_left b_left h whole = append_cancel_left h.front a_left b_left (sym h.first ∙ whole ∙ h.second)
+
+pub alike_shorter : (a b a_left b_left : List Step) → GoOnAlike a b a_left b_left → length a_left ≤ length a
+alike_shorter a b a_left b_left h = omega (arith, ap length h.first, length-append h.front a_left)
+
+pub other_shorter : (a b a_left b_left : List Step) → GoOnAlike a b a_left b_left → length b_left ≤ length b
+other_shorter a b a_left b_left h = omega (arith, ap length h.second, length-append h.front b_left)
+
+-- one more step was taken before
+pub fewer : (x : Step) (left all left_after : List Step) → all ≡ x ∷ left → length left_after ≤ length left → length left_after < length all
+fewer x left all left_after e h = omega (arith, ap length e, h)
+
+pub step_taken : (first all : List Step) (x y : Step) (a b all_a all_b : List Step) → GoesOn first all all_a all_b → all_a ≡ x ∷ a → all_b ≡ y ∷ b → x ≡ y
+    → GoesOn first all a b
+step_taken first all x y a b all_a all_b so_far one two same = record {
+  there = λ rest e.
+      so_far.there rest
+      (two ∙ ap (λ steps. y ∷ steps) e ∙ ap (λ step. step ∷ (a ++ rest)) (sym same) ∙ ap (λ steps. steps ++ rest) (sym one));
+  back = λ rest e.
+      let whole : y ∷ b ≡ x ∷ (a ++ rest) = sym two ∙ so_far.back rest e ∙ ap (λ steps. steps ++ rest) one in
+      cc;
+}
+
+-- the second one goes on with what is left of the first one just if all of it begins with all of that
+pub alike_goes_on : (a b a_left b_left first all : List Step) → GoOnAlike a b a_left b_left → GoesOn first all a b → GoesOn first all a_left b_left
+alike_goes_on a b a_left b_left first all h so_far = record {
+  there = λ rest e.
+      so_far.there rest (h.second ∙ ap (λ steps. h.front ++ steps) e ∙ sym (append_assoc h.front a_left rest) ∙ ap (λ steps. steps ++ rest) (sym h.first));
+  back = λ rest e.
+      append_cancel_left h.front b_left (a_left ++ rest)
+      (sym h.second ∙ so_far.back rest e ∙ ap (λ steps. steps ++ rest) h.first ∙ append_assoc h.front a_left rest);
+}
+
+-- walks that pass events that show the same go on by the same steps
+go_on_alike : (passed twins a b a_left b_left : List Event) → map shown_of passed ≡ map shown_of twins → a ≡ passed ++ a_left → b ≡ twins ++ b_left
     → GoOnAlike (steps_of a) (steps_of b) (steps_of a_left) (steps_of b_left)
-goes_on_alike a b a_left b_left h e f =
-    let first : steps_of a ≡ flat_map steps_shown h.passed ++ steps_of a_left =
-    passed_first a a_left h.passed (h.first ∙ ap (λ es. h.passed ++ map shown_of es) (sym e)) in
-    let second : steps_of b ≡ flat_map steps_shown h.passed ++ steps_of b_left =
-    passed_first b b_left h.passed (h.second ∙ ap (λ es. h.passed ++ map shown_of es) (sym f)) in
-    record {
-      there = λ same. first ∙ ap (λ steps. flat_map steps_shown h.passed ++ steps) same ∙ sym second;
-      back = λ same. append_cancel_left (flat_map steps_shown h.passed) (steps_of a_left) (steps_of b_left) (sym first ∙ same ∙ second);
-      shorter = omega (arith, ap length first, length-append (flat_map steps_shown h.passed) (steps_of a_left));
-    }
+go_on_alike passed twins a b a_left b_left e first second = record {
+  front = steps_of passed;
+  first = ap steps_of first ∙ flat_map-append step_at passed a_left;
+  second =
+      ap steps_of second ∙ flat_map-append step_at twins b_left ∙ ap (λ steps. steps ++ steps_of b_left) (sym (same_steps passed twins e));
+}
+
+-- an element starts before it ends
+ordered : (e : Located) → (item_of e).start ≤ (item_of e).end
+ordered e = elim (cases_lt e.number (length (items_of e.tree))) [
+  | inl there ↦ (in_text 0 0 None (forest_of e.tree) e.number (omega (arith, there, elements_in_all e.tree))).ordered
+  | inr absent ↦
+      let none : item_of e ≡ no_item = get_or_past (items_of e.tree) e.number absent in
+      omega (arith, ap (λ (i : Item). i.start) none, ap (λ (i : Item). i.end) none)
+]
+  where
+    get_or_past : (is : List Item) (n : ℕ) → length is ≤ n → get_or is n no_item ≡ no_item
+    get_or_past [] n l = refl
+    get_or_past (i ∷ is) zero l = absurd (omega (arith, l))
+    get_or_past (i ∷ is) (suc n) l = get_or_past is n (omega (arith, l))
+
+-- an element that ends before a place is not at it
+not_entered : (place : Place) (event : Event) → EndsBefore place.start event → enters place event ≡ false
+not_entered place (false, spot) l = refl
+not_entered place (true, (false, e)) l = refl
+not_entered place (true, (true, e)) l =
+    let apart : ((item_of e).start == place.start) ≡ false = other (item_of e).start place.start (omega (arith, ordered e, l)) in
+    ap (λ b. same_kind (item_of e).kind place.kind && (b && (((item_of e).end - (item_of e).start) == place.len))) apart
+    ∙ and_false (same_kind (item_of e).kind place.kind)
+  where
+    other : (a b : ℕ) → a < b → (a == b) ≡ false
+    other a b h = grind (arith, nat_tests)
+
+    and_false : (b : Bool) → (b && false) ≡ false
+    and_false true = refl
+    and_false false = refl
+
+-- events of elements that end before a place are before the one that enters the node there
+pub passed_before : (place : Place) (passed rest : List Event) → All (EndsBefore place.start) passed
+    → (events_before place (passed ++ rest) ≡ passed ++ events_before place rest) × (events_inside place (passed ++ rest) ≡ events_inside place rest)
+passed_before place [] rest all = (refl, refl)
+passed_before place (event ∷ passed) rest all =
+    let fails = not_entered place event (All-head (EndsBefore place.start) event passed all) in
+    let h = passed_before place passed rest (All-tail (EndsBefore place.start) event passed all) in (
+      ap (λ b. if b then [] else event ∷ events_before place (passed ++ rest)) fails ∙ ap (λ es. event ∷ es) h.0,
+      ap (λ b. if b then passed ++ rest else events_inside place (passed ++ rest)) fails ∙ h.1,
+    )
+
+-- no event was passed
+pub none_passed : (before other_before : ℕ) (a b : List Event) → ArePassed before other_before a b a b
+none_passed before other_before a b = record {
+  passed = [];
+  twins = [];
+  first = refl;
+  second = refl;
+  alike = refl;
+  ends = All-nil (EndsBefore before);
+  other_ends = All-nil (EndsBefore other_before);
+}
+
+-- or those of siblings
+pub as_passed : (before other_before : ℕ) (result : Option Bool) (a b a_left b_left : List Event) → PassesAlike before other_before result a b a_left b_left
+    → ArePassed before other_before a b a_left b_left
+as_passed before other_before None a b a_left b_left h =
+    subst (λ es. ArePassed before other_before a b es b_left) (sym h.1)
+    (subst (ArePassed before other_before a b a) (sym h.2) (none_passed before other_before a b))
+as_passed before other_before (Some false) a b a_left b_left h =
+    subst (λ es. ArePassed before other_before a b es b_left) (sym h.2)
+    (subst (ArePassed before other_before a b a) (sym h.3) (none_passed before other_before a b))
+as_passed before other_before (Some true) a b a_left b_left h = record {
+  passed = h.passed;
+  twins = h.twins;
+  first = h.first;
+  second = h.second;
+  alike = h.alike;
+  ends = h.before;
+  other_ends = h.other_before;
+}
+
+-- what is left of two walks that passed alike events
+module _ (before other_before : ℕ) (a b a_left b_left : List Event) (h : ArePassed before other_before a b a_left b_left) where
+  -- goes on alike
+  pub passed_alike : GoOnAlike (steps_of a) (steps_of b) (steps_of a_left) (steps_of b_left)
+  passed_alike = go_on_alike h.passed h.twins a b a_left b_left h.alike h.first h.second
+
+  -- up to nodes at the offsets
+  before_first : (place : Place) → before ≡ place.start
+      → (events_before place (h.passed ++ a_left) ≡ h.passed ++ events_before place a_left)
+      × (events_inside place (h.passed ++ a_left) ≡ events_inside place a_left)
+  before_first place e = passed_before place h.passed a_left (subst (λ n. All (EndsBefore n) h.passed) e h.ends)
+
+  before_second : (place : Place) → other_before ≡ place.start
+      → (events_before place (h.twins ++ b_left) ≡ h.twins ++ events_before place b_left)
+      × (events_inside place (h.twins ++ b_left) ≡ events_inside place b_left)
+  before_second place e = passed_before place h.twins b_left (subst (λ n. All (EndsBefore n) h.twins) e h.other_ends)
+
+  -- the nodes there are entered as before
+  pub inside_first : (place : Place) → before ≡ place.start → events_inside place a_left ≡ events_inside place a
+  inside_first place e = sym (ap (events_inside place) h.first ∙ (before_first place e).1)
+
+  pub inside_second : (place : Place) → other_before ≡ place.start → events_inside place b_left ≡ events_inside place b
+  inside_second place e = sym (ap (events_inside place) h.second ∙ (before_second place e).1)
+
+  -- in the first walk up to the node, in the second one to its end
+  pub alike_before : (place : Place) → before ≡ place.start
+      → GoOnAlike (steps_of (events_before place a)) (steps_of b) (steps_of (events_before place a_left)) (steps_of b_left)
+  alike_before place e =
+      go_on_alike h.passed h.twins (events_before place a) b (events_before place a_left) b_left h.alike
+      (ap (events_before place) h.first ∙ (before_first place e).0) h.second
+
+  -- in both up to nodes
+  pub both_before : (place other : Place) → before ≡ place.start → other_before ≡ other.start
+      → GoOnAlike (steps_of (events_before place a)) (steps_of (events_before other b)) (steps_of (events_before place a_left))
+      (steps_of (events_before other b_left))
+  both_before place other e f =
+      go_on_alike h.passed h.twins (events_before place a) (events_before other b) (events_before place a_left) (events_before other b_left) h.alike
+      (ap (events_before place) h.first ∙ (before_first place e).0) (ap (events_before other) h.second ∙ (before_second other f).0)

@@ -1,13 +1,14 @@
 -- A tree as the steps of a walk over it, without white space.
-use Rattle.std.specs.Prelude.{◌≡◌, ℕ, ◌-◌, ◌≤◌, ◌==◌, ◌&&◌, Bool, true, false, not, List, [], ◌∷◌, ◌++◌, flat_map, length, take, drop, Option, IfSome, is_some, if◌then◌else◌}
+use Rattle.std.specs.Prelude.{◌≡◌, ℕ, ◌-◌, ◌≤◌, ◌==◌, ◌&&◌, Bool, true, false, not, List, [], ◌∷◌, ◌++◌, flat_map, length, map, take, drop, Option, IfSome, is_some, if◌then◌else◌}
 use Rattle.std.specs.Bool.{beq}
 use Rattle.std.specs.Str.{bytes_eq}
-use Rattle.std.specs.List.{list_any, list_all}
+use Rattle.std.specs.List.{All, list_any, list_all}
 use Rattle.rnix_kinds.specs.declared.kinds.SyntaxKind.{SyntaxKind}
 use Rattle.rnix_kinds.specs.declared.kinds.SyntaxKind.TheVariants as k
 use Rattle.rnix_green.specs.Equality.{same_kind}
 use Rattle.rnix_green.specs.Tree.{Located, item_of, text_at}
 use Rattle.rnix_green.specs.Walk.{Event, preorder_of, elements_of, nodes_in}
+use Rattle.rnix_tree.specs.WalksAlike.{shown_of, EndsBefore}
 use Rattle.rnix_edit.specs.declared.place.Place.{Place}
 use Rattle.rnix_edit.specs.declared.steps.Step.{Step as Made}
 
@@ -134,8 +135,17 @@ pub record IsClosingTaken (taken : Bool) (all left : List Step) : Type 0 where
   pub passed : taken ≡ true → IsClosing all × (left ≡ drop 2 all)
   pub found : IsClosing all → taken ≡ true
 
--- what is left of two walks is the same just if all was, and no more is left of the first one
-pub record GoOnAlike (a b a_left b_left : List Step) : Type 0 where
-  pub there : a_left ≡ b_left → a ≡ b
-  pub back : a ≡ b → a_left ≡ b_left
-  pub shorter : length a_left ≤ length a
+-- whether steps begin with some others; if so, these were taken, and what is left
+pub record AreTaken (taken : Bool) (first all left : List Step) : Type 0 where
+  pub passed : taken ≡ true → all ≡ first ++ left
+  pub found : (rest : List Step) → all ≡ first ++ rest → taken ≡ true
+
+-- two walks have passed events that show the same, or none, of elements that end before two offsets
+pub record ArePassed (before other_before : ℕ) (a b a_left b_left : List Event) : Type 0 where
+  pub passed : List Event
+  pub twins : List Event
+  pub first : a ≡ passed ++ a_left
+  pub second : b ≡ twins ++ b_left
+  pub alike : map shown_of passed ≡ map shown_of twins
+  pub ends : All (EndsBefore before) passed
+  pub other_ends : All (EndsBefore other_before) twins

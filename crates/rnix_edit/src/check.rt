@@ -7,8 +7,8 @@ ghost use Rattle.rnix_edit.specs.Steps.{steps_before};
 
 use crate::place::Place;
 use crate::steps::{
-    are_same_before, are_same_walks, skip_node, steps_through, takes_before, takes_closing,
-    takes_comments,
+    are_same_before, are_same_walks, begins_before, skip_node, steps_through, takes_before,
+    takes_closing, takes_comments,
 };
 use rnix::SyntaxNode;
 
@@ -39,7 +39,7 @@ pub fn is_without(
 {
     let mut old_walk = root.preorder_with_tokens();
     let mut new_walk = other.preorder_with_tokens();
-    if takes_before(&mut new_walk, &mut old_walk, old).is_none() {
+    if !begins_before(&mut new_walk, &mut old_walk, old) {
         return false;
     }
     skip_node(&mut old_walk, old);

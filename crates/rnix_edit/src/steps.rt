@@ -2,18 +2,17 @@
 
 ghost use Rattle.std.specs.Prelude.{◌≡◌, ◌<◌, ◌≤◌, ◌+◌, ◌^◌, [], ◌∷◌, drop, length, MatchOption, IfSome, IfNone, IsTrue};
 ghost use Rattle.rnix_green.specs.Tree.{item_of, text_at};
-ghost use Rattle.rnix_green.specs.Walk.{from_leaving};
 ghost use Rattle.std.specs.Bool.{Decides};
-ghost use Rattle.rnix_tree.specs.Spots.{event_of};
+ghost use Rattle.rnix_tree.specs.{Spots.{event_of}, WalksAlike.{siblings_before}};
 ghost use Rattle.rnix_edit.specs.Steps.{step_of, token_steps, node_step, step_at, steps_of, enters, leaves, events_before, events_inside, events_after};
-ghost use Rattle.rnix_edit.specs.Steps.{is_left, is_comment, GoOnAlike, IsTaken, AreCommentsTaken, IsClosingTaken};
+ghost use Rattle.rnix_edit.specs.Steps.{is_left, is_comment, ArePassed, IsTaken, AreTaken, AreCommentsTaken, IsClosingTaken};
 
 use crate::place::{Place, is_at};
 use rnix::{
     NodeOrToken, PreorderWithTokens, SyntaxElement, SyntaxKind, SyntaxNode, SyntaxToken, WalkEvent,
 };
 
-// The number of failed skips after which walks are compared step by step, so that the time stays linear.
+// The number of failed attempts after which walks are compared step by step, so that the time stays linear.
 const MOST_MISSES: u8 = 2;
 
 /// A step of a walk: entering or leaving a node, which has no text, or passing a token.
@@ -173,36 +172,42 @@ fn are_done(mut events: PreorderWithTokens<'_>) -> bool
     }
 }
 
-// Skips the siblings that are alike in both walks, up to the end of each innermost open node, unless this failed too often. Returns the number of
-// failed attempts.
-fn try_skip<'t>(a: &mut PreorderWithTokens<'t>, b: &mut PreorderWithTokens<'t>, misses: u8) -> u8
-    ensures alike { GoOnAlike (steps_of a.old) (steps_of b.old) (steps_of a.new) (steps_of b.new) }
-    ensures skipped { misses < MOST_MISSES → result ≡ misses → a.new ≡ from_leaving 0 a.old }
+// Passes the siblings that walk `a` enters next and that end before an offset, if walk `b` has them too, and there before another offset, unless this
+// failed too often. Returns the number of failed attempts.
+fn try_pass(
+    a: &mut PreorderWithTokens<'_>,
+    before: usize,
+    b: &mut PreorderWithTokens<'_>,
+    other_before: usize,
+    misses: u8,
+) -> u8
+    ensures passed { ArePassed before other_before a.old b.old a.new b.new }
+    ensures all { misses < MOST_MISSES → result ≡ misses → siblings_before before 0 a.new ≡ [] }
     ensures kept { misses ≤ result }
     ensures counted { result ≤ misses + 1 }
 {
     if misses >= MOST_MISSES {
         return misses;
     }
-    if a.skip_alike(b) {
-        return misses;
+    match a.pass_alike(before, b, other_before) {
+        Some(false) => misses + 1,
+        _ => misses,
     }
-    misses + 1
 }
 
 /// Returns whether the remaining steps of two walks are the same.
-// Siblings that are alike are skipped together, which saves entering and leaving each of them in both walks.
+// Siblings that are alike are passed together, which saves entering and leaving each of them in both walks.
 pub fn are_same_walks<'t>(mut a: PreorderWithTokens<'t>, mut b: PreorderWithTokens<'t>) -> bool
     ensures { Decides result (steps_of a.entry ≡ steps_of b.entry) }
 {
-    let mut misses = try_skip(&mut a, &mut b, 0);
+    let mut misses = try_pass(&mut a, usize::MAX, &mut b, usize::MAX, 0);
     while let Some(step) = next_step(&mut a) {
         match next_step(&mut b) {
             Some(other) if is_step(step, other) => {}
             _ => return false,
         }
         if !step.enters {
-            misses = try_skip(&mut a, &mut b, misses);
+            misses = try_pass(&mut a, usize::MAX, &mut b, usize::MAX, misses);
         }
     }
     are_done(b)
@@ -220,10 +225,14 @@ pub fn are_same_before(
     ensures entered { IsTrue result → events.new ≡ events_inside old events.old }
     ensures others { IsTrue result → others.new ≡ events_inside new others.old }
 {
+    let mut misses = 0;
     while let Some(step) = next_before(others, new) {
         match next_before(events, old) {
             Some(other) if is_step(step, other) => {}
             _ => return false,
+        }
+        if step.enters {
+            misses = try_pass(events, old.start, others, new.start, misses);
         }
     }
     next_before(events, old).is_none()
@@ -265,6 +274,30 @@ pub fn takes_before(
         }
     }
     Some(count)
+}
+
+/// Takes the steps of `wanted` before the node at a place from both walks, if `events` begins with them, and returns whether it does. `wanted` has then
+/// entered the node, or is at its end.
+// As `takes_before`, with siblings that are alike passed together: these are not counted.
+pub fn begins_before(
+    events: &mut PreorderWithTokens<'_>,
+    wanted: &mut PreorderWithTokens<'_>,
+    place: Place,
+) -> bool
+    ensures taken { AreTaken result (steps_of (events_before place wanted.old)) (steps_of events.old) (steps_of events.new) }
+    ensures entered { IsTrue result → wanted.new ≡ events_inside place wanted.old }
+{
+    let mut misses = 0;
+    while let Some(step) = next_before(wanted, place) {
+        match next_step(events) {
+            Some(other) if is_step(step, other) => {}
+            _ => return false,
+        }
+        if step.enters {
+            misses = try_pass(wanted, place.start, events, usize::MAX, misses);
+        }
+    }
+    true
 }
 
 /// Takes `count` steps from a walk, if all of them pass comments.

@@ -44,32 +44,34 @@ fn left(walk: PreorderWithTokens<'_>) -> usize {
     left
 }
 
-// Two walks behind where they enter the roots: whether the rest in the roots is skipped in both, and how many events are left in each.
-fn skipped(first: &SyntaxNode<'_>, second: &SyntaxNode<'_>) -> (bool, usize, usize) {
+// Two walks after they enter the roots: what comes of passing the siblings that end before two offsets, and how many events are left in each.
+fn passed(
+    first: &SyntaxNode<'_>,
+    before: usize,
+    second: &SyntaxNode<'_>,
+    other_before: usize,
+) -> (Option<bool>, usize, usize) {
     let mut walk = first.preorder_with_tokens();
     let mut other = second.preorder_with_tokens();
     walk.next();
     other.next();
-    let is_skipped = walk.skip_alike(&mut other);
-    (is_skipped, left(walk), left(other))
+    let is_passed = walk.pass_alike(before, &mut other, other_before);
+    (is_passed, left(walk), left(other))
 }
 
 #[test]
-fn what_two_walks_pass_alike_is_left_out(rt: HostRuntime) -> Result<(), Fail> {
+fn what_two_walks_have_alike_is_passed(rt: HostRuntime) -> Result<(), Fail> {
     let first = Parsed::new(rt.alloc(), "[1 (2 + 3) 4]")?;
     let second = Parsed::new(rt.alloc(), "[1 (2 + 3) 4]")?;
-    assert!(rt; skipped(&first.syntax(), &second.syntax()) == (true, 1, 1));
+    let result = passed(&first.syntax(), usize::MAX, &second.syntax(), usize::MAX);
+    assert!(rt; result == (Some(true), 1, 1));
     Ok(())
 }
 
 #[test]
-fn what_two_walks_pass_otherwise_is_not_left_out(rt: HostRuntime) -> Result<(), Fail> {
+fn what_two_walks_have_otherwise_is_not_passed(rt: HostRuntime) -> Result<(), Fail> {
     let first = Parsed::new(rt.alloc(), "[1 (2 + 3) 4]")?;
-    let all = first
-        .syntax()
-        .preorder_with_tokens()
-        .count()
-        .saturating_sub(1);
+    let all = left(first.syntax().preorder_with_tokens()).saturating_sub(1);
     for text in [
         "[1 (2 + 3) 5]",
         "[1 (2 * 3) 4]",
@@ -78,7 +80,48 @@ fn what_two_walks_pass_otherwise_is_not_left_out(rt: HostRuntime) -> Result<(), 
     ] {
         let second = Parsed::new(rt.alloc(), text)?;
         let others = left(second.syntax().preorder_with_tokens()).saturating_sub(1);
-        assert!(rt; skipped(&first.syntax(), &second.syntax()) == (false, all, others));
+        let result = passed(&first.syntax(), usize::MAX, &second.syntax(), usize::MAX);
+        assert!(rt; result == (Some(false), all, others));
     }
+    Ok(())
+}
+
+// Two walks after they enter the lists in two roots, the second one of a longer text: what comes of passing the siblings before two offsets, and how
+// many events the first one has passed and the second one has left.
+fn passed_in_lists(
+    rt: &HostRuntime,
+    before: usize,
+    other_before: usize,
+) -> Result<(Option<bool>, usize, bool), Fail> {
+    let first = Parsed::new(rt.alloc(), "[1 (2 + 3) 4 5]")?;
+    let second = Parsed::new(rt.alloc(), "[1 (2 + 3) 6 5 7]")?;
+    let (root, other_root) = (first.syntax(), second.syntax());
+    let mut walk = root.preorder_with_tokens();
+    let mut other = other_root.preorder_with_tokens();
+    walk.next();
+    other.next();
+    walk.next();
+    other.next();
+    let (all, others) = (
+        left(root.preorder_with_tokens()),
+        left(other_root.preorder_with_tokens()),
+    );
+    let is_passed = walk.pass_alike(before, &mut other, other_before);
+    let (rest, other_rest) = (left(walk), left(other));
+    Ok((
+        is_passed,
+        all.saturating_sub(rest),
+        all.saturating_sub(rest) == others.saturating_sub(other_rest),
+    ))
+}
+
+#[test]
+fn siblings_before_an_offset_are_passed(rt: HostRuntime) -> Result<(), Fail> {
+    assert!(rt; passed_in_lists(&rt, 1, 20)? == (None, 2, true));
+    assert!(rt; passed_in_lists(&rt, 2, 20)? == (Some(true), 4, true));
+    assert!(rt; passed_in_lists(&rt, 11, 20)? == (Some(true), 32, true));
+    assert!(rt; passed_in_lists(&rt, 11, 11)? == (Some(true), 32, true));
+    assert!(rt; passed_in_lists(&rt, 11, 10)? == (Some(false), 2, true));
+    assert!(rt; passed_in_lists(&rt, 13, 20)? == (Some(false), 2, true));
     Ok(())
 }

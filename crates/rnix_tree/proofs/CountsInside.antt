@@ -1,5 +1,5 @@
 -- The children of an element, with what is inside them, are no more than what is inside it.
-use Rattle.std.proofs.Common.{◌≡◌, ℕ, zero, suc, ◌+◌, ◌-◌, ◌≤◌, ◌<◌, List, [], ◌∷◌, length, map, true, false, Option, Some, refl, ap, ◌∙◌, arith, inl, inr}
+use Rattle.std.proofs.Common.{◌≡◌, ℕ, suc, ◌+◌, ◌-◌, ◌≤◌, ◌<◌, List, [], ◌∷◌, length, map, true, false, Option, Some, refl, ap, ◌∙◌, arith, inl, inr}
 use Rattle.{std.{proofs.lemmas.Bool.cases_lt, specs.Prelude.{if◌then◌else◌, nat_lt}}, rnix_green.specs.Forest.{Forest, empty, leaf, node, text_of}}
 use Rattle.rnix_green.specs.{Forest.element_count, Tree.{Tree, Located, Item, items_of, forest_of, item, part_of, children_in}, Walk.{Spot, spot_at, nodes_in}}
 use Rattle.rnix_green.{specs.{Walk.children_of, PreorderNumbers.tree_numbers}, proofs.{NumberTests.{is_above, is_not_below}, PartLemmas.{IsPart, IsOne, one_leaf}}}

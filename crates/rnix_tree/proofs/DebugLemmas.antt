@@ -1,5 +1,5 @@
 -- The start of a long text is shown up to a character's end.
-use Rattle.std.proofs.Common.{◌≡◌, ℕ, ◌≤◌, ◌<◌, ◌+◌, Bool, true, false, List, [], ◌∷◌, ◌++◌, length, take, codes, get_or, Option, Some, None, refl, ap, sym}
+use Rattle.std.proofs.Common.{◌≡◌, ℕ, ◌≤◌, ◌<◌, Bool, true, false, List, [], ◌∷◌, ◌++◌, length, take, codes, get_or, Option, Some, None, refl, ap, sym}
 use Rattle.std.proofs.{Common.{subst, ◌∙◌, arith, inl, inr}, lemmas.{Bool.{cases_lt, and_parts, Decides.nat_tests}, List.Folds.list_all-append}}
 use Rattle.std.{proofs.lemmas.{List.Folds.list_all_more, Str.IsCharBoundary-after_ascii}, specs.{Prelude.if◌then◌else◌, Char.is_ascii, Fmt.debug_str}}
 use Rattle.{std.specs.{Fmt.debug_escape, List.{list_all, flat_map}, Str.{IsCharBoundary, IsUtf8}}, rnix_green.proofs.NumberTests.is_not_below}

@@ -1,9 +1,9 @@
 -- Walks along siblings.
 use Rattle.std.proofs.Common.{◌≡◌, ℕ, zero, suc, ◌+◌, ◌-◌, ◌≤◌, ◌<◌, [], ◌∷◌, length, map, Bool, true, false, Option, Some, None, refl, ap, sym, ◌∙◌, arith}
 use Rattle.std.proofs.{Common.{inl, inr}, lemmas.{Bool.{cases_lt, Decides.nat_tests}, List.{length-map, Sums.{length-filter, count_by-le-length}}}}
-use Rattle.{std.specs.Prelude.{filter, cond}, rnix_green.specs.{Tree.{Tree, Located, items_of, item, item_of}, Walk.{spot_at, counted}, Relatives.IsFirst}}
+use Rattle.{std.specs.Prelude.{filter, cond}, rnix_green.specs.{Tree.{Tree, Located, items_of, item}, Walk.{spot_at, counted}, Relatives.IsFirst}}
 use Rattle.{rnix_green.{specs.Relatives.{IsLast, IsSibling}, proofs.NumberTests.is_same}, rnix_tree.specs.Siblings.{same_parent, is_beside, numbers_below}}
-use Rattle.rnix_tree.specs.{Siblings.{siblings_of, siblings_if, index_of, IsBeside}, declared.siblings.Direction.{Direction, TheVariants.{Next, Prev}}}
+use Rattle.rnix_tree.specs.{Siblings.{siblings_of, siblings_if, IsBeside}, declared.siblings.Direction.{Direction, TheVariants.{Next, Prev}}}
 use Rattle.rnix_tree.proofs.{CountLemmas.counted-many, AncestorLemmas.counted_more}
 
 -- equal parents pass the test, and others fail it

@@ -1,6 +1,6 @@
 -- How many siblings precede an element.
-use Rattle.std.proofs.Common.{◌≡◌, ℕ, zero, suc, ◌+◌, ◌≤◌, ◌<◌, length, ◌∷◌, false, Some, None, ap, sym, ◌∙◌, refl, arith}
-use Rattle.{std.specs.Prelude.filter, rnix_green.{specs.{Tree.{Tree, items_of, item}, Relatives.IsChild}, proofs.SiblingLemmas.next_inside}}
+use Rattle.std.proofs.Common.{◌≡◌, ℕ, suc, ◌+◌, ◌≤◌, ◌<◌, length, false, Some, None, ap, sym, ◌∙◌, arith}
+use Rattle.{std.specs.Prelude.filter, rnix_green.{specs.{Tree.{Tree, items_of, item}, Relatives.IsChild}}}
 use Rattle.rnix_green.proofs.InsideLemmas.{below_parent, first_child_of, sibling_behind}
 use Rattle.rnix_tree.{specs.Siblings.{is_beside, numbers_below, index_of}, proofs.{CoveringLemmas.ends_before, RelativeLemmas.{not_beside, root_alone}}}
 use Rattle.rnix_tree.proofs.DirectionLemmas.{same_passes, passes_same, fails, none_down, skip_down, meet_down}

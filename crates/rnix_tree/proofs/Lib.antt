@@ -22,5 +22,11 @@ pub mod SkipLemmas
 pub mod CountsInside
 pub mod ChainsFall
 pub mod DigitLemmas
-pub mod WalksAlikeLemmas
-pub mod NextAlikeLemmas
+pub mod RowForests
+pub mod RowWalks
+pub mod SameRows
+pub mod ShownRows
+pub mod RowsAlike
+pub mod PassedRows
+pub mod PassLemmas
+pub mod PassExamples

@@ -1,5 +1,5 @@
 -- Passing over what is left inside an element, in a walk.
-use Rattle.std.proofs.Common.{◌≡◌, ℕ, zero, suc, ◌+◌, ◌-◌, ◌≤◌, ◌<◌, List, [], ◌∷◌, ◌++◌, length, map, Bool, true, false, Option, Some, None, refl, ap, sym}
+use Rattle.std.proofs.Common.{◌≡◌, ℕ, zero, suc, ◌+◌, ◌≤◌, ◌<◌, List, [], ◌∷◌, ◌++◌, length, map, Bool, true, false, Option, Some, None, refl, ap, sym}
 use Rattle.std.{proofs.{Common.{◌∙◌, subst, arith, ◌⊎◌, inl, inr, append_assoc}, lemmas.{Bool.cases_lt, List.append-nil}}, specs.Prelude.if◌then◌else◌}
 use Rattle.{rnix_kinds.specs.declared.kinds.SyntaxKind.SyntaxKind, rnix_green.specs.{Forest.{Forest, empty, leaf, node, text_of, element_count}, Tree.Tree}}
 use Rattle.rnix_green.specs.{Tree.{items_of, item, part_at}, Walk.{Step, Spot, Event, steps_from, event_at, from_leaving, node_events}}

@@ -1,38 +1,74 @@
--- Siblings of two trees that are alike.
-use Rattle.std.specs.Prelude.{◌≡◌, ℕ, ◌+◌, ◌-◌, ◌<◌, ◌==◌, ◌&&◌, ◌||◌, nat_le, Bool, true, false, Option, Some}
+-- Siblings of two trees, compared by their elements.
+use Rattle.std.specs.Prelude.{◌≡◌, ℕ, ◌+◌, ◌-◌, ◌<◌, ◌≤◌, ◌^◌, ◌==◌, ◌&&◌, nat_lt, length, take, drop, Bool, true, Option, Some, None, if◌then◌else◌}
 use Rattle.std.specs.Bool.{beq}
-use Rattle.std.specs.Str.{bytes_eq}
 use Rattle.rnix_green.specs.Equality.{same_kind}
-use Rattle.rnix_green.specs.Tree.{Tree, Item, item, text_at}
+use Rattle.rnix_green.specs.Forest.{text_of}
+use Rattle.rnix_green.specs.Tree.{Tree, Item, items_of, item, forest_of}
+use Rattle.rnix_tree.specs.declared.rows.Row.{Row}
+use Rattle.rnix_tree.specs.declared.walk.Next.{Next}
+use Rattle.rnix_tree.specs.declared.walk.Next.TheVariants.{Enter, Leave, Done}
+use Rattle.rnix_tree.specs.Cursor.{IsInside}
+
+-- the parent of an element in a walk, or the element if it is the root of the walk
+abbrev pub holder_of : ℕ → ℕ → Option ℕ → ℕ
+holder_of root m None = m
+holder_of root m (Some p) = if m == root then m else p
+
+-- the siblings from an element on, up to the end of what the holder has inside
+abbrev pub row_held : Tree → ℕ → ℕ → Row
+row_held t m holder = record { first = m; holder = holder; end = holder + 1 + (item t holder).below }
+
+-- the siblings from an element on in a walk from a root
+abbrev pub row_at : Tree → ℕ → ℕ → Row
+row_at t root m = row_held t m (holder_of root m (item t m).parent)
+
+-- these are siblings that a walk enters
+pub record IsRow (t : Tree) (row : Row) : Type 0 where
+  pub root : ℕ
+  pub there : root < length (items_of t)
+  pub inside : IsInside t root row.first
+  pub is : row ≡ row_at t root row.first
+  pub fits : row.end < 2 ^ 63
+
+-- a number is reached from another one over siblings that end before an offset
+pub data IsReached (t : Tree) (end offset first : ℕ) : ℕ → Type 0 where
+  from_first : IsReached t end offset first first
+  over_one : (n : ℕ) → IsReached t end offset first n → n < end → (item t n).end < offset → IsReached t end offset first (n + 1 + (item t n).below)
+
+-- where the siblings before a number end in the text
+abbrev pub text_end : Tree → Row → ℕ → ℕ
+text_end t row n = if nat_lt n row.end then (item t n).start else (item t row.holder).end
+
+-- what a walk does after the siblings before a number
+abbrev pub after_row : Row → ℕ → Next
+after_row row n = if nat_lt n row.end then Enter n else (if row.holder == row.first then Done else Leave row.holder)
 
 -- two elements have the same kind, and as many elements inside
 abbrev pub same_item : Item → Item → Bool
 same_item a b = same_kind a.kind b.kind && (beq a.is_node b.is_node && (a.below == b.below))
 
--- the parents of two elements, among siblings from x and y on or inside them, are the parents p and q of the siblings, or as far behind x and y
-abbrev pub alike_parents : ℕ → ℕ → ℕ → ℕ → Option ℕ → Option ℕ → Bool
-alike_parents x p y q (Some a) (Some b) = (nat_le x a && (nat_le y b && ((a - x) == (b - y)))) || ((a == p) && (b == q))
-alike_parents x p y q a b = false
-
--- the elements i places behind x and y are alike: of the same kind, with as many elements inside, and with parents in the same place; tokens have the same text
+-- the elements i places after x and y are alike, and start as far after the offsets s and v
 abbrev pub alike_at : Tree → Tree → ℕ → ℕ → ℕ → ℕ → ℕ → Bool
-alike_at t u x p y q i =
-    same_item (item t (x + i)) (item u (y + i))
-    && (alike_parents x p y q (item t (x + i)).parent (item u (y + i)).parent
-    && ((item t (x + i)).is_node || bytes_eq (text_at record { tree = t; number = x + i }) (text_at record { tree = u; number = y + i })))
+alike_at t u x s y v i =
+    same_item (item t (x + i)) (item u (y + i)) && (((item t (x + i)).start - s) == ((item u (y + i)).start - v))
 
 -- so many elements from x and y on are alike
 abbrev pub AreAlike : Tree → Tree → ℕ → ℕ → ℕ → ℕ → ℕ → Type 0
-AreAlike t u x p y q n = (i : ℕ) → i < n → alike_at t u x p y q i ≡ true
+AreAlike t u x s y v n = (i : ℕ) → i < n → alike_at t u x s y v i ≡ true
 
--- the siblings from x and y on are alike, with all that is inside them: up to the ends of their parents p and q there are n elements in both trees,
--- and these are alike
-pub record AreSiblingsAlike (t : Tree) (x : ℕ) (u : Tree) (y : ℕ) : Type 0 where
-  pub p : ℕ
-  pub q : ℕ
-  pub n : ℕ
-  pub parent : (item t x).parent ≡ Some p
-  pub other_parent : (item u y).parent ≡ Some q
-  pub ends : p + 1 + (item t p).below ≡ x + n
-  pub other_ends : q + 1 + (item u q).below ≡ y + n
-  pub alike : AreAlike t u x p y q n
+-- a range is one of the text
+pub record IsIn (t : Tree) (start end : ℕ) : Type 0 where
+  pub ordered : start ≤ end
+  pub within : end ≤ length (text_of (forest_of t))
+
+-- two texts are the same in two ranges
+abbrev pub SameText : Tree → ℕ → ℕ → Tree → ℕ → ℕ → Type 0
+SameText t start end u other_start other_end =
+    take (end - start) (drop start (text_of (forest_of t))) ≡ take (other_end - other_start) (drop other_start (text_of (forest_of u)))
+
+-- siblings of two rows are alike up to the number n of the first one, and end in the second tree before an offset
+pub record AreRowsAlike (t : Tree) (row : Row) (n : ℕ) (u : Tree) (other : Row) (before : ℕ) : Type 0 where
+  pub fits : other.first + (n - row.first) ≤ other.end
+  pub ends : text_end u other (other.first + (n - row.first)) < before
+  pub text : SameText t (item t row.first).start (text_end t row n) u (item u other.first).start (text_end u other (other.first + (n - row.first)))
+  pub elements : AreAlike t u row.first (item t row.first).start other.first (item u other.first).start (n - row.first)

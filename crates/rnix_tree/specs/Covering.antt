@@ -1,5 +1,5 @@
 -- The elements that hold a range.
-use Rattle.std.specs.Prelude.{◌≡◌, ◌≤◌, ◌+◌, ◌&&◌, ℕ, nat_le, nat_lt, Bool, true, find, Option, Some, None}
+use Rattle.std.specs.Prelude.{◌≡◌, ◌≤◌, ◌+◌, ◌&&◌, nat_le, nat_lt, Bool, true, find, Option, Some, None}
 use Rattle.rnix_green.specs.Range.{Extent}
 use Rattle.rnix_green.specs.Tree.{Located, item_of, extent_of}
 use Rattle.rnix_green.specs.Walk.{Spot, children_of}

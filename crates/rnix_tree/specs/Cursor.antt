@@ -1,7 +1,7 @@
 -- The current element of a walk, and what is left of it.
-use Rattle.std.specs.Prelude.{ℕ, zero, suc, ◌+◌, ◌-◌, ◌==◌, ◌<◌, ◌≤◌, nat_lt, List, [], ◌∷◌, ◌++◌, length, map, drop, false, Option, Some, None, if◌then◌else◌}
+use Rattle.std.specs.Prelude.{ℕ, ◌+◌, ◌==◌, ◌<◌, ◌≤◌, nat_lt, List, [], ◌∷◌, ◌++◌, length, map, false, Option, Some, None, if◌then◌else◌}
 use Rattle.rnix_green.specs.Forest.{Forest, empty, leaf, node, element_count}
-use Rattle.rnix_green.specs.Tree.{Tree, Item, items_of, item, part_at}
+use Rattle.rnix_green.specs.Tree.{Tree, items_of, item, part_at}
 use Rattle.rnix_green.specs.Walk.{Step, Event, steps_from, event_at}
 use Rattle.rnix_tree.specs.declared.walk.Next.{Next}
 use Rattle.rnix_tree.specs.declared.walk.Next.TheVariants.{Enter, Leave, Done}

@@ -1,5 +1,5 @@
 -- Nodes, tokens and events as the elements of a walk.
-use Rattle.std.specs.Prelude.{Bool, true, false, Option, Some, None}
+use Rattle.std.specs.Prelude.{true, false, Option, Some, None}
 use Rattle.rnix_green.specs.Tree.{Located}
 use Rattle.rnix_green.specs.Walk.{Spot, Event, NodeEvent}
 use Rattle.rnix_tree.specs.declared.element.NodeOrToken.{NodeOrToken}

@@ -1,9 +1,9 @@
 -- What walks show of the elements that they pass.
-use Rattle.std.specs.Prelude.{◌≡◌, ℕ, ◌<◌, Bool, true, false, List, [], ◌∷◌, ◌++◌, length, map, if◌then◌else◌}
+use Rattle.std.specs.Prelude.{◌≡◌, ℕ, zero, suc, ◌<◌, nat_lt, Bool, true, false, List, [], ◌∷◌, ◌++◌, length, map, Option, Some, None, if◌then◌else◌}
+use Rattle.std.specs.List.{All}
 use Rattle.rnix_kinds.specs.declared.kinds.SyntaxKind.{SyntaxKind}
 use Rattle.rnix_green.specs.Tree.{item_of, text_at}
-use Rattle.rnix_green.specs.Walk.{Event, from_leaving}
-use Rattle.rnix_tree.specs.AlikeRows.{AreSiblingsAlike}
+use Rattle.rnix_green.specs.Walk.{Event}
 
 -- what an event shows: whether its element is entered, whether that is a node, its kind, and the text of a token
 pub record Shown : Type 0 where
@@ -20,20 +20,45 @@ shown_event enters is_node kind text = record { enters = enters; is_node = is_no
 abbrev pub shown_of : Event → Shown
 shown_of event = shown_event event.0 event.1.0 (item_of event.1.1).kind (text_at event.1.1)
 
--- what two walks pass shows the same, up to where each leaves the innermost open element
-pub record PassAlike (a b : List Event) : Type 0 where
-  pub passed : List Shown
-  pub first : map shown_of a ≡ passed ++ map shown_of (from_leaving 0 a)
-  pub second : map shown_of b ≡ passed ++ map shown_of (from_leaving 0 b)
+-- the element of an event ends before an offset
+abbrev pub EndsBefore : ℕ → Event → Type 0
+EndsBefore offset event = (item_of event.1.1).end < offset
 
--- a walk has an element to leave that it entered
-abbrev pub HasEntered : List Event → Type 0
-HasEntered events = 0 < length (from_leaving 0 events)
+-- the events of the siblings that a walk enters next and that end before an offset, with what is inside them; so many of them are not left yet
+abbrev pub siblings_before : ℕ → ℕ → List Event → List Event
+siblings_before offset zero [] = []
+siblings_before offset (suc d) [] = []
+siblings_before offset zero ((true, e) ∷ es) = if nat_lt (item_of e.1).end offset then (true, e) ∷ siblings_before offset 1 es else []
+siblings_before offset zero ((false, e) ∷ es) = []
+siblings_before offset (suc d) ((true, e) ∷ es) = (true, e) ∷ siblings_before offset (suc (suc d)) es
+siblings_before offset (suc d) ((false, e) ∷ es) = (false, e) ∷ siblings_before offset d es
 
--- the rest of the innermost element that was entered is alike in two walks: both enter siblings there next that are alike, up to the ends of their
--- parents, or both leave an element next
-abbrev pub AreNextAlike : List Event → List Event → Type 0
-AreNextAlike ((true, e) ∷ a) ((true, f) ∷ b) =
-    HasEntered ((true, e) ∷ a) × HasEntered ((true, f) ∷ b) × AreSiblingsAlike e.1.tree e.1.number f.1.tree f.1.number
-AreNextAlike ((false, e) ∷ a) ((false, f) ∷ b) = Unit {0}
-AreNextAlike a b = ⊥
+-- a walk begins with events that show the same as others, of elements that end before an offset
+pub record BeginsAlike (passed : List Event) (offset : ℕ) (b : List Event) : Type 0 where
+  pub twins : List Event
+  pub left : List Event
+  pub split : b ≡ twins ++ left
+  pub alike : map shown_of passed ≡ map shown_of twins
+  pub before : All (EndsBefore offset) twins
+
+-- two walks have passed events that show the same: the first one the siblings that it enters next and that end before an offset, and no such siblings are
+-- next; the second one elements that end before another offset
+pub record HavePassed (offset other_offset : ℕ) (a b a_left b_left : List Event) : Type 0 where
+  pub passed : List Event
+  pub twins : List Event
+  pub first : a ≡ passed ++ a_left
+  pub second : b ≡ twins ++ b_left
+  pub siblings : passed ≡ siblings_before offset 0 a
+  pub some : 0 < length passed
+  pub alike : map shown_of passed ≡ map shown_of twins
+  pub before : All (EndsBefore offset) passed
+  pub other_before : All (EndsBefore other_offset) twins
+  pub done : siblings_before offset 0 a_left ≡ []
+
+-- what comes of comparing the siblings that a walk enters next and that end before an offset with the next ones of another walk: there are none, or they
+-- differ, and both walks stay where they are; or they are alike, and both walks have passed them
+abbrev pub PassesAlike : ℕ → ℕ → Option Bool → List Event → List Event → List Event → List Event → Type 0
+PassesAlike offset other_offset None a b a_left b_left = (siblings_before offset 0 a ≡ []) × (a_left ≡ a) × (b_left ≡ b)
+PassesAlike offset other_offset (Some false) a b a_left b_left =
+    (0 < length (siblings_before offset 0 a)) × ¬ (BeginsAlike (siblings_before offset 0 a) other_offset b) × (a_left ≡ a) × (b_left ≡ b)
+PassesAlike offset other_offset (Some true) a b a_left b_left = HavePassed offset other_offset a b a_left b_left

@@ -1,18 +1,97 @@
 //! Comparing siblings of two trees.
 
-ghost use Rattle.std.specs.Prelude.{◌≡◌, ◌≤◌, ◌<◌, ◌+◌, ◌^◌, Some, length};
+ghost use Rattle.std.specs.Prelude.{◌≡◌, ◌≤◌, ◌<◌, ◌+◌, ◌-◌, ◌^◌, length};
 ghost use Rattle.std.specs.Bool.{Decides};
 ghost use Rattle.rnix_green.specs.Kept.{item_from};
 ghost use Rattle.rnix_green.specs.Tree.{item, items_of};
-ghost use Rattle.rnix_tree.specs.AlikeRows.{same_item, alike_parents, alike_at, AreAlike, AreSiblingsAlike};
+ghost use Rattle.rnix_tree.specs.Cursor.{IsInside};
+ghost use Rattle.rnix_tree.specs.AlikeRows.{holder_of, row_at, IsReached, text_end, same_item, alike_at, AreAlike, IsRow, IsIn, SameText, AreRowsAlike, after_row};
 
+use crate::walk::Next;
 use rnix_green::{Element, GreenNode};
 
-// Siblings from `first` on, with everything inside them, and their parent.
+/// The siblings from `first` on that a walk enters, with all that is inside them, up to the number `end`. `holder` is their parent, or the root of the
+/// walk if that is `first`.
 #[derive(Clone, Copy)]
-struct Row {
-    first: usize,
-    parent: usize,
+pub(crate) struct Row {
+    pub first: usize,
+    pub holder: usize,
+    pub end: usize,
+}
+
+// Returns the parent of an element in a walk, or the element if it is the root of the walk.
+fn holder_of(root: usize, number: usize, parent: Option<usize>) -> usize
+    ensures { result ≡ holder_of root number parent }
+{
+    match parent {
+        Some(parent) if number != root => parent,
+        _ => number,
+    }
+}
+
+/// Returns the siblings from an element on in a walk from a root.
+pub(crate) fn row_at(green: &GreenNode, root: usize, number: usize) -> Row
+    requires { IsInside green.now root number }
+    ensures row { result ≡ row_at green.now root number }
+    ensures fits { result.end < 2 ^ 63 }
+{
+    let holder = holder_of(root, number, green.element(number).parent);
+    let end = holder + 1 + green.element(holder).below;
+    Row {
+        first: number,
+        holder,
+        end,
+    }
+}
+
+/// Returns the number of the first sibling that does not end before an offset, or the end of the row.
+pub(crate) fn end_before(green: &GreenNode, row: Row, offset: usize) -> usize
+    requires { row.end ≤ length (items_of green.now) }
+    ensures reached { IsReached green.now row.end offset row.first result }
+    ensures stops { result < row.end → offset ≤ (item green.now result).end }
+{
+    let mut number = row.first;
+    while number < row.end {
+        let element = green.element(number);
+        if element.end >= offset {
+            return number;
+        }
+        number += 1 + element.below;
+    }
+    number
+}
+
+/// Returns what a walk does after the siblings before a number.
+pub(crate) fn after_row(row: Row, number: usize) -> Next
+    ensures { result ≡ after_row row number }
+{
+    if number < row.end {
+        Next::Enter(number)
+    } else if row.holder == row.first {
+        Next::Done
+    } else {
+        Next::Leave(row.holder)
+    }
+}
+
+// Returns where the siblings before a number end in the text.
+fn text_end(green: &GreenNode, row: Row, number: usize) -> usize
+    requires holder { row.holder < length (items_of green.now) }
+    requires end { row.end ≤ length (items_of green.now) }
+    ensures { result ≡ text_end green.now row number }
+{
+    if number < row.end {
+        green.element(number).start
+    } else {
+        green.element(row.holder).end
+    }
+}
+
+// An element, and the offset at which it starts.
+#[derive(Clone, Copy)]
+struct Origin {
+    number: usize,
+    start: usize,
 }
 
 // Returns whether two elements have the same kind and the same number of elements inside.
@@ -22,96 +101,107 @@ fn is_same_item(a: &Element, b: &Element) -> bool
     a.kind == b.kind && a.is_node == b.is_node && a.below == b.below
 }
 
-// Returns whether both parents are the parents of the rows, or have the same position relative to the first elements of the rows.
-fn are_parents_alike(a: Option<usize>, row: Row, b: Option<usize>, other: Row) -> bool
-    ensures { result ≡ alike_parents row.first row.parent other.first other.parent a b }
-{
-    match (a, b) {
-        (Some(a), Some(b)) => {
-            (row.first <= a && other.first <= b && a - row.first == b - other.first)
-                || (a == row.parent && b == other.parent)
-        }
-        _ => false,
-    }
-}
-
-// Returns whether the elements `place` positions after the first ones are alike.
+// Returns whether the elements `place` positions after two others are alike, and start at the same distance from them.
 fn is_alike_at(
     green: &GreenNode,
-    row: Row,
+    from: Origin,
     other_green: &GreenNode,
-    other: Row,
+    other: Origin,
     place: usize,
 ) -> bool
-    requires fits { row.first + place < 2 ^ 63 }
-    requires there { row.first + place < length (items_of green.now) }
-    requires other_fits { other.first + place < 2 ^ 63 }
-    requires other_there { other.first + place < length (items_of other_green.now) }
-    ensures { result ≡ alike_at green.now other_green.now row.first row.parent other.first other.parent place }
+    requires fits { from.number + place < 2 ^ 63 }
+    requires there { from.number + place < length (items_of green.now) }
+    requires start { from.start ≡ (item green.now from.number).start }
+    requires other_fits { other.number + place < 2 ^ 63 }
+    requires other_there { other.number + place < length (items_of other_green.now) }
+    requires other_start { other.start ≡ (item other_green.now other.number).start }
+    ensures { result ≡ alike_at green.now other_green.now from.number from.start other.number other.start place }
 {
-    let (number, other_number) = (row.first + place, other.first + place);
-    let (element, twin) = (green.element(number), other_green.element(other_number));
-    is_same_item(&element, &twin)
-        && are_parents_alike(element.parent, row, twin.parent, other)
-        && (element.is_node || green.text_at(number) == other_green.text_at(other_number))
+    let element = green.element(from.number + place);
+    let twin = other_green.element(other.number + place);
+    is_same_item(&element, &twin) && element.start - from.start == twin.start - other.start
 }
 
 // Returns whether the first `count` elements are alike.
-fn are_alike(green: &GreenNode, row: Row, other_green: &GreenNode, other: Row, count: usize) -> bool
-    requires fits { row.first + count < 2 ^ 63 }
-    requires there { row.first + count ≤ length (items_of green.now) }
-    requires other_fits { other.first + count < 2 ^ 63 }
-    requires other_there { other.first + count ≤ length (items_of other_green.now) }
-    ensures { Decides result (AreAlike green.now other_green.now row.first row.parent other.first other.parent count) }
+fn are_alike(
+    green: &GreenNode,
+    from: Origin,
+    other_green: &GreenNode,
+    other: Origin,
+    count: usize,
+) -> bool
+    requires fits { from.number + count < 2 ^ 63 }
+    requires there { from.number + count ≤ length (items_of green.now) }
+    requires start { from.start ≡ (item green.now from.number).start }
+    requires other_fits { other.number + count < 2 ^ 63 }
+    requires other_there { other.number + count ≤ length (items_of other_green.now) }
+    requires other_start { other.start ≡ (item other_green.now other.number).start }
+    ensures { Decides result (AreAlike green.now other_green.now from.number from.start other.number other.start count) }
 {
     for place in 0..count {
-        if !is_alike_at(green, row, other_green, other, place) {
+        if !is_alike_at(green, from, other_green, other, place) {
             return false;
         }
     }
     true
 }
 
-// Returns the number of elements from one on up to the end of its parent.
-fn count_from(green: &GreenNode, number: usize, parent: usize) -> usize
-    requires there { number < length (items_of green.now) }
-    requires parent { (item green.now number).parent ≡ Some parent }
-    ensures count { parent + 1 + (item green.now parent).below ≡ number + result }
-    ensures there { number + result ≤ length (items_of green.now) }
-    ensures fits { number + result < 2 ^ 63 }
+// Returns whether the texts of two trees are the same in two ranges.
+fn are_texts_alike(
+    green: &GreenNode,
+    start: usize,
+    end: usize,
+    other_green: &GreenNode,
+    other_start: usize,
+    other_end: usize,
+) -> bool
+    requires within { IsIn green.now start end }
+    requires other_within { IsIn other_green.now other_start other_end }
+    ensures { Decides result (SameText green.now start end other_green.now other_start other_end) }
 {
-    parent + 1 + green.element(parent).below - number
+    let text = green.text_at(0).as_bytes();
+    let other = other_green.text_at(0).as_bytes();
+    text[start..end] == other[other_start..other_end]
 }
 
-/// Returns whether the siblings from two elements on are alike, with all that is inside them: as many elements, of the same kinds, with parents in the
-/// same places, and tokens of the same texts. Linear in the number of elements and the bytes of the texts that are compared.
-pub(crate) fn are_siblings_alike(
+/// Returns whether the siblings of two rows are alike up to the number `end` of the first one, with all that is inside them, and end in the second tree
+/// before an offset: as many elements, of the same kinds, with as many elements inside, and the same text. Linear in their number and in the bytes.
+pub(crate) fn are_rows_alike(
     green: &GreenNode,
-    number: usize,
+    row: Row,
+    end: usize,
     other_green: &GreenNode,
-    other_number: usize,
+    other: Row,
+    before: usize,
 ) -> bool
-    requires there { number < length (items_of green.now) }
-    requires other_there { other_number < length (items_of other_green.now) }
-    ensures { Decides result (AreSiblingsAlike green.now number other_green.now other_number) }
+    requires row { IsRow green.now row }
+    requires there { row.first < end }
+    requires within { end ≤ row.end }
+    requires other { IsRow other_green.now other }
+    ensures { Decides result (AreRowsAlike green.now row end other_green.now other before) }
 {
-    let (Some(parent), Some(other_parent)) = (
-        green.element(number).parent,
-        other_green.element(other_number).parent,
-    ) else {
-        return false;
-    };
-    let count = count_from(green, number, parent);
-    if count != count_from(other_green, other_number, other_parent) {
+    let count = end - row.first;
+    if count > other.end - other.first {
         return false;
     }
-    let row = Row {
-        first: number,
-        parent,
+    let from = Origin {
+        number: row.first,
+        start: green.element(row.first).start,
     };
-    let other = Row {
-        first: other_number,
-        parent: other_parent,
+    let twin = Origin {
+        number: other.first,
+        start: other_green.element(other.first).start,
     };
-    are_alike(green, row, other_green, other, count)
+    let text_stop = text_end(green, row, end);
+    let other_stop = text_end(other_green, other, other.first + count);
+    other_stop < before
+        && are_texts_alike(
+            green,
+            from.start,
+            text_stop,
+            other_green,
+            twin.start,
+            other_stop,
+        )
+        && are_alike(green, from, other_green, twin, count)
 }

@@ -1,14 +1,13 @@
 //! Walks over a tree, without allocation or recursion.
 
-ghost use Rattle.std.specs.Prelude.{◌≡◌, ◌<◌, ◌≤◌, length, IsTrue, IsFalse};
-ghost use Rattle.std.specs.Bool.{Decides};
+ghost use Rattle.std.specs.Prelude.{◌≡◌, ◌<◌, ◌≤◌, length};
 ghost use Rattle.rnix_green.specs.Tree.{items_of};
 ghost use Rattle.rnix_green.specs.Walk.{preorder_of, from_leaving};
-ghost use Rattle.rnix_tree.specs.WalksAlike.{PassAlike, AreNextAlike};
+ghost use Rattle.rnix_tree.specs.WalksAlike.{PassesAlike};
 ghost use Rattle.rnix_tree.specs.Cursor.{after_enter, after_leave, after_skip, IsNextWithin};
 
 use crate::element::{SyntaxElement, WalkEvent, element_at};
-use crate::rows::are_siblings_alike;
+use crate::rows::{after_row, are_rows_alike, end_before, row_at};
 use rnix_green::GreenNode;
 use std::marker::Model;
 
@@ -109,39 +108,36 @@ impl<'t> PreorderWithTokens<'t> {
         self.next = after_skip(self.green, self.root, self.next);
     }
 
-    // Returns whether both walks have the rest of the innermost element that was entered alike.
-    fn passes_alike(&self, other: &PreorderWithTokens<'_>) -> bool
-        ensures exact { Decides result (AreNextAlike self.now other.now) }
-        ensures alike { IsTrue result → PassAlike self.now other.now }
+    /// Passes the siblings that the walk enters next and that end before an offset, and as many siblings in another walk, if they are alike. Returns whether
+    /// they are, or `None` if the walk enters no such sibling next. They are alike if they have as many nodes and tokens, in the same order, of the same
+    /// kinds, and tokens of the same texts, and if those in the other walk end before another offset. Unless it returns `Some(true)`, both walks stay where
+    /// they are. Linear in the number of elements that are compared, and in the bytes of their texts.
+    pub fn pass_alike(
+        &mut self,
+        before: usize,
+        other: &mut PreorderWithTokens<'_>,
+        other_before: usize,
+    ) -> Option<bool>
+        ensures { PassesAlike before other_before result self.old other.old self.new other.new }
     {
-        match (self.next, other.next) {
-            (Next::Enter(number), Next::Enter(other_number)) => {
-                if number == self.root || other_number == other.root {
-                    return false;
-                }
-                are_siblings_alike(self.green, number, other.green, other_number)
-            }
-            (Next::Leave(_), Next::Leave(_)) => true,
-            _ => false,
+        let Next::Enter(number) = self.next else {
+            return None;
+        };
+        let row = row_at(self.green, self.root, number);
+        let end = end_before(self.green, row, before);
+        if end == number {
+            return None;
         }
-    }
-
-    /// Skips the rest of the innermost element that was entered in both walks, as `skip_subtree` does, if that is alike, and returns whether it is. It is
-    /// alike if both walks enter siblings there next, and from these on both have as many nodes and tokens, of the same kinds, with parents in the same
-    /// places, and tokens of the same texts. It is alike too if both leave an element next. Otherwise both walks stay where they are. Linear in the
-    /// number of elements that are compared, up to the first two that differ, and in the bytes of the texts that are compared.
-    pub fn skip_alike(&mut self, other: &mut PreorderWithTokens<'_>) -> bool
-        ensures exact { Decides result (AreNextAlike self.old other.old) }
-        ensures skipped { IsTrue result → (self.new ≡ from_leaving 0 self.old) × (other.new ≡ from_leaving 0 other.old) }
-        ensures alike { IsTrue result → PassAlike self.old other.old }
-        ensures stays { IsFalse result → (self.new ≡ self.old) × (other.new ≡ other.old) }
-    {
-        if !self.passes_alike(other) {
-            return false;
+        let Next::Enter(other_number) = other.next else {
+            return Some(false);
+        };
+        let twin = row_at(other.green, other.root, other_number);
+        if !are_rows_alike(self.green, row, end, other.green, twin, other_before) {
+            return Some(false);
         }
-        self.skip_subtree();
-        other.skip_subtree();
-        true
+        self.next = after_row(row, end);
+        other.next = after_row(twin, other_number + (end - number));
+        Some(true)
     }
 }
 

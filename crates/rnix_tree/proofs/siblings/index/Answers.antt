@@ -1,5 +1,5 @@
-use Rattle.{std.proofs.Common.{◌≡◌, ◌+◌, ◌∙◌, Some, ap, sym, arith}, rnix_green.{specs.Tree.{Item, item}, proofs.ParentLemmas.parent_is_before}}
-use Rattle.rnix_tree.proofs.IndexLemmas.{IsCounted, counted_first, counted_step, none_counted}
+use Rattle.{std.proofs.Common.{◌≡◌, ◌∙◌, ap, sym, arith}, rnix_green.{specs.Tree.{Item, item}, proofs.ParentLemmas.parent_is_before}}
+use Rattle.rnix_tree.proofs.IndexLemmas.{counted_first, counted_step, none_counted}
 use Rattle.rnix_tree.proofs.siblings.index.Goals as goal
 
 pub returns-in_default : goal.returns-in_default
