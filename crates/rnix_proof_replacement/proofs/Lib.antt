@@ -1,0 +1,13 @@
+pub mod BeforeBrackets
+pub mod NumbersBefore
+pub mod PathsBefore
+pub mod CutsBefore
+pub mod StringsBefore
+pub mod CutTokens
+pub mod Onward
+pub mod Depths
+pub mod KeptTokens
+pub mod BracketForms
+pub mod BracketTokens
+pub mod ReplacedTokens
+pub mod ReplacedExamples
