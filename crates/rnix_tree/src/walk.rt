@@ -108,10 +108,11 @@ impl<'t> PreorderWithTokens<'t> {
         self.next = after_skip(self.green, self.root, self.next);
     }
 
-    /// Passes the siblings that the walk enters next and that end before an offset, and as many siblings in another walk, if they are alike. Returns whether
-    /// they are, or `None` if the walk enters no such sibling next. They are alike if they have as many nodes and tokens, in the same order, of the same
-    /// kinds, and tokens of the same texts, and if those in the other walk end before another offset. Unless it returns `Some(true)`, both walks stay where
-    /// they are. Linear in the number of elements that are compared, and in the bytes of their texts.
+    /// Passes the siblings that the walk enters next and that end before an offset, and as many siblings in another walk, if they are alike; for programs
+    /// that look for what differs between two trees. Returns whether they are, or `None` if the walk enters no such sibling next. They are alike if they
+    /// have as many nodes and tokens, in the same order, of the same kinds, and tokens of the same texts, and if those in the other walk end before another
+    /// offset. Unless it returns `Some(true)`, both walks stay where they are. Linear in the number of elements that are compared, and in the bytes of their
+    /// texts.
     pub fn pass_alike(
         &mut self,
         before: usize,
