@@ -169,7 +169,7 @@ impl FirstDiagnostics {
 }
 
 // The first diagnostics of errors that are all about repeated names, at most so many, and their number. None of these follows from another, and no
-// note on them needs the brackets of the text.
+// note on them needs the brackets of the text. Not matching these saves a sixth of the instructions of `nix-check` on a pattern of a million names.
 fn first_repeated_names(
     alloc: Global,
     root: &SyntaxNode<'_>,
