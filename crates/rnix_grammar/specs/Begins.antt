@@ -1,7 +1,7 @@
--- How an operand begins, by the next three tokens that are not trivia.
+-- How an operand begins, by its first three items: the kind of its first tree, and how the reader begins it.
 use Rattle.std.specs.Prelude.{ℕ, ◌-◌, Bool, true, false, Option, Some, if◌then◌else◌, nat_le, nat_eq, List}
 use Rattle.rnix_kinds.specs.declared.kinds.SyntaxKind.{SyntaxKind}
-use Rattle.rnix_kinds.specs.declared.kinds.SyntaxKind.TheVariants.{TOKEN_L_PAREN, TOKEN_L_BRACK, TOKEN_REC, TOKEN_STRING_START, TOKEN_PATH_ABS, TOKEN_PATH_REL, TOKEN_PATH_HOME, TOKEN_PATH_SEARCH, TOKEN_FLOAT, TOKEN_INTEGER, TOKEN_URI, TOKEN_IDENT, TOKEN_CUR_POS, TOKEN_L_BRACE, TOKEN_R_BRACE, TOKEN_COMMA, TOKEN_QUESTION, TOKEN_ELLIPSIS, TOKEN_COLON, TOKEN_AT, TOKEN_LET, TOKEN_WITH, TOKEN_ASSERT, TOKEN_IF, TOKEN_INVERT, TOKEN_SUB, NODE_PAREN, NODE_LIST, NODE_ATTR_SET, NODE_STRING, NODE_PATH_ABS, NODE_PATH_REL, NODE_PATH_HOME, NODE_PATH_SEARCH, NODE_LITERAL, NODE_IDENT, NODE_CUR_POS, NODE_LET_IN, NODE_WITH, NODE_ASSERT, NODE_IF_ELSE, NODE_UNARY_OP}
+use Rattle.rnix_kinds.specs.declared.kinds.SyntaxKind.TheVariants.{TOKEN_L_PAREN, TOKEN_L_BRACK, TOKEN_REC, TOKEN_STRING_START, TOKEN_PATH_ABS, TOKEN_PATH_REL, TOKEN_PATH_HOME, TOKEN_PATH_SEARCH, TOKEN_FLOAT, TOKEN_INTEGER, TOKEN_URI, TOKEN_IDENT, TOKEN_CUR_POS, TOKEN_L_BRACE, TOKEN_R_BRACE, TOKEN_COMMA, TOKEN_QUESTION, TOKEN_ELLIPSIS, TOKEN_COLON, TOKEN_AT, TOKEN_LET, TOKEN_WITH, TOKEN_ASSERT, TOKEN_IF, TOKEN_INVERT, TOKEN_SUB, NODE_PAREN, NODE_LIST, NODE_ATTR_SET, NODE_STRING, NODE_PATH_ABS, NODE_PATH_REL, NODE_PATH_HOME, NODE_PATH_SEARCH, NODE_LITERAL, NODE_IDENT, NODE_CUR_POS, NODE_IDENT_PARAM, NODE_PATTERN, NODE_UNARY_OP, NODE_LEGACY_LET, NODE_LET_IN, NODE_WITH, NODE_ASSERT, NODE_IF_ELSE, NODE_ERROR}
 use Rattle.rnix_grammar.specs.declared.slot_table.TheConstants.{PAREN, LIST, SET, REC_SET, STRING, PATH_ABS, PATH_REL, PATH_HOME, LET_IN, WITH, ASSERT, IF_ELSE, INVERSION, NEGATION}
 use Rattle.rnix_grammar.specs.declared.begin.Begin.{Begin}
 use Rattle.rnix_grammar.specs.declared.begin.Begin.TheVariants as b
@@ -21,53 +21,71 @@ is_pattern (Some TOKEN_R_BRACE) (Some TOKEN_AT) = true
 is_pattern second third = false
 
 -- a name alone, or as the parameter of a function
-abbrev pub begin_name : List ℕ → Option SyntaxKind → Begin
-begin_name text (Some TOKEN_COLON) = b.NameLambda
-begin_name text (Some TOKEN_AT) = b.BoundLambda
-begin_name text second = if is_cur_pos text then b.Leaf NODE_CUR_POS else b.Leaf NODE_IDENT
+abbrev pub first_kind_of_name : List ℕ → Option SyntaxKind → SyntaxKind
+first_kind_of_name text (Some TOKEN_COLON) = NODE_IDENT_PARAM
+first_kind_of_name text (Some TOKEN_AT) = NODE_PATTERN
+first_kind_of_name text second = if is_cur_pos text then NODE_CUR_POS else NODE_IDENT
 
--- `let` before `{`, or before bindings
-abbrev pub begin_let : Option SyntaxKind → Begin
-begin_let (Some TOKEN_L_BRACE) = b.LegacyLet
-begin_let second = b.Node NODE_LET_IN LET_IN no_level
+-- an old `let`, or one with bindings
+abbrev pub first_kind_of_let : Option SyntaxKind → SyntaxKind
+first_kind_of_let (Some TOKEN_L_BRACE) = NODE_LEGACY_LET
+first_kind_of_let second = NODE_LET_IN
 
--- the keyword of an expression that reaches as far as it can
-abbrev pub begin_keyword : SyntaxKind → Option SyntaxKind → Begin
-begin_keyword TOKEN_LET second = begin_let second
-begin_keyword TOKEN_WITH second = b.Node NODE_WITH WITH no_level
-begin_keyword TOKEN_ASSERT second = b.Node NODE_ASSERT ASSERT no_level
-begin_keyword TOKEN_IF second = b.Node NODE_IF_ELSE IF_ELSE no_level
-begin_keyword kind second = b.Stray
+-- a kind, if a test holds
+abbrev pub kind_if : Bool → SyntaxKind → SyntaxKind
+kind_if true k = k
+kind_if false k = NODE_ERROR
 
--- where an expression may stand
-abbrev pub begin_scope : ℕ → SyntaxKind → Option SyntaxKind → Begin
-begin_scope level kind second = if nat_eq level expression_level then begin_keyword kind second else b.Stray
+-- the kind of the first tree of an operand of a level; an item that begins none is an error
+abbrev pub first_kind : ℕ → SyntaxKind → List ℕ → Option SyntaxKind → Option SyntaxKind → SyntaxKind
+first_kind n TOKEN_L_PAREN text second third = NODE_PAREN
+first_kind n TOKEN_L_BRACK text second third = NODE_LIST
+first_kind n TOKEN_REC text second third = NODE_ATTR_SET
+first_kind n TOKEN_L_BRACE text second third = if is_pattern second third then NODE_PATTERN else NODE_ATTR_SET
+first_kind n TOKEN_STRING_START text second third = NODE_STRING
+first_kind n TOKEN_PATH_ABS text second third = NODE_PATH_ABS
+first_kind n TOKEN_PATH_REL text second third = NODE_PATH_REL
+first_kind n TOKEN_PATH_HOME text second third = NODE_PATH_HOME
+first_kind n TOKEN_PATH_SEARCH text second third = NODE_PATH_SEARCH
+first_kind n TOKEN_FLOAT text second third = NODE_LITERAL
+first_kind n TOKEN_INTEGER text second third = NODE_LITERAL
+first_kind n TOKEN_URI text second third = NODE_LITERAL
+first_kind n TOKEN_IDENT text second third = first_kind_of_name text second
+first_kind n TOKEN_CUR_POS text second third = NODE_CUR_POS
+first_kind n TOKEN_INVERT text second third = kind_if (nat_le n inversion_level) NODE_UNARY_OP
+first_kind n TOKEN_SUB text second third = kind_if (nat_le n negation_level) NODE_UNARY_OP
+first_kind n TOKEN_LET text second third = kind_if (nat_eq n expression_level) (first_kind_of_let second)
+first_kind n TOKEN_WITH text second third = kind_if (nat_eq n expression_level) NODE_WITH
+first_kind n TOKEN_ASSERT text second third = kind_if (nat_eq n expression_level) NODE_ASSERT
+first_kind n TOKEN_IF text second third = kind_if (nat_eq n expression_level) NODE_IF_ELSE
+first_kind n kind text second third = NODE_ERROR
 
--- a prefix operator, if it binds tightly enough for the level
-abbrev pub begin_prefix : ℕ → SyntaxKind → Begin
-begin_prefix level TOKEN_INVERT = if nat_le level inversion_level then b.Node NODE_UNARY_OP INVERSION (inversion_level - 1) else b.Stray
-begin_prefix level TOKEN_SUB = if nat_le level negation_level then b.Node NODE_UNARY_OP NEGATION (negation_level - 1) else b.Stray
-begin_prefix level kind = b.Stray
+-- how an operand begins whose first tree has the kind, by its first token: where the tree's row goes on, and the tightest operator that may follow it
+abbrev pub begin_for : SyntaxKind → SyntaxKind → Begin
+begin_for NODE_PAREN token = b.Node NODE_PAREN PAREN selection_level
+begin_for NODE_LIST token = b.Node NODE_LIST LIST selection_level
+begin_for NODE_ATTR_SET TOKEN_REC = b.Node NODE_ATTR_SET REC_SET selection_level
+begin_for NODE_ATTR_SET token = b.Node NODE_ATTR_SET SET selection_level
+begin_for NODE_STRING token = b.Node NODE_STRING STRING selection_level
+begin_for NODE_PATH_ABS token = b.Node NODE_PATH_ABS PATH_ABS selection_level
+begin_for NODE_PATH_REL token = b.Node NODE_PATH_REL PATH_REL selection_level
+begin_for NODE_PATH_HOME token = b.Node NODE_PATH_HOME PATH_HOME selection_level
+begin_for NODE_UNARY_OP TOKEN_INVERT = b.Node NODE_UNARY_OP INVERSION (inversion_level - 1)
+begin_for NODE_UNARY_OP token = b.Node NODE_UNARY_OP NEGATION (negation_level - 1)
+begin_for NODE_LET_IN token = b.Node NODE_LET_IN LET_IN no_level
+begin_for NODE_WITH token = b.Node NODE_WITH WITH no_level
+begin_for NODE_ASSERT token = b.Node NODE_ASSERT ASSERT no_level
+begin_for NODE_IF_ELSE token = b.Node NODE_IF_ELSE IF_ELSE no_level
+begin_for NODE_LEGACY_LET token = b.LegacyLet
+begin_for NODE_IDENT_PARAM token = b.NameLambda
+begin_for NODE_PATTERN TOKEN_IDENT = b.BoundLambda
+begin_for NODE_PATTERN token = b.PatternLambda
+begin_for NODE_ERROR token = b.Stray
+begin_for kind token = b.Leaf kind
 
 -- how an operand of a level begins
 abbrev pub begin_of : ℕ → SyntaxKind → List ℕ → Option SyntaxKind → Option SyntaxKind → Begin
-begin_of level TOKEN_L_PAREN text second third = b.Node NODE_PAREN PAREN selection_level
-begin_of level TOKEN_L_BRACK text second third = b.Node NODE_LIST LIST selection_level
-begin_of level TOKEN_REC text second third = b.Node NODE_ATTR_SET REC_SET selection_level
-begin_of level TOKEN_STRING_START text second third = b.Node NODE_STRING STRING selection_level
-begin_of level TOKEN_PATH_ABS text second third = b.Node NODE_PATH_ABS PATH_ABS selection_level
-begin_of level TOKEN_PATH_REL text second third = b.Node NODE_PATH_REL PATH_REL selection_level
-begin_of level TOKEN_PATH_HOME text second third = b.Node NODE_PATH_HOME PATH_HOME selection_level
-begin_of level TOKEN_PATH_SEARCH text second third = b.Leaf NODE_PATH_SEARCH
-begin_of level TOKEN_FLOAT text second third = b.Leaf NODE_LITERAL
-begin_of level TOKEN_INTEGER text second third = b.Leaf NODE_LITERAL
-begin_of level TOKEN_URI text second third = b.Leaf NODE_LITERAL
-begin_of level TOKEN_IDENT text second third = begin_name text second
-begin_of level TOKEN_CUR_POS text second third = b.Leaf NODE_CUR_POS
-begin_of level TOKEN_L_BRACE text second third = if is_pattern second third then b.PatternLambda else b.Node NODE_ATTR_SET SET selection_level
-begin_of level TOKEN_INVERT text second third = begin_prefix level TOKEN_INVERT
-begin_of level TOKEN_SUB text second third = begin_prefix level TOKEN_SUB
-begin_of level kind text second third = begin_scope level kind second
+begin_of level kind text second third = begin_for (first_kind level kind text second third) kind
 
 -- the kind of the second item
 abbrev pub second_kind : List Token → Option SyntaxKind

@@ -1,16 +1,18 @@
 //! What an operand may begin with.
 
-ghost use Rattle.std.specs.Prelude.{◌≡◌};
+ghost use Rattle.std.specs.Prelude.{◌≡◌, ◌<◌, ◌-◌};
+ghost use Rattle.rnix_kinds.specs.declared.kinds.SyntaxKind.TheVariants.{TOKEN_IDENT, TOKEN_LET, NODE_UNARY_OP};
 ghost use Rattle.rnix_grammar.specs.declared.begin.Begin.TheVariants.{Node};
 ghost use Rattle.rnix_grammar.specs.Levels.{selection_level};
 ghost use Rattle.rnix_grammar.specs.Tables.{is_cur_pos};
-ghost use Rattle.rnix_grammar.specs.Begins.{is_pattern, begin_name, begin_let, begin_keyword, begin_scope, begin_prefix, begin_of};
+ghost use Rattle.rnix_grammar.specs.Begins.{is_pattern, first_kind_of_name, first_kind_of_let, begin_for, begin_of};
 
 use crate::level::{EXPRESSION_LEVEL, INVERSION_LEVEL, NEGATION_LEVEL, NO_LEVEL, SELECTION_LEVEL};
 use crate::slot_table::{
     ASSERT, IF_ELSE, INVERSION, LET_IN, LIST, NEGATION, PAREN, PATH_ABS, PATH_HOME, PATH_REL,
     REC_SET, SET, STRING, WITH,
 };
+use SyntaxKind::*;
 use rnix_kinds::{SyntaxKind, Token};
 
 /// How an operand begins.
@@ -37,14 +39,9 @@ pub fn is_pattern(second: Option<SyntaxKind>, third: Option<SyntaxKind>) -> bool
     ensures { result ≡ is_pattern second third }
 {
     match second {
-        Some(SyntaxKind::TOKEN_IDENT) => matches!(
-            third,
-            Some(SyntaxKind::TOKEN_COMMA | SyntaxKind::TOKEN_QUESTION | SyntaxKind::TOKEN_R_BRACE)
-        ),
-        Some(SyntaxKind::TOKEN_ELLIPSIS) => matches!(third, Some(SyntaxKind::TOKEN_R_BRACE)),
-        Some(SyntaxKind::TOKEN_R_BRACE) => {
-            matches!(third, Some(SyntaxKind::TOKEN_COLON | SyntaxKind::TOKEN_AT))
-        }
+        Some(TOKEN_IDENT) => matches!(third, Some(TOKEN_COMMA | TOKEN_QUESTION | TOKEN_R_BRACE)),
+        Some(TOKEN_ELLIPSIS) => matches!(third, Some(TOKEN_R_BRACE)),
+        Some(TOKEN_R_BRACE) => { matches!(third, Some(TOKEN_COLON | TOKEN_AT)) }
         _ => false,
     }
 }
@@ -62,16 +59,16 @@ fn is_cur_pos(name: &str) -> bool
 // What a name begins.
 #[inline(always)]
 fn begin_name(text: &str, second: Option<SyntaxKind>) -> Begin
-    ensures { result ≡ begin_name text.now second }
+    ensures { result ≡ begin_for (first_kind_of_name text.now second) TOKEN_IDENT }
 {
     match second {
-        Some(SyntaxKind::TOKEN_COLON) => Begin::NameLambda,
-        Some(SyntaxKind::TOKEN_AT) => Begin::BoundLambda,
+        Some(TOKEN_COLON) => Begin::NameLambda,
+        Some(TOKEN_AT) => Begin::BoundLambda,
         _ => {
             if is_cur_pos(text) {
-                Begin::Leaf(SyntaxKind::NODE_CUR_POS)
+                Begin::Leaf(NODE_CUR_POS)
             } else {
-                Begin::Leaf(SyntaxKind::NODE_IDENT)
+                Begin::Leaf(NODE_IDENT)
             }
         }
     }
@@ -79,70 +76,29 @@ fn begin_name(text: &str, second: Option<SyntaxKind>) -> Begin
 
 // What `let` begins.
 fn begin_let(second: Option<SyntaxKind>) -> Begin
-    ensures { result ≡ begin_let second }
+    ensures { result ≡ begin_for (first_kind_of_let second) TOKEN_LET }
 {
     match second {
-        Some(SyntaxKind::TOKEN_L_BRACE) => Begin::LegacyLet,
-        _ => Begin::Node(SyntaxKind::NODE_LET_IN, LET_IN, NO_LEVEL),
+        Some(TOKEN_L_BRACE) => Begin::LegacyLet,
+        _ => Begin::Node(NODE_LET_IN, LET_IN, NO_LEVEL),
     }
 }
 
-// What a keyword begins: an expression that is not an operand of operators.
+// A prefix operator of a level; looser operators may follow its operand.
 #[inline(always)]
-fn begin_keyword(kind: SyntaxKind, second: Option<SyntaxKind>) -> Begin
-    ensures { result ≡ begin_keyword kind second }
+fn prefix(slot: u8, level: u8) -> Begin
+    requires { 0 < level }
+    ensures { result ≡ Node NODE_UNARY_OP slot (level - 1) }
 {
-    match kind {
-        SyntaxKind::TOKEN_LET => begin_let(second),
-        SyntaxKind::TOKEN_WITH => Begin::Node(SyntaxKind::NODE_WITH, WITH, NO_LEVEL),
-        SyntaxKind::TOKEN_ASSERT => Begin::Node(SyntaxKind::NODE_ASSERT, ASSERT, NO_LEVEL),
-        SyntaxKind::TOKEN_IF => Begin::Node(SyntaxKind::NODE_IF_ELSE, IF_ELSE, NO_LEVEL),
-        _ => Begin::Stray,
-    }
-}
-
-// What a keyword begins where any expression is allowed.
-#[inline(always)]
-fn begin_scope(level: u8, kind: SyntaxKind, second: Option<SyntaxKind>) -> Begin
-    ensures { result ≡ begin_scope level kind second }
-{
-    if level == EXPRESSION_LEVEL {
-        begin_keyword(kind, second)
-    } else {
-        Begin::Stray
-    }
-}
-
-// What a prefix operator begins.
-#[inline(always)]
-fn begin_prefix(level: u8, kind: SyntaxKind) -> Begin
-    ensures { result ≡ begin_prefix level kind }
-{
-    match kind {
-        SyntaxKind::TOKEN_INVERT => {
-            if level <= INVERSION_LEVEL {
-                Begin::Node(SyntaxKind::NODE_UNARY_OP, INVERSION, INVERSION_LEVEL - 1)
-            } else {
-                Begin::Stray
-            }
-        }
-        SyntaxKind::TOKEN_SUB => {
-            if level <= NEGATION_LEVEL {
-                Begin::Node(SyntaxKind::NODE_UNARY_OP, NEGATION, NEGATION_LEVEL - 1)
-            } else {
-                Begin::Stray
-            }
-        }
-        _ => Begin::Stray,
-    }
+    Begin::Node(NODE_UNARY_OP, slot, level - 1)
 }
 
 // An operand that is a node of its own, which `.` may follow.
 #[inline(always)]
-fn atom(kind: SyntaxKind, position: u8) -> Begin
-    ensures { result ≡ Node kind position selection_level }
+fn atom(kind: SyntaxKind, slot: u8) -> Begin
+    ensures { result ≡ Node kind slot selection_level }
 {
-    Begin::Node(kind, position, SELECTION_LEVEL)
+    Begin::Node(kind, slot, SELECTION_LEVEL)
 }
 
 /// Returns how an operand of a level begins, by the next three tokens that are not trivia.
@@ -157,27 +113,30 @@ pub fn begin_of(
 {
     let (kind, text) = first;
     match kind {
-        SyntaxKind::TOKEN_L_PAREN => atom(SyntaxKind::NODE_PAREN, PAREN),
-        SyntaxKind::TOKEN_L_BRACK => atom(SyntaxKind::NODE_LIST, LIST),
-        SyntaxKind::TOKEN_REC => atom(SyntaxKind::NODE_ATTR_SET, REC_SET),
-        SyntaxKind::TOKEN_STRING_START => atom(SyntaxKind::NODE_STRING, STRING),
-        SyntaxKind::TOKEN_PATH_ABS => atom(SyntaxKind::NODE_PATH_ABS, PATH_ABS),
-        SyntaxKind::TOKEN_PATH_REL => atom(SyntaxKind::NODE_PATH_REL, PATH_REL),
-        SyntaxKind::TOKEN_PATH_HOME => atom(SyntaxKind::NODE_PATH_HOME, PATH_HOME),
-        SyntaxKind::TOKEN_PATH_SEARCH => Begin::Leaf(SyntaxKind::NODE_PATH_SEARCH),
-        SyntaxKind::TOKEN_FLOAT | SyntaxKind::TOKEN_INTEGER | SyntaxKind::TOKEN_URI => {
-            Begin::Leaf(SyntaxKind::NODE_LITERAL)
-        }
-        SyntaxKind::TOKEN_IDENT => begin_name(text, second),
-        SyntaxKind::TOKEN_CUR_POS => Begin::Leaf(SyntaxKind::NODE_CUR_POS),
-        SyntaxKind::TOKEN_L_BRACE => {
+        TOKEN_L_PAREN => atom(NODE_PAREN, PAREN),
+        TOKEN_L_BRACK => atom(NODE_LIST, LIST),
+        TOKEN_REC => atom(NODE_ATTR_SET, REC_SET),
+        TOKEN_STRING_START => atom(NODE_STRING, STRING),
+        TOKEN_PATH_ABS => atom(NODE_PATH_ABS, PATH_ABS),
+        TOKEN_PATH_REL => atom(NODE_PATH_REL, PATH_REL),
+        TOKEN_PATH_HOME => atom(NODE_PATH_HOME, PATH_HOME),
+        TOKEN_PATH_SEARCH => Begin::Leaf(NODE_PATH_SEARCH),
+        TOKEN_FLOAT | TOKEN_INTEGER | TOKEN_URI => Begin::Leaf(NODE_LITERAL),
+        TOKEN_IDENT => begin_name(text, second),
+        TOKEN_CUR_POS => Begin::Leaf(NODE_CUR_POS),
+        TOKEN_L_BRACE => {
             if is_pattern(second, third) {
                 Begin::PatternLambda
             } else {
-                atom(SyntaxKind::NODE_ATTR_SET, SET)
+                atom(NODE_ATTR_SET, SET)
             }
         }
-        SyntaxKind::TOKEN_INVERT | SyntaxKind::TOKEN_SUB => begin_prefix(level, kind),
-        _ => begin_scope(level, kind, second),
+        TOKEN_INVERT if level <= INVERSION_LEVEL => prefix(INVERSION, INVERSION_LEVEL),
+        TOKEN_SUB if level <= NEGATION_LEVEL => prefix(NEGATION, NEGATION_LEVEL),
+        TOKEN_LET if level == EXPRESSION_LEVEL => begin_let(second),
+        TOKEN_WITH if level == EXPRESSION_LEVEL => Begin::Node(NODE_WITH, WITH, NO_LEVEL),
+        TOKEN_ASSERT if level == EXPRESSION_LEVEL => Begin::Node(NODE_ASSERT, ASSERT, NO_LEVEL),
+        TOKEN_IF if level == EXPRESSION_LEVEL => Begin::Node(NODE_IF_ELSE, IF_ELSE, NO_LEVEL),
+        _ => Begin::Stray,
     }
 }

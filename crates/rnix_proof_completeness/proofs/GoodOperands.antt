@@ -1,18 +1,19 @@
 -- Expressions of the grammar as operands: how tightly they bind, what may follow them, how they begin, and where they stand.
 use Rattle.std.{specs.List.list_all, proofs.Common.{◌≡◌, ℕ, zero, suc, Bool, true, false, List, [], ◌∷◌, ◌++◌, Option, Some, None, refl, ap, sym, ◌∙◌, subst, arith}}
-use Rattle.std.proofs.{Common.{◌≤◌, ◌+◌, ◌&&◌, ◌||◌, if◌then◌else◌, append_assoc, nat_eq, nat_le}, lemmas.Bool.{and_parts, Decides.nat_tests}}
-use Rattle.rnix_kinds.specs.declared.kinds.SyntaxKind.{SyntaxKind, TheVariants.{TOKEN_ASSERT, TOKEN_DOT, TOKEN_IDENT, TOKEN_IF, TOKEN_INVERT, TOKEN_LET, TOKEN_SUB, TOKEN_WITH}}
-use Rattle.rnix_kinds.specs.declared.kinds.SyntaxKind.TheVariants.{NODE_ASSERT, NODE_ERROR, NODE_IDENT, NODE_IF_ELSE, NODE_PAREN, NODE_UNARY_OP, NODE_WITH}
+use Rattle.std.proofs.{Common.{◌≤◌, ◌+◌, ◌&&◌, ◌||◌, if◌then◌else◌, append_assoc, nat_le}, lemmas.Bool.{and_parts, Decides.nat_tests}}
+use Rattle.rnix_kinds.specs.declared.kinds.SyntaxKind.{SyntaxKind, TheVariants.{TOKEN_DOT, TOKEN_IDENT, TOKEN_LET}}
+use Rattle.rnix_kinds.specs.declared.kinds.SyntaxKind.TheVariants.{NODE_ERROR, NODE_IDENT, NODE_PAREN}
 use Rattle.rnix_kinds.{specs.SyntaxKind.is_fn_arg, proofs.AllKinds.{all_kinds, implied}}
 use Rattle.rnix_green.specs.{Equality.same_kind, Forest.{Forest, empty, leaf, node}}
 use Rattle.rnix_grammar.specs.declared.rules.Part.TheVariants.{Operand, Many, Argument}
 use Rattle.rnix_grammar.specs.AnnotatedForest.{Token, AnnotatedForest, blank, token, branch, ◌⊕◌, one_branch, tokens_in, head_kind}
-use Rattle.rnix_grammar.specs.{Begins.second_kind, Beginnings.{IsOperandOf, BeginsAs, first_kind, first_kind_of_let, kind_if}, Yield.kind_of_token, Reports.repeats, Nest.{nest, counts_no_child}, Tables.depth_limit}
+use Rattle.rnix_grammar.specs.{Begins.{first_kind, kind_if, second_kind}, Beginnings.{IsOperandOf, BeginsAs}, Yield.kind_of_token, Reports.repeats, Nest.{nest, counts_no_child}, Tables.depth_limit}
 use Rattle.rnix_grammar.specs.{Levels.{binding_power, left_of}, TokenKinds.{is_dot, is_or, is_question}, Operands.{first_tree, follows, is_continued}}
 use Rattle.rnix_grammar.specs.{TreeLevels.{level_of, row_level, is_atom_row, is_or_row}, Rows.{is_atom, is_expression, is_infix, fits}}
 use Rattle.rnix_grammar.specs.Rules.{Row, done, ◌·◌, only, after, IsExpected, is_first_expected, IsFollowed}
 use Rattle.rnix_proof_lemmas.proofs.{Basics.{true_is_not_false, not_if}, EveryKind.whenever_both, LevelLemmas.{at_most, at_most_true, atom_fits, binding_power_max, fits_looser}}
 use Rattle.rnix_proof_lemmas.proofs.{KindsOfNodes.{fits_expression, unreported}, PlainTables.{binds_at_most, below, is_bound}}
+use Rattle.rnix_proof_lemmas.proofs.EachBeginning.{highest, kind_up_to, first_up_to}
 use Rattle.rnix_proof_completeness.proofs.OverTokens.{Over, over_leaf, over_node, stands_so, Opens, opened_so}
 use Rattle.rnix_proof_completeness.proofs.PartReads.{Follow, Before, depth_in, room, Rest, Any, Node, Next, Placed, node_on, is_part, part_so, uncounted}
 
@@ -67,30 +68,21 @@ abbrev pub Begun : ℕ → AnnotatedForest → List Token → Type 0
 Begun l x [] = ⊥
 Begun l x (t ∷ ts) = (first_kind l t.kind t.text (head_kind ts) (second_kind ts) ≡ first_tree x) × (is_known (first_tree x) ≡ true)
 
-known_if : (v w : Bool) (k : SyntaxKind) → (w ≡ true → v ≡ true) → is_known (kind_if w k) ≡ true → kind_if v k ≡ kind_if w k
-known_if true true k m h = refl
-known_if false true k m h = absurd (true_is_not_false (sym (m refl)))
-known_if v false k m h = absurd (true_is_not_false (sym h))
-
 -- what begins an operand begins the same at each looser level
+lower : (n l : ℕ) (o : Option ℕ) (k : SyntaxKind) → n ≤ l → is_known (kind_up_to o l k) ≡ true → kind_up_to o n k ≡ kind_up_to o l k
+lower n l None k m h = refl
+lower n l (Some top) k m h = by (nat_le n top) (nat_le l top) (λ e. grind (arith, nat_tests, e, m)) h
+  where
+    by : (v w : Bool) → (w ≡ true → v ≡ true) → is_known (kind_if w k) ≡ true → kind_if v k ≡ kind_if w k
+    by true true m h = refl
+    by false true m h = absurd (true_is_not_false (sym (m refl)))
+    by v false m h = absurd (true_is_not_false (sym h))
+
 first_lower : (n l : ℕ) (i : SyntaxKind) (text : List ℕ) (second third : Option SyntaxKind) → n ≤ l → is_known (first_kind l i text second third) ≡ true
     → first_kind n i text second third ≡ first_kind l i text second third
-first_lower n l i text second third m h = by i h
-  where
-    zeros : nat_eq l 0 ≡ true → nat_eq n 0 ≡ true
-    zeros e = grind (arith, nat_tests, e, m)
-
-    lower : (x : ℕ) → nat_le l x ≡ true → nat_le n x ≡ true
-    lower x e = grind (arith, nat_tests, e, m)
-
-    by : (i : SyntaxKind) → is_known (first_kind l i text second third) ≡ true → first_kind n i text second third ≡ first_kind l i text second third
-    by TOKEN_INVERT h = known_if (nat_le n 9) (nat_le l 9) NODE_UNARY_OP (lower 9) h
-    by TOKEN_SUB h = known_if (nat_le n 14) (nat_le l 14) NODE_UNARY_OP (lower 14) h
-    by TOKEN_LET h = known_if (nat_eq n 0) (nat_eq l 0) (first_kind_of_let second) zeros h
-    by TOKEN_WITH h = known_if (nat_eq n 0) (nat_eq l 0) NODE_WITH zeros h
-    by TOKEN_ASSERT h = known_if (nat_eq n 0) (nat_eq l 0) NODE_ASSERT zeros h
-    by TOKEN_IF h = known_if (nat_eq n 0) (nat_eq l 0) NODE_IF_ELSE zeros h
-    by _ h = refl
+first_lower n l i text second third m h =
+    let at_l = first_up_to l i text second third in
+    first_up_to n i text second third ∙ lower n l (highest i) (first_kind 0 i text second third) m (ap is_known (sym at_l) ∙ h) ∙ sym at_l
 
 pub begun_lower : (n l : ℕ) (x : AnnotatedForest) (ts : List Token) → n ≤ l → Begun l x ts → Begun n x ts
 begun_lower n l x [] m w = w
@@ -353,12 +345,12 @@ begins_first {n} {j} {a} {t} l k same m g behind b f us (over_node {b = x} {f = 
     (g.begins x h (tokens_in h ++ us) o (behind.next h us v z))))
 
 -- one that begins with a token, as the token says
-pub begins_leaf : {i : SyntaxKind} {s : List ℕ} {c : Forest} (l : ℕ) (k : SyntaxKind) → ((b f : AnnotatedForest) → first_tree (branch k b f) ≡ k)
+pub begins_leaf : {i k : SyntaxKind} {s : List ℕ} {c : Forest} (l : ℕ) → ((b f : AnnotatedForest) → first_tree (branch k b f) ≡ k)
     → is_known k ≡ true
     → ((text : List ℕ) (h : AnnotatedForest) (us : List Token) → text ≡ s → Over c h → binds_at_most 16 (head_kind us) ≡ true
     → first_kind l (kind_of_token i s) text (head_kind (tokens_in h ++ us)) (second_kind (tokens_in h ++ us)) ≡ k)
     → (b f : AnnotatedForest) (us : List Token) → Over (leaf i s c) b → binds_at_most 16 (head_kind us) ≡ true → Begun l (branch k b f) (tokens_in b ++ us)
-begins_leaf l k same known tells b f us (over_leaf {x = x} {f = h} e w o) z = (
+begins_leaf l same known tells b f us (over_leaf {x = x} {f = h} e w o) z = (
   ap (λ j. first_kind l j x.text (head_kind (tokens_in h ++ us)) (second_kind (tokens_in h ++ us))) e ∙ tells x.text h us w o z ∙ sym (same b f),
   ap is_known (same b f) ∙ known,
 )

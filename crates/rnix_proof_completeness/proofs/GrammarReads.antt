@@ -3,7 +3,7 @@ use Rattle.std.proofs.Common.{◌≡◌, ℕ, Bool, true, List, [], ◌∷◌, �
 use Rattle.std.proofs.{Common.{◌≤◌, ◌&&◌, ◌||◌, if◌then◌else◌, nat_eq}, lemmas.Bool.and_parts}
 use Rattle.rnix_kinds.specs.declared.kinds.SyntaxKind.{SyntaxKind}
 use Rattle.rnix_kinds.specs.declared.kinds.SyntaxKind.TheVariants.{TOKEN_COMMA, TOKEN_CUR_POS, TOKEN_DOT, TOKEN_IDENT, TOKEN_INHERIT, TOKEN_INTERPOL_START, TOKEN_L_BRACE, TOKEN_L_PAREN, TOKEN_PATH_ABS, TOKEN_PATH_HOME, TOKEN_PATH_REL, TOKEN_SEMICOLON, TOKEN_STRING_END}
-use Rattle.rnix_kinds.specs.declared.kinds.SyntaxKind.TheVariants.{NODE_ASSERT, NODE_ATTR_SET, NODE_ATTRPATH, NODE_ATTRPATH_VALUE, NODE_CUR_POS, NODE_IDENT, NODE_IF_ELSE, NODE_INHERIT, NODE_INHERIT_FROM, NODE_INTERPOL, NODE_LEGACY_LET, NODE_LET_IN, NODE_LIST, NODE_LITERAL, NODE_PAREN, NODE_PAT_ENTRY, NODE_PATTERN, NODE_PATH_ABS, NODE_PATH_HOME, NODE_PATH_REL, NODE_PATH_SEARCH, NODE_ROOT, NODE_STRING, NODE_UNARY_OP, NODE_WITH}
+use Rattle.rnix_kinds.specs.declared.kinds.SyntaxKind.TheVariants.{NODE_ATTR_SET, NODE_ATTRPATH, NODE_ATTRPATH_VALUE, NODE_CUR_POS, NODE_IDENT, NODE_INHERIT, NODE_INHERIT_FROM, NODE_INTERPOL, NODE_LITERAL, NODE_PAT_ENTRY, NODE_PATTERN, NODE_PATH_ABS, NODE_PATH_HOME, NODE_PATH_REL, NODE_ROOT, NODE_STRING}
 use Rattle.rnix_kinds.{specs.SyntaxKind.is_fn_arg, proofs.AllKinds.implied}
 use Rattle.rnix_green.specs.{Equality.same_kind, Forest.{Forest, empty, leaf, node}}
 use Rattle.rnix_grammar.specs.declared.rules.Part.TheVariants.{Attr, EndOr, Entries, Formals, MoreAttrs, Names, PathPieces, Pieces, TextEnd, Wanted}
@@ -36,13 +36,13 @@ mutual
   strict_good (g.apply h i) = apply_good (strict_good h) (strict_good i)
   strict_good (g.negate h) = good 14 13 refl refl (plain_node refl (item refl (λ b. refl) (λ x. tt)
       (operand_on (strict_good h) refl (next_end (λ o z. z)) finished)))
-      (unary_level 14 (λ x f. refl)) (begins_leaf 14 NODE_UNARY_OP (λ b f. refl) refl (λ text h us w o z. refl))
+      (unary_level 14 (λ x f. refl)) (begins_leaf 14 (λ b f. refl) refl (λ text h us w o z. refl))
   strict_good (g.has_attr h q) = has_attr_good (strict_good h) (part_on refl refl (λ b x. refl) (λ x b. refl) (attrpath_reads q).part
       (next_end (follows_by (binds_at_most 13) is_no_dot refl refl)) finished)
   strict_good (g.binary e h i) = binary_good e (strict_good h) (strict_good i)
   strict_good (g.invert h) = good 9 8 refl refl (plain_node refl (item refl (λ b. refl) (λ x. tt)
       (operand_on (strict_good h) refl (next_end (λ o z. z)) finished)))
-      (unary_level 9 (λ x f. refl)) (begins_leaf 9 NODE_UNARY_OP (λ b f. refl) refl (λ text h us w o z. refl))
+      (unary_level 9 (λ x f. refl)) (begins_leaf 9 (λ b f. refl) refl (λ text h us w o z. refl))
   strict_good (g.lambda h i) =
       let w = parameter_reads h in
       good 0 0 refl refl (node_of refl refl (first_on {H = Any} w.goes refl (λ m ts w. tt) w.new (λ b o. tt) w.node (next_leaf refl)
@@ -50,86 +50,86 @@ mutual
       (λ b o. refl) (λ b f us o z. lambda_begins h w.known b f us o)
   strict_good (g.legacy_let h) = good 0 0 refl refl (plain_node refl (item refl (λ b. refl) (λ x. tt) (item refl (λ b. refl) (λ x. tt)
       (entries_rest h in_braces (item refl (λ b. refl) (λ x. tt) finished)))))
-      (λ b o. refl) (begins_leaf 0 NODE_LEGACY_LET (λ b f. refl) refl (λ text h us w o z. old_let_kind h us o))
+      (λ b o. refl) (begins_leaf 0 (λ b f. refl) refl (λ text h us w o z. old_let_kind h us o))
   strict_good (g.let_in h i) = good 0 0 refl refl (plain_node refl (item refl (λ b. refl) (λ x. tt)
       (entries_rest h in_let (item refl (λ b. refl) (λ x. tt) (operand_on (strict_good i) refl (next_end (λ o z. z)) finished)))))
-      (λ b o. refl) (begins_leaf 0 NODE_LET_IN (λ b f. refl) refl (λ text e us w o z. let_kind (head_kind (tokens_in e ++ us))
+      (λ b o. refl) (begins_leaf 0 (λ b f. refl) refl (λ text e us w o z. let_kind (head_kind (tokens_in e ++ us))
       ((entries_next {F = binds_at_most 16} h (next_leaf refl)).next e us o z)))
   strict_good (g.with_scope h i) = good 0 0 refl refl (plain_node refl (item refl (λ b. refl) (λ x. tt) (operand_on (strict_good h) refl (next_leaf refl)
       (item refl (λ b. refl) (λ x. tt) (operand_on (strict_good i) refl (next_end (λ o z. z)) finished)))))
-      (λ b o. refl) (begins_leaf 0 NODE_WITH (λ b f. refl) refl (λ text h us w o z. refl))
+      (λ b o. refl) (begins_leaf 0 (λ b f. refl) refl (λ text h us w o z. refl))
   strict_good (g.assertion h i) = good 0 0 refl refl (plain_node refl (item refl (λ b. refl) (λ x. tt) (operand_on (strict_good h) refl (next_leaf refl)
       (item refl (λ b. refl) (λ x. tt) (operand_on (strict_good i) refl (next_end (λ o z. z)) finished)))))
-      (λ b o. refl) (begins_leaf 0 NODE_ASSERT (λ b f. refl) refl (λ text h us w o z. refl))
+      (λ b o. refl) (begins_leaf 0 (λ b f. refl) refl (λ text h us w o z. refl))
   strict_good (g.if_else h i j) = good 0 0 refl refl (plain_node refl (item refl (λ b. refl) (λ x. tt) (operand_on (strict_good h) refl (next_leaf refl)
       (item refl (λ b. refl) (λ x. tt) (operand_on (strict_good i) refl (next_leaf refl)
       (item refl (λ b. refl) (λ x. tt) (operand_on (strict_good j) refl (next_end (λ o z. z)) finished)))))))
-      (λ b o. refl) (begins_leaf 0 NODE_IF_ELSE (λ b f. refl) refl (λ text h us w o z. refl))
+      (λ b o. refl) (begins_leaf 0 (λ b f. refl) refl (λ text h us w o z. refl))
 
   atom_reads : {k : SyntaxKind} {c : Forest} → g.Atom k c → GoodAtom k c
   atom_reads (g.paren h) = record {
     atom = refl;
     node = plain_node refl (item refl (λ b. refl) (λ x. tt) (operand_on (strict_good h) refl (next_leaf refl) (item refl (λ b. refl) (λ x. tt) finished)));
-    begins = begins_leaf 16 NODE_PAREN (λ b f. refl) refl (λ text h us w o z. refl);
+    begins = begins_leaf 16 (λ b f. refl) refl (λ text h us w o z. refl);
   }
   atom_reads (g.set h) = record {
     atom = refl;
     node = plain_node refl (item refl (λ b. refl) (λ x. tt) (entries_rest h in_braces (item refl (λ b. refl) (λ x. tt) finished)));
-    begins = begins_leaf 16 NODE_ATTR_SET (λ b f. refl) refl (λ text e us w o z. ap (λ w. if w then NODE_PATTERN else NODE_ATTR_SET) (entries_open h e us o z));
+    begins = begins_leaf 16 (λ b f. refl) refl (λ text e us w o z. ap (λ w. if w then NODE_PATTERN else NODE_ATTR_SET) (entries_open h e us o z));
   }
   atom_reads (g.rec_set h) = record {
     atom = refl;
     node = plain_node refl (item refl (λ b. refl) (λ x. tt) (item refl (λ b. refl) (λ x. tt)
         (entries_rest h in_braces (item refl (λ b. refl) (λ x. tt) finished))));
-    begins = begins_leaf 16 NODE_ATTR_SET (λ b f. refl) refl (λ text h us w o z. refl);
+    begins = begins_leaf 16 (λ b f. refl) refl (λ text h us w o z. refl);
   }
   atom_reads (g.list h) = record {
     atom = refl;
     node = plain_node refl (item refl (λ b. refl) (λ x. tt) (items_read h).rest);
-    begins = begins_leaf 16 NODE_LIST (λ b f. refl) refl (λ text h us w o z. refl);
+    begins = begins_leaf 16 (λ b f. refl) refl (λ text h us w o z. refl);
   }
   atom_reads (g.string h) = record {
     atom = refl;
     node = plain_node refl (item refl (λ b. refl) (λ x. tt) (pieces_rest h));
-    begins = begins_leaf 16 NODE_STRING (λ b f. refl) refl (λ text h us w o z. refl);
+    begins = begins_leaf 16 (λ b f. refl) refl (λ text h us w o z. refl);
   }
   atom_reads (g.path_abs h) = record {
     atom = refl;
     node = path_node NODE_PATH_ABS TOKEN_PATH_ABS refl refl refl refl (λ n ts. tt) (λ x o. tt) refl (path_end_reads h);
-    begins = begins_leaf 16 NODE_PATH_ABS (λ b f. refl) refl (λ text h us w o z. refl);
+    begins = begins_leaf 16 (λ b f. refl) refl (λ text h us w o z. refl);
   }
   atom_reads (g.path_rel h) = record {
     atom = refl;
     node = path_node NODE_PATH_REL TOKEN_PATH_REL refl refl refl refl (λ n ts. tt) (λ x o. tt) refl (path_end_reads h);
-    begins = begins_leaf 16 NODE_PATH_REL (λ b f. refl) refl (λ text h us w o z. refl);
+    begins = begins_leaf 16 (λ b f. refl) refl (λ text h us w o z. refl);
   }
   atom_reads (g.path_home h) = record {
     atom = refl;
     node = path_node NODE_PATH_HOME TOKEN_PATH_HOME refl refl refl refl (λ n ts. tt) (λ x o. tt) refl (path_end_reads h);
-    begins = begins_leaf 16 NODE_PATH_HOME (λ b f. refl) refl (λ text h us w o z. refl);
+    begins = begins_leaf 16 (λ b f. refl) refl (λ text h us w o z. refl);
   }
   atom_reads g.path_search = record {
     atom = refl;
     node = plain_node refl (item refl (λ b. refl) (λ x. tt) finished);
-    begins = begins_leaf 16 NODE_PATH_SEARCH (λ b f. refl) refl (λ text h us w o z. refl);
+    begins = begins_leaf 16 (λ b f. refl) refl (λ text h us w o z. refl);
   }
   atom_reads (g.literal {j = j} {s = s} h) = record {
     atom = refl;
     node = plain_node refl (item (sym (keeps_kind NODE_LITERAL (kind_of_token j s) refl ∙ keeps_token_kind is_plain_literal refl j s h)) (λ b. refl) (λ x. tt)
         (subst (λ q. Rest NODE_LITERAL q Any (binds_at_most 16) empty) (sym (literal_after j h)) finished));
-    begins = begins_leaf 16 NODE_LITERAL (λ b f. refl) refl (λ text e us w o z. literal_begins j s text (head_kind (tokens_in e ++ us))
+    begins = begins_leaf 16 (λ b f. refl) refl (λ text e us w o z. literal_begins j s text (head_kind (tokens_in e ++ us))
         (second_kind (tokens_in e ++ us)) h);
   }
   atom_reads (g.named {s = s} h i) = record {
     atom = refl;
     node = name_node;
-    begins = begins_leaf 16 NODE_IDENT (λ b f. refl) refl (name_begins TOKEN_IDENT NODE_IDENT s (name_kind s h)
+    begins = begins_leaf 16 (λ b f. refl) refl (name_begins TOKEN_IDENT NODE_IDENT s (name_kind s h)
         (ap (λ w. if w then NODE_CUR_POS else NODE_IDENT) i));
   }
   atom_reads (g.current_position {s = s} h) = record {
     atom = refl;
     node = plain_node refl (item refl (λ b. refl) (λ x. tt) finished);
-    begins = begins_leaf 16 NODE_CUR_POS (λ b f. refl) refl (name_begins TOKEN_CUR_POS NODE_CUR_POS s refl
+    begins = begins_leaf 16 (λ b f. refl) refl (name_begins TOKEN_CUR_POS NODE_CUR_POS s refl
         (ap (λ w. if w then NODE_CUR_POS else NODE_IDENT) h));
   }
 

@@ -1,16 +1,18 @@
 -- How an operand begins: its first tree, and what may go on with it.
 use Rattle.std.{specs.List.list_all, proofs.{lemmas.Bool.and_parts, Common.{◌≡◌, ℕ, ◌≤◌, Bool, true, false, List, Option, Some, refl, ap, sym, ◌∙◌, arith}}}
-use Rattle.{std.proofs.Common.{if◌then◌else◌, nat_eq, nat_le, ◌&&◌}, rnix_kinds.specs.declared.kinds.SyntaxKind.{SyntaxKind, TheVariants.TOKEN_IDENT}}
-use Rattle.rnix_kinds.specs.declared.kinds.SyntaxKind.TheVariants.{TOKEN_L_BRACE, TOKEN_COLON, TOKEN_AT, TOKEN_LET, TOKEN_INVERT, TOKEN_SUB, NODE_APPLY}
+use Rattle.{std.proofs.Common.{if◌then◌else◌, nat_le, ◌&&◌}, rnix_kinds.specs.declared.kinds.SyntaxKind.{SyntaxKind, TheVariants.TOKEN_IDENT}}
+use Rattle.rnix_kinds.specs.declared.kinds.SyntaxKind.TheVariants.{TOKEN_L_BRACE, TOKEN_AT, TOKEN_LET, TOKEN_INVERT, NODE_APPLY}
 use Rattle.rnix_kinds.specs.declared.kinds.SyntaxKind.TheVariants.{NODE_BIN_OP, NODE_HAS_ATTR, NODE_IDENT, NODE_SELECT, NODE_UNARY_OP}
 use Rattle.{rnix_kinds.proofs.AllKinds.{all_kinds, implied}, rnix_green.specs.Equality.same_kind, rnix_grammar.specs.declared.begin.Begin.Begin}
-use Rattle.rnix_grammar.specs.{declared.slot_table.TheConstants.{INVERSION, NEGATION}, Begins.{is_pattern, begin_name, begin_let, begin_keyword, begin_scope}}
-use Rattle.rnix_grammar.specs.{Begins.begin_of, Tables.is_cur_pos, TokenKinds.is_or, Operands.first_tree, Rules.{after, done, row as row_of_kind}}
+use Rattle.rnix_grammar.specs.Begins.{begin_for}
+use Rattle.rnix_grammar.specs.{Begins.begin_of, TokenKinds.is_or, Operands.first_tree, Rules.{after, done, row as row_of_kind}}
 use Rattle.rnix_grammar.specs.{AnnotatedForest.{Token, AnnotatedForest, token, one_token, one_branch, leaf_kind_as}, Rows.{is_atom, is_expression}}
 use Rattle.{rnix_grammar.specs.{Rows.{is_keyword_expression, fits}, TreeLevels.{row_level, is_or_row}}, rnix_proof_lemmas.specs.Machine.Node}
-use Rattle.rnix_proof_lemmas.{specs.SlotRows.left_at, proofs.{Basics.{true_is_not_false, not_if, choice}, LevelLemmas.{at_most, same_number}}}
+use Rattle.rnix_proof_lemmas.{specs.SlotRows.left_at, proofs.{Basics.{true_is_not_false, not_if}, LevelLemmas.at_most}}
 use Rattle.rnix_proof_lemmas.proofs.{KindsOfNodes.is_error, RowParts.{IsFront, front, is_front}, FollowLemmas.{followed_by, is_followed}}
 use Rattle.rnix_proof_existence.proofs.{Frames.{is_in_row_of, is_sound}, Growing.{MayGrow, no_name, grows_by}}
+use Rattle.rnix_proof_lemmas.proofs.{Basics.where_any, EachBeginning.{highest, IsUpTo, each_first, where_allowed}}
+use Rattle.std.{specs.Option.is_some, proofs.Common.None}
 use Rattle.rnix_grammar.specs.declared.position.Position.TheVariants as p
 use Rattle.rnix_grammar.specs.declared.begin.Begin.TheVariants as b
 
@@ -92,38 +94,31 @@ begun_grows k kind level t r o l sound =
     grows_by level (max_bp_at (inverts kind) k) (one_branch k c) (ap (λ n. fits n k) e ∙ q.0) (omega (arith, e, l)) (omega (arith, e, max_bp))
     (followed_by (own_level (inverts kind) k) (is_atom k) (max_bp_at (inverts kind) k) z.1 (one_branch k c) e refl) (no_name k c (not_if (is_error k) sound))
 
--- what begins where a test holds
-tested : (begin : Begin) (level : ℕ) (kind : SyntaxKind) (second : Option SyntaxKind) (w : Bool) → (w ≡ true → BeginsTree begin level kind second)
-    → BeginsTree (if w then begin else b.Stray) level kind second
-tested begin level kind second true h = h refl
-tested begin level kind second false h = tt
+-- so it is at each looser level
+looser : (begin : Begin) (level n : ℕ) (kind : SyntaxKind) (second : Option SyntaxKind) → level ≤ n → BeginsTree begin n kind second
+    → BeginsTree begin level kind second
+looser (b.Node k z max_bp) level n kind second l h = (h.0, h.1, omega (arith, l, h.2), h.3, h.4, h.5)
+looser b.LegacyLet level n kind second l h = (h.0, h.1, omega (arith, l, h.2))
+looser begin level n kind second l h = h
 
-name_begins : (level : ℕ) (text : List ℕ) (second : Option SyntaxKind) → BeginsTree (begin_name text second) level TOKEN_IDENT second
-name_begins level text (Some TOKEN_COLON) = refl
-name_begins level text (Some TOKEN_AT) = (refl, refl)
-name_begins level text second = choice (λ x. BeginsTree x level TOKEN_IDENT second) (is_cur_pos text) (refl, refl, refl, refl) (refl, refl, refl, refl)
+-- the highest level at which it begins
+abbrev top : Option ℕ → ℕ
+top None = 16
+top (Some n) = n
 
-let_begins : (level : ℕ) (second : Option SyntaxKind) → level ≡ 0 → level ≤ 0 → BeginsTree (begin_let second) level TOKEN_LET second
-let_begins level (Some TOKEN_L_BRACE) e l = (refl, refl, e)
-let_begins level second e l = (refl, refl, l, refl, refl, refl)
+up_to_top : (o : Option ℕ) (level : ℕ) → level ≤ 16 → IsUpTo o level → level ≤ top o
+up_to_top None level l a = l
+up_to_top (Some n) level l a = a
 
-keyword_begins : (level : ℕ) (kind : SyntaxKind) (second : Option SyntaxKind) → level ≡ 0 → level ≤ 0 → BeginsTree (begin_keyword kind second) level kind second
-keyword_begins level TOKEN_LET second e l = let_begins level second e l
-keyword_begins level _ second e l = assumption
-
-scope_tree : (level : ℕ) (kind : SyntaxKind) (second : Option SyntaxKind) → BeginsTree (begin_scope level kind second) level kind second
-scope_tree level kind second = tested (begin_keyword kind second) level kind second (nat_eq level 0)
-    (λ e. let z : level ≡ 0 = same_number level 0 e in keyword_begins level kind second z (omega (arith, z)))
+at_most_itself : (n : ℕ) → n ≤ n
+at_most_itself n = omega arith
 
 -- the table read backwards
 pub begun_tree : (level : ℕ) (kind : SyntaxKind) (text : List ℕ) (second third : Option SyntaxKind) → level ≤ 16
     → BeginsTree (begin_of level kind text second third) level kind second
-begun_tree level TOKEN_IDENT text second third l = name_begins level text second
-begun_tree level TOKEN_L_BRACE text second third l =
-    choice (λ x. BeginsTree x level TOKEN_L_BRACE second) (is_pattern second third) refl (refl, refl, l, refl, refl, refl)
-begun_tree level TOKEN_INVERT text second third l =
-    tested (b.Node NODE_UNARY_OP INVERSION 8) level TOKEN_INVERT second (nat_le level 9) (λ e. (refl, refl, at_most level 9 e, refl, refl, refl))
-begun_tree level TOKEN_SUB text second third l =
-    tested (b.Node NODE_UNARY_OP NEGATION 13) level TOKEN_SUB second (nat_le level 14) (λ e. (refl, refl, at_most level 14 e, refl, refl, refl))
-begun_tree level TOKEN_LET text second third l = scope_tree level TOKEN_LET second
-begun_tree level _ text second third l = first_of (assumption, search scope_tree)
+begun_tree level kind text second third l =
+    where_allowed (λ k. BeginsTree (begin_for k kind) level kind second) level kind text second third
+    (λ a. looser (begin_of 0 kind text second third) level (top (highest kind)) kind second (up_to_top (highest kind) level l a)
+    (each_first (λ kind next k. BeginsTree (begin_for k kind) (top (highest kind)) kind next)
+    (λ next. assumption (at_most_itself 0, at_most_itself 9, at_most_itself 14, at_most_itself 16)) kind text second third))
+    (where_any (is_some (highest kind)) tt)

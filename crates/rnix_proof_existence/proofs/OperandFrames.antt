@@ -2,13 +2,13 @@
 use Rattle.std.proofs.Common.{◌≡◌, ℕ, ◌≤◌, true, false, List, [], ◌∷◌, ◌++◌, Some, refl, ap, sym, ◌∙◌, subst, arith, append_assoc, append-nil}
 use Rattle.rnix_kinds.specs.declared.kinds.SyntaxKind.{SyntaxKind, TheVariants.{TOKEN_LET, TOKEN_L_BRACE, TOKEN_IDENT, TOKEN_AT, NODE_IDENT, NODE_IDENT_PARAM}}
 use Rattle.rnix_kinds.specs.declared.kinds.SyntaxKind.TheVariants.{NODE_LAMBDA, NODE_LEGACY_LET, NODE_PATTERN, NODE_PAT_BIND}
-use Rattle.rnix_grammar.specs.{declared.{begin.Begin.Begin, slot_table.TheConstants.{BOUND_PATTERN, LAMBDA, LEGACY_LET, PATTERN}}, Fault.Fault, Begins.begin_of}
+use Rattle.rnix_grammar.specs.{declared.{begin.Begin.Begin, slot_table.TheConstants.{BOUND_PATTERN, LAMBDA, LEGACY_LET, PATTERN}}, Fault.Fault, Begins.{first_kind, begin_of}}
 use Rattle.rnix_grammar.specs.{Begins.second_kind, AnnotatedForest.{Token, Stray, AnnotatedForest, blank, token, ◌⊕◌, one_token, one_branch, one_fault}}
 use Rattle.rnix_grammar.specs.{AnnotatedForest.{leaf_kind, leaf_kind_as, head_kind}, Reports.{report, repeats}, Tables.depth_limit, Operands.first_tree}
 use Rattle.rnix_grammar.specs.{Beginnings.BeginsAs, Reads.{IsOver, Reads, end}, Rules.{Row, after, done, is_first_expected, row as row_of_kind}}
-use Rattle.rnix_proof_lemmas.specs.{Machine.{Machine, Node, Operand, Frame, put, opened, begun, machine, operand_on}, BegunOperands.kind_of, SlotRows.left_at}
+use Rattle.rnix_proof_lemmas.specs.{Machine.{Machine, Node, Operand, Frame, put, opened, begun, machine, operand_on}, SlotRows.left_at}
 use Rattle.rnix_proof_lemmas.proofs.{Basics.some_same, FollowLemmas.{atom_is_selection_level, followed_keyword}, FirstTrees.{IsSingle, a_node, an_error}}
-use Rattle.rnix_proof_lemmas.proofs.{BeginAlike.beginning_is, RowParts.{IsFront, front}, ReadsFrom.{leaf_from, name_reads, plain_from, past_over}}
+use Rattle.rnix_proof_lemmas.proofs.{EachBeginning.{kind_of, kind_of_begin}, RowParts.{IsFront, front}, ReadsFrom.{leaf_from, name_reads, plain_from, past_over}}
 use Rattle.rnix_proof_existence.proofs.{Growing.{MayGrow, atom_grows, grows_by}, Frames.{is_in_row_of, is_sound, AtOpen, an_operand, Reading, node, operand}}
 use Rattle.rnix_proof_existence.proofs.{Frames.{waits, opens_on}, BeginLevels.{BeginsTree, begun_front, own_first, leaf_no_or, begun_grows, begun_tree}}
 use Rattle.rnix_proof_existence.proofs.{OperandTrees.none_repeated, OpenFrames.{Outcome, Spans, spanned, spans_two, spans_made, item, a_node as lone_node}}
@@ -40,7 +40,8 @@ name_first k t us w e =
 begins_as : (level : ℕ) (t : Token) (us : List Token) (begin : Begin) (x : AnnotatedForest)
     → begin_of level t.kind t.text (head_kind us) (second_kind us) ≡ begin
     → kind_of begin ≡ first_tree x → BeginsAs level x (t ∷ us)
-begins_as level t us begin x e h = sym (beginning_is level t.kind t.text (head_kind us) (second_kind us)) ∙ ap kind_of e ∙ h
+begins_as level t us begin x e h =
+    sym (kind_of_begin (first_kind level t.kind t.text (head_kind us) (second_kind us)) t.kind) ∙ ap kind_of e ∙ h
 
 -- a complete operand of a level is read, goes into the row of the frame that waits for it, and what follows ends as it should
 pub record BeginEnds (whole : Outcome) (level d : ℕ) (g : Frame) (fs : List Frame) (ts : List Token) (n : ℕ) (gs : List Fault) : Type 0 where

@@ -38,6 +38,11 @@ abbrev pub Where : Bool → Type 0 → Type 0
 Where true P = P
 Where false P = Unit {0}
 
+-- it holds there if it holds at all
+pub where_any : {P : Type 0} (w : Bool) → P → Where w P
+where_any true h = h
+where_any false h = tt
+
 -- and it does
 pub where_one : {P : Type 0} (w : Bool) → w ≡ true → Where w P → P
 where_one true e h = h

@@ -30,4 +30,4 @@ pub mod RowParts
 pub mod RestAt
 pub mod ReadsFrom
 pub mod ActionTable
-pub mod BeginAlike
+pub mod EachBeginning

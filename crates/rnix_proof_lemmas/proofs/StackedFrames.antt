@@ -1,15 +1,15 @@
 -- Each frame stands at a position of its frame kind and may stand inside the one below, and the lowest is the root.
-use Rattle.std.proofs.Common.{◌≡◌, ℕ, suc, Bool, true, false, List, [], ◌∷◌, Option, Some, None, refl, sym, ap, ◌∙◌, if◌then◌else◌, nat_le, nat_eq}
-use Rattle.rnix_kinds.specs.declared.kinds.SyntaxKind.{SyntaxKind, TheVariants.{TOKEN_COLON, TOKEN_AT, TOKEN_IDENT, TOKEN_L_BRACE, TOKEN_INVERT, TOKEN_SUB}}
-use Rattle.{rnix_kinds.specs.declared.kinds.SyntaxKind.TheVariants.{TOKEN_LET, NODE_APPLY, NODE_ROOT}, rnix_grammar.specs.declared.position.Position.Position}
-use Rattle.rnix_grammar.specs.{declared.{slot_table.TheConstants.APPLIED, action.Action.Action, begin.Begin.Begin}, Fault.Fault, Tables.{is_cur_pos, depth_limit}, Actions.action_at}
-use Rattle.rnix_grammar.specs.{Begins.{is_pattern, begin_name, begin_let, begin_of, second_kind}, AnnotatedForest.{Token, blank, head_kind, touches}}
+use Rattle.std.proofs.Common.{◌≡◌, ℕ, suc, Bool, true, false, List, [], ◌∷◌, Option, Some, None, refl, sym, ap, ◌∙◌, if◌then◌else◌, nat_le}
+use Rattle.rnix_kinds.specs.declared.kinds.SyntaxKind.{SyntaxKind}
+use Rattle.{rnix_kinds.specs.declared.kinds.SyntaxKind.TheVariants.{NODE_APPLY, NODE_ROOT}, rnix_grammar.specs.declared.position.Position.Position}
+use Rattle.rnix_grammar.specs.{declared.{slot_table.TheConstants.APPLIED, action.Action.Action, begin.Begin.Begin}, Fault.Fault, Tables.depth_limit, Actions.action_at}
+use Rattle.rnix_grammar.specs.{Begins.{begin_for, begin_of, second_kind}, AnnotatedForest.{Token, blank, head_kind, touches}}
 use Rattle.rnix_proof_lemmas.specs.Machine.{Head, Node, SecondBind, Operand, Frame, Machine, put, opened, with_leading, next_items, min_bp_of, closed, entry_closed, limited, begun}
 use Rattle.rnix_proof_lemmas.specs.FrameKinds.{FrameKind, Root, Entry, SecondBindFrame, OperandFrame, NodeFrame, frame_kind}
 use Rattle.rnix_proof_lemmas.specs.Machine.{operand_on, reading, perform, step_on, step, begins}
 use Rattle.rnix_proof_lemmas.specs.Allowed.{Allowed, IsNext, is_there}
 use Rattle.rnix_proof_lemmas.specs.FrameKinds.{frame_kind_of_head, frame_kind_of_node, may_hold, is_open, IsStackedOn, AreStacked}
-use Rattle.rnix_proof_lemmas.proofs.{AllowedLemmas.allowed, Basics.{choice, true_is_not_false}}
+use Rattle.rnix_proof_lemmas.proofs.{AllowedLemmas.allowed, Basics.true_is_not_false, EachBeginning.each_first_tree}
 use Rattle.rnix_grammar.specs.declared.position.Position.TheVariants as p
 use Rattle.rnix_grammar.specs.declared.action.Action.TheVariants as a
 use Rattle.rnix_grammar.specs.declared.begin.Begin.TheVariants as b
@@ -21,33 +21,10 @@ BeginsInner second b.LegacyLet = is_there second ≡ true
 BeginsInner second b.BoundLambda = is_there second ≡ true
 BeginsInner second begin = Unit {0}
 
--- what a name begins
-begin_name_inner : (text : List ℕ) (second : Option SyntaxKind) → BeginsInner second (begin_name text second)
-begin_name_inner text None = choice (BeginsInner None) (is_cur_pos text) tt tt
-begin_name_inner text (Some TOKEN_COLON) = tt
-begin_name_inner text (Some TOKEN_AT) = refl
-begin_name_inner text (Some kind) = choice (BeginsInner (Some kind)) (is_cur_pos text) tt tt
-
--- what `let` begins
-begin_let_inner : (second : Option SyntaxKind) → BeginsInner second (begin_let second)
-begin_let_inner None = (refl, refl)
-begin_let_inner (Some TOKEN_L_BRACE) = refl
-begin_let_inner (Some _) = (refl, refl)
-
--- what begins where an expression may stand
-begin_scope_inner : (level : ℕ) (second : Option SyntaxKind) (begin : Begin) → BeginsInner second begin
-    → BeginsInner second (if nat_eq level 0 then begin else b.Stray)
-begin_scope_inner level second begin h = choice (BeginsInner second) (nat_eq level 0) h tt
-
 -- what any token begins
 pub begin_inner : (level : ℕ) (kind : SyntaxKind) (text : List ℕ) (second third : Option SyntaxKind)
     → BeginsInner second (begin_of level kind text second third)
-begin_inner level TOKEN_IDENT text second third = begin_name_inner text second
-begin_inner level TOKEN_L_BRACE text second third = choice (BeginsInner second) (is_pattern second third) tt (refl, refl)
-begin_inner level TOKEN_INVERT text second third = choice (BeginsInner second) (nat_le level 9) (refl, refl) tt
-begin_inner level TOKEN_SUB text second third = choice (BeginsInner second) (nat_le level 14) (refl, refl) tt
-begin_inner level TOKEN_LET text second third = begin_scope_inner level second (begin_let second) (begin_let_inner second)
-begin_inner level _ text second third = first_of (assumption, search begin_scope_inner)
+begin_inner = each_first_tree (λ kind second k. BeginsInner second (begin_for k kind)) (λ second. assumption)
 
 -- what is open may hold a plain node
 pub open_holds : (sort : FrameKind) → is_open sort ≡ true → may_hold sort NodeFrame ≡ true

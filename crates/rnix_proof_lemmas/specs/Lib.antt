@@ -1,6 +1,5 @@
 pub mod SlotRows
 pub mod Spelled
-pub mod BegunOperands
 pub mod LeafKinds
 pub mod RowReports
 pub mod Machine

@@ -12,20 +12,15 @@ use Rattle.rnix_proof_lemmas.specs.{Machine.{begun, limited, operand_on, reading
 use Rattle.rnix_proof_prefix.proofs.{Late.AreFrom, Ordered.from_end}
 use Rattle.rnix_proof_lookahead.specs.Completed.{leaf_count, completed}
 use Rattle.rnix_proof_lookahead.proofs.{KeptSteps.{trees_in, IsKept, begun_kept, perform_kept}, Leads.{taken_leads, split_leads, spanned_leads}}
-use Rattle.rnix_proof_lookahead.proofs.{OpenedBraces.{braces, IsBeforeThird, with_brace, opened_leads}, SpannedErrors.AreLateAlike}
+use Rattle.rnix_proof_lookahead.proofs.{OpenedBraces.{IsBeforeThird, with_brace, opened_leads}, SpannedErrors.AreLateAlike}
 use Rattle.rnix_proof_lookahead.proofs.LateErrors.{IsLateStep, stray_from, begun_late, perform_late}
 use Rattle.rnix_proof_lookahead.proofs.PartedReadings.{Goes, closed_goes, entry_goes, all_goes, limited_goes, run_goes}
+use Rattle.rnix_proof_prefix.proofs.{BraceSteps.braces, SharedSteps.third_counts}
 use Rattle.rnix_grammar.specs.declared.position.Position.TheVariants as p
 use Rattle.rnix_grammar.specs.declared.action.Action.TheVariants as a
 use Rattle.rnix_grammar.specs.declared.begin.Begin.TheVariants as b
 
--- the third item says how an operand begins only after `{`
-third_counts : (level : ℕ) (kind : SyntaxKind) (text : List ℕ) (second third other : Option SyntaxKind)
-    → (kind ≡ TOKEN_L_BRACE) ⊎ (begin_of level kind text second third ≡ begin_of level kind text second other)
-third_counts level TOKEN_L_BRACE text second third other = inl refl
-third_counts level _ text second third other = inr refl
-
--- and there only after a name, `}` or `...`
+-- after `{` the third item says how an operand begins only after a name, `}` or `...`
 pattern_counts : (kind : SyntaxKind) (third other : Option SyntaxKind)
     → IsBeforeThird kind ⊎ (is_pattern (Some kind) third ≡ is_pattern (Some kind) other)
 pattern_counts TOKEN_IDENT third other = inl (inl refl)

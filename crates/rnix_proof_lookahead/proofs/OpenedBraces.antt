@@ -1,13 +1,12 @@
 -- After `{` and before a name, `...` or `}`, whether a pattern or a set has begun: nothing is complete before the next item is read.
-use Rattle.std.proofs.Common.{◌≡◌, ◌⊎◌, inl, inr, ℕ, ◌+◌, ◌≤◌, Bool, true, false, List, ◌∷◌, length, refl, ap, sym, ◌∙◌, subst, arith, if◌then◌else◌}
-use Rattle.rnix_kinds.specs.declared.kinds.SyntaxKind.{SyntaxKind, TheVariants.{TOKEN_IDENT, TOKEN_R_BRACE, TOKEN_ELLIPSIS, NODE_ATTR_SET}}
+use Rattle.std.proofs.Common.{◌≡◌, ◌⊎◌, inl, inr, ℕ, ◌+◌, ◌≤◌, Bool, true, false, List, ◌∷◌, length, refl, ap, sym, ◌∙◌, subst, arith}
+use Rattle.rnix_kinds.specs.declared.kinds.SyntaxKind.{SyntaxKind, TheVariants.{TOKEN_IDENT, TOKEN_R_BRACE, TOKEN_ELLIPSIS}}
 use Rattle.rnix_green.specs.{Forest.{Forest, empty, leaf, join}, ForestCode.join_empty}
-use Rattle.rnix_grammar.specs.declared.{slot_table.TheConstants.SET, begin.Begin.Begin}
-use Rattle.rnix_grammar.specs.{Fault.Fault, AnnotatedForest.Token, Levels.selection_level, UnwantedRun.run_of}
+use Rattle.rnix_grammar.specs.{Fault.Fault, AnnotatedForest.Token, UnwantedRun.run_of}
 use Rattle.rnix_proof_lemmas.specs.Machine.{Frame, Machine, dropped, begun, step}
 use Rattle.rnix_proof_lookahead.{specs.Completed.{leaf_count, completed}, proofs.{CompletedTrees.leaf_count-join, KeptSteps.{trees_in, step_kept, run_taken}}}
 use Rattle.rnix_proof_lookahead.proofs.Leads.{Leads, next_leads, taken_leads}
-use Rattle.rnix_grammar.specs.declared.begin.Begin.TheVariants as b
+use Rattle.rnix_proof_prefix.proofs.BraceSteps.{braces}
 use Rattle.rnix_grammar.specs.declared.expected_set.ExpectedSet.TheVariants as u
 
 -- an item of a kind
@@ -16,10 +15,6 @@ item kind v = record { kind = kind; text = v.text; start = v.start; end = v.end 
 
 item_is : (kind : SyntaxKind) (v : Token) → v.kind ≡ kind → item kind v ≡ v
 item_is kind v e = λ i. record { kind = sym e i; text = v.text; start = v.start; end = v.end }
-
--- a pattern or a set
-abbrev pub braces : Bool → Begin
-braces w = if w then b.PatternLambda else b.Node NODE_ATTR_SET SET selection_level
 
 -- the kinds before which the third item decides which
 abbrev pub IsBeforeThird : SyntaxKind → Type 0

@@ -1,11 +1,11 @@
 -- What follows `{` and a name or `}`, whether a pattern or a set has begun: no error at these items.
 use Rattle.std.proofs.Common.{◌≡◌, ℕ, Bool, true, false, List, [], ◌∷◌, refl, sym, ◌∙◌, subst, ◌⊎◌, inl, inr, if◌then◌else◌}
-use Rattle.rnix_kinds.specs.declared.kinds.SyntaxKind.{SyntaxKind, TheVariants.{TOKEN_IDENT, TOKEN_R_BRACE, NODE_ATTR_SET}}
-use Rattle.rnix_grammar.specs.{declared.{slot_table.TheConstants.SET, begin.Begin.Begin}, Fault.Fault, AnnotatedForest.Token, Levels.selection_level}
+use Rattle.rnix_kinds.specs.declared.kinds.SyntaxKind.{SyntaxKind, TheVariants.{TOKEN_IDENT, TOKEN_L_BRACE, TOKEN_R_BRACE, NODE_ATTR_SET, NODE_PATTERN}}
+use Rattle.rnix_grammar.specs.{declared.begin.Begin.Begin, Fault.Fault, AnnotatedForest.Token}
 use Rattle.rnix_proof_lemmas.{specs.{FrameKinds.AreStacked, Machine.{Frame, Machine, begun, step, Runs, rest as here, then as further}}, proofs.Basics.not_nil}
 use Rattle.{rnix_proof_lemmas.proofs.StackedFrames.step_stacked, rnix_proof_prefix.{specs.Prefix.BeginAllFrom, proofs.Late.{AreFrom, AreLate, HasLate}}}
 use Rattle.rnix_proof_prefix.proofs.LateSteps.{late_runs}
-use Rattle.rnix_grammar.specs.declared.begin.Begin.TheVariants as b
+use Rattle.rnix_grammar.specs.Begins.{begin_for}
 
 -- all errors of what is read from here to the end of the text begin at a byte or behind it
 abbrev pub IsApart : ℕ → Machine → Type 0
@@ -28,7 +28,7 @@ item_is kind u e = λ i. record { kind = sym e i; text = u.text; start = u.start
 
 -- a pattern or a set
 abbrev pub braces : Bool → Begin
-braces w = if w then b.PatternLambda else b.Node NODE_ATTR_SET SET selection_level
+braces w = begin_for (if w then NODE_PATTERN else NODE_ATTR_SET) TOKEN_L_BRACE
 
 module _ (m : ℕ) (xs : List Token) (late : AreFrom m xs) (level d : ℕ) (t : Token) (f : Frame) (fs : List Frame) (n : ℕ) (es : List Fault)
     (w : AreLate m (f ∷ fs)) (g : BeginAllFrom m es) where

@@ -1,14 +1,17 @@
 -- Two lists of items that begin with the same items are read by the same steps, as long as one of these is left; or an error is reported.
 use Rattle.std.proofs.Common.{◌≡◌, ◌⊎◌, inl, inr, ℕ, suc, Bool, true, false, List, [], ◌∷◌, ◌++◌, Option, Some, refl, ap, sym, ◌∙◌, subst, if◌then◌else◌}
-use Rattle.{std.proofs.Common.{nat_le, nat_eq}, rnix_kinds.specs.declared.kinds.SyntaxKind.{SyntaxKind, TheVariants.{TOKEN_COLON, TOKEN_AT, TOKEN_IDENT}}}
+use Rattle.{std.proofs.Common.nat_le, rnix_kinds.specs.declared.kinds.SyntaxKind.{SyntaxKind, TheVariants.TOKEN_IDENT}}
 use Rattle.rnix_kinds.specs.declared.kinds.SyntaxKind.TheVariants.{TOKEN_L_BRACE, TOKEN_R_BRACE, TOKEN_ELLIPSIS, TOKEN_LET, NODE_APPLY}
-use Rattle.rnix_grammar.specs.{declared.{slot_table.TheConstants.APPLIED, action.Action.Action, begin.Begin.Begin}, Fault.{Fault, too_deep}, Tables.is_cur_pos}
-use Rattle.rnix_grammar.specs.{Tables.depth_limit, Begins.{is_pattern, begin_name, begin_let, begin_of, second_kind}, AnnotatedForest.{Token, Stray, Unwanted}}
+use Rattle.rnix_grammar.specs.{declared.{slot_table.TheConstants.APPLIED, action.Action.Action, begin.Begin.Begin}, Fault.{Fault, too_deep}}
+use Rattle.rnix_grammar.specs.{Tables.depth_limit, Begins.{is_pattern, kind_if, first_kind, begin_for, begin_of, second_kind}, AnnotatedForest.{Token, Stray, Unwanted}}
 use Rattle.rnix_grammar.specs.{AnnotatedForest.{Extra, blank, head_kind}, Reports.report, UnwantedRun.run_of, Layout.tail_of}
 use Rattle.rnix_proof_lemmas.specs.Machine.{Node, Operand, Frame, Machine, put, opened, min_bp_of, machine, closed, entry_closed, begun, limited, operand_on}
-use Rattle.rnix_proof_lemmas.{specs.Machine.{reading, perform}, proofs.{Basics.{choice, true_is_not_false, not_nil, none_right}, StackedFrames.BeginsInner}}
+use Rattle.rnix_proof_lemmas.{specs.Machine.{reading, perform}, proofs.{Basics.{true_is_not_false, not_nil, none_right}, StackedFrames.BeginsInner}}
 use Rattle.{rnix_proof_lemmas.proofs.StackedFrames.begin_inner, rnix_proof_prefix.specs.Prefix.{BeginAllFrom, are_undecided, end_undecided}}
 use Rattle.rnix_proof_prefix.proofs.{Late.{AreFrom, AreLate}, LateSteps.begun_late, BraceSteps.{IsApart, late_apart, braces, opened_apart}}
+use Rattle.rnix_proof_lemmas.proofs.EachBeginning.{highest, kind_up_to, first_up_to, each_first}
+use Rattle.std.proofs.Common.{None}
+use Rattle.rnix_kinds.specs.declared.kinds.SyntaxKind.TheVariants.{NODE_LET_IN, NODE_LEGACY_LET}
 use Rattle.rnix_grammar.specs.declared.position.Position.TheVariants as p
 use Rattle.rnix_grammar.specs.declared.action.Action.TheVariants as a
 use Rattle.rnix_grammar.specs.declared.begin.Begin.TheVariants as b
@@ -23,27 +26,25 @@ is_stray b.Stray = true
 is_stray begin = false
 
 -- that depends on the item alone
-stray_name : (text : List ℕ) (second : Option SyntaxKind) → is_stray (begin_name text second) ≡ false
-stray_name text (Some TOKEN_COLON) = refl
-stray_name text (Some TOKEN_AT) = refl
-stray_name text _ = choice (λ z. is_stray z ≡ false) (is_cur_pos text) refl refl
+abbrev strays : ℕ → SyntaxKind → SyntaxKind → Bool
+strays level kind k = is_stray (begin_for (kind_up_to (highest kind) level k) kind)
 
-stray_let : (second : Option SyntaxKind) → is_stray (begin_let second) ≡ false
-stray_let (Some TOKEN_L_BRACE) = refl
-stray_let _ = refl
+old_let_strays : (w : Bool) → is_stray (begin_for (kind_if w NODE_LEGACY_LET) TOKEN_LET) ≡ is_stray (begin_for (kind_if w NODE_LET_IN) TOKEN_LET)
+old_let_strays true = refl
+old_let_strays false = refl
+
+stray_alone : (level : ℕ) (kind : SyntaxKind) (text : List ℕ) (second third : Option SyntaxKind)
+    → is_stray (begin_of level kind text second third) ≡ strays level kind (first_kind 0 kind [] None None)
+stray_alone level kind text second third = ap (λ k. is_stray (begin_for k kind)) (first_up_to level kind text second third)
+    ∙ each_first (λ kind next k. strays level kind k ≡ strays level kind (first_kind 0 kind [] None None))
+    (λ next. assumption (old_let_strays (nat_le level 0))) kind text second third
 
 stray_same : (level : ℕ) (kind : SyntaxKind) (text : List ℕ) (second third next after : Option SyntaxKind)
     → is_stray (begin_of level kind text second third) ≡ is_stray (begin_of level kind text next after)
-stray_same level TOKEN_IDENT text second third next after = stray_name text second ∙ sym (stray_name text next)
-stray_same level TOKEN_L_BRACE text second third next after =
-    choice (λ z. is_stray z ≡ false) (is_pattern second third) refl refl ∙ sym (choice (λ z. is_stray z ≡ false) (is_pattern next after) refl refl)
-stray_same level TOKEN_LET text second third next after =
-    elim (nat_eq level 0) as (λ x. is_stray (if x then begin_let second else b.Stray) ≡ is_stray (if x then begin_let next else b.Stray))
-    [ true ↦ stray_let second ∙ sym (stray_let next) | false ↦ refl ]
-stray_same level _ text second third next after = refl
+stray_same level kind text second third next after = stray_alone level kind text second third ∙ sym (stray_alone level kind text next after)
 
 -- the third item says how an operand begins only after `{`
-third_counts : (level : ℕ) (kind : SyntaxKind) (text : List ℕ) (second third other : Option SyntaxKind)
+pub third_counts : (level : ℕ) (kind : SyntaxKind) (text : List ℕ) (second third other : Option SyntaxKind)
     → (kind ≡ TOKEN_L_BRACE) ⊎ (begin_of level kind text second third ≡ begin_of level kind text second other)
 third_counts level TOKEN_L_BRACE text second third other = inl refl
 third_counts level _ text second third other = inr refl

@@ -2,20 +2,20 @@
 -- whole text stand in the root, and a second name in its pattern.
 use Rattle.std.{specs.List.list_all, proofs.Common.{◌≡◌, ℕ, Bool, true, false, List, [], ◌∷◌, ◌++◌, length, Option, Some, None, refl, ap, sym, ◌∙◌, subst, append-nil}}
 use Rattle.{std.proofs.{Common.{append_assoc, if◌then◌else◌, ◌&&◌, arith}, lemmas.Bool.and_from}, rnix_kinds.specs.declared.kinds.SyntaxKind.SyntaxKind}
-use Rattle.rnix_kinds.specs.declared.kinds.SyntaxKind.TheVariants.{TOKEN_AT, TOKEN_COLON, TOKEN_IDENT, TOKEN_L_BRACE, TOKEN_L_BRACK, TOKEN_L_PAREN, TOKEN_REC}
-use Rattle.rnix_kinds.specs.declared.kinds.SyntaxKind.TheVariants.{TOKEN_STRING_START, NODE_APPLY, NODE_BIN_OP, NODE_ERROR, NODE_HAS_ATTR, NODE_IDENT, NODE_LITERAL}
+use Rattle.rnix_kinds.specs.declared.kinds.SyntaxKind.TheVariants.{NODE_APPLY, NODE_BIN_OP, NODE_ERROR, NODE_HAS_ATTR, NODE_IDENT, NODE_LITERAL}
 use Rattle.rnix_kinds.specs.declared.kinds.SyntaxKind.TheVariants.{NODE_PATTERN, NODE_ROOT, NODE_SELECT}
 use Rattle.rnix_kinds.proofs.AllKinds.{all_kinds, every, implied}
 use Rattle.rnix_grammar.specs.{declared.{rules.Part.TheVariants.{Atom, First, Argument}, expected_set.ExpectedSet.ExpectedSet}, Fault.Fault}
 use Rattle.rnix_grammar.specs.AnnotatedForest.{Token, Note, Stray, Unwanted, Extra, DoubleBind, TooDeep, AnnotatedForest, blank, token, branch, fault, one_branch}
 use Rattle.rnix_grammar.specs.AnnotatedForest.{one_fault, row_of, tokens_in, leaf_kind, head_kind}
-use Rattle.rnix_grammar.specs.{Begins.{second_kind, is_pattern}, Beginnings.{first_kind_of_name, first_kind, BeginsAs, IsOperandOf}, ErrorNodes.AreUnwanted}
-use Rattle.rnix_grammar.specs.{Operands.first_tree, Tables.{is_cur_pos, operand_kinds, wanted_kinds}, TreeLevels.is_or_row, Ranges.is_error_node}
+use Rattle.rnix_grammar.specs.{Begins.{first_kind, second_kind}, Beginnings.{BeginsAs, IsOperandOf}, ErrorNodes.AreUnwanted}
+use Rattle.rnix_grammar.specs.{Operands.first_tree, Tables.{operand_kinds, wanted_kinds}, TreeLevels.is_or_row, Ranges.is_error_node}
 use Rattle.rnix_grammar.specs.{Levels.selection_level, Rules.{Row, ◌·◌, row, after, missing, run_at, level_at, is_one_of}}
 use Rattle.rnix_grammar.specs.Reads.{Reads, ReadsRoot, end, leaf, missing_part, wrong, second, inner, IsWrong}
-use Rattle.rnix_proof_lemmas.proofs.{Basics.{true_is_not_false, not_if, choice, Where, where_one}, ReachableRows.{IsKnown, is_viable, every_known, known_row}}
+use Rattle.rnix_proof_lemmas.proofs.{Basics.{true_is_not_false, not_if, Where, where_one}, ReachableRows.{IsKnown, is_viable, every_known, known_row}}
 use Rattle.rnix_proof_lemmas.proofs.{ReachableRows.{known_second, known_after, known_missing, known_past, known_wrong}, ViableRows.{end_viable, reads_viable}}
 use Rattle.rnix_proof_rows.proofs.{RowsWithoutAttrpath.is_free, FirstItems.{is_argument, level_alone}, NamedRows.where_none}
+use Rattle.rnix_proof_lemmas.proofs.EachBeginning.{each_first_tree}
 use Rattle.rnix_proof_rows.proofs.ErrorNodeRows.{ends_root, ends_pattern, holds}
 
 -- no item that begins an operand at every level is read as an error node
@@ -28,25 +28,10 @@ abbrev MayLead : SyntaxKind → List Token → Type 0
 MayLead k [] = Unit {0}
 MayLead k (t ∷ ts) = may_lead (is_error_node k) t.kind ≡ true
 
--- other items may lead any tree
-others_lead : (w : Bool) (kind : SyntaxKind) → is_one_of operand_kinds kind ≡ false → may_lead w kind ≡ true
-others_lead true kind h = ap (λ x. if x then false else true) h
-others_lead false kind h = refl
-
-name_leads : (text : List ℕ) (next : Option SyntaxKind) → may_lead (is_error_node (first_kind_of_name text next)) TOKEN_IDENT ≡ true
-name_leads text (Some TOKEN_COLON) = refl
-name_leads text (Some TOKEN_AT) = refl
-name_leads text next = choice (λ k. may_lead (is_error_node k) TOKEN_IDENT ≡ true) (is_cur_pos text) refl refl
-
+-- what begins an operand may lead its first tree
 item_leads : (level : ℕ) (kind : SyntaxKind) (text : List ℕ) (next later : Option SyntaxKind)
     → may_lead (is_error_node (first_kind level kind text next later)) kind ≡ true
-item_leads level TOKEN_L_PAREN text next later = refl
-item_leads level TOKEN_REC text next later = refl
-item_leads level TOKEN_L_BRACE text next later = choice (λ k. may_lead (is_error_node k) TOKEN_L_BRACE ≡ true) (is_pattern next later) refl refl
-item_leads level TOKEN_L_BRACK text next later = refl
-item_leads level TOKEN_STRING_START text next later = refl
-item_leads level TOKEN_IDENT text next later = name_leads text next
-item_leads level kind text next later = others_lead (is_error_node (first_kind level kind text next later)) kind refl
+item_leads = each_first_tree (λ kind next k. may_lead (is_error_node k) kind ≡ true) (λ next. assumption)
 
 -- an operand begins with what may lead its first tree
 operand_leads : (level : ℕ) (x : AnnotatedForest) (ts : List Token) → BeginsAs level x ts → MayLead (first_tree x) ts

@@ -1,19 +1,21 @@
 -- What the first item of an operand is, by the kind of the operand's first tree; so it is of each node that is read.
 use Rattle.std.{specs.List.list_all, proofs.Common.{◌≡◌, ℕ, Bool, true, false, List, [], ◌∷◌, ◌++◌, Option, Some, None, refl, ap, sym, ◌∙◌, subst, append-nil}}
-use Rattle.{std.proofs.Common.{if◌then◌else◌, nat_eq, nat_le, take, drop}, rnix_kinds.specs.declared.kinds.SyntaxKind.{SyntaxKind, TheVariants.TOKEN_AT}}
-use Rattle.rnix_kinds.specs.declared.kinds.SyntaxKind.TheVariants.{TOKEN_COLON, TOKEN_IDENT, TOKEN_INVERT, TOKEN_SUB, TOKEN_LET, TOKEN_WITH, TOKEN_ASSERT}
-use Rattle.rnix_kinds.specs.declared.kinds.SyntaxKind.TheVariants.{TOKEN_IF, TOKEN_L_BRACE, NODE_APPLY, NODE_BIN_OP, NODE_CUR_POS, NODE_HAS_ATTR, NODE_IDENT}
+use Rattle.{std.proofs.Common.{if◌then◌else◌, nat_eq, take, drop}, rnix_kinds.specs.declared.kinds.SyntaxKind.{SyntaxKind, TheVariants.TOKEN_AT}}
+use Rattle.rnix_kinds.specs.declared.kinds.SyntaxKind.TheVariants.{TOKEN_COLON, TOKEN_IDENT, TOKEN_LET}
+use Rattle.rnix_kinds.specs.declared.kinds.SyntaxKind.TheVariants.{TOKEN_L_BRACE, NODE_APPLY, NODE_BIN_OP, NODE_CUR_POS, NODE_HAS_ATTR, NODE_IDENT}
 use Rattle.rnix_kinds.specs.declared.kinds.SyntaxKind.TheVariants.{NODE_IDENT_PARAM, NODE_LAMBDA, NODE_PATTERN, NODE_PAT_BIND, NODE_PAT_ENTRY, NODE_SELECT}
-use Rattle.rnix_kinds.specs.{declared.kinds.SyntaxKind.TheVariants.{NODE_UNARY_OP, NODE_WITH, NODE_ASSERT, NODE_IF_ELSE}, SyntaxKind.is_token}
+use Rattle.rnix_kinds.specs.SyntaxKind.{is_token}
 use Rattle.{rnix_kinds.proofs.AllKinds.{all_kinds, implied}, rnix_green.specs.Equality.same_kind, rnix_grammar.specs.declared.rules.Part.TheVariants.Child}
 use Rattle.rnix_grammar.specs.{declared.rules.Part.TheVariants.{Atom, First, Suffix, Binary, Argument, Optional}, AnnotatedForest.{Token, AnnotatedForest}}
-use Rattle.rnix_grammar.specs.{AnnotatedForest.{blank, branch, one_branch, tokens_in, head_kind}, Begins.{second_kind, is_pattern}}
-use Rattle.rnix_grammar.specs.{Beginnings.{first_kind_of_name, first_kind_of_let, kind_if, first_kind, BeginsAs, IsOperandOf}, Levels.expression_level}
-use Rattle.rnix_grammar.specs.{Levels.{inversion_level, negation_level, selection_level}, AllowedNames.{is_position, is_name_at, is_named_by}}
+use Rattle.rnix_grammar.specs.{AnnotatedForest.{blank, branch, one_branch, tokens_in, head_kind}, Begins.{first_kind_of_name, first_kind_of_let, first_kind, second_kind, is_pattern}}
+use Rattle.rnix_grammar.specs.Beginnings.{BeginsAs, IsOperandOf}
+use Rattle.rnix_grammar.specs.{Levels.selection_level, AllowedNames.{is_position, is_name_at, is_named_by}}
 use Rattle.rnix_grammar.specs.{Operands.first_tree, Tables.is_cur_pos, TokenKinds.is_or, TreeLevels.is_or_row, Rules.{Row, never, done, ◌·◌, ◌or◌, row, after}}
 use Rattle.{rnix_grammar.specs.Rules.{expects_item, IsExpected, is_first_expected, level_at}, rnix_proof_lemmas.proofs.Basics.{true_is_not_false, not_if}}
-use Rattle.rnix_proof_lemmas.proofs.{Basics.{choice, Where, where_one}, EachKind.{Each, each_kind}, FirstTrees.{a_node, first_in}, ReachableRows.IsKnown}
+use Rattle.rnix_proof_lemmas.proofs.{Basics.{choice, Where, where_one, where_any}, EachKind.{Each, each_kind}, FirstTrees.{a_node, first_in}, ReachableRows.IsKnown}
 use Rattle.rnix_proof_lemmas.proofs.ReachableRows.{is_viable, known_rows, EachRow, each_parts, each_known, every_known}
+use Rattle.rnix_proof_lemmas.proofs.EachBeginning.{highest, where_allowed}
+use Rattle.std.specs.Option.{is_some}
 use Rattle.rnix_proof_rows.proofs.RowsWithoutAttrpath.{is_free, is_same, same_true}
 
 -- the first item of a pattern that stands before a function's body
@@ -54,20 +56,14 @@ let_begins : (text : List ℕ) (second : Option SyntaxKind) → Begins TOKEN_LET
 let_begins text (Some TOKEN_L_BRACE) = refl
 let_begins text second = refl
 
-begins_if : (w : Bool) (kind k : SyntaxKind) (text : List ℕ) → Begins kind text k → Begins kind text (kind_if w k)
-begins_if true kind k text h = h
-begins_if false kind k text h = refl
-
 begins : (level : ℕ) (kind : SyntaxKind) (text : List ℕ) (second third : Option SyntaxKind) → Begins kind text (first_kind level kind text second third)
-begins level TOKEN_IDENT text second third = name_begins text second
-begins level TOKEN_L_BRACE text second third = choice (Begins TOKEN_L_BRACE text) (is_pattern second third) refl refl
-begins level TOKEN_INVERT text second third = begins_if (nat_le level inversion_level) TOKEN_INVERT NODE_UNARY_OP text refl
-begins level TOKEN_SUB text second third = begins_if (nat_le level negation_level) TOKEN_SUB NODE_UNARY_OP text refl
-begins level TOKEN_LET text second third = begins_if (nat_eq level expression_level) TOKEN_LET (first_kind_of_let second) text (let_begins text second)
-begins level TOKEN_WITH text second third = begins_if (nat_eq level expression_level) TOKEN_WITH NODE_WITH text refl
-begins level TOKEN_ASSERT text second third = begins_if (nat_eq level expression_level) TOKEN_ASSERT NODE_ASSERT text refl
-begins level TOKEN_IF text second third = begins_if (nat_eq level expression_level) TOKEN_IF NODE_IF_ELSE text refl
-begins level kind text second third = refl
+begins level kind text second third = where_allowed (Begins kind text) level kind text second third (λ l. by kind) (where_any (is_some (highest kind)) refl)
+  where
+    by : (kind : SyntaxKind) → Begins kind text (first_kind 0 kind text second third)
+    by TOKEN_IDENT = name_begins text second
+    by TOKEN_L_BRACE = choice (Begins TOKEN_L_BRACE text) (is_pattern second third) refl refl
+    by TOKEN_LET = let_begins text second
+    by kind = refl
 
 -- an operand begins with what may begin its first tree
 operand_begins : (level : ℕ) (x : AnnotatedForest) (ts : List Token) → BeginsAs level x ts → MayBegin (first_tree x) ts
@@ -94,11 +90,6 @@ Names q k (t ∷ ts) = is_named_by q k t ≡ true
 -- what is known of a node that begins with the next item
 abbrev pub Known : Row → SyntaxKind → AnnotatedForest → List Token → Type 0
 Known q k c ts = Names q k ts × Fronts k (row k) c ts
-
--- what holds holds where a test does
-where_any : {P : Type 0} (w : Bool) → P → Where w P
-where_any true h = h
-where_any false h = tt
 
 -- a name that is neither `or` nor `__curPos` may stand wherever a name may
 plain_named : (q : Row) (t : Token) → is_or t.kind ≡ false → is_cur_pos t.text ≡ false → is_name_at q t ≡ true

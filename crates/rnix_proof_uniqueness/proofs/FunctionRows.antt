@@ -2,19 +2,19 @@
 use Rattle.std.proofs.Common.{◌≡◌, ℕ, true, false, List, [], ◌∷◌, ◌++◌, refl, ap, sym, ◌∙◌, subst, append-nil, ◌⊎◌, inl, inr, append_assoc}
 use Rattle.rnix_kinds.{proofs.AllKinds.implied, specs.declared.kinds.SyntaxKind.{SyntaxKind, TheVariants.{TOKEN_L_BRACE, TOKEN_LET, NODE_ERROR}}}
 use Rattle.rnix_kinds.specs.declared.kinds.SyntaxKind.TheVariants.{NODE_LEGACY_LET, TOKEN_AT, TOKEN_IDENT, NODE_IDENT, NODE_IDENT_PARAM, NODE_LAMBDA}
-use Rattle.{rnix_kinds.specs.declared.kinds.SyntaxKind.TheVariants.{NODE_PATTERN, NODE_PAT_BIND}, rnix_grammar.specs.{Fault.Fault, Begins.begin_of}}
+use Rattle.{rnix_kinds.specs.declared.kinds.SyntaxKind.TheVariants.{NODE_PATTERN, NODE_PAT_BIND}, rnix_grammar.specs.{Fault.Fault, Begins.{begin_for, begin_of}}}
 use Rattle.rnix_grammar.specs.{Begins.second_kind, AnnotatedForest.{Token, Stray, AnnotatedForest, blank, token, ◌⊕◌, one_token, one_branch, one_fault, row_of}}
 use Rattle.rnix_grammar.specs.{AnnotatedForest.{tokens_in, leaf_kind, head_kind, end_from, branch, leaf_kind_as}, Reports.{report, repeats}}
 use Rattle.rnix_grammar.specs.declared.{rules.Part.TheVariants.Child, slot_table.TheConstants.{LEGACY_LET, BOUND_PATTERN, LAMBDA, PATTERN}}
 use Rattle.rnix_grammar.specs.{declared.{position.Position.Position, begin.Begin.Begin}, Reads.end, Rules.{after, row as row_of_kind, ◌·◌, done}}
 use Rattle.rnix_proof_lemmas.specs.{Machine.{Operand, Frame, machine, opened, begun, Node, operand_on, Runs, rest as here}, SlotRows.left_at}
-use Rattle.rnix_proof_lemmas.{specs.BegunOperands.kind_of, proofs.{EveryKind.{only, only_both}, FollowLemmas.{FollowedTo, atom_is_selection_level}}}
+use Rattle.rnix_proof_lemmas.{proofs.{EveryKind.{only, only_both}, FollowLemmas.{FollowedTo, atom_is_selection_level}}}
 use Rattle.rnix_proof_lemmas.proofs.{FollowLemmas.{followed_atom, followed_keyword}, Basics.true_is_not_false, TokenEnds.end_behind, ReachableRows.is_viable}
 use Rattle.rnix_proof_uniqueness.proofs.{StepReads.{runs_to, runs_from, IsOperandRead, ReadsTree, runs_on}, OneAction.{is_inner, is_closed}}
 use Rattle.rnix_proof_uniqueness.proofs.ReadingHeights.{Complete, AllRows, KindReads, front_of, complete_done, complete_to, has_no_node_next, item_next, Front}
 use Rattle.rnix_proof_uniqueness.proofs.ReadingHeights.{by_leaf, by_stray, by_node, complete_viable, Item, Name, item_alone, item_or_name}
 use Rattle.rnix_proof_uniqueness.proofs.{RowTrees.{operand_read, read_on, ReadOn, node_read}, OperandBegins.{begins_with_item, BegunByItem, led_leaf, led_node}}
-use Rattle.rnix_proof_uniqueness.proofs.OperandBegins.{begins_led, begins_special, followed_item_begun, BegunBy, begin_for}
+use Rattle.rnix_proof_uniqueness.proofs.OperandBegins.{begins_led, begins_so, followed_item_begun, BegunBy}
 use Rattle.rnix_grammar.specs.declared.position.Position.TheVariants as p
 use Rattle.rnix_grammar.specs.declared.begin.Begin.TheVariants as b
 
@@ -23,7 +23,7 @@ pub stray_reads : (t : Token) (d n : ℕ) (us : List Token) → ReadsTree d n (t
 stray_reads t d n us level F fs gs min_bp begins = record {
   max_bp = 16;
   followed = followed_atom (one_fault Stray (row_of (t ∷ []))) refl refl;
-  runs = runs_from (ap (λ z. begun false z level d t F fs (t ∷ us) n gs) (begins_special NODE_ERROR refl level t us begins).0) here;
+  runs = runs_from (ap (λ z. begun false z level d t F fs (t ∷ us) n gs) (begins_so NODE_ERROR level t us begins).0) here;
 }
 
 -- no such expression is an entry, a second name or the root
@@ -90,7 +90,7 @@ legacy_item m rows d n us t v f es r level F fs gs min_bp begins =
       max_bp = 0;
       followed = followed_keyword (one_branch NODE_LEGACY_LET (g ⊕ f)) refl refl;
       runs =
-          runs_from (ap (λ z. begun false z level d t F fs (t ∷ ts) n gs) (begins_special NODE_LEGACY_LET refl level t ts begins).0)
+          runs_from (ap (λ z. begun false z level d t F fs (t ∷ ts) n gs) (begins_so NODE_LEGACY_LET level t ts begins).0)
           (operand_read (read_on rows (p.Left LEGACY_LET) refl r) refl refl (p.AfterOperand level 0) d (F ∷ fs) gs);
     }
 
@@ -137,7 +137,7 @@ named_item t f d n us es k r level F fs gs min_bp begins =
     let c : AnnotatedForest = one_branch NODE_IDENT (one_token (leaf_kind NODE_IDENT t) t) in
     let ts : List Token = tokens_in f ++ us in
     function_read level d n (t ∷ tokens_in f) (branch NODE_IDENT_PARAM c f) us es F fs gs t ts b.NameLambda refl
-    (begins_special NODE_IDENT_PARAM refl level t ts begins).0
+    (begins_so NODE_IDENT_PARAM level t ts begins).0
     (operand_read r refl refl (p.AfterOperand level 16) d (F ∷ fs) gs)
 
 -- the parameter of a function is a name
@@ -163,7 +163,7 @@ named_reads m d n us c f ds es r = by (item_or_name refl (front_of refl r refl))
     by (inl t) =
         subst (λ c. IsFunction NODE_IDENT_PARAM d n c f us ds es) (sym t.is) (λ more level F fs gs min_bp begins.
         absurd (no_name t.item.kind (parameter_first t.item.kind t.alive)
-        (begins_special NODE_IDENT_PARAM refl level t.item ((tokens_in t.more ++ tokens_in f) ++ us) begins).1))
+        (begins_so NODE_IDENT_PARAM level t.item ((tokens_in t.more ++ tokens_in f) ++ us) begins).1))
     by (inr t) =
         let u = complete_done t.rest refl in
         subst (λ ds. IsFunction NODE_IDENT_PARAM d n c f us ds es) (sym u.1) (subst (λ c. IsFunction NODE_IDENT_PARAM d n c f us [] es)
@@ -208,7 +208,7 @@ braced_reads : (m : ℕ) → AllRows m → (d n : ℕ) (t : Token) (us : List To
 braced_reads m rows d n t us c f ds es l r more level F fs gs min_bp begins =
     let ts : List Token = (tokens_in c ++ tokens_in f) ++ us in
     let x : AnnotatedForest = branch NODE_PATTERN (token t.kind t c) f in
-    let w = begins_special NODE_PATTERN refl level t ts begins in
+    let w = begins_so NODE_PATTERN level t ts begins in
     let k : t.kind ≡ TOKEN_L_BRACE = brace_kind t.kind l w.1 in
     function_read level d n (t ∷ (tokens_in c ++ tokens_in f)) x us ((ds ++ []) ++ es) F fs gs t ts b.PatternLambda refl (w.0 ∙ ap (begin_for NODE_PATTERN) k)
     (pattern_runs (read_on rows (p.Left PATTERN) refl (complete_to (ap (after (row_of_kind NODE_PATTERN)) k) refl r)) more)
@@ -226,7 +226,7 @@ bound_item : (t v : Token) (c f : AnnotatedForest) (d n : ℕ) (us : List Token)
 bound_item t v c f d n us ds es h r more level F fs gs min_bp begins =
     let ts : List Token = v ∷ ((tokens_in c ++ tokens_in f) ++ us) in
     let x : AnnotatedForest = branch NODE_PATTERN (branch NODE_PAT_BIND (name_at t v) c) f in
-    let w = begins_special NODE_PATTERN refl level t ts begins in
+    let w = begins_so NODE_PATTERN level t ts begins in
     let k : t.kind ≡ TOKEN_IDENT = name_kind t.kind h w.1 in
     function_read level d n (t ∷ (v ∷ (tokens_in c ++ tokens_in f))) x us ((ds ++ []) ++ es) F fs gs t ts b.BoundLambda refl
     (w.0 ∙ ap (begin_for NODE_PATTERN) k) (pattern_runs r more)
@@ -245,7 +245,7 @@ bound_reads m rows d n us c g f bs ds es r r' = by (item_or_name refl (front_of 
         → IsFunction NODE_PATTERN d n (branch NODE_PAT_BIND c g) f us ((bs ++ []) ++ ds) es
     by (inl t) =
         subst (λ c. IsFunction NODE_PATTERN d n (branch NODE_PAT_BIND c g) f us ((bs ++ []) ++ ds) es) (sym t.is) (λ more level F fs gs min_bp begins.
-        absurd (no_bind t.item.kind t.alive (begins_special NODE_PATTERN refl level t.item
+        absurd (no_bind t.item.kind t.alive (begins_so NODE_PATTERN level t.item
         (((tokens_in t.more ++ tokens_in g) ++ tokens_in f) ++ us) begins).1))
     by (inr t) =
         let v = item_next refl (front_of refl t.rest refl) in
@@ -288,10 +288,7 @@ Parameter m d n us c f ds es k =
 -- a function is read
 pub lambda_reads : (m : ℕ) → AllRows m → KindReads m NODE_LAMBDA
 lambda_reads m rows d n us _ _ (by_leaf {t = t} {f = f} e w l r) =
-    λ level F fs gs min_bp begins. absurd (no_lambda (begins_special NODE_LAMBDA refl level t (tokens_in f ++ us) begins).2)
-  where
-    no_lambda : kind_of b.Stray ≡ NODE_LAMBDA → ⊥
-    no_lambda h = cc
+    λ level F fs gs min_bp begins. absurd (true_is_not_false (sym (begins_so NODE_LAMBDA level t (tokens_in f ++ us) begins).1.0))
 lambda_reads m rows d n us _ _ (by_stray o w x l r) = absurd (true_is_not_false (sym l))
 lambda_reads m rows d n us _ _ (by_node {k = i} {c = c} {f = f} {ds = ds} {es = es} r y w x l r') = by (lambda_first i l) r r'
   where

@@ -1,17 +1,18 @@
 -- What the first items of an operand begin.
 use Rattle.std.proofs.{lemmas.Bool.and_parts, Common.{◌≡◌, ◌++◌, subst, append_assoc, arith, ℕ, ◌≤◌, Bool, true, false, List, [], ◌∷◌, Some, refl, ap, sym}}
-use Rattle.{std.proofs.Common.{◌∙◌, ◌&&◌, if◌then◌else◌, nat_le, Option, None, nat_eq}, rnix_kinds.specs.declared.kinds.SyntaxKind.SyntaxKind}
-use Rattle.rnix_kinds.specs.declared.kinds.SyntaxKind.TheVariants.{TOKEN_AT, TOKEN_COLON, TOKEN_IDENT, TOKEN_INVERT, TOKEN_L_BRACE, TOKEN_LET, TOKEN_SUB}
-use Rattle.rnix_kinds.specs.declared.kinds.SyntaxKind.TheVariants.{NODE_APPLY, NODE_BIN_OP, NODE_HAS_ATTR, NODE_IDENT_PARAM, NODE_LAMBDA, NODE_LEGACY_LET}
-use Rattle.{rnix_kinds.specs.declared.kinds.SyntaxKind.TheVariants.{NODE_PATTERN, NODE_SELECT, NODE_UNARY_OP}, rnix_grammar.specs.Actions.{continue_action, more_action}}
+use Rattle.{std.proofs.Common.{◌∙◌, ◌&&◌, if◌then◌else◌, nat_le, Option}, rnix_kinds.specs.declared.kinds.SyntaxKind.SyntaxKind}
+use Rattle.rnix_kinds.specs.declared.kinds.SyntaxKind.TheVariants.{TOKEN_IDENT, TOKEN_INVERT, TOKEN_L_BRACE}
+use Rattle.rnix_kinds.specs.declared.kinds.SyntaxKind.TheVariants.{NODE_APPLY, NODE_BIN_OP, NODE_HAS_ATTR, NODE_LAMBDA, NODE_LEGACY_LET}
+use Rattle.{rnix_kinds.specs.declared.kinds.SyntaxKind.TheVariants.{NODE_SELECT, NODE_UNARY_OP}, rnix_grammar.specs.Actions.{continue_action, more_action}}
 use Rattle.rnix_grammar.specs.{Actions.{may_continue}, Levels.binding_power, AnnotatedForest.{Token, AnnotatedForest, head_kind, end_from, blank}}
-use Rattle.rnix_grammar.specs.{AnnotatedForest.{token, branch, one_branch, leaf_kind_as, Stray}, Operands.{follows, first_tree, is_continued}}
-use Rattle.rnix_grammar.specs.{declared.{action.Action.Action, begin.Begin.Begin}, Fault.Fault, TreeLevels.{row_level, level_of}, Tables.is_cur_pos}
-use Rattle.rnix_grammar.specs.{Begins.{begin_of, begin_name, begin_let, is_pattern, second_kind}, Rows.{is_atom, is_expression}, Rules.{after, done}}
-use Rattle.{rnix_grammar.{specs.{Rules.{row as row_of_kind}}}, rnix_proof_lemmas.specs.{BegunOperands.{IsBegun, kind_of}, Machine.{Operand, Frame, machine}}}
-use Rattle.rnix_proof_lemmas.{specs.{Machine.{opened, perform, operand_on, Runs, Node}, SlotRows.left_at}, proofs.Basics.{true_is_not_false, choice}}
+use Rattle.rnix_grammar.specs.{AnnotatedForest.{token, branch, one_branch, leaf_kind_as}, Operands.{follows, first_tree, is_continued}}
+use Rattle.rnix_grammar.specs.{declared.{action.Action.Action, begin.Begin.Begin}, Fault.Fault, TreeLevels.{row_level, level_of}}
+use Rattle.rnix_grammar.specs.{Begins.{first_kind, begin_for, begin_of, second_kind}, Rows.{is_atom, is_expression}, Rules.{after, done}}
+use Rattle.{rnix_grammar.{specs.{Rules.{row as row_of_kind}}}, rnix_grammar.specs.Beginnings.BeginsAs, rnix_proof_lemmas.specs.Machine.{Operand, Frame, machine}}
+use Rattle.rnix_proof_lemmas.{specs.{Machine.{opened, perform, operand_on, Runs, Node}, SlotRows.left_at}, proofs.Basics.true_is_not_false}
 use Rattle.rnix_proof_lemmas.proofs.{LevelLemmas.{at_most, at_most_true}, FollowLemmas.{FollowedTo, follows_level, atom_is_selection_level, followed_atom}}
 use Rattle.rnix_proof_lemmas.proofs.{FollowLemmas.{followed_negated, followed_inverted, followed_keyword}, TokenEnds.end_behind}
+use Rattle.rnix_proof_lemmas.proofs.EachBeginning.{each_first_tree, kind_of, kind_of_begin}
 use Rattle.rnix_proof_uniqueness.proofs.{StepReads.{runs_on, runs_to, runs_from, step_to, IsOperandRead, ReadsTree}, OneAction.is_at}
 use Rattle.rnix_grammar.specs.declared.position.Position.TheVariants as p
 use Rattle.rnix_grammar.specs.declared.action.Action.TheVariants as a
@@ -44,7 +45,7 @@ settles level max_bp x (t ∷ ts) b h = by (may_continue level max_bp t.kind) re
         absurd (true_is_not_false (sym (ap (λ z. z && nat_le level (binding_power t.kind)) f ∙ v.0) ∙ h))
 
 -- two trees whose first trees are of one kind begin alike
-pub begun_same : (level : ℕ) (x y : AnnotatedForest) (ts : List Token) → first_tree x ≡ first_tree y → IsBegun level x ts → IsBegun level y ts
+pub begun_same : (level : ℕ) (x y : AnnotatedForest) (ts : List Token) → first_tree x ≡ first_tree y → BeginsAs level x ts → BeginsAs level y ts
 begun_same level x y [] e h = h
 begun_same level x y (t ∷ ts) e h = h ∙ e
 
@@ -59,7 +60,7 @@ pub continued : (zs xs : List Token) (x z : AnnotatedForest) (i : SyntaxKind) (a
     → ReadsTree d n (zs ++ xs) z us (es ++ ds)
 continued zs xs x z i action max_bp d n us es ds goes_so next act same least followed tree rest level f fs gs min_bp begins =
     by (tree level f fs gs (omega (arith, min_bp, least, follows_level i x goes_so))
-    (begun_same level z x (zs ++ (xs ++ us)) same (subst (IsBegun level z) (append_assoc zs xs us) begins)))
+    (begun_same level z x (zs ++ (xs ++ us)) same (subst (BeginsAs level z) (append_assoc zs xs us) begins)))
   where
     by : IsOperandRead level d n zs x (xs ++ us) es f fs gs → IsOperandRead level d n (zs ++ xs) z us (es ++ ds) f fs gs
     by r = record {
@@ -103,63 +104,26 @@ BegunBy i b.BoundLambda = i ≡ TOKEN_IDENT
 BegunBy i b.PatternLambda = i ≡ TOKEN_L_BRACE
 BegunBy i begin = Unit {0}
 
--- what a name begins
-name_begins : (text : List ℕ) (second : Option SyntaxKind) → BegunBy TOKEN_IDENT (begin_name text second)
-name_begins text None = choice (BegunBy TOKEN_IDENT) (is_cur_pos text) (refl, refl, refl) (refl, refl, refl)
-name_begins text (Some TOKEN_COLON) = refl
-name_begins text (Some TOKEN_AT) = refl
-name_begins text (Some _) = choice (BegunBy TOKEN_IDENT) (is_cur_pos text) (refl, refl, refl) (refl, refl, refl)
-
--- what `let` begins
-let_begins : (second : Option SyntaxKind) → BegunBy TOKEN_LET (begin_let second)
-let_begins (Some TOKEN_L_BRACE) = tt
-let_begins _ = (refl, refl, refl, refl)
-
--- what begins where an expression may stand
-scoped : (i : SyntaxKind) (level : ℕ) (begin : Begin) → BegunBy i begin → BegunBy i (if nat_eq level 0 then begin else b.Stray)
-scoped i level begin h = choice (BegunBy i) (nat_eq level 0) h tt
-
 -- so it is for each beginning
 begins_by : (level : ℕ) (i : SyntaxKind) (text : List ℕ) (second third : Option SyntaxKind) → BegunBy i (begin_of level i text second third)
-begins_by level TOKEN_IDENT text second third = name_begins text second
-begins_by level TOKEN_L_BRACE text second third = choice (BegunBy TOKEN_L_BRACE) (is_pattern second third) refl (refl, refl, refl, refl)
-begins_by level TOKEN_LET text second third = choice (BegunBy TOKEN_LET) (nat_eq level 0) (let_begins second) tt
-begins_by level TOKEN_INVERT text second third = choice (BegunBy TOKEN_INVERT) (nat_le level 9) (refl, refl, refl, refl) tt
-begins_by level TOKEN_SUB text second third = choice (BegunBy TOKEN_SUB) (nat_le level 14) (refl, refl, refl, refl) tt
-begins_by level i text second third = first_of (assumption, search scoped)
+begins_by = each_first_tree (λ i second k. BegunBy i (begin_for k i)) (λ second. assumption)
 
--- the beginning of what is no such expression
-abbrev pub begin_for : SyntaxKind → SyntaxKind → Begin
-begin_for NODE_LEGACY_LET i = b.LegacyLet
-begin_for NODE_IDENT_PARAM i = b.NameLambda
-begin_for NODE_PATTERN TOKEN_IDENT = b.BoundLambda
-begin_for NODE_PATTERN i = b.PatternLambda
-begin_for k i = b.Stray
-
--- what begins no such expression is known by the kind of the first tree
-special : (i k : SyntaxKind) (begin : Begin) → begins_with_item k ≡ false → kind_of begin ≡ k → BegunBy i begin → begin ≡ begin_for k i
-special i k (b.Leaf j) h e w = absurd (true_is_not_false (sym w.0 ∙ ap begins_with_item e ∙ h))
-special i k (b.Node j z max_bp) h e w = absurd (true_is_not_false (sym w.0 ∙ ap begins_with_item e ∙ h))
-special i k b.BoundLambda h e w = ap (begin_for NODE_PATTERN) (sym w) ∙ ap (λ j. begin_for j i) e
-special i k b.PatternLambda h e w = ap (begin_for NODE_PATTERN) (sym w) ∙ ap (λ j. begin_for j i) e
-special i k begin h e w = ap (λ j. begin_for j i) e
-
--- the beginning of some items, if the tree is no expression that begins with an item
-pub begins_special : (k : SyntaxKind) → begins_with_item k ≡ false → (level : ℕ) (t : Token) (ts : List Token)
-    → kind_of (begin_of level t.kind t.text (head_kind ts) (second_kind ts)) ≡ k
+-- the beginning of some items, by the kind of the first tree
+pub begins_so : (k : SyntaxKind) (level : ℕ) (t : Token) (ts : List Token) → first_kind level t.kind t.text (head_kind ts) (second_kind ts) ≡ k
     → (begin_of level t.kind t.text (head_kind ts) (second_kind ts) ≡ begin_for k t.kind) × BegunBy t.kind (begin_for k t.kind)
-    × (kind_of (begin_for k t.kind) ≡ k)
-begins_special k h level t ts e =
-    let begin : Begin = begin_of level t.kind t.text (head_kind ts) (second_kind ts) in
-    let w : BegunBy t.kind begin = begins_by level t.kind t.text (head_kind ts) (second_kind ts) in
-    let s = special t.kind k begin h e w in
-    (s, subst (BegunBy t.kind) s w, ap kind_of (sym s) ∙ e)
+begins_so k level t ts e =
+    let s = ap (λ j. begin_for j t.kind) e in (s, subst (BegunBy t.kind) s (begins_by level t.kind t.text (head_kind ts) (second_kind ts)))
 
 -- how an expression that begins with an item does so: it is the item, or a node that goes on at a position
 pub data BegunByItem (k i : SyntaxKind) (begin : Begin) : Type 0 where
   led_leaf : begin ≡ b.Leaf k → after (row_of_kind k) (leaf_kind_as k i) ≡ done → is_atom k ≡ true → BegunByItem k i begin
   led_node : (z max_bp : ℕ) → begin ≡ b.Node k z max_bp → after (row_of_kind k) (leaf_kind_as k i) ≡ left_at z → is_at k (p.Left z) ≡ true
       → max_bp_at k i ≡ max_bp → BegunByItem k i begin
+
+-- such an expression is its own first tree
+first_led : (k : SyntaxKind) (c f : AnnotatedForest) → begins_with_item k ≡ true → first_tree (branch k c f) ≡ k
+first_led NODE_BIN_OP c f h = absurd (true_is_not_false (sym h))
+first_led _ c f h = cc
 
 -- each such expression begins so, by its beginning
 led_by : (k i : SyntaxKind) (begin : Begin) → begins_with_item k ≡ true → kind_of begin ≡ k → BegunBy i begin → BegunByItem k i begin
@@ -169,18 +133,13 @@ led_by k i (b.Node j z max_bp) h e w =
     let v = subst (λ (x : SyntaxKind). BegunBy i (b.Node x z max_bp)) e w in led_node z max_bp (ap (λ x. b.Node x z max_bp) e) v.1 v.2 v.3
 led_by k i _ h e w = absurd (true_is_not_false (sym h ∙ ap begins_with_item (sym e)))
 
--- such an expression is its own first tree
-first_led : (k : SyntaxKind) (c f : AnnotatedForest) → begins_with_item k ≡ true → first_tree (branch k c f) ≡ k
-first_led NODE_BIN_OP c f h = absurd (true_is_not_false (sym h))
-first_led _ c f h = cc
-
 -- each such expression begins so
 pub begins_led : (k : SyntaxKind) → begins_with_item k ≡ true → (level : ℕ) (t : Token) (ts : List Token) (c : AnnotatedForest)
-    → kind_of (begin_of level t.kind t.text (head_kind ts) (second_kind ts)) ≡ first_tree (one_branch k c)
+    → first_kind level t.kind t.text (head_kind ts) (second_kind ts) ≡ first_tree (one_branch k c)
     → BegunByItem k t.kind (begin_of level t.kind t.text (head_kind ts) (second_kind ts))
 begins_led k h level t ts c e =
-    led_by k t.kind (begin_of level t.kind t.text (head_kind ts) (second_kind ts)) h (e
-    ∙ first_led k c blank h) (begins_by level t.kind t.text (head_kind ts) (second_kind ts))
+    let w = begins_so k level t ts (e ∙ first_led k c blank h) in
+    subst (BegunByItem k t.kind) (sym w.0) (led_by k t.kind (begin_for k t.kind) h (kind_of_begin k t.kind) w.1)
 
 -- the nodes of prefix operators
 abbrev is_unary : SyntaxKind → Bool

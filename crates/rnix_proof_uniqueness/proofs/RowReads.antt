@@ -5,12 +5,12 @@ use Rattle.rnix_kinds.specs.declared.kinds.SyntaxKind.{SyntaxKind, TheVariants.{
 use Rattle.{rnix_green.specs.Equality.same_kind, rnix_grammar.specs.declared.{position.Position.Position, action.Action.Action}}
 use Rattle.rnix_grammar.specs.{declared.{slot_table.TheConstants.{PAT_ENTRY, SECOND_BIND}, rules.Part.TheVariants.BoundAlready}, Actions.action_at}
 use Rattle.rnix_grammar.specs.{Reports.{report, repeats}, Reads.{IsWrong, deeper, IsRoom, Reads, end, leaf, inner, missing_part, wrong, second}}
-use Rattle.rnix_grammar.specs.{Beginnings.IsOperandOf, AnnotatedForest.{Token, Note, Stray, Unwanted, Extra, DoubleBind, TooDeep, AnnotatedForest, ◌⊕◌}}
+use Rattle.rnix_grammar.specs.{Beginnings.{BeginsAs, IsOperandOf}, AnnotatedForest.{Token, Note, Stray, Unwanted, Extra, DoubleBind, TooDeep, AnnotatedForest, ◌⊕◌}}
 use Rattle.rnix_grammar.specs.AnnotatedForest.{one_fault, row_of, head_kind, end_from, touches, blank, one_branch, tokens_in, leaf_kind_as, token, one_token}
 use Rattle.rnix_grammar.specs.{AnnotatedForest.leaf_kind, Rules.{IsExpected, Row, after, counts, level_at, is_first_expected, row as row_of_kind, done, ◌·◌}}
 use Rattle.{rnix_grammar.specs.{Rules.{expects_end, missing, second_name}, Fault.Fault, Rows.{fits, is_expression}}, rnix_proof_lemmas.specs.Machine.machine}
-use Rattle.rnix_proof_lemmas.specs.{Machine.{opened, perform, dropped, Frame, SecondBind, rest as stays}, SlotRows.{left_at, kind_at}, BegunOperands.IsBegun}
-use Rattle.rnix_proof_lemmas.proofs.{Basics.true_is_not_false, BeginAlike.operand_by_steps, UnwantedRuns.dropped_all, RestAt.rest_at, KindsOfNodes.unreported}
+use Rattle.rnix_proof_lemmas.specs.{Machine.{opened, perform, dropped, Frame, SecondBind, rest as stays}, SlotRows.{left_at, kind_at}}
+use Rattle.rnix_proof_lemmas.proofs.{Basics.true_is_not_false, UnwantedRuns.dropped_all, RestAt.rest_at, KindsOfNodes.unreported}
 use Rattle.rnix_proof_lemmas.proofs.{KindsOfNodes.fits_expression, ActionTable.is_waiting, RowParts.left_level, EveryKind.only}
 use Rattle.rnix_proof_lemmas.proofs.{AnnotatedForestLemmas.tokens_in-row_of, ReachableRows.is_viable, ViableRows.reads_viable}
 use Rattle.rnix_proof_uniqueness.proofs.{StepReads.{runs_from, runs_to, step_to, ReadsTo, runs_on}, OneAction.{done_at, is_any, is_at, next_is, or_true}}
@@ -40,7 +40,7 @@ module _ (q : SyntaxKind) (d n : ℕ) (x : Position) (r : Row) (b : AnnotatedFor
   wrong_one Stray (t ∷ []) vs o w =
       let v : Operands q (rest_at x) r (action_at x (Some t.kind) (touches n (t ∷ vs))) = stands (t ∷ vs) w.3 o in
       let g : AnnotatedForest = one_fault Stray (row_of (t ∷ [])) in
-      let i = operand_by_steps (Some v.level) g vs (subst (λ (l : Option ℕ). IsOperandOf l g vs) v.is w.2) in
+      let i = subst (λ (l : Option ℕ). IsOperandOf l g vs) v.is w.2 in
       goes_one (a.Read v.level (counts (rest_at x))) v.act (λ y h fs gs e. one_operand x b w.1 i.0 i.1 i.2
       (stray_reads t (deeper (rest_at x) d) n vs) y h fs gs)
   wrong_one Stray (t ∷ (u ∷ ts)) vs o w = absurd (omega (arith, w.0))
@@ -158,11 +158,10 @@ module _ (m : ℕ) (q : SyntaxKind) (d n : ℕ) (x : Position) (to : Row) (b : A
       → IsOperandOf (Some level) (one_branch k c) vs → Inner k ds c
   inner_operand trees level k c ds r fit act room op =
       let e : is_expression k ≡ true = fits_expression level k fit in
-      let i = operand_by_steps (Some level) (one_branch k c) vs op in
-      let begun : IsBegun level (one_branch k c) (tokens_in c ++ vs) =
-      subst (λ (v : List Token). IsBegun level (one_branch k c) (v ++ vs)) (append-nil (tokens_in c)) i.1 in
+      let begun : BeginsAs level (one_branch k c) (tokens_in c ++ vs) =
+      subst (λ (v : List Token). BeginsAs level (one_branch k c) (v ++ vs)) (append-nil (tokens_in c)) op.1 in
       subst (λ (v : List Fault). OneTo q d n x to b (tokens_in c) vs (one_branch k c) v) (sym (ap (λ v. ds ++ v) (unreported k b c e) ∙ append-nil ds))
-      (goes_one (a.Read level (counts (rest_at x))) act (λ y h fs gs g. one_operand x b room i.0 begun i.2
+      (goes_one (a.Read level (counts (rest_at x))) act (λ y h fs gs g. one_operand x b room op.0 begun op.2
       (trees k (deeper (rest_at x) d) n vs c ds r e) y h fs gs))
 
 -- a node that stands at a position is read there

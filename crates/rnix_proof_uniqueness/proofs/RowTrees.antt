@@ -2,12 +2,12 @@
 use Rattle.std.proofs.Common.{◌≡◌, ℕ, Bool, true, false, List, [], ◌∷◌, ◌++◌, refl, ap, sym, ◌∙◌, subst, append-nil, append_assoc, suc, ◌<◌, ◌≤◌, Some, None}
 use Rattle.{std.proofs.{Common.{arith, if◌then◌else◌, nat_le}, lemmas.Bool.Decides.nat_tests}, rnix_kinds.specs.declared.kinds.SyntaxKind.SyntaxKind}
 use Rattle.rnix_kinds.specs.declared.kinds.SyntaxKind.TheVariants.{NODE_PAT_ENTRY, NODE_ERROR, NODE_ROOT}
-use Rattle.rnix_grammar.specs.{declared.{position.Position.Position, action.Action.Action}, Fault.Fault, Actions.action_at, Rules.{Row, IsExpected, after}}
+use Rattle.rnix_grammar.specs.{declared.{position.Position.Position, action.Action.Action}, Beginnings.BeginsAs, Fault.Fault, Actions.action_at, Rules.{Row, IsExpected, after}}
 use Rattle.rnix_grammar.specs.{Rules.{counts, expects_end, missing}, Reads.{IsOver, IsRoom, deeper}, AnnotatedForest.{Token, DoubleBind, AnnotatedForest}}
 use Rattle.rnix_grammar.specs.AnnotatedForest.{blank, ◌⊕◌, one_branch, one_fault, tokens_in, head_kind, end_from, touches, one_token, leaf_kind}
 use Rattle.{rnix_grammar.specs.{Reports.{report, repeats}, Tables.depth_limit, Operands.is_continued, TreeLevels.row_level}, rnix_proof_lemmas.specs.Machine.Head}
 use Rattle.rnix_proof_lemmas.specs.Machine.{Node, SecondBind, Operand, Frame, machine, put, opened, perform, step, Runs, kind_of, limited, operand_on, dropped}
-use Rattle.rnix_proof_lemmas.{specs.{Machine.{rest as here}, BegunOperands.IsBegun}, proofs.{Basics.true_is_not_false, EveryKind.same, RestAt.rest_at}}
+use Rattle.rnix_proof_lemmas.{specs.Machine.{rest as here}, proofs.{Basics.true_is_not_false, EveryKind.same, RestAt.rest_at}}
 use Rattle.rnix_proof_lemmas.proofs.{AnnotatedForestLemmas.{⊕-assoc, ⊕-blank}, TokenEnds.end_behind, OpenHeads.is_open, ViableRows.end_viable}
 use Rattle.{rnix_proof_lemmas.proofs.ReachableRows.is_viable, rnix_proof_uniqueness.proofs.StepReads.{runs_on, runs_to, step_to, ReadsRow, runs_from}}
 use Rattle.rnix_proof_uniqueness.proofs.{StepReads.{ReadsTree, IsOperandRead, ReadsTo}, OneAction.{is_at, is_closed, is_ending, is_inner, LeadsTo, done_at}}
@@ -188,7 +188,7 @@ reads_counted level true x y d n b h fs ts gs r = by (nat_le depth_limit d) refl
 -- an operand
 pub one_operand : {d n level : ℕ} {w : AnnotatedForest} {ts vs : List Token} {ds : List Fault} (x : Position) (b : AnnotatedForest) → IsRoom (rest_at x) d
     → level ≤ row_level w
-    → IsBegun level w (ts ++ vs) → is_continued level w vs ≡ false → ReadsTree (deeper (rest_at x) d) n ts w vs ds
+    → BeginsAs level w (ts ++ vs) → is_continued level w vs ≡ false → ReadsTree (deeper (rest_at x) d) n ts w vs ds
     → (y : ℕ) (h : Head) (fs : List Frame) (gs : List Fault)
     → Runs false (perform false (a.Read level (counts (rest_at x)) y) (opened h x d b) fs (ts ++ vs) n gs)
     (machine (opened h (p.Left y) d (b ⊕ w) ∷ fs) vs (end_from n ts) (gs ++ ds))

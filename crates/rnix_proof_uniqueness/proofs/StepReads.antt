@@ -1,7 +1,7 @@
 -- What it means that the steps make a row, or an operand, of some items.
 use Rattle.{std.proofs.Common.{◌≡◌, Bool, false, sym, subst, ℕ, ◌≤◌, true, List, ◌∷◌, ◌++◌}, rnix_kinds.specs.declared.kinds.SyntaxKind.SyntaxKind}
 use Rattle.rnix_proof_lemmas.specs.Machine.{Machine, step, Runs, Head, Operand, Frame, machine, opened, kind_of, operand_on, rest as here, then as further}
-use Rattle.rnix_proof_lemmas.{specs.BegunOperands.IsBegun, proofs.{OpenHeads.is_open, FollowLemmas.FollowedTo, RestAt.rest_at}}
+use Rattle.{rnix_grammar.specs.Beginnings.BeginsAs, rnix_proof_lemmas.proofs.{OpenHeads.is_open, FollowLemmas.FollowedTo, RestAt.rest_at}}
 use Rattle.rnix_grammar.specs.{declared.position.Position.Position, Fault.Fault, AnnotatedForest.{Token, AnnotatedForest, ◌⊕◌, tokens_in, end_from}}
 use Rattle.{rnix_grammar.specs.{TreeLevels.row_level, Rules.Row}, rnix_proof_uniqueness.proofs.OneAction.is_at}
 use Rattle.rnix_grammar.specs.declared.position.Position.TheVariants as p
@@ -48,5 +48,5 @@ pub record IsOperandRead (level d n : ℕ) (zs : List Token) (x : AnnotatedFores
 -- So it is at each level that the tree is tight enough for and begins at, whatever waits for the operand.
 abbrev pub ReadsTree : ℕ → ℕ → List Token → AnnotatedForest → List Token → List Fault → Type 0
 ReadsTree d n zs x us ds =
-    (level : ℕ) (f : Frame) (fs : List Frame) (gs : List Fault) → level ≤ row_level x → IsBegun level x (zs ++ us)
+    (level : ℕ) (f : Frame) (fs : List Frame) (gs : List Fault) → level ≤ row_level x → BeginsAs level x (zs ++ us)
     → IsOperandRead level d n zs x us ds f fs gs

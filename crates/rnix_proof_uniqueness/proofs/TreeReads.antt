@@ -8,9 +8,9 @@ use Rattle.rnix_grammar.specs.AnnotatedForest.{branch, fault, ◌⊕◌, one_tok
 use Rattle.rnix_grammar.specs.{Reports.{report, repeats}, Rows.{is_simple, is_expression, fits}, TreeLevels.{row_level, is_or_row}, Operands.{follows, is_continued}}
 use Rattle.rnix_grammar.specs.{declared.{rules.Part.TheVariants.Argument, slot_table.TheConstants.APPLIED}, Beginnings.{BeginsAs, IsOperandOf}}
 use Rattle.{rnix_grammar.{specs.{Rules.{IsExpected, IsFollowed, done, only as row_if, row as row_of_kind, ◌·◌}}}, rnix_proof_lemmas.specs.Machine.Node}
-use Rattle.rnix_proof_lemmas.{specs.{Machine.{Operand, Frame, machine, opened, perform, rest as here}, BegunOperands.IsBegun}, proofs.KindsOfNodes.unreported}
+use Rattle.rnix_proof_lemmas.{specs.{Machine.{Operand, Frame, machine, opened, perform, rest as here}}, proofs.KindsOfNodes.unreported}
 use Rattle.rnix_proof_lemmas.proofs.{Basics.true_is_not_false, EveryKind.{alike, never, only}, FirstTrees.{IsSingle, first_in, single_calls}}
-use Rattle.rnix_proof_lemmas.proofs.{FollowLemmas.{followed_call, followed_selection, follows_token}, BeginAlike.operand_by_steps}
+use Rattle.rnix_proof_lemmas.proofs.{FollowLemmas.{followed_call, followed_selection, follows_token}}
 use Rattle.rnix_proof_uniqueness.proofs.{StepReads.{runs_on, runs_to, step_to, IsOperandRead, ReadsTree}, ViableReadings.viable_only, ReadingHeights.Complete}
 use Rattle.rnix_proof_uniqueness.proofs.ReadingHeights.{Trees, KindReads, Front, by_leaf, by_stray, by_node, front_of, complete_done, name_item, AllRows, front}
 use Rattle.rnix_proof_uniqueness.proofs.{ReadingHeights.is_firm, OperandBegins.{settles, continued}, FunctionRows.{stray_reads, led_reads, legacy_reads}}
@@ -31,7 +31,7 @@ call_level x v w one h = ap (λ z. if z then 16 else 15) (single_calls x v one �
 called : (zs xs : List Token) (x v : AnnotatedForest) (i : SyntaxKind) (d n : ℕ) (us : List Token) (es ds : List Fault) → IsSingle x
     → head_kind (xs ++ us) ≡ Some i → is_fn_arg i ≡ true → follows i x ≡ true
     → ReadsTree d n zs x (xs ++ us) es → ReadsTree d (end_from n zs) xs v us ds
-    → is_or_row v ≡ false → 16 ≤ row_level v → IsBegun 16 v (xs ++ us) → is_continued 16 v us ≡ false
+    → is_or_row v ≡ false → 16 ≤ row_level v → BeginsAs 16 v (xs ++ us) → is_continued 16 v us ≡ false
     → ReadsTree d n (zs ++ xs) (one_branch NODE_APPLY (x ⊕ v)) us (es ++ ds)
 called zs xs x v i d n us es ds one next arg follow tree passed plain tight begun over =
     continued zs xs x z i a.Apply 15 d n us es ds follow next (passes i arg) (first_in x v one)
@@ -102,14 +102,14 @@ Called d n zs x us es xs v ds = ReadsTree d n (zs ++ xs) (one_branch NODE_APPLY 
 -- an argument that is no name `or`
 argument : (d n : ℕ) (zs xs : List Token) (x v : AnnotatedForest) (us : List Token) (es ds : List Fault) → IsSingle x → ReadsTree d n zs x (xs ++ us) es
     → IsExpected (Argument · done) (end_from n zs) (xs ++ us) false
-    → IsFollowed (Argument · done) x (head_kind (xs ++ us)) → is_or_row v ≡ false → 16 ≤ row_level v → IsBegun 16 v (xs ++ us)
+    → IsFollowed (Argument · done) x (head_kind (xs ++ us)) → is_or_row v ≡ false → 16 ≤ row_level v → BeginsAs 16 v (xs ++ us)
     → is_continued 16 v us ≡ false → ReadsTree d (end_from n zs) xs v us ds
     → Called d n zs x us es xs v ds
 argument d n zs xs x v us es ds one reads o w plain tight begun over tree = by (xs ++ us) refl o w
   where
     by : (ts : List Token) → xs ++ us ≡ ts → IsExpected (Argument · done) (end_from n zs) ts false → IsFollowed (Argument · done) x (head_kind ts)
         → Called d n zs x us es xs v ds
-    by [] h o w = absurd (subst (IsBegun 16 v) h begun)
+    by [] h o w = absurd (subst (BeginsAs 16 v) h begun)
     by (t ∷ ts) h o w =
         let f = followed t.kind x w in called zs xs x v t.kind d n us es ds one (ap head_kind h)
         (plainly (is_fn_arg t.kind) (is_or t.kind) f.0 o) f.1 reads tree plain tight begun over
@@ -147,8 +147,7 @@ last_reads m d n zs x us _ es _ trees one reads (by_stray {t = t} {f = f} {es = 
     (subst
     (λ (z : AnnotatedForest). ReadsTree d n zs x (t ∷ (tokens_in z ++ us)) es → IsOperandOf (Some 16) g (tokens_in z ++ us)
     → Called d n zs x us es (t ∷ tokens_in z) (fault Stray (row_of (t ∷ [])) z) (report Stray (t ∷ []) ∷ [])) (sym v.0)
-    (λ reads q. let i = operand_by_steps (Some 16) g us q in
-    argument d n zs (t ∷ []) x g us es (report Stray (t ∷ []) ∷ []) one reads o w refl i.0 i.1 i.2 (stray_reads t d (end_from n zs) us)) reads q)
+    (λ reads q. argument d n zs (t ∷ []) x g us es (report Stray (t ∷ []) ∷ []) one reads o w refl q.0 q.1 q.2 (stray_reads t d (end_from n zs) us)) reads q)
 last_reads m d n zs x us _ es _ trees one reads (by_node {k = j} {c = c} {f = f} {ds = ds} {es = fs} r y w q l r') =
     subst (λ (u : List Fault). Called d n zs x us es (tokens_in c ++ tokens_in f) (branch j c f) u) (sym none)
     (subst
@@ -181,9 +180,8 @@ last_reads m d n zs x us _ es _ trees one reads (by_node {k = j} {c = c} {f = f}
         → IsOperandOf (if b then None else Some 16) (one_branch j c) us → Called d n zs x us es (tokens_in c) (one_branch j c) ds
     by true h reads r y w q = name_or m d n zs x j c us es ds one reads r w h
     by false h reads r y w q =
-        let i = operand_by_steps (Some 16) (one_branch j c) us q in
-        argument d n zs (tokens_in c) x (one_branch j c) us es ds one reads y w h i.0
-        (subst (λ (u : List Token). IsBegun 16 (one_branch j c) (u ++ us)) (append-nil (tokens_in c)) i.1) i.2
+        argument d n zs (tokens_in c) x (one_branch j c) us es ds one reads y w h q.0
+        (subst (λ (u : List Token). BeginsAs 16 (one_branch j c) (u ++ us)) (append-nil (tokens_in c)) q.1) q.2
         (trees j d at us c ds r fits)
 
 -- a call is read
