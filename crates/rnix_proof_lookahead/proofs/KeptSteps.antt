@@ -1,5 +1,5 @@
 -- No step changes the trees that the items before the last one read have completed, and no item is lost.
-use Rattle.std.proofs.Common.{◌≡◌, ℕ, suc, ◌+◌, ◌≤◌, ◌<◌, Bool, true, false, List, [], ◌∷◌, length, refl, ap, sym, ◌∙◌, subst, arith, if◌then◌else◌, nat_le}
+use Rattle.std.proofs.Common.{◌≡◌, ℕ, suc, ◌+◌, ◌≤◌, ◌<◌, Bool, true, false, List, [], ◌∷◌, length, refl, ap, sym, ◌∙◌, subst, arith, nat_le}
 use Rattle.rnix_kinds.specs.declared.kinds.SyntaxKind.{SyntaxKind, TheVariants.{NODE_ERROR, NODE_APPLY, NODE_IDENT, NODE_IDENT_PARAM}}
 use Rattle.rnix_kinds.specs.declared.kinds.SyntaxKind.TheVariants.{NODE_LEGACY_LET, NODE_PAT_BIND, NODE_PATTERN}
 use Rattle.rnix_green.{specs.{Forest.{Forest, empty, node, join}, ForestCode.join_empty}, proofs.ForestLemmas.join_assoc}
@@ -181,9 +181,7 @@ limited_kept f fs ts n es =
 reading_kept : (level : ℕ) (counted : Bool) (f : Frame) (fs : List Frame) (ts : List Token) (n : ℕ) (es : List Fault)
     → IsKept (trees_in (f ∷ fs)) ts (reading false level counted f fs ts n es)
 reading_kept level true f fs ts n es =
-    elim (nat_le depth_limit f.depth)
-    as (λ z. IsKept (trees_in (f ∷ fs)) ts (if z then limited false f fs ts n es else operand_on false level (suc f.depth) f fs ts ts n es))
-    [ true ↦ limited_kept f fs ts n es | false ↦ operand_kept level (suc f.depth) f fs ts n es ]
+    choice (IsKept (trees_in (f ∷ fs)) ts) (nat_le depth_limit f.depth) (limited_kept f fs ts n es) (operand_kept level (suc f.depth) f fs ts n es)
 reading_kept level false f fs ts n es = operand_kept level f.depth f fs ts n es
 
 -- what is done at the innermost frame
@@ -194,33 +192,25 @@ perform_kept action f fs ts n es = by action
     old : Forest
     old = trees_in (f ∷ fs)
 
-    none : leaf_count empty + length ts ≡ length ts
-    none = omega arith
+    -- the frame's row grows
+    grows : (x : AnnotatedForest) (next : Machine) → trees_in next.frames ≡ join (trees_in fs) (forget (f.row ⊕ x))
+        → leaf_count (forget x) + length next.left ≡ length ts → IsKept old ts next
+    grows x next e c = kept_more old (forget x) ts next (e ∙ grown (trees_in fs) f.row x) c
 
     by : (action : Action) → IsKept (trees_in (f ∷ fs)) ts (perform false action f fs ts n es)
     by a.Close = closed_kept f fs ts n es
     by a.ClosePattern = closed_kept f fs ts n es
     by a.CloseEntry = entry_closed_kept f fs ts n es
     by a.CloseDoubleBind = closed_kept f fs ts n _
-    by a.Finish = kept_same old ts (perform false a.Finish f fs ts n es) refl refl
     by a.EndOperand = closed_kept f fs ts n es
-    by a.Extra =
-        let x : AnnotatedForest = one_fault Extra (row_of ts) in
-        kept_more old (forget x) ts (perform false a.Extra f fs ts n es) (grown (trees_in fs) f.row x) (omega (arith, row_count ts, all_taken ts))
-    by (a.Take after) =
-        let x : AnnotatedForest = leaf false (kind_of f.head) ts in
-        kept_more old (forget x) ts (perform false (a.Take after) f fs ts n es) (grown (trees_in fs) f.row x) (taken (kind_of f.head) ts)
-    by (a.Miss after) = kept_same old ts (perform false (a.Miss after) f fs ts n es) refl refl
-    by (a.MissWanted until after) = kept_same old ts (perform false (a.MissWanted until after) f fs ts n es) refl refl
+    by a.Extra = grows (one_fault Extra (row_of ts)) (perform false a.Extra f fs ts n es) refl (omega (arith, row_count ts, all_taken ts))
+    by (a.Take after) = grows (leaf false (kind_of f.head) ts) (perform false (a.Take after) f fs ts n es) refl (taken (kind_of f.head) ts)
     by (a.Run until after) =
-        let x : AnnotatedForest = one_fault (Unwanted until) (row_of (run_of until ts)) in
-        kept_more old (forget x) ts (perform false (a.Run until after) f fs ts n es) (grown (trees_in fs) f.row x)
+        grows (one_fault (Unwanted until) (row_of (run_of until ts))) (perform false (a.Run until after) f fs ts n es) refl
         (omega (arith, row_count (run_of until ts), run_taken until ts))
-    by (a.Leaf i after) =
-        let x : AnnotatedForest = one_branch i (leaf false i ts) in
-        kept_more old (forget x) ts (perform false (a.Leaf i after) f fs ts n es) (grown (trees_in fs) f.row x) (omega (arith, taken i ts))
+    by (a.Leaf i after) = grows (one_branch i (leaf false i ts)) (perform false (a.Leaf i after) f fs ts n es) refl (omega (arith, taken i ts))
     by (a.Open i inside after) = kept_more old (forget (leaf false i ts)) ts (perform false (a.Open i inside after) f fs ts n es) refl (taken i ts)
-    by (a.Begin i inside after) = kept_more old empty ts (perform false (a.Begin i inside after) f fs ts n es) refl none
+    by (a.Begin i inside after) = kept_more old empty ts (perform false (a.Begin i inside after) f fs ts n es) refl (omega arith)
     by (a.Entry after) =
         kept_more old (forget (one_branch NODE_IDENT (leaf false NODE_IDENT ts))) ts (perform false (a.Entry after) f fs ts n es) refl
         (omega (arith, taken NODE_IDENT ts))
@@ -228,9 +218,8 @@ perform_kept action f fs ts n es = by action
         kept_more old (forget (leaf false NODE_ERROR ts)) ts (perform false (a.DoubleBind after) f fs ts n es) refl (taken NODE_ERROR ts)
     by (a.Read level counted after) = reading_kept level counted (put (p.Left after) f.row f) fs ts n es
     by (a.Wrap i inside high) =
-        let x : AnnotatedForest = leaf false i ts in
-        kept_more old (forget x) ts (perform false (a.Wrap i inside high) f fs ts n es)
-        (ap (λ z. join z (forget (f.row ⊕ x))) (join_empty (trees_in fs)) ∙ grown (trees_in fs) f.row x) (taken i ts)
+        grows (leaf false i ts) (perform false (a.Wrap i inside high) f fs ts n es)
+        (ap (λ z. join z (forget (f.row ⊕ leaf false i ts))) (join_empty (trees_in fs))) (taken i ts)
     by a.Apply =
         subst (λ z. IsKept (join z (forget f.row)) ts (perform false a.Apply f fs ts n es)) (join_empty (trees_in fs))
         (reading_kept 16 false (opened (Node NODE_APPLY) (p.Left APPLIED) f.depth f.row)
@@ -239,6 +228,7 @@ perform_kept action f fs ts n es = by action
         let x : AnnotatedForest = one_branch NODE_IDENT (leaf false NODE_IDENT ts) in
         kept_node (trees_in fs) (forget f.row) (forget x) NODE_APPLY ts (perform false a.ApplyOr f fs ts n es)
         (ap (λ z. join (trees_in fs) (node NODE_APPLY z empty)) (forget-⊕ f.row x)) (omega (arith, taken NODE_IDENT ts))
+    by action = kept_same old ts (perform false action f fs ts n es) refl refl
 
 -- each step
 pub step_kept : (now : Machine) → IsKept (trees_in now.frames) now.left (step false now)

@@ -1,16 +1,16 @@
 -- Each step reports errors about unexpected items at the items that are left.
-use Rattle.std.proofs.{Common.{◌≡◌, ℕ, suc, ◌≤◌, Bool, true, false, List, [], ◌∷◌, ◌++◌, Option, Some, None, refl, ap, sym, ◌∙◌, arith, if◌then◌else◌, nat_le, nat_lt, append_assoc, append-nil}, lemmas.Bool.Decides.nat_tests}
+use Rattle.std.proofs.{Common.{◌≡◌, ℕ, suc, ◌≤◌, Bool, true, false, List, [], ◌∷◌, ◌++◌, Option, Some, None, refl, ap, sym, ◌∙◌, arith, nat_le, nat_lt, append_assoc, append-nil}, lemmas.Bool.Decides.nat_tests}
 use Rattle.rnix_kinds.specs.declared.kinds.SyntaxKind.TheVariants.{NODE_APPLY}
 use Rattle.rnix_grammar.specs.declared.{slot_table.TheConstants.APPLIED, action.Action.Action, begin.Begin.Begin}
-use Rattle.rnix_grammar.specs.{Fault.{Fault, unexpected_at, extra, unwanted, double_bind, duplicated_args, unexpected_eof, unexpected_eof_wanted, too_deep}}
+use Rattle.rnix_grammar.specs.{Fault.{Fault, extra, unwanted, unexpected_eof, unexpected_eof_wanted, too_deep}}
 use Rattle.rnix_grammar.specs.{Tables.{depth_limit, wanted_kinds}, Actions.action_at, Begins.{begin_of, second_kind}, UnwantedRun.run_of}
 use Rattle.rnix_grammar.specs.AnnotatedForest.{Token, Stray, Unwanted, Extra, DoubleBind, AnnotatedForest, blank, tokens_in, head_kind, touches}
 use Rattle.rnix_grammar.specs.Reports.{report, has_entry, repeated, repeated_if, entry_name}
-use Rattle.rnix_proof_lemmas.specs.Machine.{Node, Operand, Frame, Machine, put, opened, min_bp_of, closed, entry_closed}
-use Rattle.rnix_proof_lemmas.specs.Machine.{begun, limited, operand_on, reading, perform, step_on, step, Runs}
+use Rattle.rnix_proof_lemmas.specs.Machine.{Node, Operand, Frame, Machine, put, opened, min_bp_of}
+use Rattle.rnix_proof_lemmas.specs.Machine.{begun, operand_on, reading, perform, step_on, step, Runs}
 use Rattle.rnix_proof_lemmas.specs.Machine.{rest as here, then as further}
 use Rattle.rnix_proof_lemmas.{specs.Allowed.Allowed, proofs.{AllowedLemmas.allowed, Basics.choice}}
-use Rattle.rnix_proof_prefix.{specs.Prefix.BeginsFrom, proofs.Late.{AreFrom, from_tail, from_dropped, starts_there, starts_run, report_from}}
+use Rattle.rnix_proof_prefix.{specs.Prefix.BeginsFrom, proofs.{Late.{AreFrom, from_tail, from_dropped, starts_there, starts_run, report_from}, LateSteps.{StrayFrom, stray_from}}}
 use Rattle.rnix_proof_lookahead.specs.ErrorsBefore.{up_to, error_if, error_before, errors_before}
 use Rattle.rnix_grammar.specs.declared.position.Position.TheVariants as p
 use Rattle.rnix_grammar.specs.declared.action.Action.TheVariants as a
@@ -32,12 +32,7 @@ not_before m n l = grind (arith, nat_tests, l)
 none_before : (m : ℕ) (d : Fault) → BeginsFrom m d → error_before m d ++ [] ≡ []
 none_before m (extra a) h = ap (λ z. error_if z (extra (up_to m a)) ++ []) (not_before m a.start h)
 none_before m (unwanted kind a wanted) h = ap (λ z. error_if z (unwanted kind (up_to m a) wanted) ++ []) (not_before m a.start h)
-none_before m (unexpected_at a) h = refl
-none_before m (double_bind a) h = refl
-none_before m (duplicated_args a name) h = refl
-none_before m unexpected_eof h = refl
-none_before m (unexpected_eof_wanted wanted) h = refl
-none_before m too_deep h = refl
+none_before m d h = refl
 
 -- all that is left begins at the byte or behind it, and the errors before it are the same as some
 pub record IsLateStep (m : ℕ) (es : List Fault) (next : Machine) : Type 0 where
@@ -53,35 +48,11 @@ repeated_none : (m : ℕ) (name : Option Token) (before : AnnotatedForest) → e
 repeated_none m None before = refl
 repeated_none m (Some t) before = choice (λ z. errors_before m z ≡ []) (has_entry t.text before) refl refl
 
-closed_late : (m : ℕ) (f : Frame) (fs : List Frame) (ts : List Token) (n : ℕ) (es ds : List Fault) → AreFrom m ts → errors_before m ds ≡ errors_before m es
-    → IsLateStep m es (closed f fs ts n ds)
-closed_late m f [] ts n es ds l h = record { left = l; faults = h }
-closed_late m f (g ∷ fs) ts n es ds l h = record { left = l; faults = h }
-
-entry_closed_late : (m : ℕ) (f : Frame) (fs : List Frame) (ts : List Token) (n : ℕ) (es : List Fault) → AreFrom m ts
-    → IsLateStep m es (entry_closed false f fs ts n es)
-entry_closed_late m f [] ts n es l = record { left = l; faults = refl }
-entry_closed_late m f (g ∷ fs) ts n es l =
-    record { left = l; faults = none_more m es (repeated g.row f.row) (repeated_none m (entry_name f.row) g.row) }
-
--- an item that begins no operand
-abbrev pub StrayFrom : ℕ → Begin → Token → Type 0
-StrayFrom m b.Stray t = m ≤ t.start
-StrayFrom m begin t = Unit {0}
-
-pub stray_from : (m : ℕ) (begin : Begin) (t : Token) → m ≤ t.start → StrayFrom m begin t
-stray_from m b.Stray t h = h
-stray_from m _ t h = tt
-
+-- an operand begins
 pub begun_late : (m : ℕ) (begin : Begin) (level d : ℕ) (t : Token) (f : Frame) (fs : List Frame) (us : List Token) (n : ℕ) (es : List Fault)
     → AreFrom m us → StrayFrom m begin t → IsLateStep m es (begun false begin level d t f fs (t ∷ us) n es)
-begun_late m (b.Leaf i) level d t f fs us n es l s = record { left = l; faults = refl }
-begun_late m (b.Node i place high) level d t f fs us n es l s = record { left = l; faults = refl }
-begun_late m b.LegacyLet level d t f fs us n es l s = record { left = from_tail m us l; faults = refl }
-begun_late m b.NameLambda level d t f fs us n es l s = record { left = l; faults = refl }
-begun_late m b.BoundLambda level d t f fs us n es l s = record { left = from_tail m us l; faults = refl }
-begun_late m b.PatternLambda level d t f fs us n es l s = record { left = l; faults = refl }
 begun_late m b.Stray level d t f fs us n es l s = record { left = l; faults = more_late m es (report Stray (t ∷ [])) s }
+begun_late m _ level d t f fs us n es l s = assumption (l, from_tail m us l)
 
 pub operand_late : (m level d : ℕ) (f : Frame) (fs : List Frame) (ts : List Token) (n : ℕ) (es : List Fault) → AreFrom m ts
     → IsLateStep m es (operand_on false level d f fs ts ts n es)
@@ -93,45 +64,34 @@ operand_late m level d f fs (t ∷ us) n es l =
 pub reading_late : (m level : ℕ) (counted : Bool) (f : Frame) (fs : List Frame) (ts : List Token) (n : ℕ) (es : List Fault) → AreFrom m ts
     → IsLateStep m es (reading false level counted f fs ts n es)
 reading_late m level true f fs ts n es l =
-    elim (nat_le depth_limit f.depth)
-    as (λ z. IsLateStep m es (if z then limited false f fs ts n es else operand_on false level (suc f.depth) f fs ts ts n es))
-    [ true ↦ record { left = from_dropped m ts ts l; faults = more_late m es too_deep tt } | false ↦ operand_late m level (suc f.depth) f fs ts n es l ]
+    choice (IsLateStep m es) (nat_le depth_limit f.depth) (record { left = from_dropped m ts ts l; faults = more_late m es too_deep tt })
+    (operand_late m level (suc f.depth) f fs ts n es l)
 reading_late m level false f fs ts n es l = operand_late m level f.depth f fs ts n es l
 
 -- what is done at the innermost frame
 pub perform_late : (m : ℕ) (action : Action) (f : Frame) (fs : List Frame) (ts : List Token) (n : ℕ) (es : List Fault)
     → Allowed f.position (head_kind ts) action → AreFrom m ts → IsLateStep m es (perform false action f fs ts n es)
-perform_late m action f fs ts n es al l = by action al
+perform_late m action f fs ts n es al l = by action fs al
   where
-    by : (action : Action) → Allowed f.position (head_kind ts) action → IsLateStep m es (perform false action f fs ts n es)
-    by a.Close al = closed_late m f fs ts n es es l refl
-    by a.ClosePattern al = closed_late m f fs ts n es es l refl
-    by a.CloseEntry al = entry_closed_late m f fs ts n es l
-    by a.CloseDoubleBind al =
-        closed_late m f fs ts n es (es ++ report DoubleBind (tokens_in f.row) ∷ []) l (none_more m es (report DoubleBind (tokens_in f.row) ∷ []) refl)
-    by a.Finish al = record { left = l; faults = refl }
-    by a.EndOperand al = closed_late m f fs ts n es es l refl
-    by a.Extra al = record { left = from_dropped m ts ts l; faults = more_late m es (report Extra ts) (report_from m Extra ts (starts_there m ts al.0 l)) }
-    by (a.Take after) al = record { left = from_tail m ts l; faults = refl }
-    by (a.Miss after) al = record { left = l; faults = more_late m es unexpected_eof tt }
-    by (a.MissWanted until after) al = record { left = l; faults = more_late m es (unexpected_eof_wanted (wanted_kinds until)) tt }
-    by (a.Run until after) al =
+    by : (action : Action) (fs : List Frame) → Allowed f.position (head_kind ts) action → IsLateStep m es (perform false action f fs ts n es)
+    by a.CloseEntry (g ∷ fs) al = record { left = l; faults = none_more m es (repeated g.row f.row) (repeated_none m (entry_name f.row) g.row) }
+    by a.Extra fs al = record { left = from_dropped m ts ts l; faults = more_late m es (report Extra ts) (report_from m Extra ts (starts_there m ts al.0 l)) }
+    by (a.Miss after) fs al = record { left = l; faults = more_late m es unexpected_eof tt }
+    by (a.MissWanted until after) fs al = record { left = l; faults = more_late m es (unexpected_eof_wanted (wanted_kinds until)) tt }
+    by (a.Run until after) fs al =
         let run : List Token = run_of until ts in
         record {
           left = from_dropped m run ts l;
           faults = more_late m es (report (Unwanted until) run) (report_from m (Unwanted until) run (starts_run m until ts al.0 l));
         }
-    by (a.Leaf i after) al = record { left = from_tail m ts l; faults = refl }
-    by (a.Open i inside after) al = record { left = from_tail m ts l; faults = refl }
-    by (a.Begin i inside after) al = record { left = l; faults = refl }
-    by (a.Entry after) al = record { left = from_tail m ts l; faults = refl }
-    by (a.DoubleBind after) al = record { left = from_tail m ts l; faults = refl }
-    by (a.Read level counted after) al = reading_late m level counted (put (p.Left after) f.row f) fs ts n es l
-    by (a.Wrap i inside high) al = record { left = from_tail m ts l; faults = refl }
-    by a.Apply al =
+    by (a.Read level counted after) fs al = reading_late m level counted (put (p.Left after) f.row f) fs ts n es l
+    by a.Apply fs al =
         reading_late m 16 false (opened (Node NODE_APPLY) (p.Left APPLIED) f.depth f.row)
         (opened Operand (p.AfterOperand (min_bp_of f.position) 15) f.depth blank ∷ fs) ts n es l
-    by a.ApplyOr al = record { left = from_tail m ts l; faults = refl }
+    by a.CloseDoubleBind [] al = assumption (none_more m es (report DoubleBind (tokens_in f.row) ∷ []) refl)
+    by a.CloseDoubleBind (g ∷ fs) al = assumption (none_more m es (report DoubleBind (tokens_in f.row) ∷ []) refl)
+    by _ [] al = assumption (l, from_tail m ts l)
+    by _ (g ∷ fs) al = assumption (l, from_tail m ts l)
 
 -- each step
 pub step_late : (m : ℕ) (now : Machine) → AreFrom m now.left → IsLateStep m now.faults (step false now)

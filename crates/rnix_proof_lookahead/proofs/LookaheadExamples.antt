@@ -1,11 +1,11 @@
 -- What the first items of some texts complete, and what is not so: that nothing behind them counts, or no touching.
-use Rattle.std.proofs.Common.{◌≡◌, ℕ, zero, suc, Bool, true, false, List, [], ◌∷◌, ◌++◌, length, refl, ap, sym, codes}
-use Rattle.rnix_kinds.specs.declared.kinds.SyntaxKind.{SyntaxKind, TheVariants.{TOKEN_COLON, TOKEN_IDENT, TOKEN_INTERPOL_END, TOKEN_INTERPOL_START}}
+use Rattle.std.proofs.Common.{◌≡◌, ℕ, Bool, true, false, List, [], ◌∷◌, ◌++◌, length, refl, ap, sym, codes}
+use Rattle.rnix_kinds.specs.declared.kinds.SyntaxKind.TheVariants.{TOKEN_COLON, TOKEN_IDENT, TOKEN_INTERPOL_END, TOKEN_INTERPOL_START}
 use Rattle.rnix_kinds.specs.declared.kinds.SyntaxKind.TheVariants.{TOKEN_L_PAREN, TOKEN_PATH_REL, TOKEN_R_PAREN, NODE_APPLY, NODE_IDENT, NODE_IDENT_PARAM, NODE_PAREN}
 use Rattle.{rnix_green.specs.Forest.{Forest, empty, leaf, node}, rnix_grammar.specs.AnnotatedForest.{Token, lexeme_of}}
-use Rattle.rnix_proof_lemmas.specs.Machine.{Machine, begins, step, Runs}
-use Rattle.rnix_proof_lemmas.specs.Machine.{rest as here, then as further}
+use Rattle.rnix_proof_lemmas.specs.Machine.{Machine, begins, Runs}
 use Rattle.{rnix_grammar.specs.Fault.{extra, unwanted}, rnix_proof_lemmas.proofs.Basics.true_is_not_false}
+use Rattle.rnix_proof_prefix.proofs.PrefixExamples.{item, steps, run}
 use Rattle.rnix_proof_lookahead.{specs.{Completed.completed, ErrorsBefore.errors_before}, proofs.KeptSteps.trees_in}
 
 -- a name before other trees
@@ -34,19 +34,6 @@ five = refl
 cut : errors_before 5 (unwanted TOKEN_COLON (record { start = 2; end = 9 }) [] ∷ extra (record { start = 6; end = 7 }) ∷ [])
     ≡ unwanted TOKEN_COLON (record { start = 2; end = 5 }) [] ∷ []
 cut = refl
-
--- an item at a place
-abbrev item : SyntaxKind → List ℕ → ℕ → ℕ → Token
-item kind text start end = record { kind = kind; text = text; start = start; end = end }
-
--- so many steps
-abbrev steps : ℕ → Machine → Machine
-steps zero now = now
-steps (suc n) now = steps n (step false now)
-
-run : (n : ℕ) (now : Machine) → Runs false now (steps n now)
-run zero now = here
-run (suc n) now = further (run n (step false now))
 
 -- in `a b` the item `a` completes a name, and in `a: b` also a parameter
 abbrev first_name : Token

@@ -1,24 +1,12 @@
 -- After `{` and before a name, `...` or `}`, whether a pattern or a set has begun: nothing is complete before the next item is read.
-use Rattle.std.proofs.Common.{◌≡◌, ◌⊎◌, inl, inr, ℕ, ◌+◌, ◌≤◌, Bool, true, false, List, ◌∷◌, length, refl, ap, sym, ◌∙◌, subst, arith}
-use Rattle.rnix_kinds.specs.declared.kinds.SyntaxKind.{SyntaxKind, TheVariants.{TOKEN_IDENT, TOKEN_R_BRACE, TOKEN_ELLIPSIS}}
+use Rattle.std.proofs.Common.{◌≡◌, inl, inr, ℕ, ◌+◌, ◌≤◌, Bool, true, false, List, ◌∷◌, length, refl, ap, ◌∙◌, subst, arith}
+use Rattle.rnix_kinds.specs.declared.kinds.SyntaxKind.TheVariants.{TOKEN_IDENT, TOKEN_R_BRACE, TOKEN_ELLIPSIS}
 use Rattle.rnix_green.specs.{Forest.{Forest, empty, leaf, join}, ForestCode.join_empty}
 use Rattle.rnix_grammar.specs.{Fault.Fault, AnnotatedForest.Token, UnwantedRun.run_of}
 use Rattle.rnix_proof_lemmas.specs.Machine.{Frame, Machine, dropped, begun, step}
 use Rattle.rnix_proof_lookahead.{specs.Completed.{leaf_count, completed}, proofs.{CompletedTrees.leaf_count-join, KeptSteps.{trees_in, step_kept, run_taken}}}
-use Rattle.rnix_proof_lookahead.proofs.Leads.{Leads, next_leads, taken_leads}
-use Rattle.rnix_proof_prefix.proofs.BraceSteps.{braces}
+use Rattle.{rnix_proof_prefix.proofs.BraceSteps.{item, item_is, braces, IsBeforeThird}, rnix_proof_lookahead.proofs.Leads.{Leads, next_leads, taken_leads}}
 use Rattle.rnix_grammar.specs.declared.expected_set.ExpectedSet.TheVariants as u
-
--- an item of a kind
-abbrev item : SyntaxKind → Token → Token
-item kind v = record { kind = kind; text = v.text; start = v.start; end = v.end }
-
-item_is : (kind : SyntaxKind) (v : Token) → v.kind ≡ kind → item kind v ≡ v
-item_is kind v e = λ i. record { kind = sym e i; text = v.text; start = v.start; end = v.end }
-
--- the kinds before which the third item decides which
-abbrev pub IsBeforeThird : SyntaxKind → Type 0
-IsBeforeThird kind = (kind ≡ TOKEN_IDENT) ⊎ ((kind ≡ TOKEN_R_BRACE) ⊎ (kind ≡ TOKEN_ELLIPSIS))
 
 module _ (k level d : ℕ) (t : Token) (f : Frame) (fs : List Frame) (us : List Token) (n : ℕ) (es : List Fault)
     (count : leaf_count (trees_in (f ∷ fs)) + 1 ≡ k) where

@@ -4,17 +4,13 @@ use Rattle.std.proofs.Common.{append-nil, if◌then◌else◌}
 use Rattle.rnix_green.specs.Forest.{Forest, join}
 use Rattle.rnix_grammar.specs.{declared.expected_set.ExpectedSet.ExpectedSet, Fault.Fault, Tables.is_wanted, UnwantedRun.run_of, Reports.report}
 use Rattle.rnix_grammar.specs.AnnotatedForest.{Token, Unwanted, Extra, TooDeep, ◌⊕◌, one_fault, row_of, forget, end_from}
-use Rattle.rnix_proof_lemmas.specs.Machine.{Frame, Machine, put, dropped, machine, closed, entry_closed, limited, perform}
-use Rattle.rnix_proof_prefix.proofs.{Late.{AreFrom, from_dropped}, Ordered.{AreOrdered, from_end}}
+use Rattle.rnix_proof_lemmas.specs.Machine.{Frame, Machine, put, dropped, machine, limited, perform}
+use Rattle.rnix_proof_prefix.proofs.{Late.{AreFrom, from_dropped}, Ordered.{AreOrdered, from_end}, SharedSteps.onto}
 use Rattle.rnix_proof_lookahead.{specs.{Completed.{leaf_count, completed}, ErrorsBefore.errors_before}, proofs.{KeptSteps.trees_in, Leads.{Leads, faulted_leads}}}
 use Rattle.rnix_proof_lookahead.proofs.{EndedRuns.{RunIn, run_in, dropped_more, dropped_own, run_ends}, SpannedErrors.{AreLateAlike, ordered_run, same_extra, same_unwanted}}
 use Rattle.rnix_proof_lookahead.proofs.SpannedErrors.{none_left_from, dropped_both}
 use Rattle.rnix_grammar.specs.declared.position.Position.TheVariants as p
 use Rattle.rnix_grammar.specs.declared.action.Action.TheVariants as a
-
--- a machine with more items behind those that are left
-abbrev pub onto : List Token → Machine → Machine
-onto ts now = machine now.frames (now.left ++ ts) now.prev_end now.faults
 
 -- a machine in which a run has been read
 abbrev ran : ExpectedSet → ℕ → Frame → List Frame → ℕ → List Fault → List Token → List Token → Machine
@@ -39,16 +35,19 @@ module _ (k e : ℕ) (x y : Token) (xs ys : List Token) (kinds : x.kind ≡ y.ki
   abbrev pub Goes : Machine → Machine → Type 0
   Goes here there = IsShared here there ⊎ IsParted here there
 
-  -- a frame is complete
-  pub closed_goes : (f : Frame) (fs : List Frame) (q : List Token) (n : ℕ) (es : List Fault) → end_from n q ≡ e
-      → Goes (closed f fs (q ++ x ∷ xs) n es) (closed f fs (q ++ y ∷ ys) n es)
-  closed_goes f [] q n es h = inl (record { at = closed f [] q n es; first = refl; second = refl; ends = h })
-  closed_goes f (g ∷ fs) q n es h = inl (record { at = closed f (g ∷ fs) q n es; first = refl; second = refl; ends = h })
+  -- what one machine becomes over both lists
+  pub shared : (at : Machine) → end_from at.prev_end at.left ≡ e → Goes (onto (x ∷ xs) at) (onto (y ∷ ys) at)
+  shared at h = inl (record { at = at; first = refl; second = refl; ends = h })
 
-  pub entry_goes : (f : Frame) (fs : List Frame) (q : List Token) (n : ℕ) (es : List Fault) → end_from n q ≡ e
-      → Goes (entry_closed false f fs (q ++ x ∷ xs) n es) (entry_closed false f fs (q ++ y ∷ ys) n es)
-  entry_goes f [] q n es h = inl (record { at = entry_closed false f [] q n es; first = refl; second = refl; ends = h })
-  entry_goes f (g ∷ fs) q n es h = inl (record { at = entry_closed false f (g ∷ fs) q n es; first = refl; second = refl; ends = h })
+  -- both have read more, with the same errors
+  pub parted : (s : Forest) (here there : Machine) → Leads k s here → Leads k s there → here.faults ≡ there.faults
+      → (AreFrom e (x ∷ xs) → AreFrom e here.left) → (AreFrom e (y ∷ ys) → AreFrom e there.left) → Goes here there
+  parted s here there v w h f g = inr (record {
+    trees = s;
+    first = v;
+    second = w;
+    errors = λ o z. record { faults = ap (errors_before e) h; first = f (from_end e [] (x ∷ xs) o); second = g (from_end e [] (y ∷ ys) z) };
+  })
 
   -- an error node holds all items that are left
   pub all_goes : (f : Frame) (fs : List Frame) (q : List Token) (n : ℕ) (es : List Fault) → leaf_count (trees_in (f ∷ fs)) + length q ≡ k
@@ -66,12 +65,11 @@ module _ (k e : ℕ) (x y : Token) (xs ys : List Token) (kinds : x.kind ≡ y.ki
 
   pub limited_goes : (f : Frame) (fs : List Frame) (q : List Token) (n : ℕ) (es : List Fault) → leaf_count (trees_in (f ∷ fs)) + length q ≡ k
       → Goes (limited false f fs (q ++ x ∷ xs) n es) (limited false f fs (q ++ y ∷ ys) n es)
-  limited_goes f fs q n es c = inr (record {
-    trees = completed k (join (trees_in (f ∷ fs)) (forget (row_of q)));
-    first = faulted_leads k TooDeep f fs q (x ∷ xs) (limited false f fs (q ++ x ∷ xs) n es) refl c (omega arith);
-    second = faulted_leads k TooDeep f fs q (y ∷ ys) (limited false f fs (q ++ y ∷ ys) n es) refl c (omega arith);
-    errors = λ o w. record { faults = refl; first = none_left_from e (q ++ x ∷ xs); second = none_left_from e (q ++ y ∷ ys) };
-  })
+  limited_goes f fs q n es c =
+      parted (completed k (join (trees_in (f ∷ fs)) (forget (row_of q)))) (limited false f fs (q ++ x ∷ xs) n es) (limited false f fs (q ++ y ∷ ys) n es)
+      (faulted_leads k TooDeep f fs q (x ∷ xs) (limited false f fs (q ++ x ∷ xs) n es) refl c (omega arith))
+      (faulted_leads k TooDeep f fs q (y ∷ ys) (limited false f fs (q ++ y ∷ ys) n es) refl c (omega arith)) refl
+      (λ o. none_left_from e (q ++ x ∷ xs)) (λ o. none_left_from e (q ++ y ∷ ys))
 
   -- a run
   module _ (until : ExpectedSet) (after : ℕ) (f : Frame) (fs : List Frame) (q : List Token) (n : ℕ) (es : List Fault)

@@ -1,15 +1,16 @@
 -- The first items of two lists that begin with them, and go on with an item of the same kind, complete the same trees.
-use Rattle.std.proofs.Common.{◌≡◌, inl, inr, ℕ, zero, suc, ◌+◌, false, List, [], ◌∷◌, ◌++◌, length, take, drop, Some, None, refl, ap, sym, ◌∙◌, subst, arith}
+use Rattle.std.proofs.Common.{◌≡◌, inl, inr, ℕ, zero, suc, ◌+◌, Bool, false, List, [], ◌∷◌, ◌++◌, length, take, drop, Some, None, refl, ap, sym, ◌∙◌, subst, arith}
 use Rattle.std.proofs.{Common.{nat_eq, length-append}, lemmas.List.take-append-drop}
-use Rattle.rnix_grammar.specs.{Fault.Fault, Actions.action_at, Reads.ReadsRoot, AnnotatedForest.{Token, AnnotatedForest, tokens_in, forget, end_from}}
+use Rattle.rnix_grammar.specs.{Fault.Fault, Actions.action_at, Reads.ReadsRoot, AnnotatedForest.{Token, AnnotatedForest, tokens_in, forget, end_from, touches}}
 use Rattle.rnix_proof_lemmas.specs.Machine.{Frame, Machine, machine, perform, step_on, step, begins, Runs}
 use Rattle.rnix_proof_lemmas.specs.Machine.{rest as here, then as further}
 use Rattle.{rnix_proof_lemmas.proofs.{AllowedLemmas.allowed, Basics.{not_nil, none_right}}, rnix_proof_uniqueness.proofs.AllReads.{ended_with, reads_runs, one_row}}
 use Rattle.rnix_proof_prefix.proofs.Ordered.{AreOrdered}
 use Rattle.rnix_proof_lookahead.specs.{Completed.{leaf_count, completed}, ErrorsBefore.errors_before, SameBeginnings.{AreNext, BeginAlike}}
-use Rattle.rnix_proof_lookahead.proofs.{KeptSteps.{trees_in, IsKept, step_kept}, AlikeSteps.{perform_next, perform_goes}}
+use Rattle.rnix_proof_lookahead.proofs.{KeptSteps.{trees_in, IsKept, step_kept}, AlikeSteps.perform_goes}
 use Rattle.rnix_proof_lookahead.proofs.{PartedReadings.{IsShared, Goes}, LateErrors.runs_late, SpannedErrors.AreLateAlike}
-use Rattle.rnix_proof_lookahead.proofs.NextPlaces.{ReadsOn, reads_on}
+use Rattle.rnix_proof_layout.proofs.{MovedItems.moved, Touch.last_kind}
+use Rattle.{rnix_proof_prefix.proofs.NewPlaces.{behind, ReadsOn, reads_on}, rnix_proof_lookahead.proofs.NextPlaces.{parts, next_touches, next_on}}
 
 module _ (k e : ℕ) (x y : Token) (xs ys : List Token) (kinds : x.kind ≡ y.kind) (touch : nat_eq x.start e ≡ nat_eq y.start e) where
   -- the same frames over both lists
@@ -24,10 +25,11 @@ module _ (k e : ℕ) (x y : Token) (xs ys : List Token) (kinds : x.kind ≡ y.ki
   same_step [] q n es c h = inl (record { at = machine [] q n es; first = refl; second = refl; ends = h })
   same_step (f ∷ fs) [] n es c h =
       subst (λ z. Goes k e x y xs ys kinds (step_on false (f ∷ fs) (x ∷ xs) n es) (perform false z f fs (y ∷ ys) n es)) (same_action f n h)
-      (perform_next k e x y xs ys kinds (action_at f.position (Some x.kind) (nat_eq x.start n)) f fs n es (omega (arith, c)) h
+      (perform_goes k e x y xs ys kinds (action_at f.position (Some x.kind) (nat_eq x.start n)) f fs [] n es c h
       (allowed f.position (Some x.kind) (nat_eq x.start n)))
   same_step (f ∷ fs) (t ∷ q) n es c h =
-      perform_goes k e x y xs ys kinds (action_at f.position (Some t.kind) (nat_eq t.start n)) f fs t q n es c h
+      perform_goes k e x y xs ys kinds (action_at f.position (Some t.kind) (nat_eq t.start n)) f fs (t ∷ q) n es c h
+      (allowed f.position (Some t.kind) (nat_eq t.start n))
 
   not_over : (q : List Token) (z : Token) (zs : List Token) → q ++ z ∷ zs ≡ [] → ⊥
   not_over q z zs h = not_nil (none_right q (z ∷ zs) h)
@@ -105,9 +107,14 @@ pub same_trees : (k : ℕ) (f g : AnnotatedForest) (ds es : List Fault) → Read
     → BeginAlike k None 0 0 (tokens_in f) (tokens_in g) → completed k (forget f) ≡ completed k (forget g)
 same_trees k f g ds es r s alike =
     let ts : List Token = tokens_in f in
-    let there : ReadsOn k ts g = reads_on k ts g es s alike in
-    (same_at k (take k ts) f there.trees ds there.faults r there.reads (drop k ts) there.on.rest (sym (take-append-drop k ts)) there.on.all there.on.next
-    (took k ts)).0 ∙ ap (completed k) there.same
+    let q : List Token = take k ts in
+    let others : List Token = drop k (tokens_in g) in
+    let end : ℕ = end_from 0 (take k (tokens_in g)) in
+    let near : Bool = touches (end_from 0 q) (drop k ts) in
+    let h = parts k None 0 0 ts (tokens_in g) alike in
+    let there : ReadsOn k near ts g es = reads_on k near ts g es s h.0 (next_touches (last_kind None q) (end_from 0 q) end (drop k ts) others h.1) in
+    (same_at k q f there.trees ds there.faults r there.reads (drop k ts) (moved others (behind near (end_from 0 q) others)) (sym (take-append-drop k ts))
+    there.all (next_on (last_kind None q) (end_from 0 q) end (drop k ts) others h.1) (took k ts)).0 ∙ ap (completed k) there.same
 
 -- items behind others in order
 ordered_behind : (n : ℕ) (q us : List Token) → AreOrdered n (q ++ us) → AreOrdered (end_from n q) us

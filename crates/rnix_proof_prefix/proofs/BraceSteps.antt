@@ -1,6 +1,6 @@
 -- What follows `{` and a name or `}`, whether a pattern or a set has begun: no error at these items.
 use Rattle.std.proofs.Common.{◌≡◌, ℕ, Bool, true, false, List, [], ◌∷◌, refl, sym, ◌∙◌, subst, ◌⊎◌, inl, inr, if◌then◌else◌}
-use Rattle.rnix_kinds.specs.declared.kinds.SyntaxKind.{SyntaxKind, TheVariants.{TOKEN_IDENT, TOKEN_L_BRACE, TOKEN_R_BRACE, NODE_ATTR_SET, NODE_PATTERN}}
+use Rattle.rnix_kinds.specs.declared.kinds.SyntaxKind.{SyntaxKind, TheVariants.{TOKEN_IDENT, TOKEN_L_BRACE, TOKEN_R_BRACE, TOKEN_ELLIPSIS, NODE_ATTR_SET, NODE_PATTERN}}
 use Rattle.rnix_grammar.specs.{declared.begin.Begin.Begin, Fault.Fault, AnnotatedForest.Token}
 use Rattle.rnix_proof_lemmas.{specs.{FrameKinds.AreStacked, Machine.{Frame, Machine, begun, step, Runs, rest as here, then as further}}, proofs.Basics.not_nil}
 use Rattle.{rnix_proof_lemmas.proofs.StackedFrames.step_stacked, rnix_proof_prefix.{specs.Prefix.BeginAllFrom, proofs.Late.{AreFrom, AreLate, HasLate}}}
@@ -20,15 +20,19 @@ next_apart m now t ts e a k first here over = absurd (not_nil (sym e ∙ over))
 next_apart m now t ts e a k first (further r) over = a (step_stacked false now k) first r over
 
 -- an item of a kind
-abbrev item : SyntaxKind → Token → Token
+abbrev pub item : SyntaxKind → Token → Token
 item kind u = record { kind = kind; text = u.text; start = u.start; end = u.end }
 
-item_is : (kind : SyntaxKind) (u : Token) → u.kind ≡ kind → item kind u ≡ u
+pub item_is : (kind : SyntaxKind) (u : Token) → u.kind ≡ kind → item kind u ≡ u
 item_is kind u e = λ i. record { kind = sym e i; text = u.text; start = u.start; end = u.end }
 
 -- a pattern or a set
 abbrev pub braces : Bool → Begin
 braces w = begin_for (if w then NODE_PATTERN else NODE_ATTR_SET) TOKEN_L_BRACE
+
+-- the kinds before which the third item decides which
+abbrev pub IsBeforeThird : SyntaxKind → Type 0
+IsBeforeThird kind = (kind ≡ TOKEN_IDENT) ⊎ ((kind ≡ TOKEN_R_BRACE) ⊎ (kind ≡ TOKEN_ELLIPSIS))
 
 module _ (m : ℕ) (xs : List Token) (late : AreFrom m xs) (level d : ℕ) (t : Token) (f : Frame) (fs : List Frame) (n : ℕ) (es : List Fault)
     (w : AreLate m (f ∷ fs)) (g : BeginAllFrom m es) where

@@ -3,7 +3,7 @@ use Rattle.std.proofs.Common.{◌≡◌, ℕ, suc, Bool, true, false, List, [], 
 use Rattle.rnix_kinds.specs.declared.kinds.SyntaxKind.{SyntaxKind, TheVariants.{NODE_APPLY, NODE_IDENT, NODE_PAT_ENTRY}}
 use Rattle.rnix_grammar.specs.{declared.{slot_table.TheConstants.APPLIED, action.Action.Action, begin.Begin.Begin}, Fault.{Fault, unexpected_eof}}
 use Rattle.rnix_grammar.specs.{Fault.{unexpected_eof_wanted, too_deep}, Tables.{depth_limit, wanted_kinds}, Actions.action_at, Begins.{begin_of, second_kind}}
-use Rattle.rnix_grammar.specs.AnnotatedForest.{Token, Stray, Unwanted, Extra, DoubleBind, TooDeep, AnnotatedForest, blank, token, branch, fault, ◌⊕◌}
+use Rattle.rnix_grammar.specs.AnnotatedForest.{Token, Stray, Unwanted, Extra, DoubleBind, TooDeep, AnnotatedForest, blank, branch, ◌⊕◌}
 use Rattle.rnix_grammar.specs.{AnnotatedForest.{one_branch, one_fault, row_of, tokens_in, head_kind, touches}, Reports.{report, repeated, repeated_if}}
 use Rattle.{rnix_grammar.specs.UnwantedRun.run_of, rnix_proof_lemmas.specs.Machine.{Head, Node, SecondBind, Operand, Frame, Machine, put, opened, leaf}}
 use Rattle.rnix_proof_lemmas.specs.Machine.{kind_of, made, min_bp_of, machine, closed, entry_closed, begun, limited, operand_on, reading, perform, step_on}
@@ -33,17 +33,13 @@ HasNone now = AreClean now.frames × (now.faults ≡ [])
 
 -- a row that is shorter has no more to report
 fewer : (row x below : AnnotatedForest) → repeated below (row ⊕ x) ≡ [] → repeated below row ≡ []
-fewer blank x below h = refl
-fewer (token k t f) x below h = refl
 fewer (branch NODE_IDENT c f) x below h = h
-fewer (branch k c f) x below h = refl
-fewer (fault n c f) x below h = refl
+fewer _ x below h = refl
 
 clean_less : (h : Head) (row x below : AnnotatedForest) → IsClean h (row ⊕ x) below → IsClean h row below
 clean_less (Node NODE_PAT_ENTRY) row x below w = fewer row x below w
-clean_less (Node k) row x below w = tt
 clean_less SecondBind row x below w = w
-clean_less Operand row x below w = tt
+clean_less _ row x below w = tt
 
 -- entries and second names alone have something to report
 abbrev is_quiet : FrameKind → Bool
@@ -53,9 +49,8 @@ is_quiet s = true
 
 quiet : (h : Head) (row below : AnnotatedForest) → is_quiet (frame_kind_of_head h) ≡ true → IsClean h row below
 quiet (Node NODE_PAT_ENTRY) row below e = absurd (true_is_not_false (sym e))
-quiet (Node k) row below e = tt
 quiet SecondBind row below e = absurd (true_is_not_false (sym e))
-quiet Operand row below e = tt
+quiet _ row below e = tt
 
 -- what has no errors in the end had none
 no_error : (es : List Fault) (e : Fault) → es ++ e ∷ [] ≡ [] → es ≡ []
@@ -75,13 +70,8 @@ closed_faults f (g ∷ fs) ts n es = refl
 -- an operand begins
 begun_clean : (begin : Begin) (level d : ℕ) (t : Token) (f : Frame) (fs : List Frame) (ts : List Token) (n : ℕ) (es : List Fault)
     → HasNone (begun false begin level d t f fs ts n es) → HasNone (machine (f ∷ fs) ts n es)
-begun_clean (b.Leaf k) level d t f fs ts n es w = (w.0.1, w.1)
-begun_clean (b.Node k place high) level d t f fs ts n es w = (w.0.1.1, w.1)
-begun_clean b.LegacyLet level d t f fs ts n es w = (w.0.1.1, w.1)
-begun_clean b.NameLambda level d t f fs ts n es w = (w.0.1.1, w.1)
-begun_clean b.BoundLambda level d t f fs ts n es w = (w.0.1.1.1, w.1)
-begun_clean b.PatternLambda level d t f fs ts n es w = (w.0.1.1.1, w.1)
 begun_clean b.Stray level d t f fs ts n es w = (w.0.1, no_error es (report Stray (t ∷ [])) w.1)
+begun_clean _ level d t f fs ts n es w = assumption
 
 operand_clean : (level d : ℕ) (f : Frame) (fs : List Frame) (ts : List Token) (n : ℕ) (es : List Fault)
     → HasNone (operand_on false level d f fs ts ts n es) → HasNone (machine (f ∷ fs) ts n es)
@@ -136,9 +126,6 @@ perform_clean action f fs ts n es al st w = by action al w
     by (a.MissWanted until after) al w = (w.0, no_error es (unexpected_eof_wanted (wanted_kinds until)) w.1)
     by (a.Run until after) al w = absurd (not_nil (none_right es (report (Unwanted until) (run_of until ts) ∷ []) w.1))
     by (a.Leaf k after) al w = (less (one_branch k (leaf false k ts)) w.0, w.1)
-    by (a.Open k inside after) al w = (w.0.1, w.1)
-    by (a.Begin k inside after) al w = (w.0.1, w.1)
-    by (a.Entry after) al w = (w.0.1, w.1)
     by (a.DoubleBind after) al w = absurd w.0.0
     by (a.Read level counted after) al w = reading_clean level counted (put (p.Left after) f.row f) fs ts n es w
     by (a.Wrap k inside high) al w = ((quiet_at al.1 refl, w.0.1.1), w.1)
@@ -147,6 +134,8 @@ perform_clean action f fs ts n es al st w = by action al w
         (opened Operand (p.AfterOperand (min_bp_of f.position) 15) f.depth blank ∷ fs) ts n es w in
         ((quiet_at al.1 refl, v.0.1.1), v.1)
     by a.ApplyOr al w = ((quiet_at al.1 refl, w.0.1), w.1)
+    -- what opens
+    by _ al w = (w.0.1, w.1)
 
 -- each step
 pub clean_step : (now : Machine) → AreStacked now.frames → HasNone (step false now) → HasNone now
@@ -168,9 +157,8 @@ clean_runs (further {m = now} r) k w = clean_step now k (clean_runs r (step_stac
 clean_late : (m : ℕ) (h : Head) (row below : AnnotatedForest) → IsClean h row below → IsLate 0 h row below → IsLate m h row below
 clean_late m (Node NODE_PAT_ENTRY) row below c w =
     (w.0, w.1, subst (BeginAllFrom m) (sym (ap (λ z. repeated_if z below) (sym w.1) ∙ c)) tt)
-clean_late m (Node k) row below c w = tt
 clean_late m SecondBind row below c w = absurd c
-clean_late m Operand row below c w = tt
+clean_late m _ row below c w = tt
 
 pub all_late : (m : ℕ) (fs : List Frame) → AreClean fs → AreLate 0 fs → AreLate m fs
 all_late m [] c w = tt

@@ -2,8 +2,8 @@
 use Rattle.std.proofs.Common.{◌≡◌, ℕ, ◌≤◌, Bool, true, false, List, [], ◌∷◌, ◌++◌, Some, refl, ap, sym, ◌∙◌, subst}
 use Rattle.rnix_kinds.specs.declared.kinds.SyntaxKind.{SyntaxKind, TheVariants.{NODE_IDENT, NODE_PAT_ENTRY, NODE_ROOT}}
 use Rattle.rnix_grammar.specs.{declared.{position.Position.Position, expected_set.ExpectedSet.ExpectedSet}, Fault.Fault, Tables.stops, UnwantedRun.run_of}
-use Rattle.rnix_grammar.specs.{Layout.tail_of, AnnotatedForest.{Token, Note, Stray, Unwanted, Extra, DoubleBind, TooDeep, AnnotatedForest, blank, token}}
-use Rattle.rnix_grammar.specs.{AnnotatedForest.{branch, fault, ◌⊕◌, one_branch, tokens_in, head_kind}, Reports.{report, entry_name, has_entry, repeated_if}}
+use Rattle.rnix_grammar.specs.{Layout.tail_of, AnnotatedForest.{Token, Note, DoubleBind, TooDeep, AnnotatedForest, blank}}
+use Rattle.rnix_grammar.specs.{AnnotatedForest.{branch, ◌⊕◌, one_branch, tokens_in, head_kind}, Reports.{report, entry_name, has_entry, repeated_if}}
 use Rattle.{rnix_grammar.specs.Reports.repeated, rnix_proof_lemmas.specs.Machine.{Head, Node, SecondBind, Operand, Frame, Machine, leaf, dropped}}
 use Rattle.rnix_proof_lemmas.specs.{Allowed.is_there, FrameKinds.{FrameKind, Entry, SecondBindFrame, NodeFrame, frame_kind, frame_kind_of_head}}
 use Rattle.rnix_proof_lemmas.{specs.FrameKinds.{frame_kind_of_node, IsStackedOn}, proofs.Basics.{true_is_not_false, choice}}
@@ -44,11 +44,8 @@ starts_run m until (t ∷ ts) e h = subst (StartsFrom m) (sym (run_begins until 
 -- the error of an error node
 pub report_from : (m : ℕ) (note : Note) (ts : List Token) → StartsFrom m ts → BeginsFrom m (report note ts)
 report_from m note [] h = absurd h
-report_from m Stray (t ∷ ts) h = h
-report_from m (Unwanted until) (t ∷ ts) h = h
-report_from m Extra (t ∷ ts) h = h
-report_from m DoubleBind (t ∷ ts) h = h
 report_from m TooDeep (t ∷ ts) h = tt
+report_from m note (t ∷ ts) h = h
 
 pub more_from : (m : ℕ) (ds es : List Fault) → BeginAllFrom m ds → BeginAllFrom m es → BeginAllFrom m (ds ++ es)
 more_from m [] es h g = g
@@ -79,18 +76,14 @@ pub record HasLate (m : ℕ) (now : Machine) : Type 0 where
 
 -- the name of an entry stays
 entry_name-⊕ : (f g : AnnotatedForest) (t : Token) → entry_name f ≡ Some t → entry_name (f ⊕ g) ≡ Some t
-entry_name-⊕ blank g t e = absurd (cc)
-entry_name-⊕ (token k u f) g t e = absurd (cc)
 entry_name-⊕ (branch NODE_IDENT c f) g t e = e
-entry_name-⊕ (branch k c f) g t e = absurd (cc)
-entry_name-⊕ (fault n c f) g t e = absurd (cc)
+entry_name-⊕ _ g t e = absurd (cc)
 
 -- a row that grows has the same to report
 pub late_more : (m : ℕ) (h : Head) (row x below : AnnotatedForest) → IsLate m h row below → IsLate m h (row ⊕ x) below
 late_more m (Node NODE_PAT_ENTRY) row x below w = (w.0, entry_name-⊕ row x w.0 w.1, w.2)
-late_more m (Node k) row x below w = tt
 late_more m SecondBind row x below w = subst (StartsFrom m) (sym (tokens_in-⊕ row x)) (starts_more m (tokens_in row) (tokens_in x) w)
-late_more m Operand row x below w = tt
+late_more m _ row x below w = tt
 
 -- a plain node has nothing to report
 pub plain_late : (m : ℕ) (k : SyntaxKind) (row below : AnnotatedForest) → frame_kind_of_node k ≡ NodeFrame → IsLate m (Node k) row below

@@ -1,5 +1,5 @@
 -- Each step reports errors, and opens frames that have some to report, at the items that are left.
-use Rattle.std.proofs.Common.{ℕ, suc, ◌≤◌, Bool, true, false, List, [], ◌∷◌, ◌++◌, Option, ap, ◌∙◌, if◌then◌else◌, nat_le}
+use Rattle.std.proofs.Common.{ℕ, suc, ◌≤◌, Bool, true, false, List, [], ◌∷◌, ◌++◌, Option, ap, ◌∙◌, nat_le}
 use Rattle.rnix_kinds.specs.declared.kinds.SyntaxKind.{SyntaxKind, TheVariants.{NODE_ERROR, NODE_APPLY}}
 use Rattle.rnix_grammar.specs.{declared.{position.Position.Position, slot_table.TheConstants.APPLIED, action.Action.Action, begin.Begin.Begin}, Fault.Fault}
 use Rattle.rnix_grammar.specs.{Fault.{unexpected_eof, unexpected_eof_wanted, too_deep}, Tables.{depth_limit, wanted_kinds}, Actions.action_at, Begins.begin_of}
@@ -7,7 +7,7 @@ use Rattle.rnix_grammar.specs.{Begins.second_kind, AnnotatedForest.{Token, Stray
 use Rattle.rnix_grammar.specs.{AnnotatedForest.{one_branch, one_fault, row_of, tokens_in, head_kind, touches}, Reports.{report, repeated}, UnwantedRun.run_of}
 use Rattle.rnix_proof_lemmas.specs.Machine.{Node, Operand, Frame, Machine, put, opened, leaf, kind_of, made, min_bp_of, closed, entry_closed, begun, limited}
 use Rattle.rnix_proof_lemmas.specs.{Machine.{operand_on, reading, perform, step_on, step, Runs, rest as here, then as further}, Allowed.{Allowed, is_there}}
-use Rattle.rnix_proof_lemmas.{specs.FrameKinds.{IsStackedOn, AreStacked}, proofs.{AllowedLemmas.allowed, StackedFrames.{BeginsInner, begin_inner}}}
+use Rattle.rnix_proof_lemmas.{specs.FrameKinds.{IsStackedOn, AreStacked}, proofs.{AllowedLemmas.allowed, Basics.choice, StackedFrames.{BeginsInner, begin_inner}}}
 use Rattle.{rnix_proof_lemmas.proofs.StackedFrames.step_stacked, rnix_proof_prefix.{specs.Prefix.BeginAllFrom, proofs.Late.{AreFrom, from_tail, from_dropped}}}
 use Rattle.rnix_proof_prefix.proofs.Late.{starts_there, starts_run, report_from, more_from, row_below, AreLate, HasLate, late_more, plain_late, entry_late}
 use Rattle.rnix_proof_prefix.proofs.Late.{second_late, head_frame, entry_reports, second_reports}
@@ -20,7 +20,7 @@ abbrev pub StrayFrom : ℕ → Begin → Token → Type 0
 StrayFrom m b.Stray t = m ≤ t.start
 StrayFrom m begin t = Unit {0}
 
-stray_from : (m : ℕ) (begin : Begin) (t : Token) → m ≤ t.start → StrayFrom m begin t
+pub stray_from : (m : ℕ) (begin : Begin) (t : Token) → m ≤ t.start → StrayFrom m begin t
 stray_from m b.Stray t h = h
 stray_from m _ t h = tt
 
@@ -35,15 +35,11 @@ closed_late m f (g ∷ fs) ts n es l w e =
 pub begun_late : (m : ℕ) (second : Option SyntaxKind) (begin : Begin) (level d : ℕ) (t : Token) (f : Frame) (fs : List Frame) (us : List Token) (n : ℕ)
     (es : List Fault) → BeginsInner second begin → StrayFrom m begin t → AreFrom m us → AreLate m (f ∷ fs) → BeginAllFrom m es
     → HasLate m (begun false begin level d t f fs (t ∷ us) n es)
-begun_late m second (b.Leaf k) level d t f fs us n es i s l w e = record { left = l; frames = (tt, w); faults = e }
 begun_late m second (b.Node k place high) level d t f fs us n es i s l w e =
     record { left = l; frames = (plain_late m k (leaf false k (t ∷ us)) blank i.0, (tt, w)); faults = e }
-begun_late m second b.LegacyLet level d t f fs us n es i s l w e = record { left = from_tail m us l; frames = (tt, (tt, w)); faults = e }
-begun_late m second b.NameLambda level d t f fs us n es i s l w e = record { left = l; frames = (tt, (tt, w)); faults = e }
-begun_late m second b.BoundLambda level d t f fs us n es i s l w e = record { left = from_tail m us l; frames = (tt, (tt, (tt, w))); faults = e }
-begun_late m second b.PatternLambda level d t f fs us n es i s l w e = record { left = l; frames = (tt, (tt, (tt, w))); faults = e }
 begun_late m second b.Stray level d t f fs us n es i s l w e =
     record { left = l; frames = (tt, w); faults = more_from m es (report Stray (t ∷ []) ∷ []) e (s, tt) }
+begun_late m second _ level d t f fs us n es i s l w e = assumption (l, from_tail m us l)
 
 -- an operand of a level, or the end of the text
 operand_late : (m level d : ℕ) (f : Frame) (fs : List Frame) (ts : List Token) (n : ℕ) (es : List Fault)
@@ -66,8 +62,7 @@ limited_late m f fs ts n es l w e = record {
 reading_late : (m level : ℕ) (counted : Bool) (f : Frame) (fs : List Frame) (ts : List Token) (n : ℕ) (es : List Fault)
     → AreFrom m ts → AreLate m (f ∷ fs) → BeginAllFrom m es → HasLate m (reading false level counted f fs ts n es)
 reading_late m level true f fs ts n es l w e =
-    elim (nat_le depth_limit f.depth) as (λ x. HasLate m (if x then limited false f fs ts n es else operand_on false level (suc f.depth) f fs ts ts n es))
-    [ true ↦ limited_late m f fs ts n es l w e | false ↦ operand_late m level (suc f.depth) f fs ts n es l w e ]
+    choice (HasLate m) (nat_le depth_limit f.depth) (limited_late m f fs ts n es l w e) (operand_late m level (suc f.depth) f fs ts n es l w e)
 reading_late m level false f fs ts n es l w e = operand_late m level f.depth f fs ts n es l w e
 
 -- an entry of a pattern is complete

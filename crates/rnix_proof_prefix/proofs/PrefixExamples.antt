@@ -6,7 +6,7 @@ use Rattle.{rnix_grammar.specs.AnnotatedForest.{Token, lexeme_of, end_from}, rni
 use Rattle.{rnix_proof_lemmas.{specs.{Machine.{then as further}}}, rnix_proof_prefix.{specs.Prefix.BeginAllFrom, proofs.{Late.AreFrom, CleanSteps.HasNone}}}
 
 -- an item at a place
-abbrev item : SyntaxKind → List ℕ → ℕ → ℕ → Token
+abbrev pub item : SyntaxKind → List ℕ → ℕ → ℕ → Token
 item kind text start end = record { kind = kind; text = text; start = start; end = end }
 
 -- `{ ...` has an error at `...`, and `{ ... }: a` begins so and has none
@@ -21,11 +21,11 @@ abbrev others : List Token
 others = item TOKEN_R_BRACE (codes "}") 6 7 ∷ item TOKEN_COLON (codes ":") 7 8 ∷ item TOKEN_IDENT (codes "a") 9 10 ∷ []
 
 -- so many steps
-abbrev steps : ℕ → Machine → Machine
+abbrev pub steps : ℕ → Machine → Machine
 steps zero now = now
 steps (suc n) now = steps n (step false now)
 
-run : (n : ℕ) (now : Machine) → Runs false now (steps n now)
+pub run : (n : ℕ) (now : Machine) → Runs false now (steps n now)
 run zero now = here
 run (suc n) now = further (run n (step false now))
 

@@ -5,10 +5,10 @@ use Rattle.rnix_kinds.specs.declared.kinds.SyntaxKind.TheVariants.{TOKEN_L_BRACE
 use Rattle.rnix_grammar.specs.{declared.{slot_table.TheConstants.APPLIED, action.Action.Action, begin.Begin.Begin}, Fault.{Fault, too_deep}}
 use Rattle.rnix_grammar.specs.{Tables.depth_limit, Begins.{is_pattern, kind_if, first_kind, begin_for, begin_of, second_kind}, AnnotatedForest.{Token, Stray, Unwanted}}
 use Rattle.rnix_grammar.specs.{AnnotatedForest.{Extra, blank, head_kind}, Reports.report, UnwantedRun.run_of, Layout.tail_of}
-use Rattle.rnix_proof_lemmas.specs.Machine.{Node, Operand, Frame, Machine, put, opened, min_bp_of, machine, closed, entry_closed, begun, limited, operand_on}
-use Rattle.rnix_proof_lemmas.{specs.Machine.{reading, perform}, proofs.{Basics.{true_is_not_false, not_nil, none_right}, StackedFrames.BeginsInner}}
+use Rattle.rnix_proof_lemmas.specs.Machine.{Node, Operand, Frame, Machine, put, opened, min_bp_of, machine, begun, limited, operand_on}
+use Rattle.rnix_proof_lemmas.{specs.Machine.{reading, perform}, proofs.{Basics.{choice, true_is_not_false, not_nil, none_right}, StackedFrames.BeginsInner}}
 use Rattle.{rnix_proof_lemmas.proofs.StackedFrames.begin_inner, rnix_proof_prefix.specs.Prefix.{BeginAllFrom, are_undecided, end_undecided}}
-use Rattle.rnix_proof_prefix.proofs.{Late.{AreFrom, AreLate}, LateSteps.begun_late, BraceSteps.{IsApart, late_apart, braces, opened_apart}}
+use Rattle.rnix_proof_prefix.proofs.{Late.{AreFrom, AreLate}, LateSteps.begun_late, BraceSteps.{IsApart, late_apart, braces, IsBeforeThird, opened_apart}}
 use Rattle.rnix_proof_lemmas.proofs.EachBeginning.{highest, kind_up_to, first_up_to, each_first}
 use Rattle.std.proofs.Common.{None}
 use Rattle.rnix_kinds.specs.declared.kinds.SyntaxKind.TheVariants.{NODE_LET_IN, NODE_LEGACY_LET}
@@ -19,6 +19,11 @@ use Rattle.rnix_grammar.specs.declared.begin.Begin.TheVariants as b
 -- a machine with more items behind those that are left
 abbrev pub onto : List Token → Machine → Machine
 onto ts now = machine now.frames (now.left ++ ts) now.prev_end now.faults
+
+-- what is so of two pairs is so of a choice in both
+pub choices : {A : Type 0} (P : A → A → Type 0) (b : Bool) {x y u v : A} → P x u → P y v → P (if b then x else y) (if b then u else v)
+choices P true h k = h
+choices P false h k = k
 
 -- the item begins no operand
 abbrev is_stray : Begin → Bool
@@ -50,12 +55,12 @@ third_counts level TOKEN_L_BRACE text second third other = inl refl
 third_counts level _ text second third other = inr refl
 
 -- and there only after a name, `}` or `...`
-pattern_counts : (kind : SyntaxKind) (third other : Option SyntaxKind)
-    → ((kind ≡ TOKEN_IDENT) ⊎ (kind ≡ TOKEN_R_BRACE)) ⊎ ((kind ≡ TOKEN_ELLIPSIS) ⊎ (is_pattern (Some kind) third ≡ is_pattern (Some kind) other))
+pub pattern_counts : (kind : SyntaxKind) (third other : Option SyntaxKind)
+    → IsBeforeThird kind ⊎ (is_pattern (Some kind) third ≡ is_pattern (Some kind) other)
 pattern_counts TOKEN_IDENT third other = inl (inl refl)
-pattern_counts TOKEN_R_BRACE third other = inl (inr refl)
-pattern_counts TOKEN_ELLIPSIS third other = inr (inl refl)
-pattern_counts _ third other = inr (inr refl)
+pattern_counts TOKEN_R_BRACE third other = inl (inr (inl refl))
+pattern_counts TOKEN_ELLIPSIS third other = inl (inr (inr refl))
+pattern_counts _ third other = inr refl
 
 -- items behind the first end as all do
 tail_decided : (ts : List Token) → end_undecided ts ≡ false → end_undecided (tail_of ts) ≡ false
@@ -76,41 +81,21 @@ module _ (m : ℕ) (xs zs : List Token) (late : AreFrom m xs) where
   abbrev pub Goes : Machine → Machine → Type 0
   Goes here there = IsShared here there ⊎ (IsApart m here ⊎ (there.faults ≡ [] → ⊥))
 
+  -- the second has an error
   wrong : (here there : Machine) (es : List Fault) (e : Fault) → there.faults ≡ es ++ e ∷ [] → Goes here there
   wrong here there es e h = inr (inr (λ none. not_nil (none_right es (e ∷ []) (sym h ∙ none))))
 
-  -- a frame is complete
-  closed_shared : (f : Frame) (fs : List Frame) (q : List Token) (n : ℕ) (es : List Fault) → end_undecided q ≡ false
-      → Goes (closed f fs (q ++ xs) n es) (closed f fs (q ++ zs) n es)
-  closed_shared f [] q n es h = inl (record { at = closed f [] q n es; first = refl; second = refl; decided = h })
-  closed_shared f (g ∷ fs) q n es h = inl (record { at = closed f (g ∷ fs) q n es; first = refl; second = refl; decided = h })
-
-  entry_closed_shared : (f : Frame) (fs : List Frame) (q : List Token) (n : ℕ) (es : List Fault) → end_undecided q ≡ false
-      → Goes (entry_closed false f fs (q ++ xs) n es) (entry_closed false f fs (q ++ zs) n es)
-  entry_closed_shared f [] q n es h = inl (record { at = entry_closed false f [] q n es; first = refl; second = refl; decided = h })
-  entry_closed_shared f (g ∷ fs) q n es h = inl (record { at = entry_closed false f (g ∷ fs) q n es; first = refl; second = refl; decided = h })
+  -- what one machine becomes over both lists
+  shared : (at : Machine) → end_undecided at.left ≡ false → Goes (onto xs at) (onto zs at)
+  shared at h = inl (record { at = at; first = refl; second = refl; decided = h })
 
   -- an operand begins alike
   begun_shared : (begin : Begin) (level d : ℕ) (t u : Token) (f : Frame) (fs : List Frame) (q : List Token) (n : ℕ) (es : List Fault)
-      → end_undecided (t ∷ (u ∷ q)) ≡ false
+      → end_undecided (u ∷ q) ≡ false
       → Goes (begun false begin level d t f fs (t ∷ (u ∷ (q ++ xs))) n es) (begun false begin level d t f fs (t ∷ (u ∷ (q ++ zs))) n es)
-  begun_shared begin level d t u f fs q n es h = by begin
-    where
-      one : end_undecided (u ∷ q) ≡ false
-      one = tail_decided (t ∷ (u ∷ q)) h
-
-      by : (begin : Begin)
-          → Goes (begun false begin level d t f fs (t ∷ (u ∷ (q ++ xs))) n es) (begun false begin level d t f fs (t ∷ (u ∷ (q ++ zs))) n es)
-      by (b.Leaf k) = inl (record { at = begun false (b.Leaf k) level d t f fs (t ∷ (u ∷ q)) n es; first = refl; second = refl; decided = one })
-      by (b.Node k place high) =
-          inl (record { at = begun false (b.Node k place high) level d t f fs (t ∷ (u ∷ q)) n es; first = refl; second = refl; decided = one })
-      by b.LegacyLet =
-          inl (record { at = begun false b.LegacyLet level d t f fs (t ∷ (u ∷ q)) n es; first = refl; second = refl; decided = tail_decided (u ∷ q) one })
-      by b.NameLambda = inl (record { at = begun false b.NameLambda level d t f fs (t ∷ (u ∷ q)) n es; first = refl; second = refl; decided = one })
-      by b.BoundLambda =
-          inl (record { at = begun false b.BoundLambda level d t f fs (t ∷ (u ∷ q)) n es; first = refl; second = refl; decided = tail_decided (u ∷ q) one })
-      by b.PatternLambda = inl (record { at = begun false b.PatternLambda level d t f fs (t ∷ (u ∷ q)) n es; first = refl; second = refl; decided = one })
-      by b.Stray = wrong _ _ es (report Stray (t ∷ [])) refl
+  begun_shared b.LegacyLet level d t u f fs q n es h = shared (begun false b.LegacyLet level d t f fs (t ∷ (u ∷ q)) n es) (tail_decided (u ∷ q) h)
+  begun_shared b.BoundLambda level d t u f fs q n es h = shared (begun false b.BoundLambda level d t f fs (t ∷ (u ∷ q)) n es) (tail_decided (u ∷ q) h)
+  begun_shared begin level d t u f fs q n es h = shared (begun false begin level d t f fs (t ∷ (u ∷ q)) n es) h
 
   -- with the last of the shared items an operand begins in one way or another, or in neither list
   begun_last : (begin other : Begin) → is_stray begin ≡ is_stray other → (second : Option SyntaxKind) → BeginsInner second begin
@@ -119,18 +104,8 @@ module _ (m : ℕ) (xs zs : List Token) (late : AreFrom m xs) where
       → Goes (begun false begin level d t f fs (t ∷ xs) n es) (begun false other level d t f fs us n es)
   begun_last b.Stray b.Stray e second i level d t f fs us n es w g = wrong _ _ es (report Stray (t ∷ [])) refl
   begun_last b.Stray _ e second i level d t f fs us n es w g = absurd (true_is_not_false e)
-  begun_last (b.Leaf k) other e second i level d t f fs us n es w g =
-      inr (inl (late_apart m _ (begun_late m second (b.Leaf k) level d t f fs xs n es i tt late w g)))
-  begun_last (b.Node k place high) other e second i level d t f fs us n es w g =
-      inr (inl (late_apart m _ (begun_late m second (b.Node k place high) level d t f fs xs n es i tt late w g)))
-  begun_last b.LegacyLet other e second i level d t f fs us n es w g =
-      inr (inl (late_apart m _ (begun_late m second b.LegacyLet level d t f fs xs n es i tt late w g)))
-  begun_last b.NameLambda other e second i level d t f fs us n es w g =
-      inr (inl (late_apart m _ (begun_late m second b.NameLambda level d t f fs xs n es i tt late w g)))
-  begun_last b.BoundLambda other e second i level d t f fs us n es w g =
-      inr (inl (late_apart m _ (begun_late m second b.BoundLambda level d t f fs xs n es i tt late w g)))
-  begun_last b.PatternLambda other e second i level d t f fs us n es w g =
-      inr (inl (late_apart m _ (begun_late m second b.PatternLambda level d t f fs xs n es i tt late w g)))
+  begun_last begin other e second i level d t f fs us n es w g =
+      inr (inl (late_apart m _ (begun_late m second begin level d t f fs xs n es i tt late w g)))
 
   -- the next item and the last of the shared items behind it begin an operand
   module _ (level d : ℕ) (f : Frame) (fs : List Frame) (t u : Token) (n : ℕ) (es : List Fault) (w : AreLate m (f ∷ fs)) (g : BeginAllFrom m es)
@@ -139,14 +114,16 @@ module _ (m : ℕ) (xs zs : List Token) (late : AreFrom m xs) where
     Begun begin other = Goes (begun false begin level d t f fs (t ∷ (u ∷ xs)) n es) (begun false other level d t f fs (t ∷ (u ∷ zs)) n es)
 
     brace_pair : t.kind ≡ TOKEN_L_BRACE → (third other : Option SyntaxKind)
-        → ((u.kind ≡ TOKEN_IDENT) ⊎ (u.kind ≡ TOKEN_R_BRACE)) ⊎ ((u.kind ≡ TOKEN_ELLIPSIS) ⊎ (is_pattern (Some u.kind) third ≡ is_pattern (Some u.kind) other))
+        → IsBeforeThird u.kind ⊎ (is_pattern (Some u.kind) third ≡ is_pattern (Some u.kind) other)
         → Begun (braces (is_pattern (Some u.kind) third)) (braces (is_pattern (Some u.kind) other))
-    brace_pair e third other (inl k) = inr (inl (opened_apart m xs late level d t f fs n es w g (is_pattern (Some u.kind) third) u k))
-    brace_pair e third other (inr (inl k)) =
+    brace_pair e third other (inl (inr (inr k))) =
         absurd (true_is_not_false (sym (ap (λ z. are_undecided z u.kind) e ∙ ap (are_undecided TOKEN_L_BRACE) k) ∙ h))
-    brace_pair e third other (inr (inr same)) =
+    brace_pair e third other (inl (inr (inl k))) =
+        inr (inl (opened_apart m xs late level d t f fs n es w g (is_pattern (Some u.kind) third) u (inr k)))
+    brace_pair e third other (inl (inl k)) = inr (inl (opened_apart m xs late level d t f fs n es w g (is_pattern (Some u.kind) third) u (inl k)))
+    brace_pair e third other (inr same) =
         subst (λ z. Begun (braces (is_pattern (Some u.kind) third)) (braces z)) same
-        (begun_shared (braces (is_pattern (Some u.kind) third)) level d t u f fs [] n es h)
+        (begun_shared (braces (is_pattern (Some u.kind) third)) level d t u f fs [] n es refl)
 
     pair_shared : (third other : Option SyntaxKind)
         → (t.kind ≡ TOKEN_L_BRACE) ⊎ (begin_of level t.kind t.text (Some u.kind) third ≡ begin_of level t.kind t.text (Some u.kind) other)
@@ -156,7 +133,7 @@ module _ (m : ℕ) (xs zs : List Token) (late : AreFrom m xs) where
         (brace_pair e third other (pattern_counts u.kind third other))
     pair_shared third other (inr same) =
         subst (λ z. Begun (begin_of level t.kind t.text (Some u.kind) third) z) same
-        (begun_shared (begin_of level t.kind t.text (Some u.kind) third) level d t u f fs [] n es h)
+        (begun_shared (begin_of level t.kind t.text (Some u.kind) third) level d t u f fs [] n es refl)
 
   -- an operand of a level
   operand_shared : (level d : ℕ) (f : Frame) (fs : List Frame) (t : Token) (q : List Token) (n : ℕ) (es : List Fault)
@@ -177,46 +154,27 @@ module _ (m : ℕ) (xs zs : List Token) (late : AreFrom m xs) where
       → AreLate m (f ∷ fs) → BeginAllFrom m es → end_undecided (t ∷ q) ≡ false
       → Goes (reading false level counted f fs (t ∷ (q ++ xs)) n es) (reading false level counted f fs (t ∷ (q ++ zs)) n es)
   reading_shared level true f fs t q n es w g h =
-      let ts : List Token = t ∷ (q ++ xs) in
-      let us : List Token = t ∷ (q ++ zs) in
-      elim (nat_le depth_limit f.depth)
-      as (λ x. Goes (if x then limited false f fs ts n es else operand_on false level (suc f.depth) f fs ts ts n es)
-      (if x then limited false f fs us n es else operand_on false level (suc f.depth) f fs us us n es)) [
-        | true ↦ wrong _ _ es too_deep refl
-        | false ↦ operand_shared level (suc f.depth) f fs t q n es w g h
-      ]
+      choices Goes (nat_le depth_limit f.depth)
+      (wrong (limited false f fs (t ∷ (q ++ xs)) n es) (limited false f fs (t ∷ (q ++ zs)) n es) es too_deep refl)
+      (operand_shared level (suc f.depth) f fs t q n es w g h)
   reading_shared level false f fs t q n es w g h = operand_shared level f.depth f fs t q n es w g h
 
   -- what is done at the innermost frame
   pub perform_shared : (action : Action) (f : Frame) (fs : List Frame) (t : Token) (q : List Token) (n : ℕ) (es : List Fault)
       → AreLate m (f ∷ fs) → BeginAllFrom m es → end_undecided (t ∷ q) ≡ false
       → Goes (perform false action f fs (t ∷ (q ++ xs)) n es) (perform false action f fs (t ∷ (q ++ zs)) n es)
-  perform_shared action f fs t q n es w g h = by action
+  perform_shared action f fs t q n es w g h = by action fs w
     where
       one : end_undecided q ≡ false
       one = tail_decided (t ∷ q) h
 
-      by : (action : Action) → Goes (perform false action f fs (t ∷ (q ++ xs)) n es) (perform false action f fs (t ∷ (q ++ zs)) n es)
-      by a.Close = closed_shared f fs (t ∷ q) n es h
-      by a.ClosePattern = closed_shared f fs (t ∷ q) n es h
-      by a.CloseEntry = entry_closed_shared f fs (t ∷ q) n es h
-      by a.CloseDoubleBind = closed_shared f fs (t ∷ q) n _ h
-      by a.Finish = inl (record { at = perform false a.Finish f fs (t ∷ q) n es; first = refl; second = refl; decided = h })
-      by a.EndOperand = closed_shared f fs (t ∷ q) n es h
-      by a.Extra = wrong _ _ es (report Extra (t ∷ (q ++ zs))) refl
-      by (a.Take after) = inl (record { at = perform false (a.Take after) f fs (t ∷ q) n es; first = refl; second = refl; decided = one })
-      by (a.Miss after) = inl (record { at = perform false (a.Miss after) f fs (t ∷ q) n es; first = refl; second = refl; decided = h })
-      by (a.MissWanted until after) =
-          inl (record { at = perform false (a.MissWanted until after) f fs (t ∷ q) n es; first = refl; second = refl; decided = h })
-      by (a.Run until after) = wrong _ _ es (report (Unwanted until) (run_of until (t ∷ (q ++ zs)))) refl
-      by (a.Leaf k after) = inl (record { at = perform false (a.Leaf k after) f fs (t ∷ q) n es; first = refl; second = refl; decided = one })
-      by (a.Open k inside after) = inl (record { at = perform false (a.Open k inside after) f fs (t ∷ q) n es; first = refl; second = refl; decided = one })
-      by (a.Begin k inside after) = inl (record { at = perform false (a.Begin k inside after) f fs (t ∷ q) n es; first = refl; second = refl; decided = h })
-      by (a.Entry after) = inl (record { at = perform false (a.Entry after) f fs (t ∷ q) n es; first = refl; second = refl; decided = one })
-      by (a.DoubleBind after) = inl (record { at = perform false (a.DoubleBind after) f fs (t ∷ q) n es; first = refl; second = refl; decided = one })
-      by (a.Read level counted after) = reading_shared level counted (put (p.Left after) f.row f) fs t q n es w g h
-      by (a.Wrap k inside high) = inl (record { at = perform false (a.Wrap k inside high) f fs (t ∷ q) n es; first = refl; second = refl; decided = one })
-      by a.Apply =
+      by : (action : Action) (fs : List Frame) → AreLate m (f ∷ fs)
+          → Goes (perform false action f fs (t ∷ (q ++ xs)) n es) (perform false action f fs (t ∷ (q ++ zs)) n es)
+      by a.Extra fs w = wrong _ _ es (report Extra (t ∷ (q ++ zs))) refl
+      by (a.Run until after) fs w = wrong _ _ es (report (Unwanted until) (run_of until (t ∷ (q ++ zs)))) refl
+      by (a.Read level counted after) fs w = reading_shared level counted (put (p.Left after) f.row f) fs t q n es w g h
+      by a.Apply fs w =
           reading_shared 16 false (opened (Node NODE_APPLY) (p.Left APPLIED) f.depth f.row)
           (opened Operand (p.AfterOperand (min_bp_of f.position) 15) f.depth blank ∷ fs) t q n es (tt, (tt, w.1)) g h
-      by a.ApplyOr = inl (record { at = perform false a.ApplyOr f fs (t ∷ q) n es; first = refl; second = refl; decided = one })
+      by action [] w = shared (perform false action f [] (t ∷ q) n es) (assumption (h, one))
+      by action (g ∷ fs) w = shared (perform false action f (g ∷ fs) (t ∷ q) n es) (assumption (h, one))

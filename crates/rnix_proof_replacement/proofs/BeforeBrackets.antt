@@ -1,12 +1,12 @@
 -- A text that goes on to a bracket: its bytes, its runs and its characters before the bracket are the same, whatever follows the bracket.
-use Rattle.std.proofs.Common.{◌≡◌, ℕ, ◌+◌, ◌<◌, ◌≤◌, Bool, true, false, ◌||◌, ◌==◌, nat_lt, List, [], ◌∷◌, ◌++◌, length, get_or, take, drop, IsUtf8, refl}
+use Rattle.std.proofs.Common.{◌≡◌, ℕ, ◌+◌, ◌<◌, ◌≤◌, Bool, true, false, ◌||◌, ◌==◌, List, [], ◌∷◌, ◌++◌, length, get_or, take, drop, IsUtf8, refl}
 use Rattle.std.proofs.Common.{sym, ap, ◌∙◌, subst, inl, inr, arith, cond, append_assoc, length-append, length-drop}
 use Rattle.std.proofs.lemmas.List.{get_or_append_left, drop-append-le, take-append-le, Sums.{prefix_len_passes, take_while-cons}}
 use Rattle.std.proofs.lemmas.Bool.{cases_lt, cases_Bool, both_ways, and_left}
 use Rattle.std.proofs.lemmas.{Bool.Decides.nat_tests, Str.chars-append}
 use Rattle.std.specs.{Prelude.codes, List.{prefix_len, take_while, list_any}, Char.is_whitespace, Str.chars}
 use Rattle.rnix_kinds.specs.Lexical.Texts.{occurs_at, run_end, space_len, begins_space, char_len}
-use Rattle.rnix_proof_separation.proofs.Appended.{same_byte, next_byte, run_inside, stands_inside}
+use Rattle.rnix_proof_separation.proofs.{Appended.{same_byte, next_byte, run_inside, stands_inside}, KeptPaths.chars_ascii}
 
 -- a bracket, a quote, or `$`
 abbrev pub is_stop : ℕ → Bool
@@ -38,16 +38,11 @@ take_one_to (x ∷ xs) ys zs b = refl
 stop_ascii : (b : ℕ) → is_stop b ≡ true → (b < 128) × (is_whitespace b ≡ false)
 stop_ascii b e = (grind (arith, nat_tests), grind (arith, nat_tests))
 
-chars-ascii : (b : ℕ) (text : List ℕ) → b < 128 → chars (b ∷ text) ≡ b ∷ chars text
-unfolding chars
-chars-ascii b [] h = let low : nat_lt b 128 ≡ true = grind (arith, nat_tests) in rw low refl
-chars-ascii b (c ∷ text) h = let low : nat_lt b 128 ≡ true = grind (arith, nat_tests) in rw low refl
-
 -- the characters of a text before a bracket, the bracket's first byte, and the rest
 chars_bracket : (v o s : List ℕ) → IsUtf8 v → 0 < length o → get_or o 0 0 < 128 → chars ((v ++ o) ++ s) ≡ chars v ++ (get_or o 0 0 ∷ chars (drop 1 o ++ s))
 chars_bracket v [] s utf8 some low = absurd (omega arith)
 chars_bracket v (b ∷ o) s utf8 some low =
-    ap chars (append_assoc v (b ∷ o) s) ∙ (chars-append v (b ∷ (o ++ s)) utf8 ∙ ap (λ l. chars v ++ l) (chars-ascii b (o ++ s) low))
+    ap chars (append_assoc v (b ∷ o) s) ∙ (chars-append v (b ∷ (o ++ s)) utf8 ∙ ap (λ l. chars v ++ l) (chars_ascii b (o ++ s) low))
 
 module _ (o : List ℕ) (bracket : BeginsBracket o) where
   module _ (v : List ℕ) where

@@ -1,7 +1,7 @@
 -- The first byte, the length and the change of a bracket outside strings and paths.
 use Rattle.std.proofs.Common.{◌≡◌, ℕ, zero, suc, ◌+◌, Bool, true, false, not, ◌&&◌, ◌||◌, ◌==◌, nat_lt, List, [], ◌∷◌, length, get_or, take, drop, refl, sym}
 use Rattle.std.proofs.Common.{ap}
-use Rattle.std.proofs.Common.{Option, Some, None, subst, arith, cond, eqb-true}
+use Rattle.std.proofs.Common.{Option, Some, None, subst, arith, cond}
 use Rattle.std.proofs.lemmas.Bool.{and_parts, Decides.nat_tests, true≢false}
 use Rattle.std.specs.{Prelude.codes, List.{prefix_len, list_all}, Char.{is_ascii_digit, is_ascii_alphabetic}, Str.bytes_eq}
 use Rattle.rnix_kinds.specs.declared.kinds.SyntaxKind.{SyntaxKind}
@@ -17,7 +17,7 @@ use Rattle.rnix_kinds.specs.Lexical.Plain.{space, comment, uri, word, kind_of_wo
 use Rattle.rnix_kinds.specs.Lexical.Paths.{is_broken, first_segment, slash, home, goes_on_as_path, relative, search_path}
 use Rattle.rnix_kinds.specs.Lexical.Numbers.{exponent_digits, exponent, number}
 use Rattle.rnix_kinds.specs.Lexical.Operators.{ellipsis, opener, opening_brace, closing_brace, brace, operators, first_row, operator}
-use Rattle.rnix_kinds.specs.Lexical.Tokens.{first_that_fits, normal_cut}
+use Rattle.{rnix_kinds.specs.Lexical.Tokens.{first_that_fits, normal_cut}, rnix_proof_separation.proofs.KeptOperators.word_first}
 
 -- a change that `{` makes
 abbrev pub IsBraceChange : Change → Type 0
@@ -68,11 +68,6 @@ bracket_row TOKEN_R_BRACE b n e = absurd (true≢false (sym e))
 bracket_row TOKEN_INTERPOL_END b n e = absurd (true≢false (sym e))
 bracket_row TOKEN_STRING_END b n e = absurd (true≢false (sym e))
 bracket_row kind b n e = tt
-
-word_first : (w x : List ℕ) → nat_lt 0 (length w) ≡ true → begins w x ≡ true → get_or x 0 0 ≡ get_or w 0 0
-word_first [] x some e = absurd (true≢false (sym some))
-word_first (b ∷ []) x some e = eqb-true (get_or x 0 0) b e
-word_first (b ∷ c ∷ w) x some e = eqb-true (get_or x 0 0) b (and_parts (get_or x 0 0 == b) (occurs_at (c ∷ w) 1 x) e).0
 
 module _ (x : List ℕ) where
   abbrev pub IsSuited : Cut → Type 0

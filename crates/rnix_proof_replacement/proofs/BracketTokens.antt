@@ -17,7 +17,8 @@ use Rattle.rnix_proof_separation.specs.Separated.{is_error, is_inside, is_bracke
 use Rattle.rnix_proof_separation.proofs.{Appended.{if_true}, KeptCuts.Fits, KeptComments.opener_kept, KeptOperators.word_kept, Touching.touch_kept}
 use Rattle.rnix_proof_separation.proofs.{KeptStrings.{string_stop, stop_opened, opened, closed}, Stacks.normal_at}
 use Rattle.rnix_proof_replacement.specs.Replaced.{is_opening, is_closing}
-use Rattle.rnix_proof_replacement.proofs.{BeforeBrackets.{is_stop, is_half, BeginsBracket}, StringsBefore.{piece_of, end_stop}}
+use Rattle.rnix_proof_replacement.proofs.{BeforeBrackets.{is_stop, is_half, BeginsBracket}, StringsBefore.end_stop}
+use Rattle.rnix_proof_separation.proofs.KeptStrings.{piece_of}
 use Rattle.rnix_proof_replacement.proofs.BracketForms.{IsBraceChange, IsBracketCut, normal_suited}
 
 -- a string begins

@@ -12,7 +12,7 @@ use Rattle.rnix_kinds.specs.Lexical.{Texts.{begins, run_end, before_pair}, Class
 use Rattle.rnix_kinds.specs.Lexical.Plain.{plain, space, block_comment, comment, uri, word}
 use Rattle.rnix_kinds.specs.Lexical.{Plain.{kind_of_word, begins_word}, Operators.{opener, brace, operators, first_row}}
 use Rattle.rnix_kinds.specs.Lexical.Tokens.{first_that_fits, normal_cut}
-use Rattle.rnix_proof_separation.proofs.{Appended.{if_true, if_false, stands_inside}, KeptComments.pair_kept}
+use Rattle.rnix_proof_separation.proofs.{Appended.{if_true, if_false, stands_inside}, KeptComments.{inside, pair_kept}}
 use Rattle.rnix_proof_replacement.proofs.BeforeBrackets.{is_stop, BeginsBracket, byte_same, before_stop, stop_at, run_le, run_same, take_same, word_same}
 use Rattle.rnix_proof_replacement.proofs.BeforeBrackets.{space_len_same, char_len_same}
 use Rattle.rnix_proof_replacement.proofs.{NumbersBefore.number_before, PathsBefore.{slash_before, home_before, relative_before, search_before}}
@@ -54,10 +54,6 @@ no_point b e = grind (arith, nat_tests)
 -- a letter, and a byte of a URI after `:`
 abbrev uri_begins : ℕ → ℕ → ℕ → Bool
 uri_begins a b c = is_ascii_alphabetic a && b == 58 && is_uri c
-
--- the bytes inside a block comment
-abbrev inside : List ℕ → ℕ
-inside x = before_pair 42 47 (drop 2 x)
 
 module _ (o : List ℕ) (bracket : BeginsBracket o) (v : List ℕ) (some : 0 < length v) (s r : List ℕ) where
   byte : (i : ℕ) → i ≤ length v → get_or ((v ++ o) ++ r) i 0 ≡ get_or ((v ++ o) ++ s) i 0

@@ -1,19 +1,14 @@
 -- A number before a bracket is the same, whatever follows the bracket.
-use Rattle.std.proofs.Common.{◌≡◌, ℕ, ◌+◌, ◌<◌, ◌≤◌, Bool, true, false, not, ◌&&◌, ◌||◌, ◌==◌, List, ◌++◌, length, get_or, refl}
+use Rattle.std.proofs.Common.{◌≡◌, ℕ, ◌+◌, ◌<◌, ◌≤◌, Bool, true, false, ◌==◌, List, ◌++◌, length, get_or, refl}
 use Rattle.std.proofs.Common.{ap, ◌∙◌, arith, cond}
 use Rattle.std.proofs.lemmas.Bool.{cond_both, and_parts, Decides.nat_tests}
 use Rattle.std.specs.{Char.is_ascii_digit}
 use Rattle.rnix_kinds.specs.declared.{kinds.SyntaxKind.TheVariants.{TOKEN_ERROR, TOKEN_FLOAT}, tokenizer.rule.Cut.Cut}
 use Rattle.rnix_kinds.specs.Lexical.{Texts.{run_end}, Plain.plain, Numbers.{exponent_digits, exponent, fraction, digits_to, number}}
+use Rattle.rnix_proof_separation.proofs.KeptNumbers.{is_mark, is_sign, is_point}
 use Rattle.rnix_proof_replacement.proofs.BeforeBrackets.{is_stop, BeginsBracket, byte_same, before_stop, end_le, end_same}
 
--- an `e`, a sign, and a point
-abbrev is_mark : ℕ → Bool
-is_mark b = b == 101 || b == 69
-
-abbrev is_sign : ℕ → Bool
-is_sign b = b == 43 || b == 45
-
+-- a point
 abbrev is_dot : ℕ → Bool
 is_dot b = b == 46
 
@@ -28,10 +23,6 @@ no_sign b e = grind (arith, nat_tests)
 
 no_dot : (b : ℕ) → is_stop b ≡ true → is_dot b ≡ false
 no_dot b e = grind (arith, nat_tests)
-
--- a point after digits of which the first two bytes are b and c
-abbrev is_point : ℕ → ℕ → ℕ → Bool
-is_point a b c = a == 46 && not (b == 48 && not (c == 46))
 
 module _ (o : List ℕ) (bracket : BeginsBracket o) (v : List ℕ) (some : 0 < length v) (s r : List ℕ) where
   byte : (i : ℕ) → i ≤ length v → get_or ((v ++ o) ++ r) i 0 ≡ get_or ((v ++ o) ++ s) i 0

@@ -4,13 +4,13 @@ use Rattle.std.proofs.Common.{None, refl, sym, ap, ◌∙◌, subst, inl, inr, a
 use Rattle.std.proofs.lemmas.Bool.{cases_Bool, and_left, lt-ltb, ne_eqb, Decides.nat_tests}
 use Rattle.std.proofs.lemmas.{List.get_or_append_left, Str.{IsUtf8-drop, IsCharBoundary-after_ascii}}
 use Rattle.std.specs.{Prelude.codes, List.prefix_len}
-use Rattle.rnix_kinds.specs.declared.kinds.SyntaxKind.TheVariants.{TOKEN_ERROR}
-use Rattle.rnix_kinds.specs.declared.tokenizer.{text.Class.TheVariants.{Step, Angle}, rule.{Cut.Cut, PathStart.PathStart}}
+use Rattle.rnix_kinds.specs.declared.tokenizer.{text.Class.TheVariants.{Step, Angle}, rule.PathStart.PathStart}
 use Rattle.rnix_kinds.specs.declared.tokenizer.rule.{PathStart.TheVariants.{Root, Relative, Home}, Mode.TheVariants.{Path}}
 use Rattle.rnix_kinds.specs.declared.tokenizer.rule.Change.{Change, TheVariants.{Stay, Open, Close}}
-use Rattle.rnix_kinds.specs.Lexical.{PathKinds.kind_of_path, Texts.{occurs_at, begins, run_end, begins_space, char_len}, Classes.{class_test, is_path}}
-use Rattle.rnix_kinds.specs.Lexical.Paths.{is_broken, segment_to, segment, first_segment, slash, home, goes_on_as_path, relative, search_path, path_goes_on}
+use Rattle.rnix_kinds.specs.Lexical.{Texts.{occurs_at, begins, run_end, begins_space, char_len}, Classes.{class_test, is_path}}
+use Rattle.rnix_kinds.specs.Lexical.Paths.{segment_to, segment, first_segment, slash, home, goes_on_as_path, relative, search_path, path_goes_on}
 use Rattle.rnix_kinds.specs.Lexical.Paths.{path_cut}
+use Rattle.rnix_proof_separation.proofs.KeptPaths.{segment_cut}
 use Rattle.rnix_proof_replacement.proofs.BeforeBrackets.{is_stop, BeginsBracket, byte_same, before_stop, run_le, run_same, drop_to, take_same, word_same}
 use Rattle.rnix_proof_replacement.proofs.BeforeBrackets.{dollar_same, end_le, end_same, char_len_same, begins_space_same}
 
@@ -28,12 +28,6 @@ no_angle b e = grind (arith, nat_tests)
 
 no_slash : (b : ℕ) → is_stop b ≡ true → is_slash b ≡ false
 no_slash b e = grind (arith, nat_tests)
-
--- a segment of n bytes, by whether `${` follows it
-abbrev segment_cut : PathStart → Change → Change → ℕ → Bool → List ℕ → Cut
-segment_cut start going ended n dollar bytes =
-    cond dollar (record { kind = kind_of_path start; len = n; change = going })
-    (record { kind = cond (is_broken bytes) TOKEN_ERROR (kind_of_path start); len = n; change = ended })
 
 module _ (o : List ℕ) (bracket : BeginsBracket o) (v : List ℕ) (some : 0 < length v) (s r : List ℕ) where
   byte : (i : ℕ) → i ≤ length v → get_or ((v ++ o) ++ r) i 0 ≡ get_or ((v ++ o) ++ s) i 0

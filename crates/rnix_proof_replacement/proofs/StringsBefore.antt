@@ -1,5 +1,5 @@
 -- A token inside a string is cut alike before texts that begin alike.
-use Rattle.std.proofs.Common.{◌≡◌, ℕ, ◌<◌, Bool, true, false, ◌&&◌, ◌||◌, ◌==◌, nat_lt, List, ◌++◌, length, get_or, drop, refl}
+use Rattle.std.proofs.Common.{◌≡◌, ℕ, ◌<◌, Bool, true, false, ◌==◌, nat_lt, List, ◌++◌, length, get_or, drop, refl}
 use Rattle.std.proofs.Common.{sym, ap, ◌∙◌, subst, inl, inr, arith, cond, length-append, eqb-true}
 use Rattle.std.proofs.lemmas.{List.drop_at, Bool.{cases_lt, cases_Bool, cond_both, eqb-false, ne_eqb, lt-ltb, ltb-false, Decides.nat_tests}}
 use Rattle.std.specs.Prelude.{codes}
@@ -7,19 +7,8 @@ use Rattle.rnix_kinds.specs.declared.{kinds.SyntaxKind.TheVariants.{TOKEN_STRING
 use Rattle.rnix_kinds.specs.Lexical.{Texts.begins, Plain.plain, Strings.{piece_len, content_len, string_cut}}
 use Rattle.rnix_kinds.proofs.LexicalLemmas.StringsLemmas.{content_len-stops, content_len-le}
 use Rattle.rnix_proof_separation.proofs.{Appended.{if_true, if_false, same_byte, next_byte_at}}
-use Rattle.rnix_proof_separation.proofs.KeptStrings.{content_kept, string_stop, stop_opened, opened, closed}
+use Rattle.rnix_proof_separation.proofs.KeptStrings.{piece_of, content_kept, string_stop, stop_opened, opened, closed}
 use Rattle.rnix_proof_replacement.proofs.BeforeBrackets.{is_half, BeginsBracket, byte_same, stop_at}
-
--- the length of a piece by its first three bytes
-abbrev pub piece_of : Bool → ℕ → ℕ → ℕ → ℕ
-piece_of multiline a b c =
-    cond (a == 36 && b == 123) 0
-    (cond (a == 36 && b == 36) 2
-    (cond multiline
-    (cond ((a == 39 && (b == 39 && c == 39)) || (a == 39 && (b == 39 && c == 36))) 3
-    (cond (a == 39 && (b == 39 && c == 92)) 4
-    (cond (a == 39 && b == 39) 0 1)))
-    (cond (a == 34) 0 (cond (a == 92) 2 1))))
 
 piece_at : (m : Bool) (x : List ℕ) → piece_len m x ≡ piece_of m (get_or x 0 0) (get_or x 1 0) (get_or x 2 0)
 piece_at m x = refl

@@ -24,7 +24,7 @@ pair_kept a b (x ∷ y ∷ t) s r h = by (x == a && y == b) h (pair_kept a b (y 
     by false h more = ap (λ k. 1 + k) (more (omega arith))
 
 -- the bytes inside a block comment
-abbrev inside : List ℕ → ℕ
+abbrev pub inside : List ℕ → ℕ
 inside x = before_pair 42 47 (drop 2 x)
 
 -- a block comment is the same before all that follows

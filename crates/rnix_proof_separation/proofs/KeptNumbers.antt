@@ -8,14 +8,14 @@ use Rattle.rnix_proof_separation.proofs.{Appended.{if_true, if_false, same_byte,
 use Rattle.rnix_proof_separation.{proofs.KeptCuts.no_error_if, specs.Separated.is_error}
 
 -- an `e`, and a sign
-abbrev is_mark : ℕ → Bool
+abbrev pub is_mark : ℕ → Bool
 is_mark b = b == 101 || b == 69
 
-abbrev is_sign : ℕ → Bool
+abbrev pub is_sign : ℕ → Bool
 is_sign b = b == 43 || b == 45
 
 -- a point after digits of which the first two bytes are b and c
-abbrev is_point : ℕ → ℕ → ℕ → Bool
+abbrev pub is_point : ℕ → ℕ → ℕ → Bool
 is_point a b c = a == 46 && not (b == 48 && not (c == 46))
 
 -- a point and a digit

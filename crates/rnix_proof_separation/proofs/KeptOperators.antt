@@ -49,7 +49,7 @@ operator_plain x cut is =
 abbrev pub first_passes : (ℕ → Bool) → List ℕ → Bool
 first_passes test w = test (get_or w 0 0) && nat_lt 0 (length w)
 
-word_first : (w x : List ℕ) → nat_lt 0 (length w) ≡ true → begins w x ≡ true → get_or x 0 0 ≡ get_or w 0 0
+pub word_first : (w x : List ℕ) → nat_lt 0 (length w) ≡ true → begins w x ≡ true → get_or x 0 0 ≡ get_or w 0 0
 word_first [] x some e = absurd (both_ways false refl some)
 word_first (b ∷ []) x some e = eqb-true (get_or x 0 0) b e
 word_first (b ∷ c ∷ w) x some e = eqb-true (get_or x 0 0) b (and_parts (get_or x 0 0 == b) (occurs_at (c ∷ w) 1 x) e).0

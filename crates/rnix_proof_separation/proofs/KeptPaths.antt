@@ -13,7 +13,7 @@ use Rattle.rnix_proof_separation.proofs.{Appended.{run_longer, is_edge, is_next,
 use Rattle.rnix_proof_separation.{proofs.KeptCuts.{Keeps, dollar_first, dollar_next, behind_next, no_error_if}, specs.Separated.is_error}
 
 -- a segment of n bytes, by whether `${` follows it
-abbrev segment_cut : PathStart → Change → Change → ℕ → Bool → List ℕ → Cut
+abbrev pub segment_cut : PathStart → Change → Change → ℕ → Bool → List ℕ → Cut
 segment_cut start going ended n dollar bytes =
     cond dollar (record { kind = kind_of_path start; len = n; change = going })
     (record { kind = cond (is_broken bytes) TOKEN_ERROR (kind_of_path start); len = n; change = ended })
@@ -87,7 +87,7 @@ slash_last t s n e slash whole =
     let here : get_or t (length t - 1) 0 ≡ 47 = ap (λ k. get_or t k 0) last ∙ (sym (get_or_append_left t s 0 n (omega arith)) ∙ slash) in
     both_ways _ (or_parts (get_or t (length t - 1) 0 == 47) _ whole).0 (eq-eqb (get_or t (length t - 1) 0) 47 here)
 
-chars_ascii : (b : ℕ) (text : List ℕ) → b < 128 → chars (b ∷ text) ≡ b ∷ chars text
+pub chars_ascii : (b : ℕ) (text : List ℕ) → b < 128 → chars (b ∷ text) ≡ b ∷ chars text
 unfolding chars
 chars_ascii b [] h = let low : nat_lt b 128 ≡ true = grind (arith, nat_tests) in rw low refl
 chars_ascii b (c ∷ text) h = let low : nat_lt b 128 ≡ true = grind (arith, nat_tests) in rw low refl

@@ -9,7 +9,7 @@ use Rattle.{rnix_kinds.proofs.LexicalLemmas.StringsLemmas.{content_len-stop, con
 use Rattle.rnix_proof_separation.proofs.{Appended.{if_false, same_byte, next_byte_at, is_edge}, KeptCuts.Fits, KeptOperators.word_kept}
 
 -- the length of a piece by its first three bytes
-abbrev piece_of : Bool → ℕ → ℕ → ℕ → ℕ
+abbrev pub piece_of : Bool → ℕ → ℕ → ℕ → ℕ
 piece_of multiline a b c =
     cond (a == 36 && b == 123) 0
     (cond (a == 36 && b == 36) 2
