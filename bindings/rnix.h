@@ -41,17 +41,17 @@ enum rnix_refusal {
     RNIX_NONE_SUCH = -3,  /* there is no such kind, name, error, diagnostic, string or unit of columns; no other refusal applies then */
     RNIX_TOO_LONG = -4,   /* the text has 2^32 bytes or more; rnix_tokens has no such limit */
     RNIX_HAS_ERRORS = -5, /* the text has errors (rnix_format) */
-    RNIX_DIFFERENT = -6   /* the new text would differ in more than white space (rnix_format); this is a bug of the formatter */
+    RNIX_DIFFERENT = -6   /* a bug of the formatter: its text would differ in more than white space, or change if formatted again (rnix_format) */
 };
 
 /* A text for a refusal: a string literal. */
-#define RNIX_REFUSAL_TEXT(answer)                                                            \
-    ((answer) == RNIX_NOT_UTF8     ? "the text is not UTF-8"                                 \
-     : (answer) == RNIX_NO_MEMORY  ? "out of memory"                                         \
-     : (answer) == RNIX_NONE_SUCH  ? "there is no such item"                                 \
-     : (answer) == RNIX_TOO_LONG   ? "the text has 2^32 bytes or more"                       \
-     : (answer) == RNIX_HAS_ERRORS ? "the text has errors"                                   \
-     : (answer) == RNIX_DIFFERENT  ? "the new text would differ in more than white space"    \
+#define RNIX_REFUSAL_TEXT(answer)                                                                          \
+    ((answer) == RNIX_NOT_UTF8     ? "the text is not UTF-8"                                               \
+     : (answer) == RNIX_NO_MEMORY  ? "out of memory"                                                       \
+     : (answer) == RNIX_NONE_SUCH  ? "there is no such item"                                               \
+     : (answer) == RNIX_TOO_LONG   ? "the text has 2^32 bytes or more"                                     \
+     : (answer) == RNIX_HAS_ERRORS ? "the text has errors"                                                 \
+     : (answer) == RNIX_DIFFERENT  ? "the new text would differ in more than white space, or change again" \
                                    : "not refused")
 
 /* An absent offset or number. */

@@ -9,7 +9,10 @@ from rnix.library import LIBRARY
 
 
 class FormatError(Exception):
-    """A text that is not formatted: it has errors, or the new text would differ in more than white space, which is a bug of the formatter."""
+    """A text that is not formatted.
+
+    It has errors, or the new text would differ in more than white space, or change if formatted again, which is a bug of the formatter.
+    """
 
 
 def formatted(text: str | bytes) -> str:
@@ -26,7 +29,7 @@ def formatted(text: str | bytes) -> str:
         if result == library.HAS_ERRORS:
             raise FormatError("the text has errors")
         if result == library.DIFFERENT:
-            raise FormatError("the new text would differ in more than white space")
+            raise FormatError("the new text would differ in more than white space, or change again")
         return result
 
     made, count = library.listed(ctypes.c_char, call, guess)

@@ -15,7 +15,7 @@ use std::fmt;
 pub enum FormatError {
     /// The text has errors.
     HasErrors,
-    /// The new text would differ in more than white space. This is a bug of the formatter.
+    /// The new text would differ in more than white space, or change if formatted again. This is a bug of the formatter.
     Different,
     /// The text was not parsed.
     Refused(Refused),
@@ -25,7 +25,9 @@ impl fmt::Display for FormatError {
     fn fmt(&self, f: &mut fmt::Formatter<'_>) -> fmt::Result {
         match self {
             FormatError::HasErrors => f.write_str("the text has errors"),
-            FormatError::Different => f.write_str("the new text would differ in more than white space"),
+            FormatError::Different => {
+                f.write_str("the new text would differ in more than white space, or change again")
+            }
             FormatError::Refused(refused) => refused.fmt(f),
         }
     }

@@ -184,7 +184,7 @@ fn finish<W: Write>(
 // Reports that a text is not formatted because of a bug.
 fn write_refusal(rt: &HostRuntime, program: &Program, name: &str) -> io::Result<()> {
     eprintln!(rt;
-        "{}: {}: this text is left as it is: its new text would differ in more than white space, which is a bug; please report it",
+        "{}: {}: this text is left as it is: its new text would differ in more than white space, or change again, which is a bug; please report it",
         program.name,
         shown_name(name)
     )

@@ -7,6 +7,7 @@ ghost use Rattle.nix_formatting.specs.Relayout.{solids_of, IsRelayout};
 ghost use Rattle.nix_formatting.specs.Formatted.{IsFaultless, IsOutcome};
 
 use crate::alike::have_same_solids;
+use crate::settling::settled;
 use crate::walks::have_same_steps;
 use nix_layout::styled;
 use rnix::laws::{has_reading, layout, one_list};
@@ -20,7 +21,8 @@ pub enum Formatting {
     Formatted(String),
     /// The text has errors.
     Faulty,
-    /// The text has no errors, but the layout would change more than white space and the indentation of strings. This is a bug of the layout.
+    /// The text has no errors, but the layout would change more than white space and the indentation of strings, or would change its own texts again and
+    /// again. This is a bug of the layout.
     Refused,
 }
 
@@ -74,8 +76,9 @@ fn compared(alloc: Global, text: &str, read: &Parse, made: String) -> Result<For
 }
 
 /// Formats a text in the style of Nixpkgs. The new text has the same tokens, comments included, and the same tree, except for white space and the
-/// indentation of strings in `''`, whose values stay the same. It is compared with the old text, and the result is `Refused` if it differs in more. The
-/// result is `Faulty` exactly if the text has errors.
+/// indentation of strings in `''`, whose values stay the same. It is compared with the old text, and the result is `Refused` if it differs in more. Formatting
+/// it again changes nothing: if the layout does not know this of its text, that text is formatted again, a few times at most. The result is `Faulty` exactly
+/// if the text has errors.
 pub fn formatted(alloc: Global, text: &str) -> Result<Formatting, AllocError>
     ensures { IfOk result (IsOutcome text.now) }
 {
@@ -84,5 +87,8 @@ pub fn formatted(alloc: Global, text: &str) -> Result<Formatting, AllocError>
         return Ok(Formatting::Faulty);
     }
     let made = styled(alloc, text, &read.syntax())?;
-    compared(alloc, text, &read, made)
+    match settled(alloc, made)? {
+        Some(made) => compared(alloc, text, &read, made),
+        None => Ok(Formatting::Refused),
+    }
 }

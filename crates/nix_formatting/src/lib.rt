@@ -4,6 +4,7 @@
 mod alike;
 mod formatting;
 mod parts;
+mod settling;
 mod values;
 mod walks;
 

@@ -9,6 +9,7 @@ pub fn plain_gap(spacing: Spacing, group: usize, line_feeds: usize) -> Gap {
         blanks: spacing.blanks,
         can_break: spacing.can_break,
         is_hard: spacing.is_hard || (spacing.keeps_break && line_feeds > 0),
+        keeps_break: spacing.keeps_break,
         has_empty_line: spacing.keeps_empty && line_feeds > 1,
         group,
         level: spacing.level,
@@ -55,6 +56,7 @@ fn comment_gap(
 ) -> Gap {
     let gap = Gap {
         blanks: if spacing.opens { spacing.blanks } else { 1 },
+        keeps_break: spacing.keeps_break || spacing.closes,
         level: comment_level(spacing),
         ..plain_gap(spacing, group, piece.line_feeds)
     };
@@ -74,7 +76,10 @@ fn gap_behind(piece: &Piece, spacing: Spacing, group: usize, is_ended: bool) -> 
     if is_ended {
         ended(gap, piece.line_feeds, !spacing.closes)
     } else if spacing.closes {
-        gap
+        Gap {
+            keeps_break: true,
+            ..gap
+        }
     } else {
         spaced(gap)
     }

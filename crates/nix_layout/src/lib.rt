@@ -12,9 +12,11 @@ mod line_ends;
 mod line_feed_escapes;
 mod lines;
 mod measuring;
+mod modes;
 mod piece;
+mod repeating;
 mod restyling;
 mod spacing;
 mod writing;
 
-pub use restyling::styled;
+pub use restyling::{Styled, styled};

@@ -51,6 +51,17 @@ impl<'a> Search<'a> {
     }
 }
 
+/// Returns the line end after the first comment with `#`, or a line feed if there is no such comment.
+pub fn comment_end_of(text: &str, pieces: &[Piece]) -> &'static str {
+    let first = pieces.iter().find(|piece| piece.ends_line);
+    let comment = first.and_then(|piece| text.get(piece.start..piece.end));
+    if comment.is_some_and(|comment| comment.ends_with('\r')) {
+        RETURN_AND_FEED
+    } else {
+        FEED
+    }
+}
+
 /// Returns the first line end of a text that is between tokens and does not end a comment with `#`, whose carriage return belongs to the comment. If
 /// there is none, it is the first one after such a comment, and otherwise a line feed.
 pub fn line_end_of(text: &str, pieces: &[Piece]) -> &'static str {

@@ -93,6 +93,19 @@ impl Measures {
         })
     }
 
+    /// Counts the unconditional line ends again, of pieces of which other gaps are hard.
+    pub fn count_breaks(&mut self, pieces: &[Piece]) {
+        let mut breaks = 0usize;
+        for number in 0..self.sums.len() {
+            self.sums[number].breaks = breaks;
+            if let Some(piece) = pieces.get(number) {
+                breaks = breaks
+                    .saturating_add(hard_gap(piece))
+                    .saturating_add(several_lines(piece));
+            }
+        }
+    }
+
     /// The number of columns from the gap before a piece to the next place where the line may end.
     pub fn tail(&self, piece: usize) -> usize {
         let place = self.tails.len().checked_sub(piece.saturating_add(1));

@@ -9,6 +9,8 @@ pub struct Gap {
     pub can_break: bool,
     /// Whether the line always ends here.
     pub is_hard: bool,
+    /// Whether the line always ends here in the layout of the new text, if it ends here in that text.
+    pub keeps_break: bool,
     /// Whether an empty line follows if the line ends here.
     pub has_empty_line: bool,
     /// The number of the group.
@@ -69,6 +71,7 @@ impl Gap {
             blanks: 0,
             can_break: false,
             is_hard: false,
+            keeps_break: false,
             has_empty_line: false,
             group: 0,
             level: Level::Same,

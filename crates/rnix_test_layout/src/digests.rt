@@ -96,3 +96,30 @@ pub const NESTED_DIGESTS: [u64; 9] = [
 ];
 
 pub const TEXTS_DIGEST: u64 = 0x2b02_5acd_d358_028d;
+
+pub const COMMENTS_DIGESTS: [u64; 24] = [
+    0x2787_138a_5ef2_36e3,
+    0xf004_e58a_e5a5_7b4d,
+    0x4c6a_52d9_4612_b4f9,
+    0x9b19_bc8a_0b38_9179,
+    0x17ce_af5f_f6c0_15ad,
+    0xa5bb_93ed_f615_fbf1,
+    0xd190_875e_f2e9_ea97,
+    0x9954_58a0_41a8_6d23,
+    0x9f0f_92dd_5480_7a7b,
+    0x898d_e585_c095_85bd,
+    0x6f1b_d7d7_b497_6201,
+    0xfa60_656f_1d5a_483f,
+    0xdc28_b2f2_0426_4f85,
+    0x71c2_b621_8def_9313,
+    0xd8e7_bd8d_3924_a191,
+    0xfd47_e719_6f00_83db,
+    0x10ed_fee9_dc07_7e95,
+    0x2d27_6330_6aba_f775,
+    0xb37d_e484_917b_2443,
+    0x0663_2558_1a89_4d41,
+    0x4574_8a89_2d43_96c5,
+    0xecee_2669_89ee_74e3,
+    0x2e1f_4d72_a6cd_2bf5,
+    0xe23b_2c60_c96b_5f63,
+];

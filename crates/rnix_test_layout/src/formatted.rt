@@ -1,7 +1,7 @@
 //! Formatted texts, and their digests.
 
 use crate::digests::PRIME;
-use nix_layout::styled;
+use nix_layout::{Styled, styled};
 use rnix::Root;
 use std::alloc::{AllocError, Global};
 use std::process::Abort;
@@ -19,8 +19,8 @@ pub fn filled(alloc: Global, outer: &str, inner: &str) -> Result<String, AllocEr
     Ok(text)
 }
 
-// Returns the formatted text, unless the text has errors.
-fn formatted(alloc: Global, text: &str) -> Result<Option<String>, AllocError> {
+/// Returns the text that the layout makes, unless the text has errors.
+pub fn styled_text(alloc: Global, text: &str) -> Result<Option<Styled>, AllocError> {
     let parse = Root::parse(alloc, text)?;
     if !parse.errors().is_empty() {
         return Ok(None);
@@ -43,13 +43,13 @@ pub fn add_formatted(
     text: &str,
     digest: u64,
 ) -> Result<u64, AllocError> {
-    let Some(made) = formatted(rt.alloc(), text)? else {
+    let Some(made) = styled_text(rt.alloc(), text)? else {
         return Ok(digest);
     };
-    let again = formatted(rt.alloc(), made.as_str())?;
+    let again = styled_text(rt.alloc(), made.text.as_str())?;
     assert!(rt;
-        again.is_some_and(|again| again.as_str() == made.as_str()),
+        made.is_settled && again.is_some_and(|again| again.text.as_str() == made.text.as_str()),
         "{text}"
     );
-    Ok(with_text(digest, made.as_str()))
+    Ok(with_text(digest, made.text.as_str()))
 }

@@ -2,6 +2,8 @@
 #![tactic(auto)]
 
 #[cfg(test)]
+mod comments;
+#[cfg(test)]
 mod digests;
 #[cfg(test)]
 mod edges;
@@ -9,3 +11,5 @@ mod edges;
 mod formatted;
 #[cfg(test)]
 mod nested;
+#[cfg(test)]
+mod settling;

@@ -1,0 +1,193 @@
+//! How groups are written: on one line, or broken.
+
+use crate::layout::{Group, Layout, STEP};
+use crate::measuring::{Measures, Room};
+use crate::piece::{Gap, Level};
+use std::alloc::{AllocError, Global};
+
+// The number of columns of a line.
+const LINE: usize = 100;
+/// The most spaces at the start of a line.
+pub const MOST_BLANKS: usize = 80;
+
+// How a group is written.
+#[derive(Clone, Copy, PartialEq, Eq)]
+enum Mode {
+    // On one line.
+    Flat,
+    // With its target broken.
+    Around,
+    // With a line for each of its parts.
+    Broken,
+}
+
+/// A place in the new text.
+#[derive(Clone, Copy)]
+pub struct Place {
+    /// The column.
+    pub column: usize,
+    /// The indentation of the line.
+    pub indent: usize,
+}
+
+// A group that was begun.
+#[derive(Clone, Copy)]
+struct Opened {
+    mode: Mode,
+    // Where it begins.
+    place: Place,
+}
+
+// Stands in for a group that does not exist.
+const UNKNOWN: Opened = Opened {
+    mode: Mode::Broken,
+    place: Place {
+        column: 0,
+        indent: 0,
+    },
+};
+
+// The indentation of a line of a group.
+fn indent_of(opened: Opened, level: Level) -> usize {
+    let Place { column, indent } = opened.place;
+    let is_same = match level {
+        Level::Same => true,
+        Level::Inner => false,
+        Level::Operator => column == indent,
+    };
+    if is_same {
+        indent
+    } else {
+        indent.saturating_add(STEP).min(MOST_BLANKS)
+    }
+}
+
+/// The groups of a layout that were begun.
+#[derive(Drop)]
+pub struct Modes {
+    measures: Measures,
+    // By their numbers.
+    opened: Vec<Opened>,
+}
+
+impl Modes {
+    /// No groups.
+    pub fn of(alloc: Global, layout: &Layout) -> Result<Modes, AllocError> {
+        Ok(Modes {
+            measures: Measures::of(alloc, layout)?,
+            opened: Vec::with_capacity(alloc, layout.groups.len())?,
+        })
+    }
+
+    // The group of a number.
+    fn group_at(&self, number: usize) -> Opened {
+        self.opened.get(number).copied().unwrap_or(UNKNOWN)
+    }
+
+    // Whether a group is broken.
+    fn is_broken(&self, number: usize) -> bool {
+        self.group_at(number).mode == Mode::Broken
+    }
+
+    /// Whether the line ends in a gap.
+    pub fn ends_line(&self, gap: Gap) -> bool {
+        gap.is_hard || (gap.can_break && self.is_broken(gap.group))
+    }
+
+    /// The indentation of a line that begins after a gap.
+    pub fn indent_after(&self, gap: Gap) -> usize {
+        indent_of(self.group_at(gap.group), gap.level)
+    }
+
+    // The number of columns that have to follow a group on its line.
+    fn tail_of(&self, layout: &Layout, group: &Group) -> usize {
+        let Some(next) = layout.pieces.get(group.end) else {
+            return 0;
+        };
+        let gap = next.gap;
+        if !gap.can_break || self.ends_line(gap) {
+            return self.measures.tail(group.end);
+        }
+        let rest = if next.last_width.is_some() {
+            0
+        } else {
+            self.measures.tail(group.end.saturating_add(1))
+        };
+        rest.saturating_add(gap.blanks).saturating_add(next.width)
+    }
+
+    // The mode of a group that does not fit on the line.
+    fn unfit_mode(&self, layout: &Layout, group: &Group, room: Room, is_shared: bool) -> Mode {
+        let Some(target) = group.target else {
+            return Mode::Broken;
+        };
+        let pieces = &layout.pieces;
+        let can_absorb = group.absorbs || is_shared;
+        if can_absorb && self.measures.fits_around(pieces, group, target, room) {
+            Mode::Around
+        } else {
+            Mode::Broken
+        }
+    }
+
+    // The mode of a group that begins at a place.
+    fn mode_of(&self, layout: &Layout, number: usize, group: &Group, place: Place) -> Mode {
+        let around = self.group_at(group.parent).mode;
+        if number > 0 && around == Mode::Flat {
+            return Mode::Flat;
+        }
+        let outer = match layout.groups.get(group.parent) {
+            Some(outer) if around == Mode::Around => outer.target,
+            _ => None,
+        };
+        let is_part = outer.is_some_and(|target| group.has_part(target));
+        let room = Room {
+            column: place.column,
+            indent: place.indent,
+            tail: self.tail_of(layout, group),
+            limit: LINE,
+        };
+        if !is_part && self.measures.fits(&layout.pieces, group, room) {
+            Mode::Flat
+        } else {
+            let is_shared = outer.is_some() && outer == group.target;
+            self.unfit_mode(layout, group, room, is_shared)
+        }
+    }
+
+    /// Begins the groups whose first piece this is, at a place.
+    pub fn open(&mut self, layout: &Layout, piece: usize, place: Place) -> Result<(), AllocError> {
+        for number in self.opened.len()..layout.groups.len() {
+            let Some(group) = layout.groups.get(number) else {
+                break;
+            };
+            if group.first > piece {
+                break;
+            }
+            let mode = self.mode_of(layout, number, group, place);
+            self.opened.push(Opened { mode, place })?;
+        }
+        Ok(())
+    }
+
+    // Whether a group that begins where it began has the same mode.
+    fn is_kept(&self, layout: &Layout, number: usize) -> bool {
+        match (layout.groups.get(number), self.opened.get(number)) {
+            (Some(group), Some(opened)) => {
+                self.mode_of(layout, number, group, opened.place) == opened.mode
+            }
+            _ => true,
+        }
+    }
+
+    /// Whether all groups have the same modes in another layout, which differs in its hard gaps.
+    pub fn are_kept(&mut self, layout: &Layout) -> bool {
+        self.measures.count_breaks(&layout.pieces);
+        for number in 0..layout.groups.len() {
+            if !self.is_kept(layout, number) {
+                return false;
+            }
+        }
+        true
+    }
+}
