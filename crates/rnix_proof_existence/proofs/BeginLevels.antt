@@ -106,6 +106,7 @@ abbrev top : Option ℕ → ℕ
 top None = 16
 top (Some n) = n
 
+-- no allowed level is higher
 up_to_top : (o : Option ℕ) (level : ℕ) → level ≤ 16 → IsUpTo o level → level ≤ top o
 up_to_top None level l a = l
 up_to_top (Some n) level l a = a

@@ -16,7 +16,6 @@ EachFirst P next =
     × P TOKEN_L_BRACE next NODE_PATTERN × P TOKEN_LET (Some TOKEN_L_BRACE) NODE_LEGACY_LET × Each (λ i. P i next (first_kind 0 i [] None None)) all_kinds
 
 module _ (P : SyntaxKind → Option SyntaxKind → SyntaxKind → Type 0) (h : (next : Option SyntaxKind) → EachFirst P next) where
-
   alone : (i : SyntaxKind) (next : Option SyntaxKind) → P i next (first_kind 0 i [] None None)
   alone i next = each_kind (λ i. P i next (first_kind 0 i [] None None)) ((h next).5) i
 
@@ -47,6 +46,7 @@ abbrev pub kind_up_to : Option ℕ → ℕ → SyntaxKind → SyntaxKind
 kind_up_to None level k = k
 kind_up_to (Some n) level k = kind_if (nat_le level n) k
 
+-- only the lowest level is at most the lowest
 lowest : (level : ℕ) (k : SyntaxKind) → kind_if (nat_eq level 0) k ≡ kind_if (nat_le level 0) k
 lowest level k = by (nat_eq level 0) (nat_le level 0) refl refl
   where
@@ -67,6 +67,7 @@ abbrev pub IsUpTo : Option ℕ → ℕ → Type 0
 IsUpTo None level = Unit {0}
 IsUpTo (Some n) level = level ≤ n
 
+-- what holds of a kind that passes a test, and of an error, holds of what is begun
 tested : (P : SyntaxKind → Type 0) (w : Bool) (k : SyntaxKind) → (w ≡ true → P k) → P NODE_ERROR → P (kind_if w k)
 tested P true k h e = h refl
 tested P false k h e = e
@@ -101,6 +102,7 @@ kind_of b.BoundLambda = NODE_PATTERN
 kind_of b.PatternLambda = NODE_PATTERN
 kind_of b.Stray = NODE_ERROR
 
+-- what begins a tree of a kind has that kind
 pub kind_of_begin : (k i : SyntaxKind) → kind_of (begin_for k i) ≡ k
 kind_of_begin NODE_ATTR_SET TOKEN_REC = refl
 kind_of_begin NODE_ATTR_SET _ = refl

@@ -34,6 +34,7 @@ is_stray begin = false
 abbrev strays : ℕ → SyntaxKind → SyntaxKind → Bool
 strays level kind k = is_stray (begin_for (kind_up_to (highest kind) level k) kind)
 
+-- an old `let` begins an operand where one with bindings does
 old_let_strays : (w : Bool) → is_stray (begin_for (kind_if w NODE_LEGACY_LET) TOKEN_LET) ≡ is_stray (begin_for (kind_if w NODE_LET_IN) TOKEN_LET)
 old_let_strays true = refl
 old_let_strays false = refl
