@@ -1,7 +1,6 @@
 -- The names of entries, one after the other.
-use Rattle.std.proofs.Common.{◌≡◌, ℕ, zero, suc, ◌-◌, ◌<◌, List, [], ◌∷◌, ◌++◌, map, Bool, true, false, Option, Some, None, refl, ap, sym, ◌∙◌, arith}
+use Rattle.std.proofs.Common.{◌≡◌, ℕ, List, [], ◌∷◌, ◌++◌, map, Bool, true, false, Option, Some, None, refl, ap, sym, ◌∙◌}
 use Rattle.std.specs.Prelude.{flat_map, if◌then◌else◌}
-use Rattle.rnix.specs.AttrName.{inside_of, next_inside, inside_parens}
 use Rattle.rnix_kinds.specs.declared.kinds.SyntaxKind.TheVariants as k
 use Rattle.rnix_base.specs.Select.{child_of, nodes_of}
 use Rattle.rnix.specs.NodeKinds.{is_attr, is_expr}
@@ -70,20 +69,3 @@ path_begins attributes owner set attrs whole after e is first =
 pub path_empty : (attributes : Attributes) (owner : ℕ) (set : Option ℕ) (attrs whole : List Located) →
     whole ≡ attrs → whole ≡ [] → AddsNames attributes attributes (names_of owner set attrs)
 path_empty attributes owner set attrs whole is none = adds_none attributes (names_of owner set attrs) (ap (names_of owner set) (sym is ∙ none))
-
--- what is inside the outer parentheses is inside the others
-pub parens_next : (count : ℕ) (e inner : Located) → 0 < count → inside_of e ≡ Some inner → inside_parens count e ≡ inside_parens (count - 1) inner
-parens_next zero e inner some is = absurd (omega (arith, some))
-parens_next (suc count) e inner some is =
-    let fewer : count ≡ suc count - 1 = omega arith in
-    ap (next_inside (inside_parens count) e) is ∙ ap (λ n. inside_parens n inner) fewer
-
--- there is nothing inside
-pub parens_none : (count : ℕ) (e : Located) → inside_of e ≡ None → inside_parens count e ≡ e
-parens_none zero e is = refl
-parens_none (suc count) e is = ap (next_inside (inside_parens count) e) is
-
--- no parentheses are left
-pub parens_zero : (count : ℕ) (e : Located) → count ≡ 0 → inside_parens count e ≡ e
-parens_zero zero e is = refl
-parens_zero (suc count) e is = absurd (omega (arith, is))

@@ -5,7 +5,7 @@ ghost use Rattle.std.specs.Cow.{cow_str_bytes};
 ghost use Rattle.rnix_kinds.specs.declared.kinds.SyntaxKind.TheVariants as k;
 ghost use Rattle.rnix_green.specs.Equality.{same_kind};
 ghost use Rattle.rnix_base.specs.Select.{child_of, nodes_of};
-ghost use Rattle.rnix.specs.AttrName.{inside_of, static_name, without_parens};
+ghost use Rattle.rnix.specs.AttrName.{static_name};
 ghost use Rattle.rnix.specs.NodeKinds.{is_attr, is_expr};
 ghost use Rattle.rnix.specs.Sums.{attr_node};
 ghost use Rattle.nix_lints.specs.Attributes.{AddsNames};
@@ -13,9 +13,8 @@ ghost use Rattle.nix_lints.specs.DefinedNames.{start_of, set_of, value_start, de
 
 use crate::attributes::Attributes;
 use crate::definition::{Definition, Place};
-use rnix::ast::{AstNode, Attr, Attrpath, AttrpathValue, Expr, Inherit};
+use rnix::ast::{AstNode, Attr, Attrpath, AttrpathValue, Inherit, without_parens};
 use rnix::{SyntaxKind, SyntaxNode};
-use rnix_base::child_at;
 use std::alloc::{AllocError, Global};
 use std::borrow::CowStr;
 
@@ -24,32 +23,6 @@ fn start_of(node: &SyntaxNode<'_>) -> usize
     ensures { result ≡ start_of node.now }
 {
     node.text_range().start()
-}
-
-// Returns the expression that is in parentheses, if a node is that.
-fn inside_of<'t>(node: &SyntaxNode<'t>) -> Option<SyntaxNode<'t>>
-    ensures { result ≡ inside_of node.now }
-{
-    if node.kind() != SyntaxKind::NODE_PAREN {
-        return None;
-    }
-    Some(child_at::<Expr<'t>>(node, 0)?.syntax().clone())
-}
-
-// Returns an expression without the parentheses around it.
-fn without_parens<'t>(expr: &SyntaxNode<'t>) -> SyntaxNode<'t>
-    ensures { result ≡ without_parens expr.now }
-{
-    let mut inner = expr.clone();
-    let mut count = expr.inside_count();
-    while count > 0 {
-        match inside_of(&inner) {
-            Some(next) => inner = next,
-            None => return inner,
-        }
-        count -= 1;
-    }
-    inner
 }
 
 // Returns the set that an expression is, perhaps in parentheses.

@@ -13,6 +13,7 @@ mod lambdas;
 mod lets;
 mod names;
 mod operations;
+mod parentheses;
 mod path_parts;
 mod paths;
 mod patterns;
@@ -33,6 +34,7 @@ pub use self::lambdas::{IdentParam, Lambda};
 pub use self::lets::{LegacyLet, LetIn};
 pub use self::names::{Attrpath, CurPos, Dynamic, Ident};
 pub use self::operations::{Apply, BinOp, UnaryOp};
+pub use self::parentheses::without_parens;
 pub use self::paths::{PathAbs, PathHome, PathRel, PathSearch};
 pub use self::patterns::{PatBind, PatEntry, Pattern};
 pub use self::selections::{HasAttr, Select};
@@ -42,5 +44,6 @@ pub use self::strings::{Interpol, Literal, Str};
 pub use self::typed_node::{NodeType, TypedNode};
 pub use rnix_base::{
     AstChildren, AstNode, AstPtr, AstToken, BinOpKind, Comment, Float, Integer, LiteralKind,
-    PathContent, Pointee, StrContent, UnaryOpKind, Uri, Whitespace, unescape,
+    PathContent, Pointee, StrContent, TokenType, TypedToken, UnaryOpKind, Uri, Whitespace,
+    unescape,
 };

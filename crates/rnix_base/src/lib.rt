@@ -14,6 +14,7 @@ mod path_content;
 mod pointer;
 mod token;
 mod tokens;
+mod typed_token;
 mod value;
 
 pub use accessors::{child_at, child_token, children, first_child, first_token};
@@ -28,4 +29,5 @@ pub use path_content::PathContent;
 pub use pointer::{AstPtr, Pointee};
 pub use token::AstToken;
 pub use tokens::{Comment, StrContent, Whitespace};
+pub use typed_token::{TokenType, TypedToken};
 pub use value::{indented_value, quoted_value};

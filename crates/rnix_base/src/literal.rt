@@ -7,11 +7,9 @@ ghost use Rattle.rnix_green.specs.Tree.{text_at};
 ghost use Rattle.rnix_base.specs.Literal.{first_literal};
 
 use crate::accessors::child_token;
-use crate::token::AstToken;
+use crate::typed_token::{TokenType, TypedToken};
 use rnix_kinds::SyntaxKind;
-use rnix_tree::{SyntaxNode, SyntaxToken};
-use std::fmt;
-use std::marker::Model;
+use rnix_tree::SyntaxNode;
 use std::num::{ParseFloatError, ParseIntError};
 use std::str::FromStr;
 
@@ -24,60 +22,19 @@ pub enum LiteralKind<'t> {
 }
 
 /// A floating-point number: `1.5`.
-#[derive(Clone, Debug, PartialEq, Eq, Hash, Drop)]
-pub struct Float<'t> {
-    syntax: SyntaxToken<'t>,
-}
+pub type Float<'t> = TypedToken<'t, FloatType>;
 
-impl<'t> Model for Float<'t> {
-    ghost use Rattle.std.specs.Prelude.{◌≡◌, true};
-    ghost use Rattle.rnix_kinds.specs.declared.kinds.SyntaxKind.TheVariants as k;
-    ghost use Rattle.rnix_green.specs.Equality.{same_kind};
-    ghost use Rattle.rnix_green.specs.Tree.{Located, located_code, item_of};
+/// The type `Float`.
+#[derive(Drop)]
+pub enum FloatType {}
 
-    ghost Value = { Located };
-
-    ghost coded = { located_code };
-
-    ghost view = { λ t. t.syntax };
-
-    ghost inverse = { λ e. record { syntax = e } };
-
-    ghost invariant = { λ t. same_kind k.TOKEN_FLOAT (item_of t.syntax).kind ≡ true };
-}
-
-impl<'t> AstToken<'t> for Float<'t> {
+impl TokenType for FloatType {
     ghost kinds = { same_kind k.TOKEN_FLOAT };
 
-    ghost token = { λ t. t };
+    const NAME: &'static str = "Float";
 
-    fn can_cast(kind: SyntaxKind) -> bool
-        ensures { result ≡ same_kind k.TOKEN_FLOAT kind }
-    {
+    fn has_kind(kind: SyntaxKind) -> bool {
         kind == SyntaxKind::TOKEN_FLOAT
-    }
-
-    fn cast(syntax: SyntaxToken<'t>) -> Option<Self> {
-        if Self::can_cast(syntax.kind()) {
-            Some(Float { syntax })
-        } else {
-            None
-        }
-    }
-
-    fn syntax(&self) -> &SyntaxToken<'t> {
-        &self.syntax
-    }
-}
-
-impl<'t> fmt::Display for Float<'t> {
-    ghost use Rattle.std.specs.Prelude.{Some};
-    ghost use Rattle.rnix_green.specs.Tree.{text_at};
-
-    ghost output = { λ token. Some (text_at token) };
-
-    fn fmt<W: fmt::Write>(&self, f: &mut fmt::Formatter<W>) -> fmt::Result {
-        f.write_str(self.syntax.text())
     }
 }
 
@@ -88,85 +45,26 @@ impl<'t> Float<'t> {
     {
         self.syntax.text().parse()
     }
-
-    /// Returns a copy, without allocating.
-    pub fn clone(&self) -> Self
-        ensures { result ≡ self.now }
-    {
-        Float {
-            syntax: self.syntax.clone(),
-        }
-    }
 }
 
 /// An integer: `42`.
-#[derive(Clone, Debug, PartialEq, Eq, Hash, Drop)]
-pub struct Integer<'t> {
-    syntax: SyntaxToken<'t>,
-}
+pub type Integer<'t> = TypedToken<'t, IntegerType>;
 
-impl<'t> Model for Integer<'t> {
-    ghost use Rattle.std.specs.Prelude.{◌≡◌, true};
-    ghost use Rattle.rnix_kinds.specs.declared.kinds.SyntaxKind.TheVariants as k;
-    ghost use Rattle.rnix_green.specs.Equality.{same_kind};
-    ghost use Rattle.rnix_green.specs.Tree.{Located, located_code, item_of};
+/// The type `Integer`.
+#[derive(Drop)]
+pub enum IntegerType {}
 
-    ghost Value = { Located };
-
-    ghost coded = { located_code };
-
-    ghost view = { λ t. t.syntax };
-
-    ghost inverse = { λ e. record { syntax = e } };
-
-    ghost invariant = { λ t. same_kind k.TOKEN_INTEGER (item_of t.syntax).kind ≡ true };
-}
-
-impl<'t> AstToken<'t> for Integer<'t> {
+impl TokenType for IntegerType {
     ghost kinds = { same_kind k.TOKEN_INTEGER };
 
-    ghost token = { λ t. t };
+    const NAME: &'static str = "Integer";
 
-    fn can_cast(kind: SyntaxKind) -> bool
-        ensures { result ≡ same_kind k.TOKEN_INTEGER kind }
-    {
+    fn has_kind(kind: SyntaxKind) -> bool {
         kind == SyntaxKind::TOKEN_INTEGER
-    }
-
-    fn cast(syntax: SyntaxToken<'t>) -> Option<Self> {
-        if Self::can_cast(syntax.kind()) {
-            Some(Integer { syntax })
-        } else {
-            None
-        }
-    }
-
-    fn syntax(&self) -> &SyntaxToken<'t> {
-        &self.syntax
-    }
-}
-
-impl<'t> fmt::Display for Integer<'t> {
-    ghost use Rattle.std.specs.Prelude.{Some};
-    ghost use Rattle.rnix_green.specs.Tree.{text_at};
-
-    ghost output = { λ token. Some (text_at token) };
-
-    fn fmt<W: fmt::Write>(&self, f: &mut fmt::Formatter<W>) -> fmt::Result {
-        f.write_str(self.syntax.text())
     }
 }
 
 impl<'t> Integer<'t> {
-    /// Returns a copy, without allocating.
-    pub fn clone(&self) -> Self
-        ensures { result ≡ self.now }
-    {
-        Integer {
-            syntax: self.syntax.clone(),
-        }
-    }
-
     /// Returns the number as Rust parses its text.
     pub fn value(&self) -> Result<i64, ParseIntError>
         ensures { ⟦<i64 as FromStr>⟧.from_str_gives (text_at self.now) result }
@@ -176,71 +74,19 @@ impl<'t> Integer<'t> {
 }
 
 /// An unquoted URI: `https://nixos.org`.
-#[derive(Clone, Debug, PartialEq, Eq, Hash, Drop)]
-pub struct Uri<'t> {
-    syntax: SyntaxToken<'t>,
-}
+pub type Uri<'t> = TypedToken<'t, UriType>;
 
-impl<'t> Model for Uri<'t> {
-    ghost use Rattle.std.specs.Prelude.{◌≡◌, true};
-    ghost use Rattle.rnix_kinds.specs.declared.kinds.SyntaxKind.TheVariants as k;
-    ghost use Rattle.rnix_green.specs.Equality.{same_kind};
-    ghost use Rattle.rnix_green.specs.Tree.{Located, located_code, item_of};
+/// The type `Uri`.
+#[derive(Drop)]
+pub enum UriType {}
 
-    ghost Value = { Located };
-
-    ghost coded = { located_code };
-
-    ghost view = { λ t. t.syntax };
-
-    ghost inverse = { λ e. record { syntax = e } };
-
-    ghost invariant = { λ t. same_kind k.TOKEN_URI (item_of t.syntax).kind ≡ true };
-}
-
-impl<'t> AstToken<'t> for Uri<'t> {
+impl TokenType for UriType {
     ghost kinds = { same_kind k.TOKEN_URI };
 
-    ghost token = { λ t. t };
+    const NAME: &'static str = "Uri";
 
-    fn can_cast(kind: SyntaxKind) -> bool
-        ensures { result ≡ same_kind k.TOKEN_URI kind }
-    {
+    fn has_kind(kind: SyntaxKind) -> bool {
         kind == SyntaxKind::TOKEN_URI
-    }
-
-    fn cast(syntax: SyntaxToken<'t>) -> Option<Self> {
-        if Self::can_cast(syntax.kind()) {
-            Some(Uri { syntax })
-        } else {
-            None
-        }
-    }
-
-    fn syntax(&self) -> &SyntaxToken<'t> {
-        &self.syntax
-    }
-}
-
-impl<'t> fmt::Display for Uri<'t> {
-    ghost use Rattle.std.specs.Prelude.{Some};
-    ghost use Rattle.rnix_green.specs.Tree.{text_at};
-
-    ghost output = { λ token. Some (text_at token) };
-
-    fn fmt<W: fmt::Write>(&self, f: &mut fmt::Formatter<W>) -> fmt::Result {
-        f.write_str(self.syntax.text())
-    }
-}
-
-impl<'t> Uri<'t> {
-    /// Returns a copy, without allocating.
-    pub fn clone(&self) -> Self
-        ensures { result ≡ self.now }
-    {
-        Uri {
-            syntax: self.syntax.clone(),
-        }
     }
 }
 

@@ -6,41 +6,22 @@ ghost use Rattle.rnix_green.specs.Equality.{same_kind};
 ghost use Rattle.rnix_green.specs.Tree.{item_of, text_at};
 ghost use Rattle.rnix_base.specs.Kinds.{is_path_token};
 
-use crate::token::AstToken;
+use crate::typed_token::{TokenType, TypedToken};
 use rnix_kinds::SyntaxKind;
-use rnix_tree::SyntaxToken;
-use std::marker::Model;
 
 /// The text of a path between its interpolations: `./so` or `<so>`.
-#[derive(Clone, Debug, PartialEq, Eq, Hash, Drop)]
-pub struct PathContent<'t> {
-    syntax: SyntaxToken<'t>,
-}
+pub type PathContent<'t> = TypedToken<'t, PathContentType>;
 
-impl<'t> Model for PathContent<'t> {
-    ghost use Rattle.std.specs.Prelude.{◌≡◌, true};
-    ghost use Rattle.rnix_base.specs.Kinds.{is_path_token};
-    ghost use Rattle.rnix_green.specs.Tree.{Located, located_code, item_of};
+/// The type `PathContent`.
+#[derive(Drop)]
+pub enum PathContentType {}
 
-    ghost Value = { Located };
-
-    ghost coded = { located_code };
-
-    ghost view = { λ t. t.syntax };
-
-    ghost inverse = { λ e. record { syntax = e } };
-
-    ghost invariant = { λ t. is_path_token (item_of t.syntax).kind ≡ true };
-}
-
-impl<'t> AstToken<'t> for PathContent<'t> {
+impl TokenType for PathContentType {
     ghost kinds = { is_path_token };
 
-    ghost token = { λ t. t };
+    const NAME: &'static str = "PathContent";
 
-    fn can_cast(kind: SyntaxKind) -> bool
-        ensures { result ≡ is_path_token kind }
-    {
+    fn has_kind(kind: SyntaxKind) -> bool {
         matches!(
             kind,
             SyntaxKind::TOKEN_PATH_ABS
@@ -49,30 +30,9 @@ impl<'t> AstToken<'t> for PathContent<'t> {
                 | SyntaxKind::TOKEN_PATH_SEARCH
         )
     }
-
-    fn cast(syntax: SyntaxToken<'t>) -> Option<Self> {
-        if Self::can_cast(syntax.kind()) {
-            Some(PathContent { syntax })
-        } else {
-            None
-        }
-    }
-
-    fn syntax(&self) -> &SyntaxToken<'t> {
-        &self.syntax
-    }
 }
 
 impl<'t> PathContent<'t> {
-    /// Returns a copy, without allocating.
-    pub fn clone(&self) -> Self
-        ensures { result ≡ self.now }
-    {
-        PathContent {
-            syntax: self.syntax.clone(),
-        }
-    }
-
     /// Returns the text as written.
     pub fn text(&self) -> &'t str
         ensures { result.now ≡ text_at self.now }

@@ -7,15 +7,15 @@ ghost use Rattle.rnix_base.specs.Select.{child_of};
 ghost use Rattle.rnix.specs.NodeKinds.{is_expr};
 ghost use Rattle.rnix.specs.StringParts.{string_parts, plain_value};
 ghost use Rattle.rnix.specs.AttrName.{state_behind, is_run, is_lone, is_one_piece, constant_string, constant_by};
-ghost use Rattle.rnix.specs.AttrName.{inside_of, without_parens, constant_of, static_name};
+ghost use Rattle.rnix.specs.AttrName.{constant_of, static_name};
 ghost use Rattle.rnix.specs.Sums.{attr_node};
 
 use crate::ast::attributes::Attr;
-use crate::ast::expression::Expr;
 use crate::ast::names::Dynamic;
+use crate::ast::parentheses::without_parens;
 use crate::ast::string_parts::InterpolPart;
 use crate::ast::strings::Str;
-use rnix_base::{AstNode, AstToken, child_at, first_token, is_indented};
+use rnix_base::{AstNode, AstToken, first_token, is_indented};
 use rnix_kinds::SyntaxKind;
 use rnix_tree::SyntaxNode;
 use std::alloc::{AllocError, Global};
@@ -94,32 +94,6 @@ fn constant(alloc: Global, node: &SyntaxNode<'_>) -> Result<Option<String>, Allo
         },
         _ => Ok(None),
     }
-}
-
-// Returns the expression that is in parentheses, if a node is that.
-fn inside_of<'t>(node: &SyntaxNode<'t>) -> Option<SyntaxNode<'t>>
-    ensures { result ≡ inside_of node.now }
-{
-    if node.kind() != SyntaxKind::NODE_PAREN {
-        return None;
-    }
-    Some(child_at::<Expr<'t>>(node, 0)?.syntax().clone())
-}
-
-// Returns an expression without the parentheses around it.
-fn without_parens<'t>(expr: &SyntaxNode<'t>) -> SyntaxNode<'t>
-    ensures { result ≡ without_parens expr.now }
-{
-    let mut inner = expr.clone();
-    let mut count = expr.inside_count();
-    while count > 0 {
-        match inside_of(&inner) {
-            Some(next) => inner = next,
-            None => return inner,
-        }
-        count -= 1;
-    }
-    inner
 }
 
 // Returns the same of the expression in `${` and `}`, perhaps in parentheses, if there is one.

@@ -1,6 +1,6 @@
 use Rattle.std.proofs.Common.{◌≡◌, ℕ}
 use Rattle.rnix.specs.AttrName.{inside_parens, without_parens}
-use Rattle.nix_lints.proofs.entries.without_parens.Given as goal
+use Rattle.rnix.proofs.ast.parentheses.without_parens.Given as goal
 
 abbrev pub invariant-loop-count : goal.invariant-loop-count
 invariant-loop-count l = without_parens l.expr ≡ inside_parens l.count l.inner

@@ -1,6 +1,6 @@
 use Rattle.std.proofs.Common.{rules, ◌≡◌, ◌∙◌, sym, ap, arith}
 use Rattle.rnix.proofs.ParenthesesLemmas.{inside_next, inside_none, inside_zero}
-use Rattle.rnix.proofs.ast.attr_name.without_parens.Goals as goal
+use Rattle.rnix.proofs.ast.parentheses.without_parens.Goals as goal
 
 pub loop-count-preserved : goal.loop-count-preserved
 loop-count-preserved c =
