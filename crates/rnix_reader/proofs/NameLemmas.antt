@@ -1,7 +1,8 @@
 -- A set of names with one more.
-use Rattle.std.proofs.{Common.{◌≡◌, ℕ, Bool, true, false, List, refl, sym, ◌∙◌, subst, cond}, lemmas.Cmp.{nat_list_eq_equiv, eq_by_cmp_equiv}}
+use Rattle.std.proofs.{Common.{◌≡◌, ℕ, Bool, true, false, List, refl, ap, sym, ◌∙◌, subst, cond}, lemmas.Cmp.{nat_list_eq_equiv, eq_by_cmp_equiv}}
 use Rattle.std.{proofs.lemmas.{Cmp.nat_list_cmp_total, Slice.Eq.bytes_eq-Decides, Map.Text.is_eq-slice_cmp}, specs.{BTreeSet.BTreeSet, Borrow.Bor}}
 use Rattle.std.specs.{List.list_any, Map.{IsKeyTest, AreApart}, Set.KeepsOthers, Str.bytes_eq, Ordering.{is_eq, nat_cmp}, Cmp.Lexicographic.slice_cmp}
+use Rattle.std.proofs.Math.Bool.{not, not-not}
 use Rattle.std.specs.BTreeSet as sorted
 
 apart : (bs cs ks : List ℕ) → bytes_eq bs cs ≡ false → is_eq (slice_cmp nat_cmp bs ks) ≡ true → is_eq (slice_cmp nat_cmp cs ks) ≡ false
@@ -30,3 +31,8 @@ pub names_updated : (bs : List ℕ) (s n : BTreeSet (Bor (List ℕ)))
 names_updated bs s n h =
     by_name (λ ds. sorted.contains_by (λ k. slice_cmp nat_cmp ds k.now) s) (λ ds. sorted.contains_by (λ k. slice_cmp nat_cmp ds k.now) n) bs h.1
     (λ cs e. other_names _ _ _ _ h.3 _ (λ x y. (eq_by_cmp_equiv nat_list_cmp_total).congr cs x.now y.now) (λ k. apart bs cs k.now e))
+
+-- a name that is not new was in the set
+pub contained : (bs : List ℕ) (s : BTreeSet (Bor (List ℕ))) (added : Bool)
+    → added ≡ not (sorted.contains_by (λ k. slice_cmp nat_cmp bs k.now) s) → not added ≡ sorted.contains_by (λ k. slice_cmp nat_cmp bs k.now) s
+contained bs s added e = ap not e ∙ not-not (sorted.contains_by (λ k. slice_cmp nat_cmp bs k.now) s)

@@ -26,20 +26,14 @@ impl<'t> NameSet<'t> {
         }
     }
 
-    /// Returns whether the set contains the name.
-    pub(crate) fn contains(&self, name: &'t str) -> bool
-        ensures { result ≡ has_name name.now self.now }
+    /// Adds a name. Returns whether the set contained it before.
+    #[tactic(auto, using(crate::proofs::NameLemmas::names_updated, crate::proofs::NameLemmas::contained))]
+    pub(crate) fn insert(&mut self, name: &'t str) -> Result<bool, AllocError>
+        ensures contained { IfOk result (λ contained. contained ≡ has_name name.now self.old) }
+        ensures names { (other : List ℕ) → OnOk result (has_name other self.new ≡ has_with other name.now self.old) }
     {
-        self.names.contains(name)
-    }
-
-    /// Adds a name.
-    #[tactic(auto, using(crate::proofs::NameLemmas::names_updated))]
-    pub(crate) fn insert(&mut self, name: &'t str) -> Result<(), AllocError>
-        ensures { (other : List ℕ) → OnOk result (has_name other self.new ≡ has_with other name.now self.old) }
-    {
-        self.names.insert(name)?;
-        Ok(())
+        let is_new = self.names.insert(name)?;
+        Ok(!is_new)
     }
 }
 
@@ -107,8 +101,7 @@ impl<'t> Names<'t> {
         let Some(mut set) = self.sets.pop() else {
             return Ok(None);
         };
-        let repeats = set.contains(text);
-        set.insert(text)?;
+        let repeats = set.insert(text)?;
         self.sets.push(set)?;
         if repeats {
             let name = String::from_str(*self.sets.allocator(), text)?;
