@@ -3,7 +3,7 @@
 ghost use Rattle.std.specs.Prelude.{◌≡◌, ◌<◌, ◌-◌};
 ghost use Rattle.rnix_kinds.specs.declared.kinds.SyntaxKind.TheVariants.{TOKEN_IDENT, TOKEN_LET, NODE_UNARY_OP};
 ghost use Rattle.rnix_grammar.specs.declared.begin.Begin.TheVariants.{Node};
-ghost use Rattle.rnix_grammar.specs.Levels.{selection_level};
+ghost use Rattle.rnix_grammar.specs.Levels.{no_level, selection_level};
 ghost use Rattle.rnix_grammar.specs.Tables.{is_cur_pos};
 ghost use Rattle.rnix_grammar.specs.Begins.{is_pattern, first_kind_of_name, first_kind_of_let, begin_for, begin_of};
 
@@ -101,6 +101,14 @@ fn atom(kind: SyntaxKind, slot: u8) -> Begin
     Begin::Node(kind, slot, SELECTION_LEVEL)
 }
 
+// An operand that is a node of its own and extends as far as possible, so no operator follows it.
+#[inline(always)]
+fn open_ended(kind: SyntaxKind, slot: u8) -> Begin
+    ensures { result ≡ Node kind slot no_level }
+{
+    Begin::Node(kind, slot, NO_LEVEL)
+}
+
 /// Returns how an operand of a level begins, by the next three tokens that are not trivia.
 #[inline(always)]
 pub fn begin_of(
@@ -134,9 +142,9 @@ pub fn begin_of(
         TOKEN_INVERT if level <= INVERSION_LEVEL => prefix(INVERSION, INVERSION_LEVEL),
         TOKEN_SUB if level <= NEGATION_LEVEL => prefix(NEGATION, NEGATION_LEVEL),
         TOKEN_LET if level == EXPRESSION_LEVEL => begin_let(second),
-        TOKEN_WITH if level == EXPRESSION_LEVEL => Begin::Node(NODE_WITH, WITH, NO_LEVEL),
-        TOKEN_ASSERT if level == EXPRESSION_LEVEL => Begin::Node(NODE_ASSERT, ASSERT, NO_LEVEL),
-        TOKEN_IF if level == EXPRESSION_LEVEL => Begin::Node(NODE_IF_ELSE, IF_ELSE, NO_LEVEL),
+        TOKEN_WITH if level == EXPRESSION_LEVEL => open_ended(NODE_WITH, WITH),
+        TOKEN_ASSERT if level == EXPRESSION_LEVEL => open_ended(NODE_ASSERT, ASSERT),
+        TOKEN_IF if level == EXPRESSION_LEVEL => open_ended(NODE_IF_ELSE, IF_ELSE),
         _ => Begin::Stray,
     }
 }
