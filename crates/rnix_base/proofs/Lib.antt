@@ -3,6 +3,8 @@ pub mod ChildrenFit
 mod OperatorLemmas
 pub mod EscapeRows
 pub mod EscapeLemmas
+pub mod QuotedLemmas
+pub mod QuotedRuns
 pub mod NormalRows
 pub mod UnindentLemmas
 pub mod IndentLemmas

@@ -7,6 +7,7 @@ pub mod Literal
 pub mod Normal
 pub mod TokenOperators
 pub mod Parts
+pub mod Quoted
 pub mod TypedPointer
 pub mod Select
 pub mod Value

@@ -29,6 +29,10 @@ indent depth = repeat depth (codes "  ")
 abbrev pub range_end : Extent → List ℕ
 range_end range = codes "@" ++ place_text range ++ codes "\n"
 
+-- an element's line without its indent: its kind's name, its range
+abbrev pub line_end : Located → List ℕ
+line_end e = name_of (item_of e).kind ++ range_end (extent_of e)
+
 -- an element's line: the indent of its depth, its kind's name, its range
 abbrev pub line_of : ℕ → SyntaxKind → Extent → List ℕ
 line_of depth kind range = indent depth ++ name_of kind ++ range_end range

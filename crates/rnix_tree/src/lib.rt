@@ -29,7 +29,7 @@ pub use node::SyntaxNode;
 pub use nodes::{Preorder, SyntaxNodeChildren};
 pub use offset::TokenAtOffset;
 pub use pointer::SyntaxNodePtr;
-pub use printing::dump;
+pub use printing::{dump, write_element};
 pub use rnix_green::{Checkpoint, GreenNode, GreenNodeBuilder, TextRange, TextSize};
 pub use siblings::{Direction, Siblings, SiblingsWithTokens};
 pub use token::SyntaxToken;

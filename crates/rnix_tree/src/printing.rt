@@ -2,7 +2,7 @@
 
 ghost use Rattle.std.specs.Prelude.{OnOk};
 ghost use Rattle.std.specs.Io.KnownBytes.{Appends};
-ghost use Rattle.rnix_tree.specs.Lines.{indent, range_end, element_line, lines_of};
+ghost use Rattle.rnix_tree.specs.Lines.{indent, range_end, line_end, element_line, lines_of};
 ghost use Rattle.rnix_green.specs.Range.{bounds_of};
 ghost use Rattle.rnix_tree.specs.Spots.{place_of};
 
@@ -49,13 +49,21 @@ fn write_range<W: Write>(range: TextRange, out: &mut W) -> io::Result<()>
     Ok(())
 }
 
+/// Prints the kind and the range of an element, and ends the line.
+#[doc(hidden)]
+pub fn write_element<W: Write>(element: &SyntaxElement<'_>, out: &mut W) -> io::Result<()>
+    ensures { OnOk result (Appends (W.contents out.old) (W.contents out.new) (line_end (place_of element.now))) }
+{
+    out.write_all(element.kind().name().as_bytes())?;
+    write_range(element.text_range(), out)
+}
+
 // Prints the line of an element.
 fn write_line<W: Write>(element: &SyntaxElement<'_>, depth: usize, out: &mut W) -> io::Result<()>
     ensures { OnOk result (Appends (W.contents out.old) (W.contents out.new) (element_line depth (place_of element.now))) }
 {
     write_indent(depth, out)?;
-    out.write_all(element.kind().name().as_bytes())?;
-    write_range(element.text_range(), out)
+    write_element(element, out)
 }
 
 /// Prints the node and everything inside it, in preorder, one line for each element: `NODE_LIST@4..9`, indented by two spaces for each level.
