@@ -66,8 +66,8 @@ pub struct Arguments {
 pub enum Start {
     /// Run with these arguments.
     Run(Arguments),
-    /// End with this status: the help or the version is printed, or the command line is refused.
-    End(u8),
+    /// End with this outcome: the help or the version is printed, or the command line is refused.
+    End(io::Result<u8>),
 }
 
 // Whether a list contains a text.
@@ -233,8 +233,8 @@ fn help(rt: &HostRuntime, program: &Program) -> io::Result<()> {
     out.write_all(program.statuses.as_bytes())
 }
 
-/// Parses the command line of the process. Prints the help or the version, or refuses what is wrong on standard error.
-pub fn read_arguments(rt: &HostRuntime, program: &Program) -> io::Result<Start> {
+// Parses the command line of the process.
+fn parsed(rt: &HostRuntime, program: &Program) -> io::Result<Start> {
     let mut arguments = Vec::new(rt.alloc());
     for argument in env::args(rt)?.skip(1) {
         arguments.push(argument)?;
@@ -248,16 +248,24 @@ pub fn read_arguments(rt: &HostRuntime, program: &Program) -> io::Result<Start> 
         Task::Run => return Ok(Start::Run(given)),
         Task::Help => {
             help(rt, program)?;
-            return Ok(Start::End(0));
+            return Ok(Start::End(Ok(0)));
         }
         Task::Version => {
             writeln!(rt.stdout(), "{} {VERSION}", program.name)?;
-            return Ok(Start::End(0));
+            return Ok(Start::End(Ok(0)));
         }
         Task::Refuse(reason, argument) => {
             eprintln!(rt; "{}: {reason} {argument}", program.name)?
         }
     }
     eprintln!(rt; "see {} --help", program.name)?;
-    Ok(Start::End(FAILED))
+    Ok(Start::End(Ok(FAILED)))
+}
+
+/// Parses the command line of the process. Prints the help or the version, or refuses what is wrong on standard error.
+pub fn read_arguments(rt: &HostRuntime, program: &Program) -> Start {
+    match parsed(rt, program) {
+        Ok(start) => start,
+        Err(error) => Start::End(Err(error)),
+    }
 }

@@ -1,7 +1,6 @@
 pub mod DifferentNames
 pub mod MeaningLemmas
 pub mod WrittenLemmas
-pub mod NixStringLemmas
 pub mod UniqueLemmas
 pub mod MeaningExamples
 pub mod MisreadExamples

@@ -1,5 +1,4 @@
 pub mod Meaning
 pub mod NewNames
 pub mod Misread
-pub mod NixString
 pub mod Written

@@ -8,7 +8,6 @@ mod names;
 mod nix_reader;
 mod nix_writer;
 mod no_data;
-mod quoted;
 mod scalars;
 
 pub use laws::one_meaning;

@@ -1,6 +1,6 @@
 //! Names, with quotes where Nix needs them.
 
-use crate::quoted::push_quoted;
+use rnix_base::push_quoted;
 use std::alloc::AllocError;
 
 // The keywords.

@@ -7,10 +7,10 @@ ghost use Rattle.nix_data.specs.Written.{IsMeant, IsWritten};
 use crate::meaning::items_after;
 use crate::names::push_name;
 use crate::nix_reader::data_in;
-use crate::quoted::push_quoted;
 use nix_values::{Data, Item, Notation, Value, kept, push_indentation};
 use rnix::Root;
 use rnix::ast::AstNode;
+use rnix_base::push_quoted;
 use std::alloc::{AllocError, Global};
 
 // The most levels of values that `nix_of` checks: more than the parser accepts.

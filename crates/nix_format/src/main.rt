@@ -56,15 +56,10 @@ fn format_named(rt: &HostRuntime, arguments: &Arguments) -> io::Result<u8> {
     format_files(rt, &files, task_of(arguments), &mut rt.stdout())
 }
 
-// Does what the command line asks for.
-fn run(rt: &HostRuntime) -> io::Result<u8> {
-    match read_arguments(rt, &PROGRAM)? {
-        Start::Run(arguments) => format_named(rt, &arguments),
-        Start::End(status) => Ok(status),
-    }
-}
-
 fn main(rt: HostRuntime) -> ExitCode {
-    let outcome = run(&rt);
+    let outcome = match read_arguments(&rt, &PROGRAM) {
+        Start::Run(arguments) => format_named(&rt, &arguments),
+        Start::End(outcome) => outcome,
+    };
     end(&rt, &PROGRAM, outcome)
 }

@@ -127,15 +127,10 @@ fn convert(rt: &HostRuntime, arguments: &Arguments) -> io::Result<u8> {
     }
 }
 
-// Runs what the command line asks for.
-fn run(rt: &HostRuntime) -> io::Result<u8> {
-    match read_arguments(rt, &PROGRAM)? {
-        Start::Run(arguments) => convert(rt, &arguments),
-        Start::End(status) => Ok(status),
-    }
-}
-
 fn main(rt: HostRuntime) -> ExitCode {
-    let outcome = run(&rt);
+    let outcome = match read_arguments(&rt, &PROGRAM) {
+        Start::Run(arguments) => convert(&rt, &arguments),
+        Start::End(outcome) => outcome,
+    };
     end(&rt, &PROGRAM, outcome)
 }

@@ -1,6 +1,8 @@
 //! Messages on a text, with the place and the line.
 
-use nix_cli::{shown_name, write_excerpt};
+ghost use Rattle.nix_cli.specs.MessagePlaces.{IsIndexed};
+
+use nix_cli::{Source, shown_name, write_excerpt, write_place};
 use nix_data::NoData;
 use nix_diagnostics::{Diagnostic, first_diagnostics};
 use rnix::{Parse, TextRange};
@@ -10,34 +12,29 @@ use std::io::{self, BufWriter, Write};
 // The largest number of errors that are printed.
 const LIMIT: usize = 20;
 
-// A text with its name and lines.
-#[derive(Clone, Copy)]
-struct Source<'a> {
-    name: &'a str,
-    text: &'a str,
-    index: &'a LineIndex<'a>,
-}
-
 // Prints a message with its place, and the line with carets.
 fn write_message<W: Write>(
-    source: Source<'_>,
+    source: &Source<'_>,
     range: TextRange,
     kind: &str,
     message: &str,
     out: &mut W,
-) -> io::Result<()> {
-    let place = source.index.position(range.start()).unwrap_or_default();
-    let (line, column) = (place.line.saturating_add(1), place.column.saturating_add(1));
-    writeln!(out, "{}:{line}:{column}: {kind}: {message}", source.name)?;
+) -> io::Result<()>
+    requires { IsIndexed source.now }
+{
+    write_place(source, range.start(), out)?;
+    writeln!(out, "{kind}: {message}")?;
     write_excerpt(source.text, range.start()..range.end(), out)
 }
 
 // Prints an error of a text, with its notes.
 fn write_diagnostic<W: Write>(
-    source: Source<'_>,
+    source: &Source<'_>,
     diagnostic: &Diagnostic,
     out: &mut W,
-) -> io::Result<()> {
+) -> io::Result<()>
+    requires { IsIndexed source.now }
+{
     write_message(
         source,
         diagnostic.range,
@@ -64,7 +61,7 @@ pub fn report_errors(rt: &HostRuntime, name: &str, text: &str, parse: &Parse) ->
     };
     let mut out = BufWriter::new(rt.alloc(), rt.stderr())?;
     for diagnostic in &first_diagnostics(rt.alloc(), parse, LIMIT)?.first {
-        write_diagnostic(source, diagnostic, &mut out)?;
+        write_diagnostic(&source, diagnostic, &mut out)?;
     }
     out.flush()
 }
@@ -79,14 +76,14 @@ pub fn report_no_data(rt: &HostRuntime, name: &str, text: &str, reason: NoData) 
     };
     let mut out = BufWriter::new(rt.alloc(), rt.stderr())?;
     write_message(
-        source,
+        &source,
         reason.range,
         "error",
         reason.reason.text(),
         &mut out,
     )?;
     if let Some(first) = reason.first {
-        write_message(source, first, "note", "it is first defined here", &mut out)?;
+        write_message(&source, first, "note", "it is first defined here", &mut out)?;
     }
     out.flush()
 }

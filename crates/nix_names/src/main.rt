@@ -70,7 +70,7 @@ fn report_files(rt: &HostRuntime, arguments: &Arguments) -> io::Result<u8> {
     let mut out = BufWriter::new(rt.alloc(), rt.stdout())?;
     let inputs = find_inputs(rt, &PROGRAM, &arguments.words)?;
     let is_json = arguments.has("--json");
-    let mut status = if inputs.files.failed == 0 { 0 } else { FAILED };
+    let mut status = inputs.files.status();
     for file in &inputs.files.names {
         let own = match inputs.read_text(rt, &PROGRAM, file.as_str(), &mut out)? {
             Some(text) => report(
@@ -88,15 +88,10 @@ fn report_files(rt: &HostRuntime, arguments: &Arguments) -> io::Result<u8> {
     Ok(status)
 }
 
-// Does what the command line asks for.
-fn run(rt: &HostRuntime) -> io::Result<u8> {
-    match read_arguments(rt, &PROGRAM)? {
-        Start::Run(arguments) => report_files(rt, &arguments),
-        Start::End(status) => Ok(status),
-    }
-}
-
 fn main(rt: HostRuntime) -> ExitCode {
-    let outcome = run(&rt);
+    let outcome = match read_arguments(&rt, &PROGRAM) {
+        Start::Run(arguments) => report_files(&rt, &arguments),
+        Start::End(outcome) => outcome,
+    };
     end(&rt, &PROGRAM, outcome)
 }

@@ -71,15 +71,10 @@ fn show(rt: &HostRuntime, arguments: &Arguments) -> io::Result<u8> {
     }
 }
 
-// Does what the command line asks for.
-fn run(rt: &HostRuntime) -> io::Result<u8> {
-    match read_arguments(rt, &PROGRAM)? {
-        Start::Run(arguments) => show(rt, &arguments),
-        Start::End(status) => Ok(status),
-    }
-}
-
 fn main(rt: HostRuntime) -> ExitCode {
-    let outcome = run(&rt);
+    let outcome = match read_arguments(&rt, &PROGRAM) {
+        Start::Run(arguments) => show(&rt, &arguments),
+        Start::End(outcome) => outcome,
+    };
     end(&rt, &PROGRAM, outcome)
 }

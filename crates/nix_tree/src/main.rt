@@ -70,7 +70,7 @@ fn print_files(rt: &HostRuntime, arguments: &Arguments) -> io::Result<u8> {
     let files = &inputs.files;
     let (is_json, is_alone) = (arguments.has("--json"), files.names.len() == 1);
     let mut out = BufWriter::new(rt.alloc(), rt.stdout())?;
-    let mut worst = if files.failed == 0 { 0 } else { FAILED };
+    let mut worst = files.status();
     for (number, name) in files.names.iter().enumerate() {
         let heading = match (is_alone, number) {
             (true, _) => None,
@@ -84,15 +84,10 @@ fn print_files(rt: &HostRuntime, arguments: &Arguments) -> io::Result<u8> {
     Ok(worst)
 }
 
-// Does what the command line asks for.
-fn answer(rt: &HostRuntime) -> io::Result<u8> {
-    match read_arguments(rt, &PROGRAM)? {
-        Start::Run(arguments) => print_files(rt, &arguments),
-        Start::End(status) => Ok(status),
-    }
-}
-
 fn main(rt: HostRuntime) -> ExitCode {
-    let outcome = answer(&rt);
+    let outcome = match read_arguments(&rt, &PROGRAM) {
+        Start::Run(arguments) => print_files(&rt, &arguments),
+        Start::End(outcome) => outcome,
+    };
     end(&rt, &PROGRAM, outcome)
 }

@@ -1,4 +1,3 @@
-pub mod QuotedLemmas
 pub mod WordLemmas
 pub mod CollectedLists
 pub mod WayLemmas

@@ -2,8 +2,7 @@
 use Rattle.std.proofs.Common.{◌≡◌, ℕ, ◌<◌, List, [], ◌∷◌, ◌++◌, length, codes, refl, sym, ap, ◌∙◌, subst, arith, append_assoc}
 use Rattle.std.proofs.lemmas.{List.{append-nil, flat_map_more}, Str.encode_ascii}
 use Rattle.std.specs.{Prelude.{flat_map, encode_utf8}, Str.{NoCharPasses, EmptyOrStartsWithPassing}, Char.{is_whitespace, is_not_whitespace}}
-use Rattle.nix_update.specs.{Quoted.quoted_text, Words.{StartsWithWord, AreWords, item_text, list_text, IsListOf}}
-use Rattle.nix_update.proofs.QuotedLemmas.{is_quoted}
+use Rattle.{rnix_base.{specs.Quoted.nix_string, proofs.QuotedLemmas.is_quoted}, nix_update.specs.Words.{StartsWithWord, AreWords, item_text, list_text, IsListOf}}
 
 -- a list so far: its items are the words before a rest
 pub record ListedBefore (text rest list : List ℕ) : Type 0 where
@@ -34,11 +33,9 @@ word_listed text rest list word next new before item is = record {
 }
 
 -- an item is added: the string of a word, and a space
-pub item_added : (list item middle new word : List ℕ) → item ≡ quoted_text word → middle ≡ list ++ item → new ≡ middle ++ encode_utf8 32 →
-    new ≡ list ++ item_text word
-item_added list item middle new word item_is middle_is is =
-    is ∙ ap (λ l. middle ++ l) (encode_ascii 32 (omega arith)) ∙ ap (λ l. l ++ codes " ") (middle_is ∙ ap (λ l. list ++ l) item_is)
-    ∙ append_assoc list (quoted_text word) (codes " ")
+pub item_added : (list middle new word : List ℕ) → middle ≡ list ++ nix_string word → new ≡ middle ++ encode_utf8 32 → new ≡ list ++ item_text word
+item_added list middle new word middle_is is =
+    is ∙ ap (λ l. middle ++ l) (encode_ascii 32 (omega arith)) ∙ ap (λ l. l ++ codes " ") middle_is ∙ append_assoc list (nix_string word) (codes " ")
 
 -- no word is left: with its bracket the list is complete
 pub all_listed : (text rest list new : List ℕ) → ListedBefore text rest list → NoCharPasses is_not_whitespace rest → new ≡ list ++ encode_utf8 93 →
@@ -49,5 +46,5 @@ all_listed text rest list new before none is = record {
   text_is =
       is ∙ ap (λ l. list ++ l) (encode_ascii 93 (omega arith)) ∙ ap (λ l. l ++ codes "]") before.list_is
       ∙ append_assoc (codes "[ ") (flat_map item_text before.seen) (codes "]");
-  are_quoted = λ word. is_quoted word (quoted_text word) refl;
+  are_quoted = λ word. is_quoted word (nix_string word) refl;
 }

@@ -1,4 +1,3 @@
-pub mod Quoted
 pub mod Words
 pub mod NewValue
 pub mod Path

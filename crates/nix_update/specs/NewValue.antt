@@ -4,6 +4,7 @@ use Rattle.rnix_kinds.specs.declared.kinds.SyntaxKind.{SyntaxKind}
 use Rattle.rnix_kinds.specs.declared.kinds.SyntaxKind.TheVariants as k
 use Rattle.rnix_kinds.specs.Lexical.Tokens.{tokens_of}
 use Rattle.rnix_green.specs.Tree.{Located, item_of, text_at}
+use Rattle.rnix_base.specs.Quoted.{nix_string, IsQuoted}
 use Rattle.rnix_base.specs.Select.{child_of}
 use Rattle.rnix_grammar.specs.Parsed.{IsParsed}
 use Rattle.rnix.specs.NodeKinds.{is_expr}
@@ -12,7 +13,6 @@ use Rattle.rnix_edit.specs.declared.edited.Refusal.{Refusal}
 use Rattle.rnix_edit.specs.Edited.{IsReplaced, IsNotReplaced}
 use Rattle.nix_update.specs.declared.value.Form.{Form}
 use Rattle.nix_update.specs.declared.value.Form.TheVariants as form
-use Rattle.nix_update.specs.Quoted.{quoted_text, IsQuoted}
 use Rattle.nix_update.specs.Words.{IsListOf}
 
 -- a text is read without errors, and its expression has this kind and this text
@@ -33,7 +33,7 @@ pub record IsNoExpression (text : List ℕ) : Type 0 where
 
 -- a text is a value as one string
 pub record IsString (value text : List ℕ) : Type 0 where
-  pub text_is : text ≡ quoted_text value
+  pub text_is : text ≡ nix_string value
   pub is_quoted : IsQuoted value text
 
 -- the node that a value means, by its kind and its text: a string, a list of strings, or the expression that the value is

@@ -2,7 +2,7 @@
 use Rattle.std.specs.Prelude.{◌≡◌, ℕ, ◌<◌, List, [], ◌∷◌, ◌++◌, length, flat_map, codes}
 use Rattle.std.specs.Str.{NoCharPasses, EmptyOrStartsWithPassing}
 use Rattle.std.specs.Char.{is_whitespace, is_not_whitespace}
-use Rattle.nix_update.specs.Quoted.{quoted_text, IsQuoted}
+use Rattle.rnix_base.specs.Quoted.{nix_string, IsQuoted}
 
 -- a text is white space, a word, and a rest, which is empty or begins with white space
 pub record StartsWithWord (text word rest : List ℕ) : Type 0 where
@@ -20,7 +20,7 @@ AreWords text (word ∷ words) = (rest : List ℕ) × StartsWithWord text word r
 
 -- an item of the list
 abbrev pub item_text : List ℕ → List ℕ
-item_text word = quoted_text word ++ codes " "
+item_text word = nix_string word ++ codes " "
 
 -- the list of the strings of some words
 abbrev pub list_text : List (List ℕ) → List ℕ
@@ -31,4 +31,4 @@ pub record IsListOf (value text : List ℕ) : Type 0 where
   pub words : List (List ℕ)
   pub are_words : AreWords value words
   pub text_is : text ≡ list_text words
-  pub are_quoted : (word : List ℕ) → IsQuoted word (quoted_text word)
+  pub are_quoted : (word : List ℕ) → IsQuoted word (nix_string word)

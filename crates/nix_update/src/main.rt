@@ -5,7 +5,6 @@
 
 mod adding;
 mod change;
-mod edit;
 mod guard;
 mod home;
 mod inner;
@@ -189,15 +188,10 @@ fn run_with(rt: &HostRuntime, arguments: &Arguments) -> io::Result<u8> {
     update_file(rt, name, update, arguments.has("-i"))
 }
 
-// Runs the program with the command line of the process.
-fn run(rt: &HostRuntime) -> io::Result<u8> {
-    match read_arguments(rt, &PROGRAM)? {
-        Start::Run(arguments) => run_with(rt, &arguments),
-        Start::End(status) => Ok(status),
-    }
-}
-
 fn main(rt: HostRuntime) -> ExitCode {
-    let outcome = run(&rt);
+    let outcome = match read_arguments(&rt, &PROGRAM) {
+        Start::Run(arguments) => run_with(&rt, &arguments),
+        Start::End(outcome) => outcome,
+    };
     end(&rt, &PROGRAM, outcome)
 }

@@ -1,12 +1,13 @@
 //! New values.
 
 ghost use Rattle.std.specs.Prelude.{◌≡◌, ◌++◌, string_bytes, IfOk, IfSome, IfNone, OnOk};
+ghost use Rattle.rnix_base.specs.Quoted.{nix_string, IsQuoted};
 ghost use Rattle.nix_update.specs.Words.{item_text, IsListOf};
 ghost use Rattle.nix_update.specs.NewValue.{IsExpression, IsNoExpression, IsValueOf, IsNoValue};
 
-use crate::edit::quoted;
 use rnix::ast::AstNode;
 use rnix::{Root, SyntaxKind};
+use rnix_base::push_quoted;
 use std::alloc::{AllocError, Global};
 
 /// The form in which a new value is given.
@@ -27,14 +28,22 @@ pub struct Value {
     pub text: String,
 }
 
+// Returns a value as a string.
+fn quoted(alloc: Global, value: &str) -> Result<String, AllocError>
+    ensures text { IfOk result (λ text. string_bytes text ≡ nix_string value.now) }
+    ensures is_string { IfOk result (λ text. IsQuoted value.now (string_bytes text)) }
+{
+    let mut text = String::new(alloc);
+    push_quoted(value, &mut text)?;
+    Ok(text)
+}
+
 // Adds a word to a list, as a string.
-fn add_word(alloc: Global, list: &mut String, word: &str) -> Result<(), AllocError>
+fn add_word(word: &str, list: &mut String) -> Result<(), AllocError>
     ensures { OnOk result (string_bytes list.new ≡ string_bytes list.old ++ item_text word.now) }
 {
-    let item = quoted(alloc, word)?;
-    list.push_str(item.as_str())?;
-    list.push(' ')?;
-    Ok(())
+    push_quoted(word, list)?;
+    list.push(' ')
 }
 
 // Returns the list of the words of a text, each as a string.
@@ -43,7 +52,7 @@ fn list(alloc: Global, text: &str) -> Result<String, AllocError>
 {
     let mut list = String::from_str(alloc, "[ ")?;
     for word in text.split_whitespace() {
-        add_word(alloc, &mut list, word)?;
+        add_word(word, &mut list)?;
     }
     list.push(']')?;
     Ok(list)

@@ -1,4 +1,2 @@
-mod DigitsWritten
-mod RangeWritten
 mod WalkLines
 mod Indented
