@@ -1,6 +1,6 @@
 //! Texts that stay the same when they are formatted again.
 
-use nix_layout::{Styled, styled};
+use nix_layout::{NewText, styled};
 use rnix::Root;
 use std::alloc::{AllocError, Global};
 
@@ -8,13 +8,13 @@ use std::alloc::{AllocError, Global};
 const ROUNDS: usize = 4;
 
 // Formats a new text again. Returns `None` if it has errors.
-fn styled_again(alloc: Global, made: &str) -> Result<Option<Styled>, AllocError> {
+fn styled_again(alloc: Global, made: &str) -> Result<Option<NewText>, AllocError> {
     let read = Root::parse(alloc, made)?;
     if !read.errors().is_empty() {
         return Ok(None);
     }
     let again = styled(alloc, made, &read.syntax())?;
-    Ok(Some(Styled {
+    Ok(Some(NewText {
         is_settled: again.is_settled || again.text.as_str() == made,
         text: again.text,
     }))
@@ -22,7 +22,7 @@ fn styled_again(alloc: Global, made: &str) -> Result<Option<Styled>, AllocError>
 
 /// Returns a text that stays the same when it is formatted again: the new text, or what it becomes when it is formatted a few times more. Returns `None` if
 /// there is none among these, or if the new text has errors.
-pub fn settled(alloc: Global, made: Styled) -> Result<Option<String>, AllocError> {
+pub fn settled(alloc: Global, made: NewText) -> Result<Option<String>, AllocError> {
     let mut made = made;
     for _ in 0..ROUNDS {
         if made.is_settled {

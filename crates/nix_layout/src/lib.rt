@@ -19,4 +19,4 @@ mod restyling;
 mod spacing;
 mod writing;
 
-pub use restyling::{Styled, styled};
+pub use restyling::{NewText, styled};

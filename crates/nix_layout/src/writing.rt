@@ -12,7 +12,7 @@ const BLANKS: &str =
 
 /// The text of a layout.
 #[derive(Drop)]
-pub struct Written {
+pub struct Output {
     pub text: String,
     /// What ends its lines.
     pub line_end: &'static str,
@@ -123,7 +123,7 @@ impl<'a> Writer<'a> {
     }
 
     // Writes all pieces.
-    fn write(mut self) -> Result<Written, AllocError> {
+    fn write(mut self) -> Result<Output, AllocError> {
         let layout = self.layout;
         for (number, piece) in layout.pieces.iter().enumerate() {
             if number > 0 {
@@ -135,7 +135,7 @@ impl<'a> Writer<'a> {
         if !layout.pieces.is_empty() {
             self.push_line_end()?;
         }
-        Ok(Written {
+        Ok(Output {
             text: self.made,
             line_end: self.line_end,
             modes: self.modes,
@@ -144,7 +144,7 @@ impl<'a> Writer<'a> {
 }
 
 /// The text of a layout: each group is on one line if it fits.
-pub fn written(alloc: Global, text: &str, layout: &Layout) -> Result<Written, AllocError> {
+pub fn written(alloc: Global, text: &str, layout: &Layout) -> Result<Output, AllocError> {
     let writer = Writer {
         text,
         layout,

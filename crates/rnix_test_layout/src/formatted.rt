@@ -1,7 +1,7 @@
 //! Formatted texts, and their digests.
 
 use crate::digests::PRIME;
-use nix_layout::{Styled, styled};
+use nix_layout::{NewText, styled};
 use rnix::Root;
 use std::alloc::{AllocError, Global};
 use std::process::Abort;
@@ -20,7 +20,7 @@ pub fn filled(alloc: Global, outer: &str, inner: &str) -> Result<String, AllocEr
 }
 
 /// Returns the text that the layout makes, unless the text has errors.
-pub fn styled_text(alloc: Global, text: &str) -> Result<Option<Styled>, AllocError> {
+pub fn styled_text(alloc: Global, text: &str) -> Result<Option<NewText>, AllocError> {
     let parse = Root::parse(alloc, text)?;
     if !parse.errors().is_empty() {
         return Ok(None);
