@@ -43,7 +43,8 @@ fn add_word(word: &str, list: &mut String) -> Result<(), AllocError>
     ensures { OnOk result (string_bytes list.new ≡ string_bytes list.old ++ item_text word.now) }
 {
     push_quoted(word, list)?;
-    list.push(' ')
+    list.push(' ')?;
+    Ok(())
 }
 
 // Returns the list of the words of a text, each as a string.
