@@ -1,5 +1,5 @@
 -- A tree as the steps of a walk over it, without white space.
-use Rattle.std.specs.Prelude.{◌≡◌, ℕ, ◌-◌, ◌≤◌, ◌==◌, ◌&&◌, Bool, true, false, not, List, [], ◌∷◌, ◌++◌, flat_map, length, map, take, drop, Option, IfSome, is_some, if◌then◌else◌}
+use Rattle.std.specs.Prelude.{◌≡◌, ℕ, ◌-◌, ◌≤◌, ◌==◌, ◌&&◌, Bool, true, false, not, List, [], ◌∷◌, ◌++◌, flat_map, length, map, take, drop, if◌then◌else◌}
 use Rattle.std.specs.Bool.{beq}
 use Rattle.std.specs.Str.{bytes_eq}
 use Rattle.std.specs.List.{All, list_any, list_all}
@@ -111,11 +111,6 @@ is_comment step = same_kind step.kind k.TOKEN_COMMENT
 abbrev pub enters_first : List Step → Bool
 enters_first [] = false
 enters_first (step ∷ steps) = step.enters
-
--- whether steps begin with some others; if so, the number of these, and what is left when they are taken
-pub record IsTaken (taken : Option ℕ) (first all left : List Step) : Type 0 where
-  pub passed : IfSome taken (λ count. (all ≡ first ++ left) × (count ≡ length first))
-  pub found : (rest : List Step) → all ≡ first ++ rest → is_some taken ≡ true
 
 -- so many steps come first, all of which pass comments
 abbrev pub AreComments : ℕ → List Step → Type 0

@@ -1,11 +1,11 @@
 //! A tree as the steps of a walk over it, without white space.
 
-ghost use Rattle.std.specs.Prelude.{◌≡◌, ◌<◌, ◌≤◌, ◌+◌, ◌^◌, [], ◌∷◌, drop, length, MatchOption, IfSome, IfNone, IsTrue};
+ghost use Rattle.std.specs.Prelude.{◌≡◌, ◌<◌, ◌≤◌, ◌+◌, [], ◌∷◌, MatchOption, IfSome, IfNone, IsTrue};
 ghost use Rattle.rnix_green.specs.Tree.{item_of, text_at};
 ghost use Rattle.std.specs.Bool.{Decides};
 ghost use Rattle.rnix_tree.specs.{Spots.{event_of}, WalksAlike.{siblings_before}};
 ghost use Rattle.rnix_edit.specs.Steps.{step_of, token_steps, node_step, step_at, steps_of, enters, leaves, events_before, events_inside, events_after};
-ghost use Rattle.rnix_edit.specs.Steps.{is_left, is_comment, ArePassed, IsTaken, AreTaken, AreCommentsTaken, IsClosingTaken};
+ghost use Rattle.rnix_edit.specs.Steps.{is_left, is_comment, ArePassed, AreTaken, AreCommentsTaken, IsClosingTaken};
 
 use crate::place::{Place, is_at};
 use rnix::{
@@ -112,16 +112,6 @@ fn step_at<'t>(event: &WalkEvent<SyntaxElement<'t>>) -> Option<Step<'t>>
         WalkEvent::Leave(NodeOrToken::Node(node)) => Some(node_step(node, false)),
         WalkEvent::Enter(NodeOrToken::Token(token)) => token_step(token),
         WalkEvent::Leave(NodeOrToken::Token(_)) => None,
-    }
-}
-
-// Returns the number of steps of an event: one or none.
-fn step_count(event: &WalkEvent<SyntaxElement<'_>>) -> usize
-    ensures { result ≡ length (step_at (event_of event.now)) }
-{
-    match step_at(event) {
-        Some(_) => 1,
-        None => 0,
     }
 }
 
@@ -238,47 +228,9 @@ pub fn are_same_before(
     next_before(events, old).is_none()
 }
 
-/// Takes the events up to the one that leaves the node at a place, and returns the number of their steps.
-pub fn steps_through(events: &mut PreorderWithTokens<'_>, place: Place) -> usize
-    requires { length events.old < 2 ^ 64 }
-    ensures rest { events.new ≡ events_after place events.old }
-    ensures steps { steps_of events.new ≡ drop result (steps_of events.old) }
-    ensures within { result ≤ length (steps_of events.old) }
-{
-    let mut count = 0;
-    while let Some(event) = events.next() {
-        count += step_count(&event);
-        if leaves(&event, place) {
-            return count;
-        }
-    }
-    count
-}
-
-/// Takes the steps of `wanted` before the node at a place from both walks, if `events` begins with them, and returns their number. `wanted` has then
-/// entered the node, or is at its end.
-pub fn takes_before(
-    events: &mut PreorderWithTokens<'_>,
-    wanted: &mut PreorderWithTokens<'_>,
-    place: Place,
-) -> Option<usize>
-    requires { length wanted.old < 2 ^ 64 }
-    ensures taken { IsTaken result (steps_of (events_before place wanted.old)) (steps_of events.old) (steps_of events.new) }
-    ensures entered { IfSome result (λ _. wanted.new ≡ events_inside place wanted.old) }
-{
-    let mut count = 0;
-    while let Some(step) = next_before(wanted, place) {
-        match next_step(events) {
-            Some(other) if is_step(step, other) => count += 1,
-            _ => return None,
-        }
-    }
-    Some(count)
-}
-
 /// Takes the steps of `wanted` before the node at a place from both walks, if `events` begins with them, and returns whether it does. `wanted` has then
 /// entered the node, or is at its end.
-// As `takes_before`, with siblings that are alike passed together: these are not counted.
+// Siblings that are alike are passed together.
 pub fn begins_before(
     events: &mut PreorderWithTokens<'_>,
     wanted: &mut PreorderWithTokens<'_>,

@@ -1,20 +1,28 @@
-use Rattle.std.proofs.Common.{◌≡◌, ◌≤◌, drop, length, rules, true, ap, subst, ◌∙◌}
-use Rattle.rnix_edit.specs.Steps.{steps_of, events_after}
-use Rattle.rnix_edit.proofs.CheckLemmas.{after_tested, comments_fit}
+use Rattle.std.proofs.Common.{◌≡◌, true, sym, subst, ◌∙◌}
+use Rattle.std.proofs.lemmas.Bool.{false≢true}
+use Rattle.std.specs.Bool.{Decides}
+use Rattle.rnix_edit.specs.Steps.{steps_of, steps_after, AreCommentsTaken}
+use Rattle.rnix_edit.proofs.CheckLemmas.{after_left, after_tested}
 use Rattle.rnix_edit.proofs.check.is_after.Goals as goal
 
-pub overflow_add-result : goal.overflow_add-result
-overflow_add-result c =
-    let is : c.takes_comments.result ≡ true = search rules in
-    comments_fit c.args.comments c.steps_through-through.result c.preorder_with_tokens-old_walk.result _ c.preorder_with_tokens-old_walk.ensures.fits
-    c.steps_through-through.ensures.steps c.steps_through-through.ensures.within (c.takes_comments.ensures.passed is).0
+pub returns-then-takes_comments : goal.returns-then-takes_comments
+returns-then-takes_comments c =
+    let root = c.args.root.now in
+    let other = c.args.other.now in
+    let left = steps_of c.takes_comments.new.events in
+    let comes : AreCommentsTaken c.takes_comments.result c.args.comments (steps_after c.args.old root) left =
+    subst (λ steps. AreCommentsTaken c.takes_comments.result c.args.comments steps left)
+    (after_left c.args.old root _ _ c.preorder_with_tokens-old_walk.ensures.walk c.skip_node.ensures.rest) c.takes_comments.ensures in
+    let same : Decides c.are_same_walks.result (left ≡ steps_after c.args.new other) =
+    subst (λ steps. Decides c.are_same_walks.result (left ≡ steps))
+    (after_left c.args.new other _ _ c.preorder_with_tokens-new_walk.ensures.walk c.skip_node-2.ensures.rest) c.are_same_walks.ensures in
+    after_tested root c.args.old c.args.comments other c.args.new _ _ left (c.is_with.ensures.0 c.if-not-is_with.false) comes c.if-takes_comments.true same
 
-pub returns-in-Some : goal.returns-in-Some
-returns-in-Some c =
-    let is : c.takes_comments.result ≡ true = search rules in
-    let walk = c.preorder_with_tokens-old_walk.ensures.walk in
-    after_tested c.args.root.now c.args.old c.args.comments c.args.other.now c.args.new c.in-Some.count c.steps_through-through.result
-    (steps_of c.steps_through-through.new.events) c.in-Some.ensures
-    (c.steps_through-through.ensures.steps ∙ ap (λ es. drop c.steps_through-through.result (steps_of es)) walk)
-    (subst (λ es. c.steps_through-through.result ≤ length (steps_of es)) walk c.steps_through-through.ensures.within)
-    (ap steps_of (c.steps_through-through.ensures.rest ∙ ap (events_after c.args.old) walk)) (c.takes_comments.ensures.passed is).0
+pub returns-else-takes_comments : goal.returns-else-takes_comments
+returns-else-takes_comments c =
+    let root = c.args.root.now in
+    let left = steps_of c.takes_comments.new.events in
+    let comes : AreCommentsTaken c.takes_comments.result c.args.comments (steps_after c.args.old root) left =
+    subst (λ steps. AreCommentsTaken c.takes_comments.result c.args.comments steps left)
+    (after_left c.args.old root _ _ c.preorder_with_tokens-old_walk.ensures.walk c.skip_node.ensures.rest) c.takes_comments.ensures in
+    (λ is. absurd (false≢true (sym c.if-takes_comments.false ∙ is)), λ h. comes.found (h.fits, h.are_comments))

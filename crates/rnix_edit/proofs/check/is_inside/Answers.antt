@@ -1,26 +1,28 @@
-use Rattle.std.proofs.Common.{◌≡◌, ◌≤◌, ◌<◌, ◌^◌, drop, length, rules, true, ap, subst, ◌∙◌}
-use Rattle.rnix_edit.specs.Steps.{steps_of, steps_after, events_after, IsClosing}
-use Rattle.rnix_edit.proofs.CheckLemmas.{inside_tested, closing_fits}
+use Rattle.std.proofs.Common.{◌≡◌, true, sym, subst, ◌∙◌}
+use Rattle.std.proofs.lemmas.Bool.{false≢true}
+use Rattle.std.specs.Bool.{Decides}
+use Rattle.rnix_edit.specs.Steps.{steps_of, steps_after, IsClosingTaken}
+use Rattle.rnix_edit.proofs.CheckLemmas.{after_left, inside_tested}
 use Rattle.rnix_edit.proofs.check.is_inside.Goals as goal
 
-pub overflow_add-result : goal.overflow_add-result
-overflow_add-result c =
-    let is : c.takes_closing.result ≡ true = search rules in
-    let closes : IsClosing (steps_after c.args.new c.args.other.now) =
-    subst (λ es. IsClosing (steps_of es)) (c.skip_node.ensures.rest ∙ ap (events_after c.args.new) c.preorder_with_tokens-new_walk.ensures.walk)
-    (c.takes_closing.ensures.passed is).0 in
-    closing_fits c.args.root.now c.args.other.now c.args.new c.in-Some.count
-    (subst (λ es. length es < 2 ^ 64) c.preorder_with_tokens-old_walk.ensures.walk c.preorder_with_tokens-old_walk.ensures.fits) c.in-Some.ensures closes
+pub returns-then-takes_closing : goal.returns-then-takes_closing
+returns-then-takes_closing c =
+    let root = c.args.root.now in
+    let other = c.args.other.now in
+    let left = steps_of c.takes_closing.new.events in
+    let comes : IsClosingTaken c.takes_closing.result (steps_after c.args.new other) left =
+    subst (λ steps. IsClosingTaken c.takes_closing.result steps left)
+    (after_left c.args.new other _ _ c.preorder_with_tokens-new_walk.ensures.walk c.skip_node-2.ensures.rest) c.takes_closing.ensures in
+    let same : Decides c.are_same_walks.result (steps_after c.args.old root ≡ left) =
+    subst (λ steps. Decides c.are_same_walks.result (steps ≡ left))
+    (after_left c.args.old root _ _ c.preorder_with_tokens-old_walk.ensures.walk c.skip_node.ensures.rest) c.are_same_walks.ensures in
+    inside_tested root c.args.old other c.args.new _ _ left (c.is_with.ensures.0 c.if-not-is_with.false) comes c.if-takes_closing.true same
 
-pub returns-in-Some : goal.returns-in-Some
-returns-in-Some c =
-    let is : c.takes_closing.result ≡ true = search rules in
-    let walk = c.preorder_with_tokens-old_walk.ensures.walk in
-    let closes : IsClosing (steps_after c.args.new c.args.other.now) =
-    subst (λ es. IsClosing (steps_of es)) (c.skip_node.ensures.rest ∙ ap (events_after c.args.new) c.preorder_with_tokens-new_walk.ensures.walk)
-    (c.takes_closing.ensures.passed is).0 in
-    inside_tested c.args.root.now c.args.old c.args.other.now c.args.new c.in-Some.count c.steps_through-through.result
-    (steps_of c.steps_through-through.new.events) c.in-Some.ensures
-    (c.steps_through-through.ensures.steps ∙ ap (λ es. drop c.steps_through-through.result (steps_of es)) walk)
-    (subst (λ es. c.steps_through-through.result ≤ length (steps_of es)) walk c.steps_through-through.ensures.within)
-    (ap steps_of (c.steps_through-through.ensures.rest ∙ ap (events_after c.args.old) walk)) closes
+pub returns-else-takes_closing : goal.returns-else-takes_closing
+returns-else-takes_closing c =
+    let other = c.args.other.now in
+    let left = steps_of c.takes_closing.new.events in
+    let comes : IsClosingTaken c.takes_closing.result (steps_after c.args.new other) left =
+    subst (λ steps. IsClosingTaken c.takes_closing.result steps left)
+    (after_left c.args.new other _ _ c.preorder_with_tokens-new_walk.ensures.walk c.skip_node-2.ensures.rest) c.takes_closing.ensures in
+    (λ is. absurd (false≢true (sym c.if-takes_closing.false ∙ is)), λ h. comes.found (h.fits, h.token))
