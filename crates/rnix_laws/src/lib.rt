@@ -11,6 +11,7 @@ pub use rnix::laws::{
 };
 pub use rnix_proof_locality::locality;
 pub use rnix_proof_lookahead::lookahead;
+pub use rnix_proof_reparse::reparsing;
 pub use rnix_proof_replacement::replacement;
 pub use rnix_proof_separation::separation;
 pub use step_count::steps;

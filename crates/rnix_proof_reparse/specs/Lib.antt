@@ -1,0 +1,3 @@
+pub mod Bracketed
+pub mod Context
+pub mod Reparsed
