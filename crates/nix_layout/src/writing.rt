@@ -129,7 +129,8 @@ impl<'a> Writer<'a> {
             if number > 0 {
                 self.write_gap(piece.gap)?;
             }
-            self.modes.open(layout, number, self.place)?;
+            let place = self.place;
+            self.modes.open(layout, number, place)?;
             self.write_piece(piece)?;
         }
         if !layout.pieces.is_empty() {
