@@ -38,10 +38,10 @@ as_sarif style name text is_first d old new is written = (
 pub take_limited : {A : Type 0} (xs : List A) (limit : ℕ) → take (length xs - (length xs - limit)) xs ≡ take limit xs
 take_limited xs limit =
     elim (cases_lt limit (length xs)) [
-      | inl less ↦ (let left : length xs - (length xs - limit) ≡ limit = omega arith in ap (λ n. take n xs) left)
+      | inl less ↦ (let remaining : length xs - (length xs - limit) ≡ limit = omega arith in ap (λ n. take n xs) remaining)
       | inr more ↦ (
-          let left : length xs - (length xs - limit) ≡ length xs = omega arith in
-          ap (λ n. take n xs) left ∙ take_all (length xs) xs (omega arith) ∙ sym (take_all limit xs more)
+          let remaining : length xs - (length xs - limit) ≡ length xs = omega arith in
+          ap (λ n. take n xs) remaining ∙ take_all (length xs) xs (omega arith) ∙ sym (take_all limit xs more)
           )
     ]
 
@@ -50,14 +50,14 @@ pub all_printed : (style : Style) (name text : List ℕ) (earlier : ℕ) (first 
     rest ≡ length first - style.limit → take style.limit first ≡ take style.limit all → more ≡ length all - style.limit →
     Prints (AreFormed style name text earlier (take (length first - rest) first)) old mid → Appends mid new (more_line name more) →
     Prints (ArePrinted style name text earlier all) old new
-all_printed style name text earlier first all rest more old mid new behind begins left shown line =
+all_printed style name text earlier first all rest more old mid new behind begins remaining shown line =
     let same : take (length first - rest) first ≡ take style.limit all =
     ap (λ n. take (length first - n) first) behind ∙ take_limited first style.limit ∙ begins in (
       shown.0 ++ more_line name more,
       record {
         shown = shown.0;
         are_shown = subst (λ (ds : List Diagnostic). AreFormed style name text earlier ds shown.0) same shown.1;
-        whole = ap (λ n. shown.0 ++ more_line name n) left;
+        whole = ap (λ n. shown.0 ++ more_line name n) remaining;
       },
       Appends-trans old mid new shown.0 (more_line name more) shown.2 line,
     )

@@ -1,7 +1,7 @@
 -- A diagnostic as a line of JSON. A text is the list of its bytes.
 use Rattle.std.specs.Prelude.{ℕ, ◌-◌, List, ◌++◌, codes, decimal, map, string_bytes, unwrap_or}
 use Rattle.rnix_green.specs.declared.range.TextRange.{TextRange}
-use Rattle.nix_cli.specs.{JsonString.json_string, MessagePlaces.line_and_column}
+use Rattle.nix_cli.specs.{JsonString.json_string, MessageLocations.line_and_column}
 use Rattle.nix_diagnostics.specs.Codes.{code_name, severity_of, severity_name}
 use Rattle.nix_diagnostics.specs.declared.code.Code.{Code}
 use Rattle.nix_diagnostics.specs.declared.diagnostic.Diagnostic.{Diagnostic}
@@ -9,14 +9,15 @@ use Rattle.nix_diagnostics.specs.declared.notes.Note.{Note}
 use Rattle.nix_check.specs.Listed.{comma_joined}
 
 -- a place: its line and its column, and the offsets of its start and its end
-abbrev pub place_members : ℕ × ℕ → ℕ → ℕ → List ℕ
-place_members place start end =
-    codes "\"line\":" ++ decimal place.0 ++ codes ",\"column\":" ++ decimal place.1 ++ codes ",\"start\":" ++ decimal start ++ codes ",\"end\":" ++ decimal end
+abbrev pub location_members : ℕ × ℕ → ℕ → ℕ → List ℕ
+location_members location start end =
+    codes "\"line\":" ++ decimal location.0 ++ codes ",\"column\":" ++ decimal location.1 ++ codes ",\"start\":" ++ decimal start ++ codes ",\"end\":"
+    ++ decimal end
 
 -- a place in a text and a message
 abbrev pub message_members : List ℕ → TextRange → List ℕ → List ℕ
 message_members text range message =
-    place_members (line_and_column text range.start) range.start range.end ++ codes ",\"message\":" ++ json_string message
+    location_members (line_and_column text range.start) range.start range.end ++ codes ",\"message\":" ++ json_string message
 
 -- a note: its place, or that of its diagnostic, and its message
 abbrev pub note_object : List ℕ → TextRange → Note → List ℕ

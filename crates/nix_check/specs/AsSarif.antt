@@ -2,7 +2,7 @@
 use Rattle.std.specs.Prelude.{ℕ, ◌+◌, ◌/◌, ◌%◌, ◌==◌, ◌&&◌, ◌||◌, nat_lt, nat_le, Bool, List, [], ◌∷◌, ◌++◌, codes, decimal, map, string_bytes, unwrap_or, if◌then◌else◌}
 use Rattle.std.specs.{List.flat_map, Char.is_ascii_alphanumeric}
 use Rattle.rnix_green.specs.declared.range.TextRange.{TextRange}
-use Rattle.nix_cli.specs.{JsonString.json_string, MessagePlaces.line_and_column}
+use Rattle.nix_cli.specs.{JsonString.json_string, MessageLocations.line_and_column}
 use Rattle.nix_diagnostics.specs.Codes.{code_name, severity_of, severity_name}
 use Rattle.nix_diagnostics.specs.declared.code.Code.{Code}
 use Rattle.nix_diagnostics.specs.declared.diagnostic.Diagnostic.{Diagnostic}

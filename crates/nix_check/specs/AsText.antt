@@ -1,7 +1,7 @@
 -- A diagnostic as text: its place and its message, an excerpt of the text, and its notes. A text is the list of its bytes.
 use Rattle.std.specs.Prelude.{◌≡◌, ℕ, Bool, List, [], ◌∷◌, ◌++◌, codes, string_bytes, Option, Some, None, if◌then◌else◌}
 use Rattle.rnix_green.specs.declared.range.TextRange.{TextRange}
-use Rattle.nix_cli.specs.MessagePlaces.{place_text}
+use Rattle.nix_cli.specs.MessageLocations.{location_text}
 use Rattle.nix_diagnostics.specs.Codes.{severity_of}
 use Rattle.nix_diagnostics.specs.declared.code.Severity.{Severity}
 use Rattle.nix_diagnostics.specs.declared.code.Severity.TheVariants.{Error, Warning}
@@ -27,18 +27,18 @@ abbrev pub help_text : Bool → List ℕ → List ℕ
 help_text is_colored message = codes "  " ++ message_text is_colored (codes "36") (codes "help:") message
 
 -- a note with a place: the place, the message and an excerpt
-abbrev pub IsPlacedText : Bool → List ℕ → List ℕ → ℕ → List ℕ → List ℕ → Type 0
-IsPlacedText is_colored name text start message bytes =
-    (excerpt : List ℕ) × (bytes ≡ place_text name text start ++ message_text is_colored (codes "36") (codes "note:") message ++ excerpt)
+abbrev pub IsLocatedText : Bool → List ℕ → List ℕ → ℕ → List ℕ → List ℕ → Type 0
+IsLocatedText is_colored name text start message bytes =
+    (excerpt : List ℕ) × (bytes ≡ location_text name text start ++ message_text is_colored (codes "36") (codes "note:") message ++ excerpt)
 
 -- a note with a place or without one
-abbrev pub HasPlace : Bool → List ℕ → List ℕ → List ℕ → Option TextRange → List ℕ → Type 0
-HasPlace is_colored name text message None bytes = bytes ≡ help_text is_colored message
-HasPlace is_colored name text message (Some range) bytes = IsPlacedText is_colored name text range.start message bytes
+abbrev pub HasLocation : Bool → List ℕ → List ℕ → List ℕ → Option TextRange → List ℕ → Type 0
+HasLocation is_colored name text message None bytes = bytes ≡ help_text is_colored message
+HasLocation is_colored name text message (Some range) bytes = IsLocatedText is_colored name text range.start message bytes
 
 -- a note as text
 abbrev pub IsNoteText : Bool → List ℕ → List ℕ → Note → List ℕ → Type 0
-IsNoteText is_colored name text note bytes = HasPlace is_colored name text note.message.now note.range bytes
+IsNoteText is_colored name text note bytes = HasLocation is_colored name text note.message.now note.range bytes
 
 -- notes as text, one after the other
 abbrev pub AreNoteTexts : Bool → List ℕ → List ℕ → List Note → List ℕ → Type 0
@@ -50,4 +50,4 @@ pub record IsText (is_colored : Bool) (name text : List ℕ) (d : Diagnostic) (b
   pub excerpt : List ℕ
   pub notes : List ℕ
   pub are_notes : AreNoteTexts is_colored name text d.notes.items notes
-  pub whole : bytes ≡ place_text name text d.range.start ++ severity_text is_colored (severity_of d.code) (string_bytes d.message) ++ excerpt ++ notes
+  pub whole : bytes ≡ location_text name text d.range.start ++ severity_text is_colored (severity_of d.code) (string_bytes d.message) ++ excerpt ++ notes

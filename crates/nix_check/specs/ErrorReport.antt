@@ -2,7 +2,7 @@
 use Rattle.std.specs.Prelude.{◌≡◌, ◌⊎◌, ℕ, ◌+◌, ◌-◌, ◌^◌, ◌==◌, min, List, [], ◌∷◌, ◌++◌, codes, decimal, Option, if◌then◌else◌}
 use Rattle.std.specs.Io.KnownBytes.{Appends, Keeps}
 use Rattle.nix_cli.specs.declared.arguments.TheConstants.{VERSION}
-use Rattle.nix_cli.specs.MessagePlaces.{shown_name}
+use Rattle.nix_cli.specs.MessageLocations.{shown_name}
 use Rattle.nix_check.specs.declared.report.Tally.{Tally}
 use Rattle.nix_check.specs.declared.style.Style.{Style}
 use Rattle.nix_check.specs.declared.style.Format.{Format}

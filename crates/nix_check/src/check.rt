@@ -4,7 +4,7 @@ ghost use Rattle.std.specs.Prelude.{◌≡◌, ◌+◌, ◌==◌, ◌<◌, ◌�
 ghost use Rattle.std.specs.Io.KnownBytes.{Appends};
 ghost use Rattle.rnix.specs.ParseResult.{root_of};
 ghost use Rattle.nix_diagnostics.specs.declared.diagnostic.Diagnostic.{Diagnostic};
-ghost use Rattle.nix_cli.specs.MessagePlaces.{IsIndexed};
+ghost use Rattle.nix_cli.specs.MessageLocations.{IsIndexed};
 ghost use Rattle.nix_check.specs.FoundDiagnostics.{AreFirstErrors, AreFirstFound};
 ghost use Rattle.nix_check.specs.Listed.{Prints};
 ghost use Rattle.nix_check.specs.Printed.{more_line, IsPrinted, AreFormed, ArePrinted, IsChecked};

@@ -59,13 +59,13 @@ fn fix_file<W: Write>(
     }
     let shown = shown_name(name);
     write_fixes(shown, made.fixes, out)?;
-    let left = check_text(rt.alloc(), shown, made.text.as_str(), style, 0, out)?;
+    let remaining = check_text(rt.alloc(), shown, made.text.as_str(), style, 0, out)?;
     out.flush()?;
-    Ok(Some(left))
+    Ok(Some(remaining))
 }
 
 // Writes the last line, the number of errors that are left. Without errors there is none if some files could not be read or written.
-fn write_left<W: Write>(errors: usize, failed: usize, out: &mut W) -> io::Result<()> {
+fn write_remaining<W: Write>(errors: usize, failed: usize, out: &mut W) -> io::Result<()> {
     match (errors, failed) {
         (0, 0) => writeln!(out, "no errors are left"),
         (0, _) => Ok(()),
@@ -85,11 +85,11 @@ pub fn fix_files<W: Write>(
     let (mut errors, mut failed) = (0usize, files.failed);
     for name in &files.names {
         match fix_file(rt, program, name.as_str(), style, out)? {
-            Some(left) => errors = errors.saturating_add(left),
+            Some(remaining) => errors = errors.saturating_add(remaining),
             None => failed = failed.saturating_add(1),
         }
     }
-    write_left(errors, failed, out)?;
+    write_remaining(errors, failed, out)?;
     out.flush()?;
     Ok(match (errors, failed) {
         (0, 0) => 0,

@@ -2,7 +2,7 @@
 
 ghost use Rattle.std.specs.Prelude.{map, OnOk};
 ghost use Rattle.std.specs.Io.KnownBytes.{Appends};
-ghost use Rattle.nix_cli.specs.MessagePlaces.{IsIndexed};
+ghost use Rattle.nix_cli.specs.MessageLocations.{IsIndexed};
 ghost use Rattle.nix_check.specs.Listed.{comma, comma_joined};
 ghost use Rattle.nix_check.specs.AsJson.{message_members, note_object, errors_member, json_line};
 

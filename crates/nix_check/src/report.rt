@@ -139,7 +139,7 @@ fn check_files<W: Write>(
 }
 
 // Writes what precedes the errors of the first file.
-fn write_begin<W: Write>(format: Format, out: &mut W) -> io::Result<()>
+fn write_start<W: Write>(format: Format, out: &mut W) -> io::Result<()>
     ensures { OnOk result (Appends (W.contents out.old) (W.contents out.new) (report_head format)) }
 {
     match format {
@@ -183,7 +183,7 @@ pub fn report_files<W: Write>(
     ensures { IfOk result (IsReport style inputs.now.files.failed (map string_bytes inputs.now.files.names.items)
         (W.contents out.old) (W.contents out.new)) }
 {
-    write_begin(style.format, out)?;
+    write_start(style.format, out)?;
     let tally = check_files(rt, inputs, style, out)?;
     write_end(style.format, tally, out)?;
     Ok(tally.status())

@@ -3,7 +3,7 @@
 ghost use Rattle.std.specs.Prelude.{◌≡◌, ◌<◌, ◌++◌, map, OnOk};
 ghost use Rattle.std.specs.List.{flat_map};
 ghost use Rattle.std.specs.Io.KnownBytes.{Appends};
-ghost use Rattle.nix_cli.specs.MessagePlaces.{IsIndexed};
+ghost use Rattle.nix_cli.specs.MessageLocations.{IsIndexed};
 ghost use Rattle.nix_check.specs.Listed.{comma_joined};
 ghost use Rattle.nix_check.specs.AsSarif.{sarif_rules, sarif_head, truth_text, sarif_tail, is_unreserved, upper_digit, uri_byte, uri, region, location, message_object, related_location, rule_members, sarif_result, separator};
 

@@ -2,11 +2,11 @@
 
 ghost use Rattle.std.specs.Prelude.{OnOk};
 ghost use Rattle.std.specs.Io.KnownBytes.{Appends};
-ghost use Rattle.nix_cli.specs.MessagePlaces.{IsIndexed};
-ghost use Rattle.nix_check.specs.AsText.{word_text, message_text, severity_text, help_text, IsPlacedText, IsNoteText, AreNoteTexts, IsText};
+ghost use Rattle.nix_cli.specs.MessageLocations.{IsIndexed};
+ghost use Rattle.nix_check.specs.AsText.{word_text, message_text, severity_text, help_text, IsLocatedText, IsNoteText, AreNoteTexts, IsText};
 ghost use Rattle.nix_check.specs.Listed.{Prints};
 
-use nix_cli::{Source, write_excerpt, write_place};
+use nix_cli::{Source, write_excerpt, write_source_location};
 use nix_diagnostics::{Diagnostic, Note, Severity};
 use rnix::TextRange;
 use std::io::{self, Write};
@@ -36,7 +36,7 @@ fn write_message<W: Write>(
     writeln!(out, " {message}")
 }
 
-// Writes a note without a place.
+// Writes a note without a location.
 fn write_help<W: Write>(message: &str, is_colored: bool, out: &mut W) -> io::Result<()>
     ensures { OnOk result (Appends (W.contents out.old) (W.contents out.new) (help_text is_colored message.now)) }
 {
@@ -44,8 +44,8 @@ fn write_help<W: Write>(message: &str, is_colored: bool, out: &mut W) -> io::Res
     write_message("help:", "36", message, is_colored, out)
 }
 
-// Writes a note with a place: the place, the message, the line and carets.
-fn write_placed<W: Write>(
+// Writes a note with a location: the location, the message, the line and carets.
+fn write_located<W: Write>(
     source: &Source<'_>,
     range: TextRange,
     message: &str,
@@ -53,10 +53,10 @@ fn write_placed<W: Write>(
     out: &mut W,
 ) -> io::Result<()>
     requires { IsIndexed source.now }
-    ensures { OnOk result (Prints (IsPlacedText is_colored source.now.name.now source.now.text.now range.start message.now)
+    ensures { OnOk result (Prints (IsLocatedText is_colored source.now.name.now source.now.text.now range.start message.now)
         (W.contents out.old) (W.contents out.new)) }
 {
-    write_place(source, range.start(), out)?;
+    write_source_location(source, range.start(), out)?;
     write_message("note:", "36", message, is_colored, out)?;
     write_excerpt(source.text, range.start()..range.end(), out)
 }
@@ -73,7 +73,7 @@ fn write_note<W: Write>(
 {
     match note.range {
         None => write_help(note.message, is_colored, out),
-        Some(range) => write_placed(source, range, note.message, is_colored, out),
+        Some(range) => write_located(source, range, note.message, is_colored, out),
     }
 }
 
@@ -109,7 +109,7 @@ fn write_severe<W: Write>(
     }
 }
 
-/// Writes a diagnostic: its place, message, line with carets, and notes.
+/// Writes a diagnostic: its location, message, line with carets, and notes.
 pub fn write_text<W: Write>(
     source: &Source<'_>,
     diagnostic: &Diagnostic,
@@ -121,7 +121,7 @@ pub fn write_text<W: Write>(
         (Prints (IsText is_colored source.now.name.now source.now.text.now diagnostic.now) (W.contents out.old) (W.contents out.new)) }
 {
     let (start, end) = (diagnostic.range.start(), diagnostic.range.end());
-    write_place(source, start, out)?;
+    write_source_location(source, start, out)?;
     let severity = diagnostic.code.severity();
     write_severe(severity, diagnostic.message.as_str(), is_colored, out)?;
     write_excerpt(source.text, start..end, out)?;

@@ -2,5 +2,5 @@ pub mod AppendLemmas
 pub mod PlainRuns
 mod JsonBytes
 mod ExcerptLemmas
-pub mod CountedPlaces
+pub mod CountedLocations
 pub mod DoneLemmas

@@ -2,5 +2,5 @@ pub mod CommandLine
 pub mod Excerpt
 pub mod Given
 pub mod JsonString
-pub mod MessagePlaces
+pub mod MessageLocations
 pub mod Statuses

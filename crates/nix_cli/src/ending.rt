@@ -22,14 +22,14 @@ pub fn refuse_after_output<W: Write>(
     rt: &HostRuntime,
     program: &Program,
     file: &str,
-    place: (usize, usize),
+    location: (usize, usize),
     reason: &str,
     out: &mut W,
 ) -> io::Result<()>
     ensures { Keeps (W.contents out.old) (W.contents out.new) }
 {
     let flushed = out.flush();
-    let (line, column) = place;
+    let (line, column) = location;
     eprintln!(rt; "{}: {file}:{line}:{column}: {reason}", program.name)?;
     flushed
 }

@@ -2,7 +2,7 @@
 
 ghost use Rattle.std.specs.Prelude.{◌≡◌};
 ghost use Rattle.std.specs.Io.KnownBytes.{Keeps};
-ghost use Rattle.nix_cli.specs.MessagePlaces.{shown_name};
+ghost use Rattle.nix_cli.specs.MessageLocations.{shown_name};
 ghost use Rattle.nix_cli.specs.Statuses.{first_status};
 
 use crate::arguments::Program;
@@ -225,7 +225,7 @@ pub fn shown_name(name: &str) -> &str
 }
 
 // The line and the column, in characters and both from 1, at the end of a text.
-fn end_place(text: &str) -> (usize, usize) {
+fn end_location(text: &str) -> (usize, usize) {
     let line = text.bytes().filter(|byte| *byte == b'\n').count();
     let own = match text.rsplit_once('\n') {
         Some((_, own)) => own,
@@ -238,8 +238,8 @@ fn end_place(text: &str) -> (usize, usize) {
 }
 
 /// The line and the column, in characters and both from 1, at a byte offset.
-pub fn place_of(text: &str, offset: usize) -> (usize, usize) {
-    end_place(text.get(..offset).unwrap_or(text))
+pub fn location_of(text: &str, offset: usize) -> (usize, usize) {
+    end_location(text.get(..offset).unwrap_or(text))
 }
 
 // Why a text could not be read, as messages say it after the name of the file.
@@ -278,7 +278,7 @@ fn text_of(rt: &HostRuntime, name: &str) -> Result<String, Unread> {
             let (line, column) = match std::str::from_utf8(
                 error.as_bytes().get(..valid).unwrap_or(b""),
             ) {
-                Ok(text) => end_place(text),
+                Ok(text) => end_location(text),
                 Err(_) => (1, 1),
             };
             Err(Unread::NotUtf8(line, column))

@@ -1,8 +1,8 @@
-//! A text for messages on places in it.
+//! A text for messages on locations in it.
 
 ghost use Rattle.std.specs.Prelude.{◌≡◌, OnOk};
 ghost use Rattle.std.specs.Io.KnownBytes.{Appends};
-ghost use Rattle.nix_cli.specs.MessagePlaces.{line_and_column, place_text, IsIndexed};
+ghost use Rattle.nix_cli.specs.MessageLocations.{line_and_column, location_text, IsIndexed};
 
 use rnix_text::LineIndex;
 use std::io::{self, Write};
@@ -25,16 +25,20 @@ impl<'a> Source<'a> {
         ensures { result ≡ line_and_column self.now.text.now offset }
     {
         match self.index.position(offset) {
-            Some(place) => (place.line + 1, place.column + 1),
+            Some(location) => (location.line + 1, location.column + 1),
             None => (1, 1),
         }
     }
 }
 
 /// Writes how a message on a byte offset begins: the name of the text, the line and the column, as in `a.nix:1:1: `.
-pub fn write_place<W: Write>(source: &Source<'_>, offset: usize, out: &mut W) -> io::Result<()>
+pub fn write_source_location<W: Write>(
+    source: &Source<'_>,
+    offset: usize,
+    out: &mut W,
+) -> io::Result<()>
     requires { IsIndexed source.now }
-    ensures { OnOk result (Appends (W.contents out.old) (W.contents out.new) (place_text source.now.name.now source.now.text.now offset)) }
+    ensures { OnOk result (Appends (W.contents out.old) (W.contents out.new) (location_text source.now.name.now source.now.text.now offset)) }
 {
     let (line, column) = source.position(offset);
     write!(out, "{}:{line}:{column}: ", source.name)

@@ -26,13 +26,13 @@ new_name old new key added is updates h =
 
 -- if the names of the nodes that are left are new and differ, the names of all nodes differ
 abbrev pub NamesUsed : {Y : Type 0} → Plain → List Located → List Located → BTreeSet (String Y) → Type 0
-NamesUsed set all left names = AreNew names (names_in left) → IsDistinct bytes_eq (names_in left) → IsDistinct bytes_eq (names_in all)
-NamesUsed _ all left names = Unit {0}
+NamesUsed set all remaining names = AreNew names (names_in remaining) → IsDistinct bytes_eq (names_in remaining) → IsDistinct bytes_eq (names_in all)
+NamesUsed _ all remaining names = Unit {0}
 
 -- no name was read yet
-pub names_none : {Y : Type 0} (own : Plain) (all left : List Located) (names : BTreeSet (String Y)) → left ≡ all → NamesUsed own all left names
-names_none set all left names same = λ new differ. subst (λ nodes. IsDistinct bytes_eq (names_in nodes)) same differ
-names_none _ all left names same = tt
+pub names_none : {Y : Type 0} (own : Plain) (all remaining : List Located) (names : BTreeSet (String Y)) → remaining ≡ all → NamesUsed own all remaining names
+names_none set all remaining names same = λ new differ. subst (λ nodes. IsDistinct bytes_eq (names_in nodes)) same differ
+names_none _ all remaining names same = tt
 
 -- neither of two tests holds
 neither : (a b : Bool) → (if a then true else b) ≡ false → (a ≡ false) × (b ≡ false)
@@ -50,10 +50,10 @@ fewer old new name (n ∷ names) more none =
     ((both.1, others.0), (both.0, others.1))
 
 -- one name more was read
-pub names_more : {Y : Type 0} (own : Plain) (all left after : List Located) (child inner : Located) (name : List ℕ) (old new : BTreeSet (String Y)) →
-    left ≡ child ∷ after → IsPart own child name inner → IsNewName own old name new → NamesUsed own all left old → NamesUsed own all after new
+pub names_more : {Y : Type 0} (own : Plain) (all remaining after : List Located) (child inner : Located) (name : List ℕ) (old new : BTreeSet (String Y)) →
+    remaining ≡ child ∷ after → IsPart own child name inner → IsNewName own old name new → NamesUsed own all remaining old → NamesUsed own all after new
 unfolding IsDistinct
-names_more set all left after child inner name old new first part is_new so_far = λ none differ.
+names_more set all remaining after child inner name old new first part is_new so_far = λ none differ.
     let is_name = ap (λ o. unwrap_or o []) part.1 in
     let both = fewer old new name (names_in after) is_new.1 none in
     let are_new : AreNew old (names_in (child ∷ after)) = (subst (λ n. contains_text old n ≡ false) (sym is_name) is_new.0, both.0) in
@@ -61,15 +61,15 @@ names_more set all left after child inner name old new first part is_new so_far 
     (subst (λ n. AllByRecursion (λ m. bytes_eq n m ≡ false) (names_in after)) (sym is_name) both.1, differ) in
     so_far (subst (λ nodes. AreNew old (names_in nodes)) (sym first) are_new)
     (subst (λ nodes. IsDistinct bytes_eq (names_in nodes)) (sym first) all_differ)
-names_more _ all left after child inner name old new first part is_new so_far = tt
+names_more _ all remaining after child inner name old new first part is_new so_far = tt
 
 -- all names were read
-pub names_all : {Y : Type 0} (own : Plain) (all left : List Located) (names : BTreeSet (String Y)) → left ≡ [] → NamesUsed own all left names →
+pub names_all : {Y : Type 0} (own : Plain) (all remaining : List Located) (names : BTreeSet (String Y)) → remaining ≡ [] → NamesUsed own all remaining names →
     HaveDifferentNames own all
 unfolding IsDistinct
-names_all set all left names none so_far =
+names_all set all remaining names none so_far =
     so_far (subst (λ nodes. AreNew names (names_in nodes)) (sym none) tt) (subst (λ nodes. IsDistinct bytes_eq (names_in nodes)) (sym none) tt)
-names_all _ all left names none so_far = tt
+names_all _ all remaining names none so_far = tt
 
 -- no nodes have different names
 pub names_of_none : (own : Plain) → HaveDifferentNames own []

@@ -23,20 +23,20 @@ name_of_other _ e no_ident no_string = refl
 
 -- the first of some nodes mean the first of some values after a head: with the values of the nodes that are left, they are the values of all
 abbrev pub Used : (Located → List Entry → Type 0) → List Located → List Located → Entry → List Entry → List Entry → Type 0
-Used means all left head entries rest =
-    (used : List Entry) × ((others : List Entry) → InOrder means left others → InOrder means all (used ++ others)) × (entries ≡ head ∷ (used ++ rest))
+Used means all remaining head entries rest =
+    (used : List Entry) × ((others : List Entry) → InOrder means remaining others → InOrder means all (used ++ others)) × (entries ≡ head ∷ (used ++ rest))
 
 -- no node is used yet
-pub used_none : (means : Located → List Entry → Type 0) (all left : List Located) (head : Entry) (entries rest : List Entry) → left ≡ all →
-    entries ≡ head ∷ rest → Used means all left head entries rest
-used_none means all left head entries rest same is = ([], λ others order. subst (λ nodes. InOrder means nodes others) same order, is)
+pub used_none : (means : Located → List Entry → Type 0) (all remaining : List Located) (head : Entry) (entries rest : List Entry) → remaining ≡ all →
+    entries ≡ head ∷ rest → Used means all remaining head entries rest
+used_none means all remaining head entries rest same is = ([], λ others order. subst (λ nodes. InOrder means nodes others) same order, is)
 
 -- one node more is used
-pub used_more : (levels depth : ℕ) (own : Plain) (all left after : List Located) (child inner : Located) (name : List ℕ) (head : Entry)
+pub used_more : (levels depth : ℕ) (own : Plain) (all remaining after : List Located) (child inner : Located) (name : List ℕ) (head : Entry)
     (entries rest next : List Entry) →
-    left ≡ child ∷ after → IsPart own child name inner → MeansFirst levels depth name inner rest next →
-    Used (MeansPart (Means levels depth) own) all left head entries rest → Used (MeansPart (Means levels depth) own) all after head entries next
-used_more levels depth own all left after child inner name head entries rest next first part means so_far =
+    remaining ≡ child ∷ after → IsPart own child name inner → MeansFirst levels depth name inner rest next →
+    Used (MeansPart (Means levels depth) own) all remaining head entries rest → Used (MeansPart (Means levels depth) own) all after head entries next
+used_more levels depth own all remaining after child inner name head entries rest next first part means so_far =
     let used : List Entry = so_far.0 in
     let more : List Entry = means.0 in (
       used ++ more,
@@ -72,11 +72,11 @@ means_alone total depth name e head entries rest some is alone all =
     (subst (HaveDifferentNames head.plain) (sym none) (names_of_none head.plain)) all
 
 -- an expression all of whose child nodes are used, and have different names in a set
-pub means_used : (total depth : ℕ) (name : List ℕ) (e : Located) (head : Entry) (left : List Located) (entries rest : List Entry) → 0 < total →
-    IsHead depth name (unwrapped e) head → has_parts head.plain ≡ true → left ≡ [] →
-    Used (MeansPart (Means (total - 1) (depth + 1)) head.plain) (nodes_in (children_of (unwrapped e))) left head entries rest →
+pub means_used : (total depth : ℕ) (name : List ℕ) (e : Located) (head : Entry) (remaining : List Located) (entries rest : List Entry) → 0 < total →
+    IsHead depth name (unwrapped e) head → has_parts head.plain ≡ true → remaining ≡ [] →
+    Used (MeansPart (Means (total - 1) (depth + 1)) head.plain) (nodes_in (children_of (unwrapped e))) remaining head entries rest →
     HaveDifferentNames head.plain (nodes_in (children_of (unwrapped e))) → MeansFirst total depth name e entries rest
-means_used total depth name e head left entries rest some is there none so_far differ =
+means_used total depth name e head remaining entries rest some is there none so_far differ =
     let are_parts : nodes_in (children_of (unwrapped e)) ≡ parts_of head.plain (unwrapped e) =
     sym (cond-true (has_parts head.plain) (nodes_in (children_of (unwrapped e))) [] there) in
     let inside : List Entry = so_far.0 in

@@ -268,7 +268,7 @@ pub fn items_after<'a>(
         };
         let part_name = part.name.as_str();
         match items_after(alloc, levels - 1, depth + 1, part_name, &part.node, rest)? {
-            Some(left) => rest = left,
+            Some(remaining) => rest = remaining,
             None => return Ok(None),
         }
         if !is_new(&head.value, &mut names, part.name)? {

@@ -28,7 +28,7 @@ struct Frame {
 struct Entry {
     set: usize,
     name: String,
-    place: TextRange,
+    name_range: TextRange,
 }
 
 // The state of the reader.
@@ -38,7 +38,7 @@ struct Reading {
     is_lossy: bool,
     builder: Builder,
     // The range of each value's name, or of the value if it has no name.
-    places: Vec<TextRange>,
+    name_ranges: Vec<TextRange>,
     frames: Vec<Frame>,
     entry: Option<Entry>,
     // Nodes that begin before this offset are skipped.
@@ -49,7 +49,7 @@ struct Reading {
 #[derive(Drop)]
 struct Name {
     text: String,
-    place: TextRange,
+    name_range: TextRange,
 }
 
 impl Reading {
@@ -101,16 +101,16 @@ impl Reading {
     fn name(&self, attr: &Attr<'_>) -> Result<Name, Stop> {
         Ok(Name {
             text: self.or_source(attr.syntax(), self.name_text(attr))?,
-            place: attr.syntax().text_range(),
+            name_range: attr.syntax().text_range(),
         })
     }
 
     // The error for an attribute that is defined twice.
-    fn repeated(&self, place: TextRange, first: usize) -> Stop {
+    fn repeated(&self, name_range: TextRange, first: usize) -> Stop {
         Stop::NoData(NoData {
             reason: Reason::Repeated,
-            range: place,
-            first: self.places.get(first).copied(),
+            range: name_range,
+            first: self.name_ranges.get(first).copied(),
         })
     }
 
@@ -120,9 +120,9 @@ impl Reading {
         parent: Option<usize>,
         name: String,
         value: Value,
-        place: TextRange,
+        name_range: TextRange,
     ) -> Result<usize, Stop> {
-        self.places.push(place)?;
+        self.name_ranges.push(name_range)?;
         Ok(self.builder.add(self.alloc, parent, name, value)?)
     }
 
@@ -130,8 +130,8 @@ impl Reading {
     fn set_of(&mut self, set: usize, name: Name, first: usize) -> Result<usize, Stop> {
         match self.builder.attribute(set, name.text.as_str()) {
             Some(found) if found >= first && self.builder.is_set(found) => Ok(found),
-            Some(found) => Err(self.repeated(name.place, found)),
-            None => self.push(Some(set), name.text, Value::Set, name.place),
+            Some(found) => Err(self.repeated(name.name_range, found)),
+            None => self.push(Some(set), name.text, Value::Set, name.name_range),
         }
     }
 
@@ -145,7 +145,7 @@ impl Reading {
         for _frame in 0..self.frames.len() {
             match self.frames.last() {
                 Some(frame) if frame.end <= offset => {
-                    let _left = self.frames.pop();
+                    let _remaining = self.frames.pop();
                 }
                 _ => break,
             }
@@ -173,13 +173,13 @@ impl Reading {
         };
         if let Some(found) = self.builder.attribute(set, name.text.as_str()) {
             if found < first || !self.builder.is_set(found) {
-                return Err(self.repeated(name.place, found));
+                return Err(self.repeated(name.name_range, found));
             }
         }
         self.entry = Some(Entry {
             set,
             name: name.text,
-            place: name.place,
+            name_range: name.name_range,
         });
         Ok(())
     }
@@ -191,8 +191,8 @@ impl Reading {
                 Some(found) if matches!(&value, Value::Set) && self.builder.is_set(found) => {
                     Ok(found)
                 }
-                Some(found) => Err(self.repeated(entry.place, found)),
-                None => self.push(Some(entry.set), entry.name, value, entry.place),
+                Some(found) => Err(self.repeated(entry.name_range, found)),
+                None => self.push(Some(entry.set), entry.name, value, entry.name_range),
             },
             None => {
                 let parent = self.frame().map(|frame| frame.node);
@@ -247,10 +247,10 @@ impl Reading {
         for (number, attr) in inherit.attrs().enumerate() {
             let name = self.name(&attr)?;
             if let Some(found) = self.builder.attribute(frame.node, name.text.as_str()) {
-                return Err(self.repeated(name.place, found));
+                return Err(self.repeated(name.name_range, found));
             }
             let value = self.inherited(inherit, &attr, number == 0)?;
-            let _number = self.push(Some(frame.node), name.text, value, name.place)?;
+            let _number = self.push(Some(frame.node), name.text, value, name.name_range)?;
         }
         Ok(())
     }
@@ -331,7 +331,7 @@ fn read(alloc: Global, root: &SyntaxNode<'_>, is_lossy: bool) -> Result<Data, St
         alloc,
         is_lossy,
         builder: Builder::new(alloc),
-        places: Vec::new(alloc),
+        name_ranges: Vec::new(alloc),
         frames: Vec::new(alloc),
         entry: None,
         skipped_to: 0,

@@ -55,7 +55,7 @@ impl Writing {
     }
 
     // Begins a list or a set.
-    fn begin(&mut self, is_set: bool, is_empty: bool) -> Result<(), AllocError> {
+    fn write_opening(&mut self, is_set: bool, is_empty: bool) -> Result<(), AllocError> {
         self.text.push(if is_set { '{' } else { '[' })?;
         if is_empty {
             self.text.push_str(if is_set { " }" } else { " ]" })?;
@@ -97,8 +97,8 @@ impl Writing {
             self.text.push_str(" = ")?;
         }
         match &item.value {
-            Value::Set => self.begin(true, is_empty),
-            Value::List => self.begin(false, is_empty),
+            Value::Set => self.write_opening(true, is_empty),
+            Value::List => self.write_opening(false, is_empty),
             value => self.write_line(value),
         }
     }

@@ -5,7 +5,7 @@ use Rattle.std.specs.{List.{flat_map, Sorted.{IsNonDecreasingBy, IsPermutation}}
 use Rattle.rnix_kinds.specs.Lexical.Tokens.{tokens_of}
 use Rattle.rnix_green.specs.Tree.{Tree, Located}
 use Rattle.rnix_grammar.specs.{declared.error.ParseError.ParseError, Fault.{Fault, fault_of}, Parsed.IsParsed}
-use Rattle.nix_cli.specs.MessagePlaces.{shown_name}
+use Rattle.nix_cli.specs.MessageLocations.{shown_name}
 use Rattle.nix_dead.specs.{Dead.{Listed, listed_name, dead_in}, declared.dead.Name.Name}
 use Rattle.nix_dead.specs.Report.{name_output, status_of, AreReported, IsReported, IsFileReported}
 

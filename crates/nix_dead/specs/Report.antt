@@ -8,23 +8,24 @@ use Rattle.rnix_green.specs.Tree.{Tree, Located}
 use Rattle.rnix_grammar.specs.Fault.{Fault}
 use Rattle.rnix_grammar.specs.Parsed.{IsParsed}
 use Rattle.nix_cli.specs.JsonString.{json_string, shown_text}
-use Rattle.nix_cli.specs.MessagePlaces.{shown_name, line_and_column, place_text}
+use Rattle.nix_cli.specs.MessageLocations.{shown_name, line_and_column, location_text}
 use Rattle.nix_dead.specs.Dead.{Listed, listed_name, dead_in}
 use Rattle.nix_dead.specs.declared.dead.Name.{Name}
 
 -- the line of a name in a file
 abbrev pub name_line : List ℕ → List ℕ → Name → List ℕ
-name_line file text name = place_text file text name.start ++ (shown_text (cow_str_bytes name.text) ++ codes " is never used\n")
+name_line file text name = location_text file text name.start ++ (shown_text (cow_str_bytes name.text) ++ codes " is never used\n")
 
 -- the members of a JSON object that say where a name is: its line, its column and its offset
-abbrev pub place_members : ℕ × ℕ → ℕ → List ℕ
-place_members place start =
-    codes ",\"line\":" ++ decimal place.0 ++ codes ",\"column\":" ++ decimal place.1 ++ codes ",\"start\":" ++ decimal start ++ codes ",\"name\":"
+abbrev pub location_members : ℕ × ℕ → ℕ → List ℕ
+location_members location start =
+    codes ",\"line\":" ++ decimal location.0 ++ codes ",\"column\":" ++ decimal location.1 ++ codes ",\"start\":" ++ decimal start ++ codes ",\"name\":"
 
 -- the line of a name in a file, as a JSON object
 abbrev pub name_object : List ℕ → List ℕ → Name → List ℕ
 name_object file text name =
-    codes "{\"file\":" ++ json_string file ++ place_members (line_and_column text name.start) name.start ++ json_string (cow_str_bytes name.text) ++ codes "}\n"
+    codes "{\"file\":" ++ json_string file ++ location_members (line_and_column text name.start) name.start ++ json_string (cow_str_bytes name.text)
+    ++ codes "}\n"
 
 -- the same as text or as JSON
 unfoldable pub name_output : Bool → List ℕ → List ℕ → Name → List ℕ

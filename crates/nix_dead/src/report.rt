@@ -3,15 +3,15 @@
 ghost use Rattle.std.specs.Prelude.{◌≡◌, [], IfOk, OnOk, map, string_bytes};
 ghost use Rattle.std.specs.List.{flat_map};
 ghost use Rattle.std.specs.Io.KnownBytes.{Appends, Keeps};
-ghost use Rattle.nix_cli.specs.MessagePlaces.{IsIndexed};
+ghost use Rattle.nix_cli.specs.MessageLocations.{IsIndexed};
 ghost use Rattle.nix_cli.specs.Statuses.{first_status, AreDone};
 ghost use Rattle.nix_dead.specs.Report.{name_line, name_object, name_output, AreReported, IsReported, IsFileReported};
 
 use crate::PROGRAM;
 use crate::dead::{Name, dead_names};
 use nix_cli::{
-    FAILED, FOUND, Inputs, Source, place_of, refuse_after_output, shown_name, write_json_string,
-    write_place, write_shown,
+    FAILED, FOUND, Inputs, Source, location_of, refuse_after_output, shown_name, write_json_string,
+    write_shown, write_source_location,
 };
 use rnix::{Parse, Root, SyntaxNode};
 use rnix_text::{ColumnUnit, LineIndex};
@@ -23,7 +23,7 @@ fn write_line<W: Write>(source: &Source<'_>, name: &Name<'_>, out: &mut W) -> io
     requires { IsIndexed source.now }
     ensures { OnOk result (Appends (W.contents out.old) (W.contents out.new) (name_line source.now.name.now source.now.text.now name.now)) }
 {
-    write_place(source, name.start, out)?;
+    write_source_location(source, name.start, out)?;
     write_shown(name.text.as_str(), out)?;
     out.write_all(b" is never used\n")
 }
@@ -92,8 +92,8 @@ fn refuse_text<W: Write>(
     ensures { Keeps (W.contents out.old) (W.contents out.new) }
 {
     let range = read.errors().first().and_then(|error| error.range());
-    let place = place_of(text, range.map_or(text.len(), |range| range.start()));
-    refuse_after_output(rt, &PROGRAM, file, place, "this is not Nix", out)
+    let location = location_of(text, range.map_or(text.len(), |range| range.start()));
+    refuse_after_output(rt, &PROGRAM, file, location, "this is not Nix", out)
 }
 
 // Writes the unused names of a tree, and returns the exit status.

@@ -4,7 +4,7 @@ use Rattle.std.proofs.lemmas.Bool.{ltb-true, lt-ltb}
 use Rattle.std.specs.Prelude.{nat_lt}
 use Rattle.rnix_green.specs.Tree.{Located}
 use Rattle.rnix_grammar.specs.Fault.{Fault}
-use Rattle.nix_diagnostics.specs.Places.{place_of}
+use Rattle.nix_diagnostics.specs.Locations.{location_of}
 use Rattle.nix_diagnostics.specs.Slips.{is_slip}
 use Rattle.nix_diagnostics.specs.Apart.{since, larger, reach, reach_from}
 use Rattle.nix_diagnostics.specs.declared.apart.Semicolon.{Semicolon}
@@ -30,21 +30,21 @@ first_le m n = step (nat_lt m n) refl where
 -- how far one more error reaches
 reach_push : (root : Located) (end : ℕ) (faults : List Fault) (fault : Fault) →
     reach_from root end (faults ++ fault ∷ [])
-    ≡ (if is_slip fault then larger (reach_from root end faults) (place_of root fault).end else reach_from root end faults)
+    ≡ (if is_slip fault then larger (reach_from root end faults) (location_of root fault).end else reach_from root end faults)
 reach_push root end [] fault = step (is_slip fault) refl where
   step : (b : Bool) → is_slip fault ≡ b →
-      reach_from root end (fault ∷ []) ≡ (if is_slip fault then larger end (place_of root fault).end else end)
+      reach_from root end (fault ∷ []) ≡ (if is_slip fault then larger end (location_of root fault).end else end)
   step b is = refl
-reach_push root end (f ∷ faults) fault = reach_push root (if is_slip f then larger end (place_of root f).end else end) faults fault
+reach_push root end (f ∷ faults) fault = reach_push root (if is_slip f then larger end (location_of root f).end else end) faults fault
 
 -- an error about an unexpected or a missing token reaches to its end, if it reaches further than those before it
 pub reach_slip : (root : Located) (faults : List Fault) (fault : Fault) → is_slip fault ≡ true →
-    reach root (faults ++ fault ∷ []) ≡ larger (reach root faults) (place_of root fault).end
+    reach root (faults ++ fault ∷ []) ≡ larger (reach root faults) (location_of root fault).end
 reach_slip root faults fault is =
-    reach_push root 0 faults fault ∙ ap (λ b. if b then larger (reach root faults) (place_of root fault).end else reach root faults) is
+    reach_push root 0 faults fault ∙ ap (λ b. if b then larger (reach root faults) (location_of root fault).end else reach root faults) is
 
 -- another error reaches no further
 pub reach_other : (root : Located) (faults : List Fault) (fault : Fault) → is_slip fault ≡ false →
     reach root (faults ++ fault ∷ []) ≡ reach root faults
 reach_other root faults fault is =
-    reach_push root 0 faults fault ∙ ap (λ b. if b then larger (reach root faults) (place_of root fault).end else reach root faults) is
+    reach_push root 0 faults fault ∙ ap (λ b. if b then larger (reach root faults) (location_of root fault).end else reach root faults) is

@@ -20,8 +20,8 @@ closed : skips_brackets None (error (k.TOKEN_L_PAREN ∷ k.TOKEN_COMMA ∷ k.TOK
 closed = refl
 
 -- a bracket that is left open
-left_open : skips_brackets None (error (k.TOKEN_L_PAREN ∷ k.TOKEN_COMMA ∷ [])) ≡ true
-left_open = refl
+remaining_open : skips_brackets None (error (k.TOKEN_L_PAREN ∷ k.TOKEN_COMMA ∷ [])) ≡ true
+remaining_open = refl
 
 -- a bracket that closes what is open before the node
 closes_outer : skips_brackets None (error (k.TOKEN_R_PAREN ∷ k.TOKEN_L_PAREN ∷ [])) ≡ true

@@ -9,7 +9,7 @@ use Rattle.rnix_grammar.specs.Fault.{Fault, fault_of}
 use Rattle.nix_diagnostics.specs.declared.diagnostic.Diagnostic.{Diagnostic}
 use Rattle.nix_diagnostics.specs.declared.diagnostic.FirstDiagnostics.{FirstDiagnostics}
 use Rattle.nix_diagnostics.specs.Codes.{code_of}
-use Rattle.nix_diagnostics.specs.Places.{place_of}
+use Rattle.nix_diagnostics.specs.Locations.{location_of}
 use Rattle.nix_diagnostics.specs.Following.{follows}
 use Rattle.nix_diagnostics.specs.Shown.{AreShown, CoverRuns, IsFolded, IsSingle, IsWorded, Shows, none, shown}
 use Rattle.nix_diagnostics.specs.FirstShown.{AreFirst, IsCountFolded, IsCountAdded}
@@ -143,7 +143,7 @@ enough most first ds is full =
 -- one error more has a diagnostic, which is only counted: some diagnostic with a message is one
 pub added_behind : (root : Located) (all faults more : List Fault) (most : ℕ) (old new : FirstDiagnostics) (fault : Fault) (range : TextRange) →
     AreFirstOf root all faults most old → IsCountAdded None old new → 0 < most → most ≤ length old.first.items → follows root all faults fault ≡ false →
-    bounds_of range ≡ place_of root fault → more ≡ faults ++ fault ∷ [] → AreFirstOf root all more most new
+    bounds_of range ≡ location_of root fault → more ≡ faults ++ fault ∷ [] → AreFirstOf root all more most new
 added_behind root all faults more most old new fault range are added some full does_not at is =
     let inside : most ≤ length are.ds = enough most old.first.items are.ds are.first full in
     let last = has_last are.ds (omega (arith, some, inside)) in

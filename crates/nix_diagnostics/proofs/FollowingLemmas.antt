@@ -6,7 +6,7 @@ use Rattle.rnix_grammar.specs.Fault.{Fault, unexpected_at, extra, unwanted, doub
 use Rattle.rnix_grammar.specs.Ranges.{range_in}
 use Rattle.rnix_green.specs.declared.range.TextRange.{TextRange}
 use Rattle.rnix_green.specs.Range.{Extent, bounds_of}
-use Rattle.nix_diagnostics.specs.Places.{place_of}
+use Rattle.nix_diagnostics.specs.Locations.{location_of}
 use Rattle.nix_diagnostics.specs.Slips.{is_slip}
 use Rattle.nix_diagnostics.specs.Apart.{is_apart, since, larger, reach, ends_between, semicolons_of}
 use Rattle.nix_diagnostics.specs.Ends.{is_from, ends_in_string}
@@ -43,38 +43,38 @@ slip_not_extra (duplicated_args range name) is = refl
 slip_not_extra too_deep is = refl
 
 -- the state knows whether an error is apart from the earlier ones
-pub apart_known : (root : Located) (all before : List Fault) (fault : Fault) (f : Folding) (place : TextRange) → Knows root all before f →
-    bounds_of place ≡ place_of root fault → is_apart_in f place ≡ is_apart root before fault
-apart_known root all before fault f place known at =
-    ap (λ l. ends_between f.reach place.start l) known.left
-    ∙ (ap (λ r. ends_between r place.start (since r (semicolons_of root))) known.reaches
+pub apart_known : (root : Located) (all before : List Fault) (fault : Fault) (f : Folding) (location : TextRange) → Knows root all before f →
+    bounds_of location ≡ location_of root fault → is_apart_in f location ≡ is_apart root before fault
+apart_known root all before fault f location known at =
+    ap (λ l. ends_between f.reach location.start l) known.remaining
+    ∙ (ap (λ r. ends_between r location.start (since r (semicolons_of root))) known.reaches
     ∙ ap (λ (e : Extent). ends_between (reach root before) e.start (since (reach root before) (semicolons_of root))) at)
 
 -- whether an error is near the last one depends on the place of that alone
-near_known : (root : Located) (before : List Fault) (fault : Fault) (last : Option ℕ) (place : TextRange) →
-    last ≡ option_map (λ x. (place_of root x).end) (last_slip before) → bounds_of place ≡ place_of root fault →
-    is_close_after (text_at root) last place.start ≡ is_near root (last_slip before) fault
-near_known root before fault last place is at =
-    ap (λ e. is_close_after (text_at root) e place.start) is ∙ near (last_slip before) where
+near_known : (root : Located) (before : List Fault) (fault : Fault) (last : Option ℕ) (location : TextRange) →
+    last ≡ option_map (λ x. (location_of root x).end) (last_slip before) → bounds_of location ≡ location_of root fault →
+    is_close_after (text_at root) last location.start ≡ is_near root (last_slip before) fault
+near_known root before fault last location is at =
+    ap (λ e. is_close_after (text_at root) e location.start) is ∙ near (last_slip before) where
       near : (o : Option Fault) →
-          is_close_after (text_at root) (option_map (λ x. (place_of root x).end) o) place.start ≡ is_near root o fault
+          is_close_after (text_at root) (option_map (λ x. (location_of root x).end) o) location.start ≡ is_near root o fault
       near None = refl
-      near (Some l) = ap (λ (e : Extent). are_close (text_at root) (place_of root l).end e.start) at
+      near (Some l) = ap (λ (e : Extent). are_close (text_at root) (location_of root l).end e.start) at
 
 -- whether a place is known is whether there is an error
-last_known : (root : Located) (o : Option Fault) (last : Option ℕ) → last ≡ option_map (λ fault. (place_of root fault).end) o → is_some last ≡ is_some o
+last_known : (root : Located) (o : Option Fault) (last : Option ℕ) → last ≡ option_map (λ fault. (location_of root fault).end) o → is_some last ≡ is_some o
 last_known root None last is = ap is_some is
 last_known root (Some fault) last is = ap is_some is
 
 -- the state judges an error about an unexpected or a missing token
-pub judged_slip : (root : Located) (all before : List Fault) (fault : Fault) (f : Folding) (apart : Bool) (group : Option TextRange) (place : TextRange)
-    (b : Bool) → Knows root all before f → bounds_of place ≡ place_of root fault → is_slip fault ≡ true →
+pub judged_slip : (root : Located) (all before : List Fault) (fault : Fault) (f : Folding) (apart : Bool) (group : Option TextRange) (location : TextRange)
+    (b : Bool) → Knows root all before f → bounds_of location ≡ location_of root fault → is_slip fault ≡ true →
     apart ≡ is_apart root before fault → option_map bounds_of group ≡ group_of root fault →
-    b ≡ follows_in root f apart group place → b ≡ follows root all before fault
-judged_slip root all before fault f apart group place b known at slip apart_is own result =
+    b ≡ follows_in root f apart group location → b ≡ follows root all before fault
+judged_slip root all before fault f apart group location b known at slip apart_is own result =
     let some = last_known root (last_slip before) f.last known.last in
     let other = slip_not_extra fault slip in
-    let near = near_known root before fault f.last place known.last at in
+    let near = near_known root before fault f.last location known.last at in
     result ∙ (λ k. some k && (other k || (known.in_string k || (sym slip k
     && (if apart_is k then known.unbalanced k && (known.closed k && nat_le (known.end k) (at k).end)
     else known.lost k || (are_one (own k) (known.group k) || near k))))))
@@ -85,10 +85,10 @@ pub skips_known : (root : Located) (all before : List Fault) (fault : Fault) (f 
 skips_known root all before fault f found b known is result = result ∙ (λ k. skips_if (known.extra k) (is k))
 
 -- the parser has lost its way at an error or before it, as the state knows
-pub lost_known : (root : Located) (all before : List Fault) (fault : Fault) (f : Folding) (apart skipped : Bool) (place : TextRange) (b : Bool) →
-    Knows root all before f → bounds_of place ≡ place_of root fault → is_slip fault ≡ true → apart ≡ is_apart root before fault →
-    skipped ≡ skips root fault → b ≡ ((f.is_lost && not apart) || loses_in f fault skipped place) → b ≡ is_lost root all (before ++ fault ∷ [])
-lost_known root all before fault f apart skipped place b known at slip apart_is own result =
+pub lost_known : (root : Located) (all before : List Fault) (fault : Fault) (f : Folding) (apart skipped : Bool) (location : TextRange) (b : Bool) →
+    Knows root all before f → bounds_of location ≡ location_of root fault → is_slip fault ≡ true → apart ≡ is_apart root before fault →
+    skipped ≡ skips root fault → b ≡ ((f.is_lost && not apart) || loses_in f fault skipped location) → b ≡ is_lost root all (before ++ fault ∷ [])
+lost_known root all before fault f apart skipped location b known at slip apart_is own result =
     result
     ∙ (λ k. (known.lost k && not (sym slip k && apart_is k)) || (sym slip k && (is_none (range_in fault)
     || (nat_le (known.end k) (at k).end || (is_from (known.lost_from k) (at k).start || own k)))))
@@ -103,19 +103,19 @@ unbalanced_known root all before fault f skipped b known slip own result =
 
 -- what is known after an error about an unexpected or a missing token
 pub knows_slip : (root : Located) (all before : List Fault) (fault : Fault) (f mid new : Folding) (far : ℕ) → Knows root all before f →
-    is_slip fault ≡ true → far ≡ (place_of root fault).end → HasReached mid new far → mid.last ≡ Some far → mid.end ≡ f.end → mid.extra ≡ f.extra →
+    is_slip fault ≡ true → far ≡ (location_of root fault).end → HasReached mid new far → mid.last ≡ Some far → mid.end ≡ f.end → mid.extra ≡ f.extra →
     mid.lost_from ≡ f.lost_from → mid.reach ≡ f.reach → drop mid.passed mid.semicolons.items ≡ drop f.passed f.semicolons.items →
     mid.in_string ≡ f.in_string → mid.ends_closed ≡ f.ends_closed → option_map bounds_of mid.group ≡ group_of root fault →
     mid.is_lost ≡ is_lost root all (before ++ fault ∷ []) → mid.is_unbalanced ≡ has_skipped root (before ++ fault ∷ []) →
     Knows root all (before ++ fault ∷ []) new
 knows_slip root all before fault f mid new far known slip far_is noted at end single from further rest inside closed group lost skip =
-    let reached : HasReached mid new (place_of root fault).end = subst (λ n. HasReached mid new n) far_is noted in
-    let last : mid.last ≡ Some (place_of root fault).end = at ∙ ap Some far_is in
+    let reached : HasReached mid new (location_of root fault).end = subst (λ n. HasReached mid new n) far_is noted in
+    let last : mid.last ≡ Some (location_of root fault).end = at ∙ ap Some far_is in
     let is : last_slip (before ++ fault ∷ []) ≡ Some fault = slip_last before fault slip in
-    let reach_is : larger mid.reach (place_of root fault).end ≡ reach root (before ++ fault ∷ []) =
-    ap (λ r. larger r (place_of root fault).end) (further ∙ known.reaches) ∙ sym (reach_slip root before fault slip) in
+    let reach_is : larger mid.reach (location_of root fault).end ≡ reach root (before ++ fault ∷ []) =
+    ap (λ r. larger r (location_of root fault).end) (further ∙ known.reaches) ∙ sym (reach_slip root before fault slip) in
     record {
-      last = ap (λ (n : Folding). n.last) reached.is ∙ last ∙ ap (option_map (λ x. (place_of root x).end)) (sym is);
+      last = ap (λ (n : Folding). n.last) reached.is ∙ last ∙ ap (option_map (λ x. (location_of root x).end)) (sym is);
       end = ap (λ (n : Folding). n.end) reached.is ∙ end ∙ known.end;
       extra = ap (λ (n : Folding). option_map bounds_of n.extra) reached.is ∙ ap (option_map bounds_of) single ∙ known.extra;
       lost_from = ap (λ (n : Folding). n.lost_from) reached.is ∙ from ∙ known.lost_from;
@@ -125,9 +125,9 @@ knows_slip root all before fault f mid new far known slip far_is noted at end si
       in_string = ap (λ (n : Folding). n.in_string) reached.is ∙ inside ∙ known.in_string;
       closed = ap (λ (n : Folding). n.ends_closed) reached.is ∙ closed ∙ known.closed;
       reaches = reached.reaches ∙ reach_is;
-      left = reached.left ∙ ap (since (larger mid.reach (place_of root fault).end)) (rest ∙ known.left)
-          ∙ since_more f.reach (larger mid.reach (place_of root fault).end)
-          (subst (λ r. r ≤ larger mid.reach (place_of root fault).end) further (first_le mid.reach (place_of root fault).end)) (semicolons_of root)
+      remaining = reached.remaining ∙ ap (since (larger mid.reach (location_of root fault).end)) (rest ∙ known.remaining)
+          ∙ since_more f.reach (larger mid.reach (location_of root fault).end)
+          (subst (λ r. r ≤ larger mid.reach (location_of root fault).end) further (first_le mid.reach (location_of root fault).end)) (semicolons_of root)
           ∙ ap (λ r. since r (semicolons_of root)) (sym reached.reaches);
     }
 
@@ -137,7 +137,7 @@ pub knows_other : (root : Located) (all before : List Fault) (fault : Fault) (f 
 knows_other root all before fault f known other =
     let is : last_slip (before ++ fault ∷ []) ≡ last_slip before = other_last before fault other in
     record {
-      last = known.last ∙ ap (option_map (λ x. (place_of root x).end)) (sym is);
+      last = known.last ∙ ap (option_map (λ x. (location_of root x).end)) (sym is);
       end = known.end;
       extra = known.extra;
       lost_from = known.lost_from;
@@ -147,7 +147,7 @@ knows_other root all before fault f known other =
       in_string = known.in_string;
       closed = known.closed;
       reaches = known.reaches ∙ sym (reach_other root before fault other);
-      left = known.left;
+      remaining = known.remaining;
     }
 
 -- the tests that remain if an error is about an unexpected or a missing token, and not about tokens after the expression

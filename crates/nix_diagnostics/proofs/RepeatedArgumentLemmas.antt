@@ -11,7 +11,7 @@ use Rattle.rnix_grammar.specs.Fault.{Fault, fault_of, duplicated_args}
 use Rattle.rnix_grammar.specs.Ranges.{range_in}
 use Rattle.std.specs.Global.{Vec}
 use Rattle.nix_diagnostics.specs.declared.diagnostic.{Diagnostic.{Diagnostic}, FirstDiagnostics.{FirstDiagnostics}}
-use Rattle.nix_diagnostics.specs.{Places.{range_or, place_of}, Slips.{is_slip, is_repeated_name}, Following.{follows, last_from, last_slip}}
+use Rattle.nix_diagnostics.specs.{Locations.{range_or, location_of}, Slips.{is_slip, is_repeated_name}, Following.{follows, last_from, last_slip}}
 use Rattle.nix_diagnostics.proofs.FirstShownLemmas.{AreFirstOf, added_behind, all_first}
 use Rattle.nix_diagnostics.specs.FirstShown.{AreFirst}
 
@@ -44,14 +44,14 @@ first_names errors n are =
     ∙ ap (list_all (λ e. is_repeated_name (fault_of e))) (take-append-drop n errors) ∙ are)).0
 
 -- such an error is shown at its range
-pub name_place : (root : Located) (fault : Fault) (own : Option TextRange) (other range : TextRange) → is_repeated_name fault ≡ true →
-    option_map bounds_of own ≡ range_in fault → range ≡ unwrap_or own other → bounds_of range ≡ place_of root fault
-name_place root (duplicated_args extent name) None other range is own_is range_is = cc
-name_place root (duplicated_args extent name) (Some own) other range is own_is range_is = ap bounds_of range_is ∙ ap (range_or 0) own_is
-name_place root fault own other range is own_is range_is = cc
+pub name_location : (root : Located) (fault : Fault) (own : Option TextRange) (other range : TextRange) → is_repeated_name fault ≡ true →
+    option_map bounds_of own ≡ range_in fault → range ≡ unwrap_or own other → bounds_of range ≡ location_of root fault
+name_location root (duplicated_args extent name) None other range is own_is range_is = cc
+name_location root (duplicated_args extent name) (Some own) other range is own_is range_is = ap bounds_of range_is ∙ ap (range_or 0) own_is
+name_location root fault own other range is own_is range_is = cc
 
 -- it has one
-has_range : (root : Located) (e : ParseError) → is_repeated_name (fault_of e) ≡ true → (range : TextRange) × (bounds_of range ≡ place_of root (fault_of e))
+has_range : (root : Located) (e : ParseError) → is_repeated_name (fault_of e) ≡ true → (range : TextRange) × (bounds_of range ≡ location_of root (fault_of e))
 has_range root (DuplicatedArgs range name) is = (range, refl)
 has_range root e is = cc
 

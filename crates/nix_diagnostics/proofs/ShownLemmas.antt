@@ -8,7 +8,7 @@ use Rattle.rnix_grammar.specs.declared.error.ParseError.{ParseError}
 use Rattle.rnix_grammar.specs.Fault.{Fault, fault_of}
 use Rattle.nix_diagnostics.specs.declared.diagnostic.Diagnostic.{Diagnostic}
 use Rattle.nix_diagnostics.specs.Codes.{code_of}
-use Rattle.nix_diagnostics.specs.Places.{place_of}
+use Rattle.nix_diagnostics.specs.Locations.{location_of}
 use Rattle.nix_diagnostics.specs.Following.{follows, firsts, firsts_from, next_or, run_ends}
 use Rattle.nix_diagnostics.specs.Shown.{IsWorded, IsFolded, IsSingle, AllFollow, Shows, CoverRuns, none, one_more, shown, ShowsEach, none_each, one_each}
 
@@ -86,7 +86,7 @@ pub record IsLastRun (root : Located) (all faults : List Fault) (before : List D
   pub are : Shows root all earlier before
   pub new : follows root all earlier fault ≡ false
   pub follow : AllFollow root all (earlier ++ fault ∷ []) more
-  pub at : bounds_of d.range ≡ place_of root fault
+  pub at : bounds_of d.range ≡ location_of root fault
   pub worded : IsWorded d
   pub code : d.code ≡ code_of fault
   pub first : d.first_error ≡ length earlier
@@ -105,7 +105,7 @@ last_run root all _ _ before d (shown earlier more ds fault own are new follow a
       are = subst (λ r. Shows root all earlier r) same.0 are;
       new = new;
       follow = follow;
-      at = subst (λ (x : Diagnostic). bounds_of x.range ≡ place_of root fault) same.1 at;
+      at = subst (λ (x : Diagnostic). bounds_of x.range ≡ location_of root fault) same.1 at;
       worded = subst IsWorded same.1 worded;
       code = subst (λ (x : Diagnostic). x.code ≡ code_of fault) same.1 code;
       first = subst (λ (x : Diagnostic). x.first_error ≡ length earlier) same.1 first;
@@ -210,4 +210,4 @@ ends_run root all _ _ (shown faults more ds fault d are new follow at worded cod
 
 -- which errors each diagnostic covers is fixed
 pub covers_runs : (root : Located) (all : List Fault) (ds : List Diagnostic) → Shows root all all ds → CoverRuns root all ds
-covers_runs root all ds are = record { begin = begins_run root all all ds are; end = ends_run root all all ds are }
+covers_runs root all ds are = record { starts = begins_run root all all ds are; end = ends_run root all all ds are }

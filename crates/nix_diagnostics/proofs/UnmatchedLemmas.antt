@@ -61,19 +61,19 @@ read_on None stack more token kind spots none kind_is is after =
     ap (λ b. if b then Some (extent_of token) else unmatched_in (open_after (item_of token).kind stack) spots)
     (ap (λ k. closes_none (opener_of k) stack) (sym kind_is) ∙ is)
     ∙ ap (λ k. unmatched_in (open_after k stack) spots) (sym kind_is)
-    ∙ ap (λ left. unmatched_in left spots) (sym after)
+    ∙ ap (λ remaining. unmatched_in remaining spots) (sym after)
 
 -- what is open after a token that opens something
-pub opened : (kind : SyntaxKind) (stack left : List SyntaxKind) → opens kind ≡ true → reverse left ≡ after_closing (opener_of kind) stack →
-    reverse (left ++ kind ∷ []) ≡ open_after kind stack
-opened kind stack left is same =
-    reverse-append left (kind ∷ []) ∙ ap (λ more. kind ∷ more) same
+pub opened : (kind : SyntaxKind) (stack remaining : List SyntaxKind) → opens kind ≡ true → reverse remaining ≡ after_closing (opener_of kind) stack →
+    reverse (remaining ++ kind ∷ []) ≡ open_after kind stack
+opened kind stack remaining is same =
+    reverse-append remaining (kind ∷ []) ∙ ap (λ more. kind ∷ more) same
     ∙ sym (ap (λ b. if b then kind ∷ after_closing (opener_of kind) stack else after_closing (opener_of kind) stack) is)
 
 -- and after one that does not
-pub not_opened : (kind : SyntaxKind) (stack left : List SyntaxKind) → opens kind ≡ false → reverse left ≡ after_closing (opener_of kind) stack →
-    reverse left ≡ open_after kind stack
-not_opened kind stack left is same =
+pub not_opened : (kind : SyntaxKind) (stack remaining : List SyntaxKind) → opens kind ≡ false → reverse remaining ≡ after_closing (opener_of kind) stack →
+    reverse remaining ≡ open_after kind stack
+not_opened kind stack remaining is same =
     same ∙ sym (ap (λ b. if b then kind ∷ after_closing (opener_of kind) stack else after_closing (opener_of kind) stack) is)
 
 -- at the end of a walk there is the one that was found, if one was

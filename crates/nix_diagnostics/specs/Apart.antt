@@ -7,7 +7,7 @@ use Rattle.rnix_green.specs.Tree.{Located, item_of}
 use Rattle.rnix_green.specs.Walk.{Spot, elements_of}
 use Rattle.rnix_green.specs.Relatives.{parent_of}
 use Rattle.rnix_grammar.specs.Fault.{Fault}
-use Rattle.nix_diagnostics.specs.Places.{place_of}
+use Rattle.nix_diagnostics.specs.Locations.{location_of}
 use Rattle.nix_diagnostics.specs.Slips.{is_slip}
 use Rattle.nix_diagnostics.specs.declared.apart.Semicolon.{Semicolon}
 
@@ -67,7 +67,7 @@ larger m n = if nat_lt m n then n else m
 -- how far a number and some errors about unexpected or missing tokens reach
 abbrev pub reach_from : Located → ℕ → List Fault → ℕ
 reach_from root end [] = end
-reach_from root end (fault ∷ faults) = reach_from root (if is_slip fault then larger end (place_of root fault).end else end) faults
+reach_from root end (fault ∷ faults) = reach_from root (if is_slip fault then larger end (location_of root fault).end else end) faults
 
 -- how far the errors about unexpected or missing tokens reach
 abbrev pub reach : Located → List Fault → ℕ
@@ -75,4 +75,4 @@ reach root faults = reach_from root 0 faults
 
 -- an error is apart from earlier ones: between them an entry ends, in a set or `let` that starts before their end
 abbrev pub is_apart : Located → List Fault → Fault → Bool
-is_apart root before fault = ends_between (reach root before) (place_of root fault).start (since (reach root before) (semicolons_of root))
+is_apart root before fault = ends_between (reach root before) (location_of root fault).start (since (reach root before) (semicolons_of root))

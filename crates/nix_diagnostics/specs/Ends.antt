@@ -9,7 +9,7 @@ use Rattle.rnix_green.specs.Walk.{Spot, elements_of}
 use Rattle.rnix_green.specs.Relatives.{parent_of}
 use Rattle.rnix_grammar.specs.Fault.{Fault, unexpected_eof, unexpected_eof_wanted}
 use Rattle.nix_diagnostics.specs.Brackets.{opens, closes}
-use Rattle.nix_diagnostics.specs.Places.{end_of_items}
+use Rattle.nix_diagnostics.specs.Locations.{end_of_items}
 
 -- the kind of a token other than trivia, or else the kind so far
 abbrev pub kind_after : Option SyntaxKind → Spot → Option SyntaxKind

@@ -6,7 +6,7 @@ use Rattle.rnix_green.specs.Range.{Extent}
 use Rattle.rnix_green.specs.Tree.{Located, text_at}
 use Rattle.rnix_grammar.specs.Fault.{Fault, extra}
 use Rattle.rnix_grammar.specs.Ranges.{range_in}
-use Rattle.nix_diagnostics.specs.Places.{end_of_items, place_of}
+use Rattle.nix_diagnostics.specs.Locations.{end_of_items, location_of}
 use Rattle.nix_diagnostics.specs.Brackets.{skips_brackets}
 use Rattle.nix_diagnostics.specs.Unmatched.{unmatched}
 use Rattle.nix_diagnostics.specs.Slips.{is_slip}
@@ -48,7 +48,7 @@ are_close text from to = is_short (take (to - from) (drop from text))
 -- an error starts at the end of another or close after it, if there is another
 abbrev pub is_near : Located → Option Fault → Fault → Bool
 is_near root None fault = false
-is_near root (Some last) fault = are_close (text_at root) (place_of root last).end (place_of root fault).start
+is_near root (Some last) fault = are_close (text_at root) (location_of root last).end (location_of root fault).start
 
 -- the list, pattern, .. of an error, if there is one
 abbrev pub group_if : Located → Option Fault → Option Extent
@@ -67,8 +67,8 @@ skips root fault = skips_if (unmatched root) (error_node root fault)
 -- an error has no range, or ends with the last item or after it, or starts after what is never closed, or its error node skips brackets
 abbrev pub loses_at : Located → List Fault → Fault → Bool
 loses_at root all fault =
-    is_none (range_in fault) || (nat_le (end_of_items root) (place_of root fault).end
-    || (is_from (lost_from root all) (place_of root fault).start || skips root fault))
+    is_none (range_in fault) || (nat_le (end_of_items root) (location_of root fault).end
+    || (is_from (lost_from root all) (location_of root fault).start || skips root fault))
 
 -- the parser loses its way at an error: such a one, about an unexpected or a missing token
 abbrev pub loses : Located → List Fault → Fault → Bool
@@ -99,7 +99,7 @@ has_skipped root before = list_any (λ fault. is_slip fault && skips root fault)
 
 -- an error at the end of a text follows even if it is apart: the text ends with what closes something, and brackets were skipped before
 abbrev pub is_closing : Located → List Fault → Fault → Bool
-is_closing root before fault = has_skipped root before && (ends_closed root && nat_le (end_of_items root) (place_of root fault).end)
+is_closing root before fault = has_skipped root before && (ends_closed root && nat_le (end_of_items root) (location_of root fault).end)
 
 -- an error that is not apart from the earlier ones shares their diagnostic: the parser has lost its way, or the error is in the list, pattern, .. of the
 -- last one, or near it

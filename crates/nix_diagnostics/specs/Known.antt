@@ -5,7 +5,7 @@ use Rattle.rnix_green.specs.Range.{Extent, bounds_of}
 use Rattle.rnix_green.specs.Tree.{Located, text_at}
 use Rattle.rnix_grammar.specs.Fault.{Fault}
 use Rattle.rnix_grammar.specs.Ranges.{range_in}
-use Rattle.nix_diagnostics.specs.Places.{end_of_items, place_of}
+use Rattle.nix_diagnostics.specs.Locations.{end_of_items, location_of}
 use Rattle.nix_diagnostics.specs.Unmatched.{unmatched}
 use Rattle.nix_diagnostics.specs.Ends.{last_kind, ends_in_string, ends_closed, lost_from, is_from}
 use Rattle.nix_diagnostics.specs.FaultNodes.{are_one}
@@ -23,7 +23,7 @@ pub record IsMatching (root : Located) (m : Matching) : Type 0 where
 -- the parser loses its way at an error with this place, whose node skips brackets or does not: it has no range, or ends with the last token other
 -- than trivia or after it, or follows what is never closed, or its node skips brackets
 abbrev pub loses_in : Folding → Fault → Bool → TextRange → Bool
-loses_in f fault skips place = is_none (range_in fault) || (nat_le f.end place.end || (is_from f.lost_from place.start || skips))
+loses_in f fault skips location = is_none (range_in fault) || (nat_le f.end location.end || (is_from f.lost_from location.start || skips))
 
 -- an offset is close after another, if there is another
 abbrev pub is_close_after : List ℕ → Option ℕ → ℕ → Bool
@@ -32,23 +32,23 @@ is_close_after text (Some last) offset = are_close text last offset
 
 -- an error with this place is apart from the earlier ones
 abbrev pub is_apart_in : Folding → TextRange → Bool
-is_apart_in f place = ends_between f.reach place.start (drop f.passed f.semicolons.items)
+is_apart_in f location = ends_between f.reach location.start (drop f.passed f.semicolons.items)
 
 -- an error about an unexpected or a missing token, with this list, pattern, .. around it and this place, shares that of the earlier ones, from which
 -- it is not apart: the parser has lost its way, or the last one shares that list, pattern, .., or is close before it
 abbrev pub is_joined_in : Located → Folding → Option TextRange → TextRange → Bool
-is_joined_in root f group place =
-    f.is_lost || (are_one (option_map bounds_of group) (option_map bounds_of f.group) || is_close_after (text_at root) f.last place.start)
+is_joined_in root f group location =
+    f.is_lost || (are_one (option_map bounds_of group) (option_map bounds_of f.group) || is_close_after (text_at root) f.last location.start)
 
 -- such an error follows from earlier ones: there are some, and the text ends inside a string; or it is apart from them, brackets were skipped, and it is
 -- at the end of a text that ends with what closes something; or it is not, and shares theirs
 abbrev pub follows_in : Located → Folding → Bool → Option TextRange → TextRange → Bool
-follows_in root f apart group place =
-    is_some f.last && (f.in_string || (if apart then f.is_unbalanced && (f.ends_closed && nat_le f.end place.end) else is_joined_in root f group place))
+follows_in root f apart group location =
+    is_some f.last && (f.in_string || (if apart then f.is_unbalanced && (f.ends_closed && nat_le f.end location.end) else is_joined_in root f group location))
 
 -- the state fits the errors so far
 pub record Knows (root : Located) (all before : List Fault) (f : Folding) : Type 0 where
-  pub last : f.last ≡ option_map (λ fault. (place_of root fault).end) (last_slip before)
+  pub last : f.last ≡ option_map (λ fault. (location_of root fault).end) (last_slip before)
   pub end : f.end ≡ end_of_items root
   pub extra : option_map bounds_of f.extra ≡ unmatched root
   pub lost_from : f.lost_from ≡ lost_from root all
@@ -58,12 +58,12 @@ pub record Knows (root : Located) (all before : List Fault) (f : Folding) : Type
   pub in_string : f.in_string ≡ ends_in_string root
   pub closed : f.ends_closed ≡ ends_closed root
   pub reaches : f.reach ≡ reach root before
-  pub left : drop f.passed f.semicolons.items ≡ since f.reach (semicolons_of root)
+  pub remaining : drop f.passed f.semicolons.items ≡ since f.reach (semicolons_of root)
 
 -- the state notes that an error reaches so far
 pub record HasReached (old new : Folding) (end : ℕ) : Type 0 where
   pub reaches : new.reach ≡ larger old.reach end
-  pub left : drop new.passed new.semicolons.items ≡ since (larger old.reach end) (drop old.passed old.semicolons.items)
+  pub remaining : drop new.passed new.semicolons.items ≡ since (larger old.reach end) (drop old.passed old.semicolons.items)
   pub is : new ≡ record {
     semicolons = old.semicolons;
     reach = new.reach;

@@ -1,4 +1,4 @@
-pub mod Places
+pub mod Locations
 pub mod Brackets
 pub mod Unmatched
 pub mod Ends

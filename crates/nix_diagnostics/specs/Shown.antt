@@ -4,7 +4,7 @@ use Rattle.rnix_green.specs.Range.{bounds_of}
 use Rattle.rnix_green.specs.Tree.{Located}
 use Rattle.rnix_grammar.specs.Fault.{Fault}
 use Rattle.nix_diagnostics.specs.Codes.{code_of}
-use Rattle.nix_diagnostics.specs.Places.{place_of}
+use Rattle.nix_diagnostics.specs.Locations.{location_of}
 use Rattle.nix_diagnostics.specs.Following.{follows, firsts, run_ends}
 use Rattle.nix_diagnostics.specs.declared.diagnostic.Diagnostic.{Diagnostic}
 
@@ -24,7 +24,7 @@ pub data Shows (root : Located) (all : List Fault) : List Fault → List Diagnos
   none : Shows root all [] []
   shown : (faults more : List Fault) (ds : List Diagnostic) (fault : Fault) (d : Diagnostic) → Shows root all faults ds →
       follows root all faults fault ≡ false → AllFollow root all (faults ++ fault ∷ []) more →
-      bounds_of d.range ≡ place_of root fault → IsWorded d → d.code ≡ code_of fault →
+      bounds_of d.range ≡ location_of root fault → IsWorded d → d.code ≡ code_of fault →
       d.first_error ≡ length faults → d.end_error ≡ length (faults ++ fault ∷ more) →
       Shows root all (faults ++ fault ∷ more) (ds ++ d ∷ [])
 
@@ -34,13 +34,13 @@ AreShown root all ds = Shows root all all ds
 
 -- the numbers of the errors that diagnostics cover: each begins at an error that follows from no earlier one, and ends before the next of these
 pub record CoverRuns (root : Located) (all : List Fault) (ds : List Diagnostic) : Type 0 where
-  pub begin : map (λ (d : Diagnostic). d.first_error) ds ≡ firsts root all
+  pub starts : map (λ (d : Diagnostic). d.first_error) ds ≡ firsts root all
   pub end : map (λ (d : Diagnostic). d.end_error) ds ≡ run_ends (length all) (firsts root all)
 
 -- a diagnostic shows the error of a number alone
 pub record IsSingle (root : Located) (number : ℕ) (fault : Fault) (d : Diagnostic) : Type 0 where
   pub code : d.code ≡ code_of fault
-  pub range : bounds_of d.range ≡ place_of root fault
+  pub range : bounds_of d.range ≡ location_of root fault
   pub worded : IsWorded d
   pub first : d.first_error ≡ number
   pub end : d.end_error ≡ number + 1

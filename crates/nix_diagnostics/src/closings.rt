@@ -124,11 +124,11 @@ fn closing_at_end(opening: Opening, end: usize, text: &str) -> Option<Replacemen
     }
 }
 
-/// Returns what closes an opening at an error: before its unexpected token, or at the place where it is shown, the end of the text.
+/// Returns what closes an opening at an error: before its unexpected token, or at the location where it is shown, the end of the text.
 pub fn closing(
     opening: Opening,
     unwanted: Option<&Unwanted<'_>>,
-    place: TextRange,
+    location: TextRange,
     extra: Option<TextRange>,
     text: &str,
 ) -> Option<Replacement> {
@@ -137,6 +137,6 @@ pub fn closing(
     }
     match unwanted {
         Some(unwanted) => closing_before(opening.kind, unwanted, extra),
-        None => closing_at_end(opening, place.end(), text),
+        None => closing_at_end(opening, location.end(), text),
     }
 }

@@ -5,17 +5,17 @@ ghost use Rattle.std.specs.List.{list_all};
 ghost use Rattle.rnix_green.specs.Range.{bounds_of};
 ghost use Rattle.rnix_grammar.specs.Fault.{fault_of};
 ghost use Rattle.rnix.specs.ParseResult.{root_of};
-ghost use Rattle.nix_diagnostics.specs.Places.{end_of_items, error_range, own_range, place_of};
+ghost use Rattle.nix_diagnostics.specs.Locations.{end_of_items, error_range, own_range, location_of};
 ghost use Rattle.nix_diagnostics.specs.Shown.{IsFolded, IsSingle, ShowsEach, AreShown, CoverRuns};
 ghost use Rattle.nix_diagnostics.specs.FirstShown.{AreFirst};
 ghost use Rattle.nix_diagnostics.specs.Slips.{is_repeated_name};
 
 use crate::brackets::match_brackets;
 use crate::code::Code;
+use crate::error_nodes::error_node;
 use crate::folding::Folding;
 use crate::message::message;
 use crate::notes::{Note, NoteFinder};
-use crate::place::error_node;
 use crate::slips::are_repeated_names;
 use rnix::{Parse, ParseError, SyntaxKind, SyntaxNode, TextRange};
 use std::alloc::{AllocError, Global};
@@ -73,9 +73,9 @@ fn own_range(error: &ParseError, root: &SyntaxNode<'_>, end: usize) -> Option<Te
 }
 
 // Where an error is shown: at its range, or else at the end of the last token other than trivia.
-fn place_of(error: &ParseError, root: &SyntaxNode<'_>, end: usize) -> TextRange
+fn location_of(error: &ParseError, root: &SyntaxNode<'_>, end: usize) -> TextRange
     requires { end ≡ end_of_items root.now }
-    ensures { bounds_of result ≡ place_of root.now (fault_of error.now) }
+    ensures { bounds_of result ≡ location_of root.now (fault_of error.now) }
 {
     own_range(error, root, end).unwrap_or(TextRange::empty(end))
 }
@@ -106,7 +106,7 @@ fn single<'t>(
     finder: &mut NoteFinder,
 ) -> Result<Diagnostic, AllocError>
     requires room { number + 1 < 2 ^ 64 }
-    requires place { bounds_of range ≡ place_of root.now (fault_of error.now) }
+    requires location { bounds_of range ≡ location_of root.now (fault_of error.now) }
     ensures { IfOk result (IsSingle root.now number (fault_of error.now)) }
 {
     Ok(Diagnostic {
@@ -132,7 +132,7 @@ pub fn all_diagnostics(alloc: Global, read: &Parse) -> Result<Vec<Diagnostic>, A
     let mut earlier = root.clone();
     for number in 0..errors.len() {
         let error = &errors[number];
-        let range = place_of(error, &root, end);
+        let range = location_of(error, &root, end);
         let node = error_node(&root, &mut earlier, error);
         let alone = single(alloc, number, error, &root, node, range, &mut finder)?;
         found.push(alone)?;
@@ -221,7 +221,7 @@ pub fn first_diagnostics(
     let mut earlier = root.clone();
     for number in 0..errors.len() {
         let error = &errors[number];
-        let range = place_of(error, &root, end);
+        let range = location_of(error, &root, end);
         let node = error_node(&root, &mut earlier, error);
         if folding.folds(&root, error, &node, range) {
             found.fold(number)?;

@@ -4,7 +4,7 @@ ghost use Rattle.std.specs.Prelude.{◌≡◌, map};
 ghost use Rattle.rnix_green.specs.Walk.{elements_of};
 ghost use Rattle.rnix_grammar.specs.Fault.{fault_of};
 ghost use Rattle.nix_diagnostics.specs.Brackets.{closes};
-ghost use Rattle.nix_diagnostics.specs.Places.{end_of_items};
+ghost use Rattle.nix_diagnostics.specs.Locations.{end_of_items};
 ghost use Rattle.nix_diagnostics.specs.Ends.{passes, is_of_string, is_at_end, ends_early, reaches, first_opening, lost_from, is_from};
 
 use crate::openings::{closes, opens};

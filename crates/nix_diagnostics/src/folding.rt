@@ -6,7 +6,7 @@ ghost use Rattle.rnix_green.specs.Relatives.{parent_of};
 ghost use Rattle.rnix_green.specs.Tree.{item_of};
 ghost use Rattle.rnix_grammar.specs.Fault.{fault_of};
 ghost use Rattle.rnix_grammar.specs.Ranges.{range_in};
-ghost use Rattle.nix_diagnostics.specs.Places.{place_of};
+ghost use Rattle.nix_diagnostics.specs.Locations.{location_of};
 ghost use Rattle.nix_diagnostics.specs.Brackets.{has_range, closes_around, depth_after, skips_brackets};
 ghost use Rattle.nix_diagnostics.specs.Slips.{is_slip};
 ghost use Rattle.nix_diagnostics.specs.Apart.{larger, semicolons_of};
@@ -203,20 +203,26 @@ impl Folding {
     }
 
     // Whether the parser loses its way at an error, whose node skips brackets or does not.
-    fn loses(&self, error: &ParseError, skips: bool, place: TextRange) -> bool
-        ensures { result ≡ loses_in self.now (fault_of error.now) skips place }
+    fn loses(&self, error: &ParseError, skips: bool, location: TextRange) -> bool
+        ensures { result ≡ loses_in self.now (fault_of error.now) skips location }
     {
         has_no_range(error)
-            || self.end <= place.end()
-            || is_from(self.lost_from, place.start())
+            || self.end <= location.end()
+            || is_from(self.lost_from, location.start())
             || skips
     }
 
     // Whether the parser has lost its way at an error, or before it and the error is not apart from those before it.
-    fn is_lost_at(&self, is_apart: bool, error: &ParseError, skips: bool, place: TextRange) -> bool
-        ensures { result ≡ ((self.now.is_lost && not is_apart) || loses_in self.now (fault_of error.now) skips place) }
+    fn is_lost_at(
+        &self,
+        is_apart: bool,
+        error: &ParseError,
+        skips: bool,
+        location: TextRange,
+    ) -> bool
+        ensures { result ≡ ((self.now.is_lost && not is_apart) || loses_in self.now (fault_of error.now) skips location) }
     {
-        self.is_lost && !is_apart || self.loses(error, skips, place)
+        self.is_lost && !is_apart || self.loses(error, skips, location)
     }
 
     // Whether brackets were skipped at an error, whose node skips some or does not, or before it.
@@ -227,14 +233,14 @@ impl Folding {
     }
 
     // Whether an error is apart from the earlier ones: between them an entry ends, in a set or `let` that starts before their end.
-    fn is_apart(&self, place: TextRange) -> bool
-        ensures { result ≡ is_apart_in self.now place }
+    fn is_apart(&self, location: TextRange) -> bool
+        ensures { result ≡ is_apart_in self.now location }
     {
         ends_between(
             self.semicolons.as_slice(),
             self.passed,
             self.reach,
-            place.start(),
+            location.start(),
         )
     }
 
@@ -245,15 +251,15 @@ impl Folding {
         root: &SyntaxNode<'_>,
         group: Option<TextRange>,
         last: usize,
-        place: TextRange,
+        location: TextRange,
     ) -> bool
         requires { self.now.last ≡ Some last }
-        ensures { result ≡ is_joined_in root.now self.now group place }
+        ensures { result ≡ is_joined_in root.now self.now group location }
     {
         if self.is_lost || are_one(group, self.group) {
             return true;
         }
-        are_close(root.text().as_bytes(), last, place.start())
+        are_close(root.text().as_bytes(), last, location.start())
     }
 
     // Whether an error, which is apart from the earlier ones or not, follows from them.
@@ -262,9 +268,9 @@ impl Folding {
         root: &SyntaxNode<'_>,
         is_apart: bool,
         group: Option<TextRange>,
-        place: TextRange,
+        location: TextRange,
     ) -> bool
-        ensures { result ≡ follows_in root.now self.now is_apart group place }
+        ensures { result ≡ follows_in root.now self.now is_apart group location }
     {
         let Some(last) = self.last else {
             return false;
@@ -273,9 +279,9 @@ impl Folding {
             return true;
         }
         if is_apart {
-            return self.is_unbalanced && self.ends_closed && self.end <= place.end();
+            return self.is_unbalanced && self.ends_closed && self.end <= location.end();
         }
-        self.is_joined(root, group, last, place)
+        self.is_joined(root, group, last, location)
     }
 
     // Whether the text ends inside a string, and there was an error about an unexpected or a missing token.
@@ -299,20 +305,20 @@ impl Folding {
         root: &SyntaxNode<'_>,
         error: &ParseError,
         node: &Option<SyntaxNode<'_>>,
-        place: TextRange,
+        location: TextRange,
     ) -> bool
         requires slip { is_slip (fault_of error.now) ≡ true }
-        requires place { bounds_of place ≡ place_of root.now (fault_of error.now) }
+        requires location { bounds_of location ≡ location_of root.now (fault_of error.now) }
         requires node { node.now ≡ error_node root.now (fault_of error.now) }
         ensures { JudgesNext root.now (fault_of error.now) self.old self.new result }
     {
         let group = group_of(node);
-        let is_apart = self.is_apart(place);
-        let follows = self.follows(root, is_apart, group, place);
+        let is_apart = self.is_apart(location);
+        let follows = self.follows(root, is_apart, group, location);
         let skips = self.skips_if(node);
-        let is_lost = self.is_lost_at(is_apart, error, skips, place);
+        let is_lost = self.is_lost_at(is_apart, error, skips, location);
         let is_unbalanced = self.is_unbalanced_at(skips);
-        let end = place.end();
+        let end = location.end();
         self.is_lost = is_lost;
         self.is_unbalanced = is_unbalanced;
         self.last = Some(end);
@@ -321,20 +327,20 @@ impl Folding {
         follows
     }
 
-    /// Adds an error, with its error node and the place where it is shown. Returns whether it follows from earlier errors.
+    /// Adds an error, with its error node and the location where it is shown. Returns whether it follows from earlier errors.
     pub fn folds(
         &mut self,
         root: &SyntaxNode<'_>,
         error: &ParseError,
         node: &Option<SyntaxNode<'_>>,
-        place: TextRange,
+        location: TextRange,
     ) -> bool
-        requires place { bounds_of place ≡ place_of root.now (fault_of error.now) }
+        requires location { bounds_of location ≡ location_of root.now (fault_of error.now) }
         requires node { node.now ≡ error_node root.now (fault_of error.now) }
         ensures { JudgesNext root.now (fault_of error.now) self.old self.new result }
     {
         if is_slip(error) {
-            self.add_slip(root, error, node, place)
+            self.add_slip(root, error, node, location)
         } else if is_extra(error) {
             self.last.is_some()
         } else {

@@ -119,7 +119,7 @@ fn in_pattern(unwanted: &Unwanted<'_>) -> Option<Hint> {
 }
 
 // The hint for a token where another is expected.
-fn in_place_of(wanted: SyntaxKind, unwanted: &Unwanted<'_>) -> Option<Hint> {
+fn instead_of(wanted: SyntaxKind, unwanted: &Unwanted<'_>) -> Option<Hint> {
     match (unwanted.token.kind(), wanted) {
         (TOKEN_EQUAL | TOKEN_COLON, TOKEN_ASSIGN) => Some(Hint::Binding),
         (TOKEN_SEMICOLON, TOKEN_ASSIGN) => Some(Hint::Entry),
@@ -159,5 +159,5 @@ pub fn hint_of(unwanted: &Unwanted<'_>) -> Option<Hint> {
     if unwanted.wants_name() && is_keyword(kind) && !is_inherited {
         return Some(Hint::KeywordName);
     }
-    in_place_of(unwanted.wanted?, unwanted)
+    instead_of(unwanted.wanted?, unwanted)
 }

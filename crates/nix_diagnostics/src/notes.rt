@@ -2,8 +2,8 @@
 
 use crate::brackets::{Matching, Opening};
 use crate::closings::closing;
+use crate::error_nodes::token_before;
 use crate::hints::hint_of;
-use crate::place::token_before;
 use crate::proposals::proposal;
 use crate::replacement::Replacement;
 use crate::unwanted::Unwanted;
@@ -44,12 +44,16 @@ fn opened(opening: Opening) -> &'static str {
 }
 
 // The range of the first argument of a pattern with a name. The number of entries that may still be searched falls.
-fn argument_in(pattern: &Pattern<'_>, name: &str, entries_left: &mut usize) -> Option<TextRange> {
+fn argument_in(
+    pattern: &Pattern<'_>,
+    name: &str,
+    entries_remaining: &mut usize,
+) -> Option<TextRange> {
     for entry in pattern.pat_entries() {
-        if *entries_left == 0 {
+        if *entries_remaining == 0 {
             return None;
         }
-        *entries_left -= 1;
+        *entries_remaining -= 1;
         if let Some(ident) = entry.ident() {
             if ident.syntax().text() == name {
                 return Some(ident.syntax().text_range());
@@ -64,16 +68,16 @@ fn first_argument(
     root: &SyntaxNode<'_>,
     range: TextRange,
     name: &str,
-    entries_left: &mut usize,
+    entries_remaining: &mut usize,
 ) -> Option<Note> {
-    if *entries_left == 0 || !root.text_range().contains_inclusive(range.start()) {
+    if *entries_remaining == 0 || !root.text_range().contains_inclusive(range.start()) {
         return None;
     }
     let token = root.token_at_offset(range.start()).right_biased()?;
     for node in token.parent_ancestors() {
         if let Some(pattern) = Pattern::cast(node) {
             return Some(Note {
-                range: Some(argument_in(&pattern, name, entries_left)?),
+                range: Some(argument_in(&pattern, name, entries_remaining)?),
                 message: "first declared here",
                 replacement: None,
             });
@@ -100,7 +104,11 @@ fn missing_semicolon(unwanted: &Unwanted<'_>) -> Option<Note> {
 }
 
 // The note on an `inherit` whose `;` is missing at the end of the text, where the error is shown.
-fn open_inherit(error: &ParseError, inherit: Option<TextRange>, place: TextRange) -> Option<Note> {
+fn open_inherit(
+    error: &ParseError,
+    inherit: Option<TextRange>,
+    location: TextRange,
+) -> Option<Note> {
     let is_missing = match error {
         ParseError::UnexpectedEOF => true,
         ParseError::UnexpectedEOFWanted(wanted) => wanted.contains(&TOKEN_SEMICOLON),
@@ -112,7 +120,7 @@ fn open_inherit(error: &ParseError, inherit: Option<TextRange>, place: TextRange
     Some(Note {
         range: Some(inherit?),
         message: "this \"inherit\" has no \";\"",
-        replacement: Some(Replacement::insertion(place.end(), ";")),
+        replacement: Some(Replacement::insertion(location.end(), ";")),
     })
 }
 
@@ -159,7 +167,7 @@ fn alone(alloc: Global, note: Option<Note>) -> Result<Vec<Note>, AllocError> {
 pub struct NoteFinder {
     matching: Matching,
     // How many more entries of patterns are searched.
-    entries_left: usize,
+    entries_remaining: usize,
 }
 
 impl NoteFinder {
@@ -167,7 +175,7 @@ impl NoteFinder {
     pub fn new(matching: Matching) -> NoteFinder {
         NoteFinder {
             matching,
-            entries_left: MOST_ENTRIES,
+            entries_remaining: MOST_ENTRIES,
         }
     }
 
@@ -176,17 +184,17 @@ impl NoteFinder {
         NoteFinder::new(Matching::none(alloc))
     }
 
-    /// Returns the notes on an error, given its error node and the place where it is shown.
+    /// Returns the notes on an error, given its error node and the location where it is shown.
     pub fn notes(
         &mut self,
         alloc: Global,
         error: &ParseError,
         root: &SyntaxNode<'_>,
         node: Option<SyntaxNode<'_>>,
-        place: TextRange,
+        location: TextRange,
     ) -> Result<Vec<Note>, AllocError> {
         if let ParseError::DuplicatedArgs(range, name) = error {
-            let first = first_argument(root, *range, name.as_str(), &mut self.entries_left);
+            let first = first_argument(root, *range, name.as_str(), &mut self.entries_remaining);
             return alone(alloc, first);
         }
         let mut notes = Vec::new(alloc);
@@ -194,15 +202,15 @@ impl NoteFinder {
         let unwanted = Unwanted::of(error, node, &self.matching);
         let unclosed = mismatch
             .unclosed
-            .filter(|opening| opening.range.start() <= place.start());
+            .filter(|opening| opening.range.start() <= location.start());
         if let Some(opening) = unclosed {
             notes.push(Note {
                 range: Some(opening.range),
                 message: opened(opening),
-                replacement: closing(opening, unwanted.as_ref(), place, mismatch.extra, text),
+                replacement: closing(opening, unwanted.as_ref(), location, mismatch.extra, text),
             })?;
         }
-        notes.extend(open_inherit(error, mismatch.inherit, place))?;
+        notes.extend(open_inherit(error, mismatch.inherit, location))?;
         if let Some(unwanted) = unwanted {
             notes.extend(remark(&unwanted, unclosed.is_some(), mismatch.extra, text))?;
         }

@@ -106,7 +106,7 @@ fn close(opened: &mut Vec<SyntaxKind>, kind: SyntaxKind) -> bool
 // Closes what a token of the kind closes. Returns whether it closes one of a kind of which none is open.
 fn closes_none(opened: &mut Vec<SyntaxKind>, kind: SyntaxKind) -> bool
     ensures none { result ≡ closes_none (opener_of kind) (reverse opened.old.items) }
-    ensures left { reverse opened.new.items ≡ after_closing (opener_of kind) (reverse opened.old.items) }
+    ensures remaining { reverse opened.new.items ≡ after_closing (opener_of kind) (reverse opened.old.items) }
 {
     match opener_of(kind) {
         Some(opener) => !close(opened, opener),

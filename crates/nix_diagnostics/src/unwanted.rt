@@ -1,7 +1,7 @@
 //! Unexpected tokens and what is around them.
 
 use crate::brackets::Matching;
-use crate::place::token_before;
+use crate::error_nodes::token_before;
 use SyntaxKind::*;
 use rnix::ast::{AstNode, AttrpathValue};
 use rnix::{ParseError, SyntaxKind, SyntaxNode, SyntaxToken};

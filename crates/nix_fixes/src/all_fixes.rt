@@ -27,15 +27,15 @@ fn first_fix(
     text: &str,
     errors: usize,
     found: &[Diagnostic],
-    left: &mut usize,
+    remaining: &mut usize,
 ) -> Result<Option<Tried>, AllocError>
     ensures { IfOk result (λ found. IfSome found (IsTried text.now errors)) }
 {
     for diagnostic in found {
-        if *left == 0 {
+        if *remaining == 0 {
             return Ok(None);
         }
-        *left -= 1;
+        *remaining -= 1;
         if let Some(tried) = try_notes(alloc, text, errors, &diagnostic.notes)? {
             return Ok(Some(tried));
         }
@@ -52,7 +52,7 @@ struct Progress {
 }
 
 // Returns a text before its first fix.
-fn begin(alloc: Global, text: &str) -> Result<Progress, AllocError>
+fn start_progress(alloc: Global, text: &str) -> Result<Progress, AllocError>
     ensures progress { IfOk result (IsProgress text.now) }
     ensures none { IfOk result (λ progress. progress.fixes ≡ 0) }
 {
@@ -69,13 +69,13 @@ fn begin(alloc: Global, text: &str) -> Result<Progress, AllocError>
 fn next_fix(
     alloc: Global,
     progress: &Progress,
-    left: &mut usize,
+    remaining: &mut usize,
 ) -> Result<Option<Tried>, AllocError>
     ensures { IfOk result (λ found. IfSome found (IsTried (string_bytes progress.now.made) (length progress.now.read.faults))) }
 {
     let found = diagnostics(alloc, &progress.read)?;
     let errors = error_count(&progress.read);
-    first_fix(alloc, progress.made.as_str(), errors, &found, left)
+    first_fix(alloc, progress.made.as_str(), errors, &found, remaining)
 }
 
 /// Fixes a text again and again, by the first diagnostic of each text that has a fix, until none has one or so many diagnostics were tried.
@@ -89,10 +89,10 @@ pub fn fixed(alloc: Global, text: &str, most: usize) -> Result<FixedText, AllocE
     // The old text had at least one more for each fix.
     ensures fewer { IfOk result (λ made. HasNoFewer text.now (made.errors + made.fixes)) }
 {
-    let mut left = most;
-    let mut progress = begin(alloc, text)?;
+    let mut remaining = most;
+    let mut progress = start_progress(alloc, text)?;
     for _round in 0..error_count(&progress.read) {
-        match next_fix(alloc, &progress, &mut left)? {
+        match next_fix(alloc, &progress, &mut remaining)? {
             Some(next) => {
                 progress = Progress {
                     made: next.made,

@@ -35,8 +35,8 @@ added_goes line = refl
 removed_missing : (line : Bor (List ℕ)) → applied_to (Removed line ∷ []) [] ≡ None
 removed_missing line = refl
 
-line_left : (line : List ℕ) → applied_to [] (line ∷ []) ≡ None
-line_left line = refl
+line_remaining : (line : List ℕ) → applied_to [] (line ∷ []) ≡ None
+line_remaining line = refl
 
 -- a line without a line feed
 open_line : with_end (codes "a") ≡ codes "a\n\\ No newline at end of file\n"

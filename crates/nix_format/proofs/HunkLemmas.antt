@@ -74,27 +74,27 @@ pub all_common : (lines : List DiffLine) → length lines ≤ prefix_len is_comm
 all_common lines h = subst AreCommon (take_all (length lines) lines (omega arith)) (front_common (length lines) lines h)
 
 -- a hunk around the first change after a line
-pub hunk_found : (diff : List DiffLine) (place passed : ℕ) (before more : Counts) (hunk : Hunk) → AreCounts (take place diff) before
-    → passed ≡ prefix_len is_common (drop place diff) → place ≤ hunk.first → hunk.first ≤ place + passed → hunk.first < hunk.end → hunk.end ≤ length diff
-    → AreCounts (lines_between place hunk.first diff) more → hunk.before.olds ≡ before.olds + more.olds → hunk.before.news ≡ before.news + more.news
-    → AreCounts (lines_between hunk.first hunk.end diff) hunk.counts → IsNextHunk diff place hunk
-hunk_found diff place passed before more hunk a is starts near filled within b olds news counts = record {
+pub hunk_found : (diff : List DiffLine) (index passed : ℕ) (before more : Counts) (hunk : Hunk) → AreCounts (take index diff) before
+    → passed ≡ prefix_len is_common (drop index diff) → index ≤ hunk.first → hunk.first ≤ index + passed → hunk.first < hunk.end → hunk.end ≤ length diff
+    → AreCounts (lines_between index hunk.first diff) more → hunk.before.olds ≡ before.olds + more.olds → hunk.before.news ≡ before.news + more.news
+    → AreCounts (lines_between hunk.first hunk.end diff) hunk.counts → IsNextHunk diff index hunk
+hunk_found diff index passed before more hunk a is starts near filled within b olds news counts = record {
   starts = starts;
   filled = filled;
   within = within;
-  passed = front_common (hunk.first - place) (drop place diff) (omega (arith, is));
-  before = counts_summed diff place hunk.first before more hunk.before starts a b olds news;
+  passed = front_common (hunk.first - index) (drop index diff) (omega (arith, is));
+  before = counts_summed diff index hunk.first before more hunk.before starts a b olds news;
   counts = counts;
 }
 
 -- no hunk follows a line if all lines after it are common
-pub none_found : (diff : List DiffLine) (place passed : ℕ) → passed ≡ prefix_len is_common (drop place diff) → place + passed ≡ length diff
-    → AreCommon (drop place diff)
-none_found diff place passed is all = all_common (drop place diff) (omega (arith, is, length-drop place diff))
+pub none_found : (diff : List DiffLine) (index passed : ℕ) → passed ≡ prefix_len is_common (drop index diff) → index + passed ≡ length diff
+    → AreCommon (drop index diff)
+none_found diff index passed is all = all_common (drop index diff) (omega (arith, is, length-drop index diff))
 
 -- each of the hunks of a diff is the next one after some line
-pub one_hunk : (diff : List DiffLine) (place : ℕ) (hunks : List Hunk) (i : ℕ) (d : Hunk) → AreHunks diff place hunks → i < length hunks
+pub one_hunk : (diff : List DiffLine) (index : ℕ) (hunks : List Hunk) (i : ℕ) (d : Hunk) → AreHunks diff index hunks → i < length hunks
     → (from : ℕ) × IsNextHunk diff from (get_or hunks i d)
-one_hunk diff place [] i d h less = absurd (omega (arith, less))
-one_hunk diff place (hunk ∷ hunks) zero d h less = (place, h.0)
-one_hunk diff place (hunk ∷ hunks) (suc i) d h less = one_hunk diff hunk.end hunks i d h.1 (omega (arith, less))
+one_hunk diff index [] i d h less = absurd (omega (arith, less))
+one_hunk diff index (hunk ∷ hunks) zero d h less = (index, h.0)
+one_hunk diff index (hunk ∷ hunks) (suc i) d h less = one_hunk diff hunk.end hunks i d h.1 (omega (arith, less))

@@ -70,15 +70,15 @@ one_patched diff hunk hunks done kept rest made gap further =
     ∙ ap (λ o. option_map (λ ls. kept ++ ls) (option_map (λ more. new_lines (hunk_lines diff hunk) ++ more) o)) further
 
 -- the hunks of a diff from the line of a number on
-patched_rest : (diff : List DiffLine) (place : ℕ) (hunks : List Hunk) → AreHunks diff place hunks
-    → patched_from diff hunks (length (old_lines (take place diff))) (old_lines (drop place diff)) ≡ Some (new_lines (drop place diff))
-patched_rest diff place [] h = ap Some (common_alike (drop place diff) h)
-patched_rest diff place (hunk ∷ hunks) h =
-    let done : ℕ = length (old_lines (take place diff)) in
-    let kept : List DiffLine = lines_between place hunk.first diff in
+patched_rest : (diff : List DiffLine) (index : ℕ) (hunks : List Hunk) → AreHunks diff index hunks
+    → patched_from diff hunks (length (old_lines (take index diff))) (old_lines (drop index diff)) ≡ Some (new_lines (drop index diff))
+patched_rest diff index [] h = ap Some (common_alike (drop index diff) h)
+patched_rest diff index (hunk ∷ hunks) h =
+    let done : ℕ = length (old_lines (take index diff)) in
+    let kept : List DiffLine = lines_between index hunk.first diff in
     let filled : hunk.first ≤ hunk.end = omega (arith, h.0.filled) in
     let gap : hunk.before.olds - done ≡ length (old_lines kept) =
-    omega (arith, h.0.before.olds, olds_counted (take hunk.first diff), olds_split diff place hunk.first h.0.starts) in
+    omega (arith, h.0.before.olds, olds_counted (take hunk.first diff), olds_split diff index hunk.first h.0.starts) in
     let next : length (old_lines (take hunk.end diff)) ≡ hunk.before.olds + hunk.counts.olds =
     omega (
       arith,
@@ -91,10 +91,10 @@ patched_rest diff place (hunk ∷ hunks) h =
     let further : patched_from diff hunks (hunk.before.olds + hunk.counts.olds) (old_lines (drop hunk.end diff)) ≡ Some (new_lines (drop hunk.end diff)) =
     ap (λ n. patched_from diff hunks n (old_lines (drop hunk.end diff))) (sym next) ∙ patched_rest diff hunk.end hunks h.1 in
     ap (patched_from diff (hunk ∷ hunks) done)
-    (olds_parted diff place hunk.first h.0.starts ∙ ap (λ ls. old_lines kept ++ ls) (olds_parted diff hunk.first hunk.end filled))
+    (olds_parted diff index hunk.first h.0.starts ∙ ap (λ ls. old_lines kept ++ ls) (olds_parted diff hunk.first hunk.end filled))
     ∙ one_patched diff hunk hunks done (old_lines kept) (old_lines (drop hunk.end diff)) (new_lines (drop hunk.end diff)) gap further
     ∙ ap Some (ap (λ ls. ls ++ (new_lines (hunk_lines diff hunk) ++ new_lines (drop hunk.end diff))) (common_alike kept h.0.passed)
-    ∙ sym (news_parted diff place hunk.first h.0.starts ∙ ap (λ ls. new_lines kept ++ ls) (news_parted diff hunk.first hunk.end filled)))
+    ∙ sym (news_parted diff index hunk.first h.0.starts ∙ ap (λ ls. new_lines kept ++ ls) (news_parted diff hunk.first hunk.end filled)))
 
 -- the hunks of a diff turn its old lines into its new ones
 pub hunks_patch : (diff : List DiffLine) (hunks : List Hunk) (olds news : List (List ℕ)) → AreHunks diff 0 hunks → old_lines diff ≡ olds

@@ -36,18 +36,18 @@ pub record AreCounts (lines : List DiffLine) (counts : Counts) : Type 0 where
   pub news : counts.news ≡ count_by is_new lines
 
 -- the first hunk after the line of a number: before it all lines are common, and it knows how many lines of each text are before it and in it
-pub record IsNextHunk (diff : List DiffLine) (place : ℕ) (hunk : Hunk) : Type 0 where
-  pub starts : place ≤ hunk.first
+pub record IsNextHunk (diff : List DiffLine) (index : ℕ) (hunk : Hunk) : Type 0 where
+  pub starts : index ≤ hunk.first
   pub filled : hunk.first < hunk.end
   pub within : hunk.end ≤ length diff
-  pub passed : AreCommon (lines_between place hunk.first diff)
+  pub passed : AreCommon (lines_between index hunk.first diff)
   pub before : AreCounts (take hunk.first diff) hunk.before
   pub counts : AreCounts (lines_between hunk.first hunk.end diff) hunk.counts
 
 -- the hunks of a diff from the line of a number on, in order: all lines outside of them are common
 abbrev pub AreHunks : List DiffLine → ℕ → List Hunk → Type 0
-AreHunks diff place [] = AreCommon (drop place diff)
-AreHunks diff place (hunk ∷ hunks) = IsNextHunk diff place hunk × AreHunks diff hunk.end hunks
+AreHunks diff index [] = AreCommon (drop index diff)
+AreHunks diff index (hunk ∷ hunks) = IsNextHunk diff index hunk × AreHunks diff hunk.end hunks
 
 -- the lines of a hunk
 abbrev pub hunk_lines : List DiffLine → Hunk → List DiffLine

@@ -1,7 +1,7 @@
 -- What becomes of files: what is printed of each, its outcome, the counts over all files, and the exit status. A text is the list of its bytes.
 use Rattle.std.specs.Prelude.{◌≡◌, ℕ, ◌+◌, ◌-◌, ◌^◌, ◌==◌, nat_lt, min, length, Bool, true, false, List, [], ◌∷◌, ◌++◌, codes, Option, if◌then◌else◌}
 use Rattle.std.specs.{Str.bytes_eq, Io.KnownBytes.{Appends, Keeps}}
-use Rattle.nix_cli.specs.MessagePlaces.{shown_name}
+use Rattle.nix_cli.specs.MessageLocations.{shown_name}
 use Rattle.nix_formatting.specs.{Formatted.{IsFaulty, IsFaultless}, Reindented.IsReformatted}
 use Rattle.nix_format.specs.declared.file.Task.{Task}
 use Rattle.nix_format.specs.declared.file.Task.TheVariants.{Write, Check, Diff, Print}

@@ -5,7 +5,7 @@ ghost use Rattle.std.specs.Io.KnownBytes.{Appends};
 ghost use Rattle.nix_format.specs.Outcomes.{changed_name, input_text, writes, Prints, IsDiffOf, IsPrinted, IsReplaced, IsFinished, IsTextFormatted, IsFileFormatted};
 
 use crate::unified::unified_diff;
-use nix_cli::{Program, place_of, read_text, replace_text, replaceable, shown_name};
+use nix_cli::{Program, location_of, read_text, replace_text, replaceable, shown_name};
 use nix_diagnostics::first_diagnostics;
 use nix_formatting::{Formatting, formatted};
 use rnix::Root;
@@ -65,7 +65,7 @@ fn write_errors(rt: &HostRuntime, program: &Program, name: &str, text: &str) -> 
     let found = first_diagnostics(rt.alloc(), &read, LIMIT)?;
     let shown = shown_name(name);
     for diagnostic in &found.first {
-        let (line, column) = place_of(text, diagnostic.range.start());
+        let (line, column) = location_of(text, diagnostic.range.start());
         let message = diagnostic.message.as_str();
         eprintln!(rt;
             "{}: {shown}:{line}:{column}: error: {message}",

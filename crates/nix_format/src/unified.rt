@@ -79,23 +79,23 @@ fn counts_with(before: Counts, more: Counts) -> Counts
 }
 
 // The first hunk from the line of a number on, before which there are so many lines of each text.
-fn next_hunk(diff: &[DiffLine<'_>], place: usize, before: Counts) -> Option<Hunk>
-    requires within { place ≤ length diff.now }
-    requires before { AreCounts (take place diff.now) before }
-    ensures { MatchOption result (AreCommon (drop place diff.now)) (IsNextHunk diff.now place) }
+fn next_hunk(diff: &[DiffLine<'_>], index: usize, before: Counts) -> Option<Hunk>
+    requires within { index ≤ length diff.now }
+    requires before { AreCounts (take index diff.now) before }
+    ensures { MatchOption result (AreCommon (drop index diff.now)) (IsNextHunk diff.now index) }
 {
-    let passed = count_common(&diff[place..]);
-    if place + passed == diff.len() {
+    let passed = count_common(&diff[index..]);
+    if index + passed == diff.len() {
         return None;
     }
-    let change = place + passed;
+    let change = index + passed;
     let first = change - passed.min(CONTEXT);
     let last = change + count_changed(&diff[change..]);
     let end = last.saturating_add(CONTEXT).min(diff.len());
     Some(Hunk {
         first,
         end,
-        before: counts_with(before, counts_of(&diff[place..first])),
+        before: counts_with(before, counts_of(&diff[index..first])),
         counts: counts_of(&diff[first..end]),
     })
 }
@@ -105,11 +105,11 @@ fn hunks_of(alloc: Global, diff: &[DiffLine<'_>]) -> Result<Vec<Hunk>, AllocErro
     ensures { IfOk result (λ hunks. AreHunks diff.now 0 hunks.items) }
 {
     let mut hunks = Vec::new(alloc);
-    let mut place = 0usize;
+    let mut index = 0usize;
     let mut before = Counts { olds: 0, news: 0 };
-    while let Some(hunk) = next_hunk(diff, place, before) {
+    while let Some(hunk) = next_hunk(diff, index, before) {
         hunks.push(hunk)?;
-        place = hunk.end;
+        index = hunk.end;
         before = counts_with(hunk.before, hunk.counts);
     }
     Ok(hunks)
@@ -253,7 +253,7 @@ fn write_hunk(
     hunk: &Hunk,
     out: &mut String,
 ) -> Result<(), AllocError>
-    requires { (place : ℕ) × IsNextHunk diff.now place hunk.now }
+    requires { (index : ℕ) × IsNextHunk diff.now index hunk.now }
     ensures { OnOk result (string_bytes out.new ≡ string_bytes out.old ++ hunk_text diff.now hunk.now) }
 {
     let lines = &diff[hunk.first..hunk.end];

@@ -44,20 +44,20 @@ shown_in t n enters i = if i.is_node then shown_node enters (located t n) else s
 abbrev item_with : Bool → SyntaxKind → ℕ → ℕ → Option ℕ → ℕ → Item
 item_with is_node k s m p b = record { kind = k; is_node = is_node; start = s; end = m; parent = p; below = b }
 
-module _ (t : Tree) (n : ℕ) (k : SyntaxKind) (s m : ℕ) (p : Option ℕ) (b : ℕ) (left : List Event) where
+module _ (t : Tree) (n : ℕ) (k : SyntaxKind) (s m : ℕ) (p : Option ℕ) (b : ℕ) (remaining : List Event) where
   -- a node is entered
   entered : item t n ≡ item_with true k s m p b
-      → rebuilt (steps_of (event_at t (true, n) ∷ left)) ≡ built true true k (shown_node true (located t n)) (rebuilt (steps_of left))
-  entered e = ap (λ i. rebuilt (before true (shown_in t n true) i (steps_of left))) e
+      → rebuilt (steps_of (event_at t (true, n) ∷ remaining)) ≡ built true true k (shown_node true (located t n)) (rebuilt (steps_of remaining))
+  entered e = ap (λ i. rebuilt (before true (shown_in t n true) i (steps_of remaining))) e
 
   -- a node is left
-  left_behind : item t n ≡ item_with true k s m p b → rebuilt (steps_of (event_at t (false, n) ∷ left)) ≡ empty ∷ rebuilt (steps_of left)
-  left_behind e = ap (λ i. rebuilt (before false (shown_in t n false) i (steps_of left))) e
+  remaining_behind : item t n ≡ item_with true k s m p b → rebuilt (steps_of (event_at t (false, n) ∷ remaining)) ≡ empty ∷ rebuilt (steps_of remaining)
+  remaining_behind e = ap (λ i. rebuilt (before false (shown_in t n false) i (steps_of remaining))) e
 
   -- a token is passed
-  token_passed : item t n ≡ item_with false k s m p b → steps_of (event_at t (true, n) ∷ (event_at t (false, n) ∷ left))
-      ≡ step_if (not (same_kind k TOKEN_WHITESPACE)) (step_with true false k (shown_token (located t n))) (steps_of left)
-  token_passed e = ap (λ i. before true (shown_in t n true) i (before false (shown_in t n false) i (steps_of left))) e
+  token_passed : item t n ≡ item_with false k s m p b → steps_of (event_at t (true, n) ∷ (event_at t (false, n) ∷ remaining))
+      ≡ step_if (not (same_kind k TOKEN_WHITESPACE)) (step_with true false k (shown_token (located t n))) (steps_of remaining)
+  token_passed e = ap (λ i. before true (shown_in t n true) i (before false (shown_in t n false) i (steps_of remaining))) e
 
   -- what a token shows, by its text
   token_shows : (u whole : List ℕ) → whole ≡ text_of (forest_of t) → item t n ≡ item_with false k s m p b → take (m - s) (drop s whole) ≡ u
@@ -97,14 +97,14 @@ rebuilds t n s p empty more rest g fs here text h = h
 rebuilds t n s p (leaf k u f) more rest g fs here text h =
     let whole : List ℕ = text_of (forest_of t) in
     let items = items_from (n + 1) (s + length u) p f in
-    let left : List Event = map (event_at t) (steps_from (n + 1) f) ++ more in
+    let remaining : List Event = map (event_at t) (steps_from (n + 1) f) ++ more in
     let is : item t n ≡ item_with false k s (s + length u) p 0 = first_item t n (item_with false k s (s + length u) p 0) items here in
     let at : drop s whole ≡ u ++ (text_of f ++ rest) = text ∙ append_assoc u (text_of f) rest in
     let shows : shown_token (located t n) ≡ (text_unless (same_kind k TOKEN_STRING_CONTENT) u, []) =
-    token_shows t n k s (s + length u) p 0 left u whole refl is (leaf_text whole u (text_of f ++ rest) s at) in
-    ap rebuilt (token_passed t n k s (s + length u) p 0 left is
-    ∙ ap (λ x. step_if (not (same_kind k TOKEN_WHITESPACE)) (step_with true false k x) (steps_of left)) shows)
-    ∙ token_row (same_kind k TOKEN_WHITESPACE) k (text_unless (same_kind k TOKEN_STRING_CONTENT) u) (steps_of left) (outline f) g fs
+    token_shows t n k s (s + length u) p 0 remaining u whole refl is (leaf_text whole u (text_of f ++ rest) s at) in
+    ap rebuilt (token_passed t n k s (s + length u) p 0 remaining is
+    ∙ ap (λ x. step_if (not (same_kind k TOKEN_WHITESPACE)) (step_with true false k x) (steps_of remaining)) shows)
+    ∙ token_row (same_kind k TOKEN_WHITESPACE) k (text_unless (same_kind k TOKEN_STRING_CONTENT) u) (steps_of remaining) (outline f) g fs
     (rebuilds t (n + 1) (s + length u) p f more rest g fs
     (back_items t n (n + 1) (item_with false k s (s + length u) p 0 ∷ []) items refl here) (text_behind whole u (text_of f ++ rest) s at) h)
 rebuilds t n s p (node k c f) more rest g fs here text h =
@@ -123,7 +123,7 @@ rebuilds t n s p (node k c f) more rest g fs here text h =
     (back_items t (n + 1) j xs ys (ap (λ x. n + 1 + x) (length-items_from (n + 1) s (Some n) c)) below)
     (text_behind whole (text_of c) (text_of f ++ rest) s at) h in
     let closed : rebuilt (steps_of (event_at t (false, n) ∷ behind)) ≡ empty ∷ (join (outline f) g ∷ fs) =
-    left_behind t n k s m p (element_count c) behind is ∙ ap (λ r. empty ∷ r) after in
+    remaining_behind t n k s m p (element_count c) behind is ∙ ap (λ r. empty ∷ r) after in
     let inside : rebuilt (steps_of (steps ++ event_at t (false, n) ∷ behind)) ≡ join (outline c) empty ∷ (join (outline f) g ∷ fs) =
     rebuilds t (n + 1) s (Some n) c (event_at t (false, n) ∷ behind) (text_of f ++ rest) empty (join (outline f) g ∷ fs)
     (front_items t (n + 1) xs ys below) at closed in

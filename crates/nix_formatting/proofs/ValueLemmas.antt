@@ -184,15 +184,15 @@ part_given (Literal token) = refl
 part_given (Interpolation node) = refl
 
 -- the next parts of two strings are alike, and so are the parts after them
-pub parts_begun : (olds news olds_left news_left : List Spot) (old new : InterpolPart Located Located)
-    → parts_among olds ≡ part_of (λ t. t) (λ i. i) old ∷ parts_among olds_left
-    → parts_among news ≡ part_of (λ t. t) (λ i. i) new ∷ parts_among news_left
-    → bare (with_text text_at new) ≡ bare (with_text text_at old) → bare_among news_left ≡ bare_among olds_left → bare_among news ≡ bare_among olds
-parts_begun olds news olds_left news_left old new is_old is_new same rest =
+pub parts_begun : (olds news olds_remaining news_remaining : List Spot) (old new : InterpolPart Located Located)
+    → parts_among olds ≡ part_of (λ t. t) (λ i. i) old ∷ parts_among olds_remaining
+    → parts_among news ≡ part_of (λ t. t) (λ i. i) new ∷ parts_among news_remaining
+    → bare (with_text text_at new) ≡ bare (with_text text_at old) → bare_among news_remaining ≡ bare_among olds_remaining → bare_among news ≡ bare_among olds
+parts_begun olds news olds_remaining news_remaining old new is_old is_new same rest =
     let heads : bare (with_text text_at (part_of (λ t. t) (λ i. i) new)) ≡ bare (with_text text_at (part_of (λ t. t) (λ i. i) old)) =
     part_given new ∙ same ∙ sym (part_given old) in
     ap (λ ps. bare_parts (map (with_text text_at) ps)) is_new
-    ∙ ap (λ p. p ∷ bare_among news_left) heads
+    ∙ ap (λ p. p ∷ bare_among news_remaining) heads
     ∙ ap (λ ps. bare (with_text text_at (part_of (λ t. t) (λ i. i) old)) ∷ ps) rest
     ∙ sym (ap (λ ps. bare_parts (map (with_text text_at) ps)) is_old)
 

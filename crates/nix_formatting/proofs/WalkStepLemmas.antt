@@ -78,8 +78,8 @@ nodes_entered old new h =
     (shown_equal (shown_node true old) (shown_node true new) both.1)
 
 -- two nodes are left
-pub nodes_left : (old new : Located) → same_kind (item_of old).kind (item_of new).kind ≡ true → AreSame (false, (true, old)) (false, (true, new))
-nodes_left old new h = steps_same false true (item_of old).kind (item_of new).kind ([], []) ([], []) h refl
+pub nodes_done : (old new : Located) → same_kind (item_of old).kind (item_of new).kind ≡ true → AreSame (false, (true, old)) (false, (true, new))
+nodes_done old new h = steps_same false true (item_of old).kind (item_of new).kind ([], []) ([], []) h refl
 
 -- what tokens of one kind show
 tokens_show : (is_old is_new : Bool) (xs ys : List ℕ) → is_old ≡ is_new → is_old || bytes_eq xs ys ≡ true
@@ -100,36 +100,38 @@ tokens_passed old new h =
     (ap (λ j. same_kind j TOKEN_STRING_CONTENT) ((same_kind-decides k l).0 both.0)) both.1))
 
 -- both walks have the same next step, and the same steps after it
-both_pass : (olds news olds_left news_left : List Event) (old new : Event) → steps_of olds ≡ step_of old ∷ steps_of olds_left
-    → steps_of news ≡ step_of new ∷ steps_of news_left → AreSame old new → steps_of news_left ≡ steps_of olds_left → steps_of news ≡ steps_of olds
-both_pass olds news olds_left news_left old new is_old is_new same rest =
-    is_new ∙ ap (λ s. s ∷ steps_of news_left) same ∙ ap (λ ss. step_of old ∷ ss) rest ∙ sym is_old
+both_pass : (olds news olds_remaining news_remaining : List Event) (old new : Event) → steps_of olds ≡ step_of old ∷ steps_of olds_remaining
+    → steps_of news ≡ step_of new ∷ steps_of news_remaining → AreSame old new → steps_of news_remaining ≡ steps_of olds_remaining
+    → steps_of news ≡ steps_of olds
+both_pass olds news olds_remaining news_remaining old new is_old is_new same rest =
+    is_new ∙ ap (λ s. s ∷ steps_of news_remaining) same ∙ ap (λ ss. step_of old ∷ ss) rest ∙ sym is_old
 
 -- the contract of a step of both walks
-pub passed : (olds news olds_left news_left : List Event) (old new : Option Met) (p : Pair)
-    → IsNextStep olds old olds_left → IsNextStep news new news_left → AreCompared p old new → IsPassed olds news olds_left news_left p
-passed olds news olds_left news_left (Some old) (Some new) pair.Same is_old is_new compared =
-    both_pass olds news olds_left news_left (event_of old) (event_of new) is_old is_new compared
-passed olds news olds_left news_left None None pair.Same is_old is_new compared = absurd compared
-passed olds news olds_left news_left None (Some new) pair.Same is_old is_new compared = absurd compared
-passed olds news olds_left news_left (Some old) None pair.Same is_old is_new compared = absurd compared
-passed olds news olds_left news_left old new pair.Differ is_old is_new compared = tt
-passed olds news olds_left news_left None None pair.End is_old is_new compared = is_new ∙ sym is_old
-passed olds news olds_left news_left None (Some new) pair.End is_old is_new compared = absurd compared
-passed olds news olds_left news_left (Some old) None pair.End is_old is_new compared = absurd compared
-passed olds news olds_left news_left (Some old) (Some new) pair.End is_old is_new compared = absurd compared
+pub passed : (olds news olds_remaining news_remaining : List Event) (old new : Option Met) (p : Pair)
+    → IsNextStep olds old olds_remaining → IsNextStep news new news_remaining → AreCompared p old new → IsPassed olds news olds_remaining news_remaining p
+passed olds news olds_remaining news_remaining (Some old) (Some new) pair.Same is_old is_new compared =
+    both_pass olds news olds_remaining news_remaining (event_of old) (event_of new) is_old is_new compared
+passed olds news olds_remaining news_remaining None None pair.Same is_old is_new compared = absurd compared
+passed olds news olds_remaining news_remaining None (Some new) pair.Same is_old is_new compared = absurd compared
+passed olds news olds_remaining news_remaining (Some old) None pair.Same is_old is_new compared = absurd compared
+passed olds news olds_remaining news_remaining old new pair.Differ is_old is_new compared = tt
+passed olds news olds_remaining news_remaining None None pair.End is_old is_new compared = is_new ∙ sym is_old
+passed olds news olds_remaining news_remaining None (Some new) pair.End is_old is_new compared = absurd compared
+passed olds news olds_remaining news_remaining (Some old) None pair.End is_old is_new compared = absurd compared
+passed olds news olds_remaining news_remaining (Some old) (Some new) pair.End is_old is_new compared = absurd compared
 
 -- both walks pass the same step
-pub same_pair : (olds news olds_left news_left : List Event) (p : Pair) → IsPassed olds news olds_left news_left p → p ≡ pair.Same
-    → steps_of news_left ≡ steps_of olds_left → steps_of news ≡ steps_of olds
-same_pair olds news olds_left news_left p h is rest =
-    let step_on : steps_of news_left ≡ steps_of olds_left → steps_of news ≡ steps_of olds = subst (IsPassed olds news olds_left news_left) is h in
+pub same_pair : (olds news olds_remaining news_remaining : List Event) (p : Pair) → IsPassed olds news olds_remaining news_remaining p → p ≡ pair.Same
+    → steps_of news_remaining ≡ steps_of olds_remaining → steps_of news ≡ steps_of olds
+same_pair olds news olds_remaining news_remaining p h is rest =
+    let step_on : steps_of news_remaining ≡ steps_of olds_remaining → steps_of news ≡ steps_of olds =
+    subst (IsPassed olds news olds_remaining news_remaining) is h in
     step_on rest
 
 -- both walks are at their ends
-pub end_pair : (olds news olds_left news_left : List Event) (p : Pair) → IsPassed olds news olds_left news_left p → p ≡ pair.End
+pub end_pair : (olds news olds_remaining news_remaining : List Event) (p : Pair) → IsPassed olds news olds_remaining news_remaining p → p ≡ pair.End
     → steps_of news ≡ steps_of olds
-end_pair olds news olds_left news_left p h is = subst (IsPassed olds news olds_left news_left) is h
+end_pair olds news olds_remaining news_remaining p h is = subst (IsPassed olds news olds_remaining news_remaining) is h
 
 -- an event that is no step is passed over
 pub passed_over : (all events rest : List Event) (event : Event) → steps_of events ≡ steps_of all → events ≡ event ∷ rest → is_step event ≡ false

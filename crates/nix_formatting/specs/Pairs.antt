@@ -54,6 +54,6 @@ AreCompared pair.End old new = ⊥
 
 -- the result of a step of both walks: if the steps after it are the same, so are the steps before it
 abbrev pub IsPassed : List Event → List Event → List Event → List Event → Pair → Type 0
-IsPassed olds news olds_left news_left pair.Same = steps_of news_left ≡ steps_of olds_left → steps_of news ≡ steps_of olds
-IsPassed olds news olds_left news_left pair.Differ = Unit {0}
-IsPassed olds news olds_left news_left pair.End = steps_of news ≡ steps_of olds
+IsPassed olds news olds_remaining news_remaining pair.Same = steps_of news_remaining ≡ steps_of olds_remaining → steps_of news ≡ steps_of olds
+IsPassed olds news olds_remaining news_remaining pair.Differ = Unit {0}
+IsPassed olds news olds_remaining news_remaining pair.End = steps_of news ≡ steps_of olds

@@ -37,7 +37,7 @@ AreCompared step.End old new = ⊥
 
 -- the result of a step: if the tokens after it are the same, so are the tokens before it
 abbrev pub IsStep : Bool → List Lexeme → List Lexeme → List Lexeme → List Lexeme → Step → Type 0
-IsStep in_path olds news olds_left news_left (step.Same kind) =
-    solids_from (ends_piece kind) news_left ≡ solids_from (ends_piece kind) olds_left → solids_from in_path news ≡ solids_from in_path olds
-IsStep in_path olds news olds_left news_left step.Differ = Unit {0}
-IsStep in_path olds news olds_left news_left step.End = solids_from in_path news ≡ solids_from in_path olds
+IsStep in_path olds news olds_remaining news_remaining (step.Same kind) =
+    solids_from (ends_piece kind) news_remaining ≡ solids_from (ends_piece kind) olds_remaining → solids_from in_path news ≡ solids_from in_path olds
+IsStep in_path olds news olds_remaining news_remaining step.Differ = Unit {0}
+IsStep in_path olds news olds_remaining news_remaining step.End = solids_from in_path news ≡ solids_from in_path olds

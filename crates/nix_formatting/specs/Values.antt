@@ -16,8 +16,8 @@ interpolation_symbol = 256
 
 -- some bytes and interpolations, and after them those of one more part of a string
 abbrev pub with_symbols : {I : Type 0} → List ℕ → InterpolPart (List ℕ) I → List ℕ
-with_symbols row (Literal text) = row ++ text
-with_symbols row (Interpolation i) = row ++ interpolation_symbol ∷ []
+with_symbols symbols (Literal text) = symbols ++ text
+with_symbols symbols (Interpolation i) = symbols ++ interpolation_symbol ∷ []
 
 -- the bytes and interpolations of parts
 abbrev pub symbols_of : {I : Type 0} → Parts I → List ℕ

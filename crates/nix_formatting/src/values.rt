@@ -16,62 +16,65 @@ use std::alloc::{AllocError, Global};
 const INTERPOLATION: u16 = 256;
 
 // Adds the bytes of a text.
-fn add_text(text: &str, row: &mut Vec<u16>) -> Result<(), AllocError>
-    ensures { OnOk result (row.new.items ≡ row.old.items ++ text.now) }
+fn add_text(text: &str, symbols: &mut Vec<u16>) -> Result<(), AllocError>
+    ensures { OnOk result (symbols.new.items ≡ symbols.old.items ++ text.now) }
 {
     for byte in text.as_bytes() {
-        row.push(u16::from(*byte))?;
+        symbols.push(u16::from(*byte))?;
     }
     Ok(())
 }
 
 // Adds an interpolation.
-fn add_interpolation(row: &mut Vec<u16>) -> Result<(), AllocError>
-    ensures { OnOk result (row.new.items ≡ row.old.items ++ interpolation_symbol ∷ []) }
+fn add_interpolation(symbols: &mut Vec<u16>) -> Result<(), AllocError>
+    ensures { OnOk result (symbols.new.items ≡ symbols.old.items ++ interpolation_symbol ∷ []) }
 {
-    row.push(INTERPOLATION)?;
+    symbols.push(INTERPOLATION)?;
     Ok(())
 }
 
 // Adds a normalized part of a string.
-fn add_normalized(part: &InterpolPart<'_, String>, row: &mut Vec<u16>) -> Result<(), AllocError>
-    ensures { OnOk result (row.new.items ≡ with_symbols row.old.items (with_text string_bytes part.now)) }
+fn add_normalized(part: &InterpolPart<'_, String>, symbols: &mut Vec<u16>) -> Result<(), AllocError>
+    ensures { OnOk result (symbols.new.items ≡ with_symbols symbols.old.items (with_text string_bytes part.now)) }
 {
     match part {
-        InterpolPart::Literal(text) => add_text(text.as_str(), row),
-        InterpolPart::Interpolation(_) => add_interpolation(row),
+        InterpolPart::Literal(text) => add_text(text.as_str(), symbols),
+        InterpolPart::Interpolation(_) => add_interpolation(symbols),
     }
 }
 
 // Adds the normalized parts of a string.
 fn add_all_normalized(
     parts: &[InterpolPart<'_, String>],
-    row: &mut Vec<u16>,
+    symbols: &mut Vec<u16>,
 ) -> Result<(), AllocError>
-    ensures { OnOk result (row.new.items ≡ fold with_symbols row.old.items (owned parts.now)) }
+    ensures { OnOk result (symbols.new.items ≡ fold with_symbols symbols.old.items (owned parts.now)) }
 {
     for part in parts {
-        add_normalized(part, row)?;
+        add_normalized(part, symbols)?;
     }
     Ok(())
 }
 
 // Adds a part of a string as it is written.
-fn add_written(part: &InterpolPart<'_, &str>, row: &mut Vec<u16>) -> Result<(), AllocError>
-    ensures { OnOk result (row.new.items ≡ with_symbols row.old.items (with_text (λ text. text.now) part.now)) }
+fn add_written(part: &InterpolPart<'_, &str>, symbols: &mut Vec<u16>) -> Result<(), AllocError>
+    ensures { OnOk result (symbols.new.items ≡ with_symbols symbols.old.items (with_text (λ text. text.now) part.now)) }
 {
     match part {
-        InterpolPart::Literal(text) => add_text(text, row),
-        InterpolPart::Interpolation(_) => add_interpolation(row),
+        InterpolPart::Literal(text) => add_text(text, symbols),
+        InterpolPart::Interpolation(_) => add_interpolation(symbols),
     }
 }
 
 // Adds the parts of a string as they are written.
-fn add_all_written(parts: &[InterpolPart<'_, &str>], row: &mut Vec<u16>) -> Result<(), AllocError>
-    ensures { OnOk result (row.new.items ≡ fold with_symbols row.old.items (borrowed parts.now)) }
+fn add_all_written(
+    parts: &[InterpolPart<'_, &str>],
+    symbols: &mut Vec<u16>,
+) -> Result<(), AllocError>
+    ensures { OnOk result (symbols.new.items ≡ fold with_symbols symbols.old.items (borrowed parts.now)) }
 {
     for part in parts {
-        add_written(part, row)?;
+        add_written(part, symbols)?;
     }
     Ok(())
 }
@@ -80,15 +83,15 @@ fn add_all_written(parts: &[InterpolPart<'_, &str>], row: &mut Vec<u16>) -> Resu
 fn value_of(alloc: Global, string: &Str<'_>) -> Result<Vec<u16>, AllocError>
     ensures { IfOk result (λ value. value.items ≡ value_of string.now) }
 {
-    let mut row = Vec::new(alloc);
+    let mut symbols = Vec::new(alloc);
     if is_indented(string.syntax()) {
         let parts = string.normalized_parts(alloc)?;
-        add_all_normalized(&parts, &mut row)?;
+        add_all_normalized(&parts, &mut symbols)?;
     } else {
         let parts = text_parts::<StrContent<'_>, Interpol<'_>>(alloc, string.syntax())?;
-        add_all_written(&parts, &mut row)?;
+        add_all_written(&parts, &mut symbols)?;
     }
-    Ok(row)
+    Ok(symbols)
 }
 
 // Returns the value that normalized parts are.
@@ -98,9 +101,9 @@ fn normalized_value(
 ) -> Result<Vec<u16>, AllocError>
     ensures { IfOk result (λ value. value.items ≡ symbols_of (owned parts.now)) }
 {
-    let mut row = Vec::new(alloc);
-    add_all_normalized(parts, &mut row)?;
-    Ok(row)
+    let mut symbols = Vec::new(alloc);
+    add_all_normalized(parts, &mut symbols)?;
+    Ok(symbols)
 }
 
 // Whether some parts have the same bytes and interpolations as others.

@@ -81,7 +81,7 @@ fn are_same_tokens(old: &SyntaxToken<'_>, new: &SyntaxToken<'_>) -> bool
 }
 
 // Whether two events have the same step.
-#[tactic(auto, using(crate::proofs::WalkStepLemmas::nodes_entered, crate::proofs::WalkStepLemmas::nodes_left, crate::proofs::WalkStepLemmas::tokens_passed))]
+#[tactic(auto, using(crate::proofs::WalkStepLemmas::nodes_entered, crate::proofs::WalkStepLemmas::nodes_done, crate::proofs::WalkStepLemmas::tokens_passed))]
 fn are_same<'t>(
     alloc: Global,
     old: &WalkEvent<SyntaxElement<'t>>,

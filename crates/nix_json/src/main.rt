@@ -4,7 +4,7 @@
 mod report;
 
 use nix_cli::{
-    Arguments, FAILED, FOUND, Program, Start, end, place_of, read_arguments, read_text, refuse,
+    Arguments, FAILED, FOUND, Program, Start, end, location_of, read_arguments, read_text, refuse,
     shown_name,
 };
 use nix_data::{data_in, nix_of};
@@ -100,11 +100,11 @@ fn to_nix(rt: &HostRuntime, name: &str, text: &str) -> io::Result<u8> {
         Err(error) => error,
     };
     let name = shown_name(name);
-    let (line, column) = place_of(text, error.offset);
+    let (line, column) = location_of(text, error.offset);
     let reason = error.reason.text();
     eprintln!(rt; "nix-json: {name}:{line}:{column}: {reason}")?;
     if let Some(first) = error.first {
-        let (line, column) = place_of(text, first);
+        let (line, column) = location_of(text, first);
         eprintln!(rt; "nix-json: {name}:{line}:{column}: the first one")?;
     }
     Ok(FOUND)

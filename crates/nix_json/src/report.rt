@@ -1,8 +1,8 @@
 //! Messages on a text, with the place and the line.
 
-ghost use Rattle.nix_cli.specs.MessagePlaces.{IsIndexed};
+ghost use Rattle.nix_cli.specs.MessageLocations.{IsIndexed};
 
-use nix_cli::{Source, shown_name, write_excerpt, write_place};
+use nix_cli::{Source, shown_name, write_excerpt, write_source_location};
 use nix_data::NoData;
 use nix_diagnostics::{Diagnostic, first_diagnostics};
 use rnix::{Parse, TextRange};
@@ -22,7 +22,7 @@ fn write_message<W: Write>(
 ) -> io::Result<()>
     requires { IsIndexed source.now }
 {
-    write_place(source, range.start(), out)?;
+    write_source_location(source, range.start(), out)?;
     writeln!(out, "{kind}: {message}")?;
     write_excerpt(source.text, range.start()..range.end(), out)
 }

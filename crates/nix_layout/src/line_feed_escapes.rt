@@ -5,8 +5,8 @@
 
 // The part of an escape that was read last.
 #[derive(Clone, Copy, PartialEq, Eq)]
-enum Place {
-    // None: the place is before or after an escape.
+enum EscapeState {
+    // None: the scan is before or after an escape.
     Outside,
     // After `'`.
     Quote,
@@ -19,7 +19,7 @@ enum Place {
 // What is known of a text so far.
 #[derive(Clone, Copy)]
 struct Scan {
-    place: Place,
+    state: EscapeState,
     // Whether the last character was the escape of a line feed.
     follows_feed: bool,
     // Whether a line that begins at an escaped line feed begins with a space, or may do so.
@@ -30,15 +30,15 @@ impl Scan {
     // The state after a character, or its escape.
     fn after(self, is_feed: bool, has_spaces: bool) -> Scan {
         Scan {
-            place: Place::Outside,
+            state: EscapeState::Outside,
             follows_feed: is_feed,
             has_spaces: self.has_spaces || has_spaces,
         }
     }
 
     // The state in an escape, or what may be one.
-    fn at(self, place: Place) -> Scan {
-        Scan { place, ..self }
+    fn at(self, state: EscapeState) -> Scan {
+        Scan { state, ..self }
     }
 
     // The state after the byte that follows `''\`. The line after a line feed that is written as such is moved with the others.
@@ -53,12 +53,12 @@ impl Scan {
 
     // The state after a byte.
     fn with_byte(self, byte: u8) -> Scan {
-        match (self.place, byte) {
-            (Place::Outside, b'\'') => self.at(Place::Quote),
-            (Place::Quote, b'\'') => self.at(Place::Quotes),
-            (Place::Quotes, b'\\') => self.at(Place::Backslash),
-            (Place::Backslash, _) => self.with_escaped(byte),
-            (Place::Outside, b' ') => self.after(false, self.follows_feed),
+        match (self.state, byte) {
+            (EscapeState::Outside, b'\'') => self.at(EscapeState::Quote),
+            (EscapeState::Quote, b'\'') => self.at(EscapeState::Quotes),
+            (EscapeState::Quotes, b'\\') => self.at(EscapeState::Backslash),
+            (EscapeState::Backslash, _) => self.with_escaped(byte),
+            (EscapeState::Outside, b' ') => self.after(false, self.follows_feed),
             _ => self.after(false, false),
         }
     }
@@ -67,7 +67,7 @@ impl Scan {
 /// Whether a text in `''` has a line that begins at an escaped line feed, and begins with a space or is written as a line of its own.
 pub fn has_spaces_after_escape(text: &str) -> bool {
     let mut scan = Scan {
-        place: Place::Outside,
+        state: EscapeState::Outside,
         follows_feed: false,
         has_spaces: false,
     };

@@ -108,8 +108,8 @@ impl Measures {
 
     /// The number of columns from the gap before a piece to the next place where the line may end.
     pub fn tail(&self, piece: usize) -> usize {
-        let place = self.tails.len().checked_sub(piece.saturating_add(1));
-        place.map_or(0, |place| self.tails.get(place).copied().unwrap_or(0))
+        let index = self.tails.len().checked_sub(piece.saturating_add(1));
+        index.map_or(0, |index| self.tails.get(index).copied().unwrap_or(0))
     }
 
     // The column at which a piece ends, or 0 beyond the last piece.

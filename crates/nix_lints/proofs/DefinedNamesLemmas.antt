@@ -50,12 +50,12 @@ path_next old mid new all owner start continues set e next before after at some 
     more
 
 -- the last name of a path
-pub path_end : (old mid new : Attributes) (all : List Name) (owner : ℕ) (continues : Bool) (set : Option ℕ) (e : Located) (left : List Located) →
-    AddsSome old mid (names_from owner continues set e left) all → left ≡ [] → AddsNames mid new (definition_at owner continues set e ∷ []) →
+pub path_end : (old mid new : Attributes) (all : List Name) (owner : ℕ) (continues : Bool) (set : Option ℕ) (e : Located) (remaining : List Located) →
+    AddsSome old mid (names_from owner continues set e remaining) all → remaining ≡ [] → AddsNames mid new (definition_at owner continues set e ∷ []) →
     AddsNames old new all
-path_end old mid new all owner continues set e left some none more =
+path_end old mid new all owner continues set e remaining some none more =
     adds_all old new [] all
-    (adds_next old mid new (names_from owner continues set e left) (definition_at owner continues set e ∷ []) [] all some
+    (adds_next old mid new (names_from owner continues set e remaining) (definition_at owner continues set e ∷ []) [] all some
     (ap (names_from owner continues set e) none) more)
     refl
 

@@ -52,27 +52,27 @@ one_repeated known own old new found is are =
     map_after (x ∷ xs) ys = ap (λ found. repetition_of x ∷ found) (map_after xs ys)
 
 -- some of all names were added, and others are left
-pub record AddsSome (old new : Attributes) (left all : List Name) : Type 0 where
+pub record AddsSome (old new : Attributes) (remaining all : List Name) : Type 0 where
   pub done : List Name
   pub are : AddsNames old new done
-  pub whole : done ++ left ≡ all
+  pub whole : done ++ remaining ≡ all
 
 -- no names were added yet
-pub adds_begun : (attributes : Attributes) (left all : List Name) → left ≡ all → AddsSome attributes attributes left all
-adds_begun attributes left all is = record { done = []; are = adds_none attributes [] refl; whole = is }
+pub adds_begun : (attributes : Attributes) (remaining all : List Name) → remaining ≡ all → AddsSome attributes attributes remaining all
+adds_begun attributes remaining all is = record { done = []; are = adds_none attributes [] refl; whole = is }
 
 -- the next names are added
-pub adds_next : (old mid new : Attributes) (left names after all : List Name) → AddsSome old mid left all → left ≡ names ++ after →
+pub adds_next : (old mid new : Attributes) (remaining names after all : List Name) → AddsSome old mid remaining all → remaining ≡ names ++ after →
     AddsNames mid new names → AddsSome old new after all
-adds_next old mid new left names after all some first more = record {
+adds_next old mid new remaining names after all some first more = record {
   done = some.done ++ names;
   are = adds_both old mid new some.done names some.are more;
   whole = append_assoc some.done names after ∙ ap (λ rest. some.done ++ rest) (sym first) ∙ some.whole;
 }
 
 -- no names are left
-pub adds_all : (old new : Attributes) (left all : List Name) → AddsSome old new left all → left ≡ [] → AddsNames old new all
-adds_all old new left all some none =
+pub adds_all : (old new : Attributes) (remaining all : List Name) → AddsSome old new remaining all → remaining ≡ [] → AddsNames old new all
+adds_all old new remaining all some none =
     subst (AddsNames old new) (sym (append-nil some.done) ∙ ap (λ rest. some.done ++ rest) (sym none) ∙ some.whole) some.are
 
 -- after all names, the repetitions are those of the text

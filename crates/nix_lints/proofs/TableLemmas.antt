@@ -8,7 +8,7 @@ use Rattle.std.specs.declared.borrow.CowStr.TheVariants.{Borrowed}
 use Rattle.nix_lints.specs.Attributes.{Key, FirstNames, compare_key, attribute_by, first_by, IsTable}
 use Rattle.nix_lints.specs.Repeated.{Known, nothing, earlier, attribute_from, with_name, is_called}
 use Rattle.nix_lints.specs.DefinedNames.{Site, named, site_of}
-use Rattle.nix_lints.specs.declared.definition.Place.{Place}
+use Rattle.nix_lints.specs.declared.definition.NameSite.{NameSite}
 
 -- nothing after an option
 or_none : {X : Type 0} (o : Option X) → option_or o None ≡ o
@@ -40,15 +40,16 @@ same_key a b s t =
     ∙ ap (λ e. (a == b) && e) (is_eq-slice_cmp s t)
 
 -- one attribute has a first name
-pub key_updated : (key : Key) (home : ℕ) (text : List ℕ) (place : Option Place) (old new : Key → Option Place) → key.0 ≡ home → cow_str_bytes key.1 ≡ text →
-    ((query : Key) → new query ≡ cond (is_eq (compare_keys key query)) place (old query)) → (h : ℕ) (t : List ℕ) →
-    new (key_with h t) ≡ cond ((home == h) && bytes_eq text t) place (old (key_with h t))
-key_updated key home text place old new is_home is_text updates h t =
-    let was : Option Place = old (key_with h t) in
+pub key_updated : (key : Key) (home : ℕ) (text : List ℕ) (name_site : Option NameSite) (old new : Key → Option NameSite) → key.0 ≡ home
+    → cow_str_bytes key.1 ≡ text →
+    ((query : Key) → new query ≡ cond (is_eq (compare_keys key query)) name_site (old query)) → (h : ℕ) (t : List ℕ) →
+    new (key_with h t) ≡ cond ((home == h) && bytes_eq text t) name_site (old (key_with h t))
+key_updated key home text name_site old new is_home is_text updates h t =
+    let was : Option NameSite = old (key_with h t) in
     updates (key_with h t)
-    ∙ ap (λ n. cond (is_eq (ordering_then (nat_cmp n h) (slice_cmp nat_cmp (cow_str_bytes key.1) t))) place was) is_home
-    ∙ ap (λ bytes. cond (is_eq (ordering_then (nat_cmp home h) (slice_cmp nat_cmp bytes t))) place was) is_text
-    ∙ ap (λ e. cond e place was) (same_key home h text t)
+    ∙ ap (λ n. cond (is_eq (ordering_then (nat_cmp n h) (slice_cmp nat_cmp (cow_str_bytes key.1) t))) name_site was) is_home
+    ∙ ap (λ bytes. cond (is_eq (ordering_then (nat_cmp home h) (slice_cmp nat_cmp bytes t))) name_site was) is_text
+    ∙ ap (λ e. cond e name_site was) (same_key home h text t)
 
 -- the first name at such a key
 pub first_at : (firsts : FirstNames) (key : Key) (home : ℕ) (text : List ℕ) → key.0 ≡ home → cow_str_bytes key.1 ≡ text →
@@ -98,11 +99,12 @@ unknown_added known attributes firsts own table = record {
     none false first = or_none first
 
 -- a first name is among those that are known
-first_kept : (b : Bool) (new old : Option Place) (first : Option Site) (place : Place) → new ≡ cond b (Some place) old → option_map site_of old ≡ first →
-    (b ≡ true → first ≡ None) → option_map site_of new ≡ option_or first (if b then Some (site_of place) else None)
-first_kept true new old first place is was none =
-    ap (option_map site_of) is ∙ sym (ap (λ f. option_or f (Some (site_of place))) (none refl))
-first_kept false new old first place is was none = ap (option_map site_of) is ∙ was ∙ sym (or_none first)
+first_kept : (b : Bool) (new old : Option NameSite) (first : Option Site) (name_site : NameSite) → new ≡ cond b (Some name_site) old
+    → option_map site_of old ≡ first →
+    (b ≡ true → first ≡ None) → option_map site_of new ≡ option_or first (if b then Some (site_of name_site) else None)
+first_kept true new old first name_site is was none =
+    ap (option_map site_of) is ∙ sym (ap (λ f. option_or f (Some (site_of name_site))) (none refl))
+first_kept false new old first name_site is was none = ap (option_map site_of) is ∙ was ∙ sym (or_none first)
 
 -- the first name stays the first
 first_stays : (b : Bool) (first : Option Site) (site own : Site) → (b ≡ true → first ≡ Some site) → first ≡ option_or first (if b then Some own else None)
@@ -119,46 +121,47 @@ at_same known home h text t o is same =
     ap (λ n. known.first n t) (sym home_is) ∙ ap (known.first home) (sym text_is) ∙ is
 
 -- a name is added that is the first of its attribute
-pub first_added : (known : Known) (attributes : BTreeMap ℕ ℕ) (old new : FirstNames) (text : List ℕ) (place : Place) →
-    IsTable known attributes old → first_by old (attribute_by attributes place.owner) text ≡ None →
-    ((h : ℕ) (t : List ℕ) → first_by new h t ≡ cond ((attribute_by attributes place.owner == h) && bytes_eq text t) (Some place) (first_by old h t)) →
-    IsTable (with_name known (named (Some text) (site_of place))) attributes new
-first_added known attributes old new text place table none updated =
-    let home_is : attribute_by attributes place.owner ≡ known.attribute place.owner = table.attributes_are place.owner in
-    let absent : known.first (known.attribute place.owner) text ≡ None =
+pub first_added : (known : Known) (attributes : BTreeMap ℕ ℕ) (old new : FirstNames) (text : List ℕ) (name_site : NameSite) →
+    IsTable known attributes old → first_by old (attribute_by attributes name_site.owner) text ≡ None →
+    ((h : ℕ) (t : List ℕ) → first_by new h t ≡ cond ((attribute_by attributes name_site.owner == h) && bytes_eq text t) (Some name_site) (first_by old h t)) →
+    IsTable (with_name known (named (Some text) (site_of name_site))) attributes new
+first_added known attributes old new text name_site table none updated =
+    let home_is : attribute_by attributes name_site.owner ≡ known.attribute name_site.owner = table.attributes_are name_site.owner in
+    let absent : known.first (known.attribute name_site.owner) text ≡ None =
     subst (λ n. known.first n text ≡ None) home_is
-    (sym (table.firsts_are (attribute_by attributes place.owner) text) ∙ ap (option_map site_of) none) in
+    (sym (table.firsts_are (attribute_by attributes name_site.owner) text) ∙ ap (option_map site_of) none) in
     record {
-      attributes_are = λ owner. table.attributes_are owner ∙ sym (same_both (place.is_open && (place.inner == owner)) (known.attribute owner))
-          ∙ ap (λ o. if place.is_open && (place.inner == owner) then attribute_from (known.attribute owner) o else known.attribute owner) (sym absent);
-      firsts_are = λ h t. first_kept ((known.attribute place.owner == h) && bytes_eq text t) (first_by new h t) (first_by old h t) (known.first h t) place
-          (updated h t ∙ ap (λ n. cond ((n == h) && bytes_eq text t) (Some place) (first_by old h t)) home_is) (table.firsts_are h t)
-          (at_same known (known.attribute place.owner) h text t None absent);
+      attributes_are = λ owner. table.attributes_are owner ∙ sym (same_both (name_site.is_open && (name_site.inner == owner)) (known.attribute owner))
+          ∙ ap (λ o. if name_site.is_open && (name_site.inner == owner) then attribute_from (known.attribute owner) o else known.attribute owner) (sym absent);
+      firsts_are = λ h t. first_kept ((known.attribute name_site.owner == h)
+          && bytes_eq text t) (first_by new h t) (first_by old h t) (known.first h t) name_site
+          (updated h t ∙ ap (λ n. cond ((n == h) && bytes_eq text t) (Some name_site) (first_by old h t)) home_is) (table.firsts_are h t)
+          (at_same known (known.attribute name_site.owner) h text t None absent);
     }
 
 -- a name is added that defines an attribute again
-pub again_added : (known : Known) (old new : BTreeMap ℕ ℕ) (firsts : FirstNames) (text : List ℕ) (first place : Place) →
-    IsTable known old firsts → first_by firsts (attribute_by old place.owner) text ≡ Some first →
-    ((owner : ℕ) → attribute_by new owner ≡ (if place.is_open && (place.inner == owner) then first.inner else attribute_by old owner)) →
-    IsTable (with_name known (named (Some text) (site_of place))) new firsts
-again_added known old new firsts text first place table some updated =
-    let home_is : attribute_by old place.owner ≡ known.attribute place.owner = table.attributes_are place.owner in
-    let present : known.first (known.attribute place.owner) text ≡ Some (site_of first) =
+pub again_added : (known : Known) (old new : BTreeMap ℕ ℕ) (firsts : FirstNames) (text : List ℕ) (first name_site : NameSite) →
+    IsTable known old firsts → first_by firsts (attribute_by old name_site.owner) text ≡ Some first →
+    ((owner : ℕ) → attribute_by new owner ≡ (if name_site.is_open && (name_site.inner == owner) then first.inner else attribute_by old owner)) →
+    IsTable (with_name known (named (Some text) (site_of name_site))) new firsts
+again_added known old new firsts text first name_site table some updated =
+    let home_is : attribute_by old name_site.owner ≡ known.attribute name_site.owner = table.attributes_are name_site.owner in
+    let present : known.first (known.attribute name_site.owner) text ≡ Some (site_of first) =
     subst (λ n. known.first n text ≡ Some (site_of first)) home_is
-    (sym (table.firsts_are (attribute_by old place.owner) text) ∙ ap (option_map site_of) some) in
+    (sym (table.firsts_are (attribute_by old name_site.owner) text) ∙ ap (option_map site_of) some) in
     record {
       attributes_are = λ owner. updated owner
-          ∙ ap (λ a. if place.is_open && (place.inner == owner) then first.inner else a) (table.attributes_are owner)
-          ∙ ap (λ o. if place.is_open && (place.inner == owner) then attribute_from (known.attribute owner) o else known.attribute owner) (sym present);
+          ∙ ap (λ a. if name_site.is_open && (name_site.inner == owner) then first.inner else a) (table.attributes_are owner)
+          ∙ ap (λ o. if name_site.is_open && (name_site.inner == owner) then attribute_from (known.attribute owner) o else known.attribute owner) (sym present);
       firsts_are = λ h t. table.firsts_are h t
-          ∙ first_stays ((known.attribute place.owner == h) && bytes_eq text t) (known.first h t) (site_of first) (site_of place)
-          (at_same known (known.attribute place.owner) h text t (Some (site_of first)) present);
+          ∙ first_stays ((known.attribute name_site.owner == h) && bytes_eq text t) (known.first h t) (site_of first) (site_of name_site)
+          (at_same known (known.attribute name_site.owner) h text t (Some (site_of first)) present);
     }
 
 -- the first name that the map has is the one that is known
-pub earlier_found : (known : Known) (attributes : BTreeMap ℕ ℕ) (firsts : FirstNames) (text : List ℕ) (place : Place) (o : Option Place) →
-    IsTable known attributes firsts → first_by firsts (attribute_by attributes place.owner) text ≡ o →
-    earlier known (named (Some text) (site_of place)) ≡ option_map site_of o
-earlier_found known attributes firsts text place o table is =
-    ap (λ n. known.first n text) (sym (table.attributes_are place.owner))
-    ∙ sym (table.firsts_are (attribute_by attributes place.owner) text) ∙ ap (option_map site_of) is
+pub earlier_found : (known : Known) (attributes : BTreeMap ℕ ℕ) (firsts : FirstNames) (text : List ℕ) (name_site : NameSite) (o : Option NameSite) →
+    IsTable known attributes firsts → first_by firsts (attribute_by attributes name_site.owner) text ≡ o →
+    earlier known (named (Some text) (site_of name_site)) ≡ option_map site_of o
+earlier_found known attributes firsts text name_site o table is =
+    ap (λ n. known.first n text) (sym (table.attributes_are name_site.owner))
+    ∙ sym (table.firsts_are (attribute_by attributes name_site.owner) text) ∙ ap (option_map site_of) is

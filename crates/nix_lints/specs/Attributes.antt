@@ -11,7 +11,7 @@ use Rattle.std.specs.declared.cmp.Ordering.{Ordering}
 use Rattle.nix_lints.specs.Repeated.{Known, with_names, repetition_of, repetitions_after}
 use Rattle.nix_lints.specs.DefinedNames.{Name, site_of}
 use Rattle.nix_lints.specs.declared.attributes.Attributes.{Attributes}
-use Rattle.nix_lints.specs.declared.definition.Place.{Place}
+use Rattle.nix_lints.specs.declared.definition.NameSite.{NameSite}
 
 -- an attribute or a set, and a name of an attribute that it has
 abbrev pub Key : Type 0
@@ -19,7 +19,7 @@ Key = ℕ × CowStr Global
 
 -- first names of attributes
 abbrev pub FirstNames : Type 0
-FirstNames = BTreeMap Key Place
+FirstNames = BTreeMap Key NameSite
 
 -- how a name of an attribute compares to a key
 abbrev pub compare_key : ℕ → List ℕ → Key → Ordering
@@ -30,7 +30,7 @@ abbrev pub attribute_by : BTreeMap ℕ ℕ → ℕ → ℕ
 attribute_by attributes start = unwrap_or (get nat_cmp attributes start) start
 
 -- the first name of an attribute
-abbrev pub first_by : FirstNames → ℕ → List ℕ → Option Place
+abbrev pub first_by : FirstNames → ℕ → List ℕ → Option NameSite
 first_by firsts home text = get_by (compare_key home text) firsts
 
 -- the maps say what is known

@@ -12,7 +12,7 @@ use Rattle.rnix_base.specs.Select.{nodes_of, child_of}
 use Rattle.rnix.specs.AttrName.{static_name, without_parens}
 use Rattle.rnix.specs.NodeKinds.{is_attr, is_expr}
 use Rattle.nix_lints.specs.declared.definition.Definition.{Definition}
-use Rattle.nix_lints.specs.declared.definition.Place.{Place}
+use Rattle.nix_lints.specs.declared.definition.NameSite.{NameSite}
 
 -- where a name is written: where the set or the `let` begins that has its entry, or the name before it in its path, which is its owner; the owner of
 -- the names inside its attribute: where the set begins that is its value, or else the name itself; whether it follows another name in its path; and
@@ -30,13 +30,13 @@ pub record Name : Type 0 where
   pub site : Site
 
 -- a place of the program
-abbrev pub site_of : Place → Site
-site_of place = record {
-  extent = bounds_of place.range;
-  owner = place.owner;
-  inner = place.inner;
-  continues = place.continues;
-  is_open = place.is_open;
+abbrev pub site_of : NameSite → Site
+site_of name_site = record {
+  extent = bounds_of name_site.range;
+  owner = name_site.owner;
+  inner = name_site.inner;
+  continues = name_site.continues;
+  is_open = name_site.is_open;
 }
 
 -- a name at a place
@@ -45,7 +45,7 @@ named text site = record { text = text; site = site }
 
 -- a definition of the program
 abbrev pub name_from : Definition → Name
-name_from definition = named (option_map cow_str_bytes definition.text) (site_of definition.place)
+name_from definition = named (option_map cow_str_bytes definition.text) (site_of definition.name_site)
 
 -- where a node begins
 abbrev pub start_of : Located → ℕ

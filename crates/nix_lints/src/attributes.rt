@@ -7,14 +7,14 @@ ghost use Rattle.nix_lints.specs.DefinedNames.{site_of, named, name_from};
 ghost use Rattle.nix_lints.specs.Attributes.{FirstNames, attribute_by, IsTable, IsEmpty, AddsNames};
 ghost use Rattle.nix_lints.specs.Repeated.{Known, with_name, extends, earlier, repetition, repetition_of};
 
-use crate::definition::{Definition, Place};
+use crate::definition::{Definition, NameSite};
 use crate::repeated::Repeated;
 use std::alloc::{AllocError, Global};
 use std::borrow::CowStr;
 use std::collections::BTreeMap;
 
-/// Of each attribute, by the attribute or the set that has it and by its name, the place of the first name that defines it.
-type Firsts<'t> = BTreeMap<(usize, CowStr<'t>), Place>;
+/// Of each attribute, by the attribute or the set that has it and by its name, the site of the first name that defines it.
+type Firsts<'t> = BTreeMap<(usize, CowStr<'t>), NameSite>;
 
 /// The attributes that the names so far define.
 #[derive(Drop)]
@@ -26,7 +26,7 @@ pub struct Attributes<'t> {
     pub repeated: Vec<Repeated>,
 }
 
-// Returns the attribute of what begins at an offset: the place itself, if the map has no other.
+// Returns the attribute of what begins at an offset: the offset itself, if the map has no other.
 fn attribute_of(attributes: &BTreeMap<usize, usize>, start: usize) -> usize
     ensures { result ≡ attribute_by attributes.now start }
 {
@@ -37,14 +37,14 @@ fn attribute_of(attributes: &BTreeMap<usize, usize>, start: usize) -> usize
 }
 
 // Whether a name adds to the attribute that another one defines first.
-fn extends(first: Place, own: Place) -> bool
+fn extends(first: NameSite, own: NameSite) -> bool
     ensures { result ≡ extends (site_of first) (site_of own) }
 {
     first.is_open && own.is_open && (own.continues || first.owner == own.owner)
 }
 
 // Returns the repetition that a name is, where the first name of its attribute is this one.
-fn repetition(first: Place, own: Place) -> Option<Repeated>
+fn repetition(first: NameSite, own: NameSite) -> Option<Repeated>
     ensures { map repetition_of (option_to_list result) ≡ repetition (Some (site_of first)) (site_of own) }
 {
     if extends(first, own) {
@@ -58,8 +58,8 @@ fn repetition(first: Place, own: Place) -> Option<Repeated>
 
 // Adds that the names inside a name are those of the attribute that another name defines first, if others may add names there.
 fn add_inner(
-    first: Place,
-    own: Place,
+    first: NameSite,
+    own: NameSite,
     attributes: &mut BTreeMap<usize, usize>,
 ) -> Result<(), AllocError>
     ensures { OnOk result ((start : ℕ) →
@@ -75,7 +75,7 @@ fn add_inner(
 // Adds a name whose text is known, and returns the repetition that it is, if it is one.
 fn add_text<'t>(
     text: CowStr<'t>,
-    own: Place,
+    own: NameSite,
     attributes: &mut BTreeMap<usize, usize>,
     firsts: &mut Firsts<'t>,
 ) -> Result<Option<Repeated>, AllocError>
@@ -107,11 +107,11 @@ fn add_name<'t>(
     ensures table { OnOk result ((known : Known) → IsTable known attributes.old firsts.old →
         IsTable (with_name known (name_from definition.entry)) attributes.new firsts.new) }
     ensures found { IfOk result (λ found. (known : Known) → IsTable known attributes.old firsts.old →
-        map repetition_of (option_to_list found) ≡ repetition (earlier known (name_from definition.entry)) (site_of definition.entry.place)) }
+        map repetition_of (option_to_list found) ≡ repetition (earlier known (name_from definition.entry)) (site_of definition.entry.name_site)) }
 {
-    let Definition { text, place } = definition;
+    let Definition { text, name_site } = definition;
     match text {
-        Some(text) => add_text(text, place, attributes, firsts),
+        Some(text) => add_text(text, name_site, attributes, firsts),
         None => Ok(None),
     }
 }

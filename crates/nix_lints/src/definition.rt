@@ -5,7 +5,7 @@ use std::borrow::CowStr;
 
 /// Where a name is written that defines an attribute, or leads to the one that its entry defines.
 #[derive(Clone, Copy)]
-pub struct Place {
+pub struct NameSite {
     /// The name.
     pub range: TextRange,
     /// Where the set or the `let` begins that has the entry, or the name before it in its path.
@@ -18,10 +18,10 @@ pub struct Place {
     pub is_open: bool,
 }
 
-/// A name and its place.
+/// A name and its site.
 #[derive(Drop)]
 pub struct Definition<'t> {
     /// What the name is, where the text alone says so.
     pub text: Option<CowStr<'t>>,
-    pub place: Place,
+    pub name_site: NameSite,
 }

@@ -12,7 +12,7 @@ ghost use Rattle.nix_lints.specs.Attributes.{AddsNames};
 ghost use Rattle.nix_lints.specs.DefinedNames.{start_of, set_of, value_start, definition_at, inherited_at, names_of, path_names, names_at};
 
 use crate::attributes::Attributes;
-use crate::definition::{Definition, Place};
+use crate::definition::{Definition, NameSite};
 use rnix::ast::{AstNode, Attr, Attrpath, AttrpathValue, Inherit, without_parens};
 use rnix::{SyntaxKind, SyntaxNode};
 use std::alloc::{AllocError, Global};
@@ -84,7 +84,7 @@ fn add_name<'t>(
     let range = attr.syntax().text_range();
     attributes.add(Definition {
         text,
-        place: Place {
+        name_site: NameSite {
             range,
             owner,
             inner: inner.unwrap_or(range.start()),

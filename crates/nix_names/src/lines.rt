@@ -8,8 +8,11 @@ use std::io::{self, Write};
 
 // The line and the column of an offset, both from 1.
 fn position(index: &LineIndex<'_>, offset: usize) -> (usize, usize) {
-    let place = index.position(offset).unwrap_or_default();
-    (place.line.saturating_add(1), place.column.saturating_add(1))
+    let location = index.position(offset).unwrap_or_default();
+    (
+        location.line.saturating_add(1),
+        location.column.saturating_add(1),
+    )
 }
 
 // Writes the place and the bounds of a range as members of an object.

@@ -5,7 +5,7 @@ mod lines;
 
 use lines::write_names;
 use nix_cli::{
-    Arguments, FAILED, Program, Start, end, find_inputs, place_of, read_arguments,
+    Arguments, FAILED, Program, Start, end, find_inputs, location_of, read_arguments,
     refuse_after_output, shown_name,
 };
 use nix_scopes::resolve;
@@ -42,8 +42,8 @@ fn refuse_text<W: Write>(
     out: &mut W,
 ) -> io::Result<()> {
     let range = read.errors().first().and_then(|error| error.range());
-    let place = place_of(text, range.map_or(text.len(), |range| range.start()));
-    refuse_after_output(rt, &PROGRAM, file, place, "syntax error", out)
+    let location = location_of(text, range.map_or(text.len(), |range| range.start()));
+    refuse_after_output(rt, &PROGRAM, file, location, "syntax error", out)
 }
 
 // Writes the names of a text, and returns the exit status. A text with syntax errors is refused.

@@ -35,23 +35,24 @@ added_more c xs old new same added =
     (IsPermutation-sym _ _ (IsPermutation-middle added.front c added.back))))
 
 -- the changes of a draft are those of these places, at each of which its text contains the old name
-pub record IsDrafted (text : List ℕ) (places : List Extent) (old new : List ℕ) (draft : Draft) : Type 0 where
+pub record IsDrafted (text : List ℕ) (occurrences : List Extent) (old new : List ℕ) (draft : Draft) : Type 0 where
   pub text_is : draft.text ≡ text
-  pub exactly : IsPermutation (map (change_at new) places) draft.changes
+  pub exactly : IsPermutation (map (change_at new) occurrences) draft.changes
   pub ascending : AreAscending 0 draft.changes
-  pub each_old : All (ContainsAt text old) places
+  pub each_old : All (ContainsAt text old) occurrences
 
 -- the changes of one place more
-pub drafted_more : (text : List ℕ) (places more : List Extent) (place : Extent) (old new : List ℕ) (before after : Draft) →
-    IsDrafted text places old new before → more ≡ places ++ place ∷ [] → place.start ≤ place.end → ContainsAt before.text old place →
-    after.text ≡ before.text → IsAdded (change_at new place) before.changes after.changes → IsDrafted text more old new after
-drafted_more text places more place old new before after is more_is order contains same added =
+pub drafted_more : (text : List ℕ) (occurrences more : List Extent) (occurrence : Extent) (old new : List ℕ) (before after : Draft) →
+    IsDrafted text occurrences old new before → more ≡ occurrences ++ occurrence ∷ [] → occurrence.start ≤ occurrence.end
+    → ContainsAt before.text old occurrence →
+    after.text ≡ before.text → IsAdded (change_at new occurrence) before.changes after.changes → IsDrafted text more old new after
+drafted_more text occurrences more occurrence old new before after is more_is order contains same added =
     subst (λ ps. IsDrafted text ps old new after) (sym more_is) (record {
       text_is = subst (λ t. t ≡ text) (sym same) is.text_is;
-      exactly = subst (λ cs. IsPermutation cs after.changes) (sym (map-append (change_at new) places (place ∷ [])))
-          (added_more (change_at new place) _ _ _ is.exactly added);
-      ascending = added_ascend (change_at new place) _ _ is.ascending order added;
-      each_old = All-push (ContainsAt text old) places place is.each_old (subst (λ t. ContainsAt t old place) is.text_is contains);
+      exactly = subst (λ cs. IsPermutation cs after.changes) (sym (map-append (change_at new) occurrences (occurrence ∷ [])))
+          (added_more (change_at new occurrence) _ _ _ is.exactly added);
+      ascending = added_ascend (change_at new occurrence) _ _ is.ascending order added;
+      each_old = All-push (ContainsAt text old) occurrences occurrence is.each_old (subst (λ t. ContainsAt t old occurrence) is.text_is contains);
     })
 
 -- a change is one of those among which it is
@@ -60,38 +61,40 @@ met_contained cs front back c is =
     subst (λ xs. Contains xs c) (sym is) (Contains-append_right front (c ∷ back) c (0, omega arith, refl))
 
 -- a place overlaps one of those before it
-met_before : (places so_far : List Extent) (place : Extent) (new : List ℕ) (i : ℕ) (cs : List Change) → so_far ≡ take i places →
-    i < length places → get_or places i place ≡ place → IsPermutation (map (change_at new) so_far) cs → IsMet place.start place.end cs → DoOverlap places
-met_before places so_far place new i cs so_far_is there place_is same met =
+met_before : (occurrences so_far : List Extent) (occurrence : Extent) (new : List ℕ) (i : ℕ) (cs : List Change) → so_far ≡ take i occurrences →
+    i < length occurrences → get_or occurrences i occurrence ≡ occurrence → IsPermutation (map (change_at new) so_far) cs
+    → IsMet occurrence.start occurrence.end cs → DoOverlap occurrences
+met_before occurrences so_far occurrence new i cs so_far_is there occurrence_is same met =
     let found : Contains (map (change_at new) so_far) met.change =
     Contains-permutation cs (map (change_at new) so_far) met.change (IsPermutation-sym _ _ same) (met_contained cs met.front met.back met.change met.is) in
     let k = found.0 in
-    let count : length so_far ≡ i = ap length so_far_is ∙ length-take-le i places (omega (arith, there)) in
+    let count : length so_far ≡ i = ap length so_far_is ∙ length-take-le i occurrences (omega (arith, there)) in
     let before : k < length so_far = omega (arith, found.1, length-map so_far (change_at new)) in
-    let other = get_or places k place in
-    let other_is : get_or so_far k place ≡ other =
-    ap (λ xs. get_or xs k place) so_far_is ∙ get_or-take i places k place (omega (arith, before, count)) in
+    let other = get_or occurrences k occurrence in
+    let other_is : get_or so_far k occurrence ≡ other =
+    ap (λ xs. get_or xs k occurrence) so_far_is ∙ get_or-take i occurrences k occurrence (omega (arith, before, count)) in
     let at : change_at new other ≡ met.change =
-    sym (get_or-map (change_at new) so_far k place met.change before ∙ ap (change_at new) other_is) ∙ found.2 in
+    sym (get_or-map (change_at new) so_far k occurrence met.change before ∙ ap (change_at new) other_is) ∙ found.2 in
     record {
       first = k;
       second = i;
-      place = other;
-      other = place;
+      occurrence = other;
+      other = occurrence;
       order = omega (arith, before, count);
-      first_is = slice_get-get_or places k place (omega (arith, before, count, there));
-      second_is = slice_get-get_or places i place there ∙ ap Some place_is;
+      first_is = slice_get-get_or occurrences k occurrence (omega (arith, before, count, there));
+      second_is = slice_get-get_or occurrences i occurrence there ∙ ap Some occurrence_is;
       overlap = (
-        subst (λ n. n < place.end) (sym (ap (λ (c : Change). c.start) at)) met.overlaps.1,
-        subst (λ n. place.start < n) (sym (ap (λ (c : Change). c.end) at)) met.overlaps.0,
+        subst (λ n. n < occurrence.end) (sym (ap (λ (c : Change). c.start) at)) met.overlaps.1,
+        subst (λ n. occurrence.start < n) (sym (ap (λ (c : Change). c.end) at)) met.overlaps.0,
       );
     }
 
 -- a place at which the text does not contain the old name, or which overlaps one of the places before it
-pub unfit_found : (text : List ℕ) (places so_far : List Extent) (place : Extent) (old new : List ℕ) (i : ℕ) (draft : Draft) → so_far ≡ take i places →
-    i < length places → get_or places i place ≡ place → IsDrafted text so_far old new draft →
-    (IsElsewhere draft.text old place ⊎ IsMet place.start place.end draft.changes) → IsUnchangeable text places old
-unfit_found text places so_far place old new i draft so_far_is there place_is is (inl elsewhere) =
-    inl (record { place = place; is_one = (i, there, place_is); elsewhere = subst (λ t. IsElsewhere t old place) is.text_is elsewhere })
-unfit_found text places so_far place old new i draft so_far_is there place_is is (inr met) =
-    inr (met_before places so_far place new i draft.changes so_far_is there place_is is.exactly met)
+pub unfit_found : (text : List ℕ) (occurrences so_far : List Extent) (occurrence : Extent) (old new : List ℕ) (i : ℕ) (draft : Draft)
+    → so_far ≡ take i occurrences →
+    i < length occurrences → get_or occurrences i occurrence ≡ occurrence → IsDrafted text so_far old new draft →
+    (IsElsewhere draft.text old occurrence ⊎ IsMet occurrence.start occurrence.end draft.changes) → IsUnchangeable text occurrences old
+unfit_found text occurrences so_far occurrence old new i draft so_far_is there occurrence_is is (inl elsewhere) =
+    inl (record { occurrence = occurrence; is_one = (i, there, occurrence_is); elsewhere = subst (λ t. IsElsewhere t old occurrence) is.text_is elsewhere })
+unfit_found text occurrences so_far occurrence old new i draft so_far_is there occurrence_is is (inr met) =
+    inr (met_before occurrences so_far occurrence new i draft.changes so_far_is there occurrence_is is.exactly met)

@@ -7,46 +7,47 @@ use Rattle.rnix_text.specs.Changes.{Change, Draft, AreAscending, IsAdded, IsBetw
 
 -- the text contains a name at a place
 abbrev pub ContainsAt : List ℕ → List ℕ → Extent → Type 0
-ContainsAt text name place = (place.end ≤ length text) × (slice_range text place.start place.end ≡ name)
+ContainsAt text name occurrence = (occurrence.end ≤ length text) × (slice_range text occurrence.start occurrence.end ≡ name)
 
 -- the change of a place into a new name
 abbrev pub change_at : List ℕ → Extent → Change
-change_at new place = replacing place.start place.end new
+change_at new occurrence = replacing occurrence.start occurrence.end new
 
 -- the text with a new name in place of the old one at exactly these places, and all else as it was
-pub record IsChanged (text : List ℕ) (places : List Extent) (old new made : List ℕ) : Type 0 where
+pub record IsChanged (text : List ℕ) (occurrences : List Extent) (old new made : List ℕ) : Type 0 where
   pub changes : List Change
-  pub exactly : IsPermutation (map (change_at new) places) changes
+  pub exactly : IsPermutation (map (change_at new) occurrences) changes
   pub ascending : AreAscending 0 changes
-  pub each_old : All (ContainsAt text old) places
+  pub each_old : All (ContainsAt text old) occurrences
   pub made_is : made ≡ changed_from 0 changes text
 
 -- the text does not contain the name at the place, between characters
 abbrev pub IsElsewhere : List ℕ → List ℕ → Extent → Type 0
-IsElsewhere text name place = ¬ (IsBetween text place.start place.end × ContainsAt text name place)
+IsElsewhere text name occurrence = ¬ (IsBetween text occurrence.start occurrence.end × ContainsAt text name occurrence)
 
 -- the text does not contain the name at one of these places
-pub record IsMissing (text : List ℕ) (places : List Extent) (name : List ℕ) : Type 0 where
-  pub place : Extent
-  pub is_one : Contains places place
-  pub elsewhere : IsElsewhere text name place
+pub record IsMissing (text : List ℕ) (occurrences : List Extent) (name : List ℕ) : Type 0 where
+  pub occurrence : Extent
+  pub is_one : Contains occurrences occurrence
+  pub elsewhere : IsElsewhere text name occurrence
 
 -- two of these places overlap
-pub record DoOverlap (places : List Extent) : Type 0 where
+pub record DoOverlap (occurrences : List Extent) : Type 0 where
   pub first : ℕ
   pub second : ℕ
-  pub place : Extent
+  pub occurrence : Extent
   pub other : Extent
   pub order : first < second
-  pub first_is : slice_get places first ≡ Some place
-  pub second_is : slice_get places second ≡ Some other
-  pub overlap : (place.start < other.end) × (other.start < place.end)
+  pub first_is : slice_get occurrences first ≡ Some occurrence
+  pub second_is : slice_get occurrences second ≡ Some other
+  pub overlap : (occurrence.start < other.end) × (other.start < occurrence.end)
 
 -- the text does not contain the old name at each of these places, or two of them overlap
 abbrev pub IsUnchangeable : List ℕ → List Extent → List ℕ → Type 0
-IsUnchangeable text places old = IsMissing text places old ⊎ DoOverlap places
+IsUnchangeable text occurrences old = IsMissing text occurrences old ⊎ DoOverlap occurrences
 
 -- the change of a place was added to a draft, or its text does not contain the old name there, or the place overlaps one that it changes
-abbrev pub IsPlaceTested : Extent → List ℕ → List ℕ → Draft → Draft → Bool → Type 0
-IsPlaceTested place old new before after true = ContainsAt before.text old place × IsAdded (change_at new place) before.changes after.changes
-IsPlaceTested place old new before after false = IsElsewhere before.text old place ⊎ IsMet place.start place.end before.changes
+abbrev pub IsOccurrenceTested : Extent → List ℕ → List ℕ → Draft → Draft → Bool → Type 0
+IsOccurrenceTested occurrence old new before after true = ContainsAt before.text old occurrence
+    × IsAdded (change_at new occurrence) before.changes after.changes
+IsOccurrenceTested occurrence old new before after false = IsElsewhere before.text old occurrence ⊎ IsMet occurrence.start occurrence.end before.changes

@@ -6,7 +6,7 @@ mod refusal;
 mod rename;
 
 use nix_cli::{
-    Arguments, FAILED, FOUND, Program, Start, end, place_of, read_arguments, read_text, refuse,
+    Arguments, FAILED, FOUND, Program, Start, end, location_of, read_arguments, read_text, refuse,
     shown_name, write_text,
 };
 use rename::{Renaming, rename};
@@ -36,9 +36,9 @@ Ends with 0, with 1 if the name cannot be renamed so, or with 2 if the text is n
 };
 
 // The offset of a place: a line and a column from 1, or an offset.
-fn offset_of(rt: &HostRuntime, text: &str, place: &str) -> io::Result<Option<usize>> {
-    let Some((line, column)) = place.split_once(':') else {
-        return Ok(place.parse::<usize>().ok());
+fn offset_of(rt: &HostRuntime, text: &str, location: &str) -> io::Result<Option<usize>> {
+    let Some((line, column)) = location.split_once(':') else {
+        return Ok(location.parse::<usize>().ok());
     };
     let (Ok(line), Ok(column)) = (line.parse::<usize>(), column.parse::<usize>()) else {
         return Ok(None);
@@ -56,7 +56,7 @@ fn offset_of(rt: &HostRuntime, text: &str, place: &str) -> io::Result<Option<usi
 // Says that a text is not Nix, and where its first error is.
 fn refuse_text(rt: &HostRuntime, name: &str, text: &str, read: &Parse) -> io::Result<u8> {
     let range = read.errors().first().and_then(|error| error.range());
-    let (line, column) = place_of(text, range.map_or(text.len(), |range| range.start()));
+    let (line, column) = location_of(text, range.map_or(text.len(), |range| range.start()));
     eprintln!(rt;
         "nix-rename: {}:{line}:{column}: this is not Nix",
         shown_name(name)
@@ -69,7 +69,7 @@ fn rename_at(
     rt: &HostRuntime,
     name: &str,
     text: &str,
-    place: &str,
+    location: &str,
     new: &str,
     in_place: bool,
 ) -> io::Result<u8> {
@@ -77,9 +77,9 @@ fn rename_at(
     if !read.errors().is_empty() {
         return refuse_text(rt, name, text, &read);
     }
-    let Some(offset) = offset_of(rt, text, place)? else {
+    let Some(offset) = offset_of(rt, text, location)? else {
         eprintln!(rt;
-            "nix-rename: {}: there is no place {place}",
+            "nix-rename: {}: there is no place {location}",
             shown_name(name)
         )?;
         return Ok(FAILED);
@@ -90,7 +90,7 @@ fn rename_at(
             Ok(0)
         }
         Ok(Renaming::Refused(reason)) => {
-            eprintln!(rt; "nix-rename: {}:{place}: {reason}", shown_name(name))?;
+            eprintln!(rt; "nix-rename: {}:{location}: {reason}", shown_name(name))?;
             Ok(FOUND)
         }
         Err(_) => {
@@ -103,7 +103,7 @@ fn rename_at(
 // Renames in the file that the command line names.
 fn rename_in_file(rt: &HostRuntime, arguments: &Arguments) -> io::Result<u8> {
     let mut words = arguments.words.iter();
-    let (Some(name), Some(place), Some(new)) = (words.next(), words.next(), words.next()) else {
+    let (Some(name), Some(location), Some(new)) = (words.next(), words.next(), words.next()) else {
         return Ok(FAILED);
     };
     let (name, in_place) = (name.as_str(), arguments.has("-i"));
@@ -116,7 +116,7 @@ fn rename_in_file(rt: &HostRuntime, arguments: &Arguments) -> io::Result<u8> {
             rt,
             name,
             text.as_str(),
-            place.as_str(),
+            location.as_str(),
             new.as_str(),
             in_place,
         ),

@@ -41,7 +41,7 @@ pub enum Refusal {
     Unbound,
     /// The binding keeps its name.
     Kept(Kept),
-    /// The text does not contain the old name at one of the places.
+    /// The text does not contain the old name at one of the occurrences.
     OtherSpelling,
     /// With the new name, the text does not resolve as before.
     OtherMeaning,

@@ -5,7 +5,7 @@ ghost use Rattle.std.specs.Bool.{MatchBool};
 ghost use Rattle.rnix_green.specs.Range.{bounds_of};
 ghost use Rattle.rnix_base.specs.Select.{child_of};
 ghost use Rattle.rnix.specs.NodeKinds.{is_expr};
-ghost use Rattle.nix_rename.specs.Changed.{IsChanged, IsUnchangeable, IsPlaceTested};
+ghost use Rattle.nix_rename.specs.Changed.{IsChanged, IsUnchangeable, IsOccurrenceTested};
 ghost use Rattle.nix_rename.specs.Renamed.{is_whole_name, is_name_whole, IsName, IsNoName, ResolvesLike, ResolvesUnlike};
 ghost use Rattle.nix_rename.specs.Renamed.{IsNamed, IsReason, IsRenamed, IsCause, IfRenamed, IfRefused};
 
@@ -49,19 +49,19 @@ fn is_name(alloc: Global, text: &str) -> Result<bool, AllocError>
     Ok(is_whole && read.errors().is_empty())
 }
 
-// Adds the change of a place, if the text contains the old name there and the place overlaps none that is changed already.
+// Adds the change of an occurrence, if the text contains the old name there and it overlaps none that is changed already.
 fn add_change(
     edits: &mut Edits<'_>,
     text: &str,
-    place: TextRange,
+    occurrence: TextRange,
     old: &str,
     new: &str,
 ) -> Result<bool, AllocError>
     requires { edits.old.text ≡ text.now }
     ensures text { edits.new.text ≡ edits.old.text }
-    ensures tested { IfOk result (IsPlaceTested (bounds_of place) old.now new.now edits.old edits.new) }
+    ensures tested { IfOk result (IsOccurrenceTested (bounds_of occurrence) old.now new.now edits.old edits.new) }
 {
-    let (start, end) = (place.start(), place.end());
+    let (start, end) = (occurrence.start(), occurrence.end());
     match text.get(start..end) {
         Some(found) if found == old => match edits.replace(start..end, new) {
             Ok(()) => Ok(true),
@@ -72,21 +72,21 @@ fn add_change(
     }
 }
 
-// Returns the text with a new name at these places, if it contains the old one at each of them.
+// Returns the text with a new name at these occurrences, if it contains the old one at each of them.
 fn changed(
     alloc: Global,
     text: &str,
-    places: &[TextRange],
+    occurrences: &[TextRange],
     old: &str,
     new: &str,
 ) -> Result<Option<String>, AllocError>
     ensures changed { IfOk result (λ made. IfSome made (λ made.
-        IsChanged text.now (map bounds_of places.now) old.now new.now (string_bytes made))) }
-    ensures unchanged { IfOk result (λ made. IfNone made (IsUnchangeable text.now (map bounds_of places.now) old.now)) }
+        IsChanged text.now (map bounds_of occurrences.now) old.now new.now (string_bytes made))) }
+    ensures unchanged { IfOk result (λ made. IfNone made (IsUnchangeable text.now (map bounds_of occurrences.now) old.now)) }
 {
     let mut edits = Edits::new(alloc, text);
-    for place in places {
-        if !add_change(&mut edits, text, *place, old, new)? {
+    for occurrence in occurrences {
+        if !add_change(&mut edits, text, *occurrence, old, new)? {
             return Ok(None);
         }
     }
@@ -124,8 +124,8 @@ fn named(
     if let Some(kept) = kept_name(names, binding.first) {
         return Ok(Renaming::Refused(Refusal::Kept(kept)));
     }
-    let places = names.occurrences(alloc, binding.first)?;
-    let Some(made) = changed(alloc, text, &places, binding.text.as_str(), new)? else {
+    let occurrences = names.occurrences(alloc, binding.first)?;
+    let Some(made) = changed(alloc, text, &occurrences, binding.text.as_str(), new)? else {
         return Ok(Renaming::Refused(Refusal::OtherSpelling));
     };
     if resolves_like(alloc, names, binding, new, made.as_str())? {

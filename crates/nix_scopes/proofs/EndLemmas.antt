@@ -6,29 +6,29 @@ use Rattle.nix_scopes.specs.Binders.{is_scope}
 use Rattle.nix_scopes.{specs.Resolving.{last_in, count_behind, counts_behind, is_more, has_ended, still_open, which_are_scopes}, proofs.NumberLemmas.get_last}
 
 -- the end of a node that is entered is added
-pub end_added : (root : Located) (left behind : ℕ) (ends more : List ℕ) (e : Located) (es : List Located) → left ≡ last_in root - e.number →
-    behind ≡ left - inside_count e → more ≡ ends ++ behind ∷ [] → ends ≡ counts_behind root es → more ≡ counts_behind root (e ∷ es)
-end_added root left behind ends more e es count is added are =
+pub end_added : (root : Located) (remaining behind : ℕ) (ends more : List ℕ) (e : Located) (es : List Located) → remaining ≡ last_in root - e.number →
+    behind ≡ remaining - inside_count e → more ≡ ends ++ behind ∷ [] → ends ≡ counts_behind root es → more ≡ counts_behind root (e ∷ es)
+end_added root remaining behind ends more e es count is added are =
     let same : behind ≡ count_behind root e = omega (arith, count, is) in
     added ∙ ap (λ end. ends ++ end ∷ []) same ∙ ap (λ ends. ends ++ count_behind root e ∷ []) are
 
 -- some of the nodes are not left yet: P holds of them, and these are their ends
-pub record AreLeft (root : Located) (left : ℕ) (P : List Located → Type 0) (ends : List ℕ) (nodes : List Located) : Type 0 where
+pub record AreRemaining (root : Located) (remaining : ℕ) (P : List Located → Type 0) (ends : List ℕ) (nodes : List Located) : Type 0 where
   pub rest : List Located
   pub known : P rest
   pub ends_are : ends ≡ counts_behind root rest
-  pub same : still_open root left rest ≡ still_open root left nodes
+  pub same : still_open root remaining rest ≡ still_open root remaining nodes
 
 -- there is one that has ended
-pub some_ended : (left : ℕ) (ends : List ℕ) → has_ended left ends ≡ true → 0 < length ends
-some_ended left [] ended = absurd (false≢true ended)
-some_ended left (end ∷ ends) ended = omega arith
+pub some_ended : (remaining : ℕ) (ends : List ℕ) → has_ended remaining ends ≡ true → 0 < length ends
+some_ended remaining [] ended = absurd (false≢true ended)
+some_ended remaining (end ∷ ends) ended = omega arith
 
 -- whether the last has ended
-last_ended : (left : ℕ) (ends : List ℕ) (end : ℕ) → has_ended left (ends ++ end ∷ []) ≡ nat_lt left end
-last_ended left ends end =
+last_ended : (remaining : ℕ) (ends : List ℕ) (end : ℕ) → has_ended remaining (ends ++ end ∷ []) ≡ nat_lt remaining end
+last_ended remaining ends end =
     let last : length (ends ++ end ∷ []) - 1 ≡ length ends = omega (arith, length_push ends end) in
-    ap (λ k. is_more left (slice_get (ends ++ end ∷ []) k)) last ∙ ap (is_more left) (get_last ends end)
+    ap (λ k. is_more remaining (slice_get (ends ++ end ∷ []) k)) last ∙ ap (is_more remaining) (get_last ends end)
 
 -- all but the last
 but_last : {X : Type 0} (ends : List X) (end : X) → take (length (ends ++ end ∷ []) - 1) (ends ++ end ∷ []) ≡ ends
@@ -37,39 +37,41 @@ but_last ends end =
     ap (λ k. take k (ends ++ end ∷ [])) last ∙ take-append_seam ends (end ∷ [])
 
 -- which of the sets that are left are scopes
-pub scopes_left : (are_scopes fewer : List Bool) (e : Located) (es : List Located) → fewer ≡ take (length are_scopes - 1) are_scopes →
+pub scopes_remaining : (are_scopes fewer : List Bool) (e : Located) (es : List Located) → fewer ≡ take (length are_scopes - 1) are_scopes →
     are_scopes ≡ which_are_scopes (e ∷ es) → fewer ≡ which_are_scopes es
-scopes_left are_scopes fewer e es popped are = popped ∙ ap (λ bs. take (length bs - 1) bs) are ∙ but_last (which_are_scopes es) (is_scope e)
+scopes_remaining are_scopes fewer e es popped are = popped ∙ ap (λ bs. take (length bs - 1) bs) are ∙ but_last (which_are_scopes es) (is_scope e)
 
 -- the innermost is left, which has ended
-pub one_left : (root : Located) (left : ℕ) (P Q : List Located → Type 0) (ends popped : List ℕ) (nodes : List Located) → has_ended left ends ≡ true →
-    popped ≡ take (length ends - 1) ends → ((e : Located) (es : List Located) → P (e ∷ es) → Q es) → AreLeft root left P ends nodes →
-    AreLeft root left Q popped nodes
-one_left root left P Q ends popped nodes ended pops leaves h = go h.rest h.known h.ends_are h.same
+pub one_remaining : (root : Located) (remaining : ℕ) (P Q : List Located → Type 0) (ends popped : List ℕ) (nodes : List Located)
+    → has_ended remaining ends ≡ true →
+    popped ≡ take (length ends - 1) ends → ((e : Located) (es : List Located) → P (e ∷ es) → Q es) → AreRemaining root remaining P ends nodes →
+    AreRemaining root remaining Q popped nodes
+one_remaining root remaining P Q ends popped nodes ended pops leaves h = go h.rest h.known h.ends_are h.same
   where
-    go : (rest : List Located) → P rest → ends ≡ counts_behind root rest → still_open root left rest ≡ still_open root left nodes →
-        AreLeft root left Q popped nodes
-    go [] known are same = absurd (false≢true (sym (ap (has_ended left) are) ∙ ended))
+    go : (rest : List Located) → P rest → ends ≡ counts_behind root rest → still_open root remaining rest ≡ still_open root remaining nodes →
+        AreRemaining root remaining Q popped nodes
+    go [] known are same = absurd (false≢true (sym (ap (has_ended remaining) are) ∙ ended))
     go (e ∷ es) known are same =
-        let over : nat_lt left (count_behind root e) ≡ true =
-        sym (last_ended left (counts_behind root es) (count_behind root e)) ∙ sym (ap (has_ended left) are) ∙ ended in
+        let over : nat_lt remaining (count_behind root e) ≡ true =
+        sym (last_ended remaining (counts_behind root es) (count_behind root e)) ∙ sym (ap (has_ended remaining) are) ∙ ended in
         record {
           rest = es;
           known = leaves e es known;
           ends_are = pops ∙ ap (λ xs. take (length xs - 1) xs) are ∙ but_last (counts_behind root es) (count_behind root e);
-          same = sym (ap (λ b. if b then still_open root left es else e ∷ es) over) ∙ same;
+          same = sym (ap (λ b. if b then still_open root remaining es else e ∷ es) over) ∙ same;
         }
 
 -- none of those that are not left has ended
-none_ended : (root : Located) (left : ℕ) (rest : List Located) → has_ended left (counts_behind root rest) ≡ false → still_open root left rest ≡ rest
-none_ended root left [] lasts = refl
-none_ended root left (e ∷ es) lasts =
-    ap (λ b. if b then still_open root left es else e ∷ es) (sym (last_ended left (counts_behind root es) (count_behind root e)) ∙ lasts)
+none_ended : (root : Located) (remaining : ℕ) (rest : List Located) → has_ended remaining (counts_behind root rest) ≡ false
+    → still_open root remaining rest ≡ rest
+none_ended root remaining [] lasts = refl
+none_ended root remaining (e ∷ es) lasts =
+    ap (λ b. if b then still_open root remaining es else e ∷ es) (sym (last_ended remaining (counts_behind root es) (count_behind root e)) ∙ lasts)
 
 -- all that have ended are left
-pub all_left : (root : Located) (left : ℕ) (P : List Located → Type 0) (ends : List ℕ) (nodes : List Located) → has_ended left ends ≡ false →
-    AreLeft root left P ends nodes → P (still_open root left nodes) × (ends ≡ counts_behind root (still_open root left nodes))
-all_left root left P ends nodes lasts h =
-    let are : h.rest ≡ still_open root left nodes =
-    sym (none_ended root left h.rest (sym (ap (has_ended left) h.ends_are) ∙ lasts)) ∙ h.same in
+pub all_remaining : (root : Located) (remaining : ℕ) (P : List Located → Type 0) (ends : List ℕ) (nodes : List Located) → has_ended remaining ends ≡ false →
+    AreRemaining root remaining P ends nodes → P (still_open root remaining nodes) × (ends ≡ counts_behind root (still_open root remaining nodes))
+all_remaining root remaining P ends nodes lasts h =
+    let are : h.rest ≡ still_open root remaining nodes =
+    sym (none_ended root remaining h.rest (sym (ap (has_ended remaining) h.ends_are) ∙ lasts)) ∙ h.same in
     (subst P are h.known, h.ends_are ∙ ap (counts_behind root) are)

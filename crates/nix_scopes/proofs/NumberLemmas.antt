@@ -146,10 +146,10 @@ get_pushed (z ∷ xs) x y (suc n) e = elim (get_pushed xs x y n e) [
 
 -- what is found is at its place, and passes the test
 pub record FoundAt {X : Type 0} (p : X → Bool) (i : ℕ) (xs : List X) (n : ℕ) : Type 0 where
-  pub place : ℕ
-  pub is : n ≡ i + place
+  pub index : ℕ
+  pub is : n ≡ i + index
   pub element : X
-  pub at : slice_get xs place ≡ Some element
+  pub at : slice_get xs index ≡ Some element
   pub passes : p element ≡ true
 
 position_found : {X : Type 0} (p : X → Bool) (i : ℕ) (xs : List X) (n : ℕ) → position_from p i xs ≡ Some n → FoundAt p i xs n
@@ -158,10 +158,10 @@ position_found {X} p i (x ∷ xs) n e = chosen (p x) refl e (position_found p (i
   where
     chosen : (b : Bool) → p x ≡ b → cond b (Some i) (position_from p (i + 1) xs) ≡ Some n → (position_from p (i + 1) xs ≡ Some n → FoundAt p (i + 1) xs n) →
         FoundAt p i (x ∷ xs) n
-    chosen true passes e more = record { place = 0; is = omega (arith, some_same i n e); element = x; at = refl; passes = passes }
+    chosen true passes e more = record { index = 0; is = omega (arith, some_same i n e); element = x; at = refl; passes = passes }
     chosen false passes e more =
         let found = more e in
-        record { place = suc found.place; is = omega (arith, found.is); element = found.element; at = found.at; passes = found.passes }
+        record { index = suc found.index; is = omega (arith, found.is); element = found.element; at = found.at; passes = found.passes }
 
 -- what passes at a place is found, there or before
 position_there : {X : Type 0} (p : X → Bool) (i : ℕ) (xs : List X) (n : ℕ) (x : X) → slice_get xs n ≡ Some x → p x ≡ true → IsSome (position_from p i xs)
@@ -186,10 +186,10 @@ pub number_binds : (bindings : List Bound) (text : List ℕ) (scope : Located) (
     BindsAt bindings text scope n
 number_binds bindings text scope n e =
     let found = position_found (binds scope text) 0 bindings n e in
-    let place : found.place ≡ n = omega (arith, found.is) in
+    let index : found.index ≡ n = omega (arith, found.is) in
     record {
       binding = found.element;
-      at = ap (slice_get bindings) (sym place) ∙ found.at;
+      at = ap (slice_get bindings) (sym index) ∙ found.at;
       scoped = same _ _ (first_true _ _ found.passes);
       named = second_true _ _ found.passes;
     }

@@ -159,21 +159,21 @@ module _ (root : Located) (n : ℕ) (nodes : List Located) (inside : root.number
                 ∙ ap (filter (within root)) (sym (holds root.tree k n long) ∙ ap (holders root.tree k) one)
           ]
 
-module _ (root : Located) (left n : ℕ) (count : left ≡ last_in root - n) (inside : n ≤ last_in root) where
+module _ (root : Located) (remaining n : ℕ) (count : remaining ≡ last_in root - n) (inside : n ≤ last_in root) where
   -- none ends before the element of the number
-  all_open : (es : List Located) → All (λ (a : Located). n ≤ last_in a) es → still_open root left es ≡ es
+  all_open : (es : List Located) → All (λ (a : Located). n ≤ last_in a) es → still_open root remaining es ≡ es
   all_open [] all = refl
   all_open (e ∷ es) all =
-      ap (λ b. if b then still_open root left es else e ∷ es)
-      (is_not_below left (count_behind root e) (omega (arith, count, All-head (λ (a : Located). n ≤ last_in a) e es all)))
+      ap (λ b. if b then still_open root remaining es else e ∷ es)
+      (is_not_below remaining (count_behind root e) (omega (arith, count, All-head (λ (a : Located). n ≤ last_in a) e es all)))
 
   -- those are still open that do not end before it, where an outer one ends no sooner
   pub still_open_is : (p : Located → Bool) (es : List Located) → AllPairs (λ (a b : Located). last_in a ≤ last_in b) es →
-      still_open root left (filter p es) ≡ filter p (filter (reaches n) es)
+      still_open root remaining (filter p es) ≡ filter p (filter (reaches n) es)
   still_open_is p [] nested = refl
   still_open_is p (e ∷ es) nested = elim (cases_lt (last_in e) n) [
     | inl short ↦
-        passed (p e) (is_below left (count_behind root e) (omega (arith, count, short, inside)))
+        passed (p e) (is_below remaining (count_behind root e) (omega (arith, count, short, inside)))
         ∙ still_open_is p es (λ i j d l m. nested (suc i) (suc j) d (omega (arith, l)) (omega (arith, m)))
         ∙ ap (filter p) (sym (cond-false (reaches n e) (e ∷ filter (reaches n) es) (filter (reaches n) es) (lt-leb n (last_in e) short)))
     | inr long ↦
@@ -183,9 +183,9 @@ module _ (root : Located) (left n : ℕ) (count : left ≡ last_in root - n) (in
         ∙ ap (filter p) (sym (test_all (reaches n) (e ∷ es) (λ k d l. le-leb n _ (all k d l))))
   ]
     where
-      passed : (b : Bool) → nat_lt left (count_behind root e) ≡ true →
-          still_open root left (cond b (e ∷ filter p es) (filter p es)) ≡ still_open root left (filter p es)
-      passed true ends = ap (λ b. if b then still_open root left (filter p es) else e ∷ filter p es) ends
+      passed : (b : Bool) → nat_lt remaining (count_behind root e) ≡ true →
+          still_open root remaining (cond b (e ∷ filter p es) (filter p es)) ≡ still_open root remaining (filter p es)
+      passed true ends = ap (λ b. if b then still_open root remaining (filter p es) else e ∷ filter p es) ends
       passed false ends = refl
 
 -- as many ends as elements

@@ -12,11 +12,11 @@ use Rattle.rnix_tree.specs.InsideCounts.{inside_count}
 use Rattle.rnix_kinds.specs.declared.kinds.SyntaxKind.TheVariants as k
 
 -- what is found of a text before the elements of a walk that are left, of which the first has the number
-pub record IsFound (root : Located) (bindings : List Binding) (references : List Reference) (env : Environment) (left : ℕ)
+pub record IsFound (root : Located) (bindings : List Binding) (references : List Reference) (env : Environment) (remaining : ℕ)
     (spots : List Spot) : Type 0 where
   pub number : ℕ
   pub inside : root.number ≤ number
-  pub count : left ≡ last_in root - number
+  pub count : remaining ≡ last_in root - number
   pub walk : spots ≡ map (spot_at root.tree) (counted number (suc (last_in root) - number))
   pub nodes : List Located
   pub are_open : HoldLater root number nodes
@@ -52,12 +52,12 @@ map_alike f g same [] = refl
 map_alike f g same (x ∷ xs) = ap (λ y. y ∷ map f xs) (same x) ∙ ap (λ ys. g x ∷ ys) (map_alike f g same xs)
 
 -- nothing is found before the walk
-pub found_begun : (root : Located) (bindings : List Binding) (references : List Reference) (env : Environment) (left : ℕ) (spots : List Spot) →
-    left ≡ inside_count root → spots ≡ elements_of root → bindings ≡ [] → references ≡ [] →
+pub found_begun : (root : Located) (bindings : List Binding) (references : List Reference) (env : Environment) (remaining : ℕ) (spots : List Spot) →
+    remaining ≡ inside_count root → spots ≡ elements_of root → bindings ≡ [] → references ≡ [] →
     ((text : List ℕ) → number_by env.sight.numbers text ≡ None) → env.sight.hidden.items ≡ [] → env.sight.scopes.items ≡ [] →
     env.scope_ends.items ≡ [] → env.body_ends.items ≡ [] → env.set_ends.items ≡ [] → env.set_scopes.items ≡ [] →
-    IsFound root bindings references env left spots
-found_begun root bindings references env left spots count is none no_references no_numbers no_hidden no_scopes no_ends no_bodies no_sets no_set_scopes =
+    IsFound root bindings references env remaining spots
+found_begun root bindings references env remaining spots count is none no_references no_numbers no_hidden no_scopes no_ends no_bodies no_sets no_set_scopes =
     let all : 1 + inside_count root ≡ suc (last_in root) - root.number = omega arith in
     record {
       number = root.number;
@@ -82,10 +82,10 @@ one_less : (last n others : ℕ) → suc last - n ≡ suc others → others ≡ 
 one_less last n others is = omega (arith, is)
 
 -- a token is passed
-pub found_token : (root : Located) (bindings : List Binding) (references : List Reference) (env : Environment) (left less : ℕ)
-    (spots later : List Spot) (e : Located) → IsFound root bindings references env left spots → spots ≡ (false, e) ∷ later → less ≡ left - 1 →
+pub found_token : (root : Located) (bindings : List Binding) (references : List Reference) (env : Environment) (remaining less : ℕ)
+    (spots later : List Spot) (e : Located) → IsFound root bindings references env remaining spots → spots ≡ (false, e) ∷ later → less ≡ remaining - 1 →
     IsFound root bindings references env less later
-found_token root bindings references env left less spots later e h is one =
+found_token root bindings references env remaining less spots later e h is one =
     let first = taken root.tree h.number (suc (last_in root) - h.number) spots (false, e) later h.walk is in
     let none = token_alone root.tree h.number (sym (ap (λ (s : Spot). s.0) first.first)) in
     let nodes_are : nodes_in spots ≡ nodes_in later = ap nodes_in is in
@@ -122,8 +122,8 @@ here_resolved root bindings later env n e nodes bound high below around_is sees 
     (references_at e)
 
 -- a node is entered where those around it are open
-found_entered : (root : Located) (bindings more : List Binding) (references others : List Reference) (env : Environment) (left n : ℕ)
-    (later : List Spot) (e : Located) (nodes : List Located) → root.number ≤ n → left ≡ last_in root - n →
+found_entered : (root : Located) (bindings more : List Binding) (references others : List Reference) (env : Environment) (remaining n : ℕ)
+    (later : List Spot) (e : Located) (nodes : List Located) → root.number ≤ n → remaining ≡ last_in root - n →
     later ≡ map (spot_at root.tree) (counted n (suc (last_in root) - n)) →
     HoldLater root n (e ∷ nodes) → IsBelow e nodes → around root e ≡ e ∷ nodes →
     Sees root more env n (filter is_scope (e ∷ nodes)) (filter is_with_body (e ∷ nodes)) (filter is_set (e ∷ nodes)) →
@@ -131,8 +131,8 @@ found_entered : (root : Located) (bindings more : List Binding) (references othe
     map resolved_of references ++ flat_map (resolved_at root) (e ∷ nodes_in later) ≡ resolved_in root →
     map bound_of more ≡ map bound_of bindings ++ bindings_at e →
     map resolved_of others ≡ map resolved_of references ++ map (resolve_at env e) (references_at e) →
-    IsFound root more others env left later
-found_entered root bindings more references others env left n later e nodes inside count_is walk are_open below around_is sees so_far listed bound
+    IsFound root more others env remaining later
+found_entered root bindings more references others env remaining n later e nodes inside count_is walk are_open below around_is sees so_far listed bound
     referred =
     let bound_is : map bound_of more ++ flat_map bindings_at (nodes_in later) ≡ bindings_in root =
     more_listed bindings_at (map bound_of bindings) (map bound_of more) (bindings_in root) e (nodes_in later) so_far bound in
@@ -156,17 +156,17 @@ found_entered root bindings more references others env left n later e nodes insi
 
 -- those that have ended are left, and a node is entered
 pub found_node : (root : Located) (bindings same more : List Binding) (references others : List Reference) (env outer inner : Environment)
-    (left less : ℕ) (spots later : List Spot) (e : Located) → IsFound root bindings references env left spots → spots ≡ (true, e) ∷ later →
-    less ≡ left - 1 → same ≡ bindings → ((root : Located) → (n : ℕ) → (scopes bodies sets : List Located) → Sees root same env n scopes bodies sets →
-    Sees root same outer n (still_open root left scopes) (still_open root left bodies) (still_open root left sets)) →
-    ((root : Located) → (n : ℕ) → (scopes bodies sets : List Located) → n ≤ e.number → left ≡ last_in root - e.number →
+    (remaining less : ℕ) (spots later : List Spot) (e : Located) → IsFound root bindings references env remaining spots → spots ≡ (true, e) ∷ later →
+    less ≡ remaining - 1 → same ≡ bindings → ((root : Located) → (n : ℕ) → (scopes bodies sets : List Located) → Sees root same env n scopes bodies sets →
+    Sees root same outer n (still_open root remaining scopes) (still_open root remaining bodies) (still_open root remaining sets)) →
+    ((root : Located) → (n : ℕ) → (scopes bodies sets : List Located) → n ≤ e.number → remaining ≡ last_in root - e.number →
     Sees root bindings outer n scopes bodies sets →
     Sees root more inner (e.number + 1) (if is_scope e then e ∷ scopes else scopes) (if is_with_body e then e ∷ bodies else bodies)
     (if is_set e then e ∷ sets else sets)) →
     map bound_of more ≡ map bound_of bindings ++ bindings_at e →
     map resolved_of others ≡ map resolved_of references ++ map (resolve_at inner e) (references_at e) →
     IsFound root more others inner less later
-found_node root bindings same more references others env outer inner left less spots later e h is one same_is leaves enters bound referred =
+found_node root bindings same more references others env outer inner remaining less spots later e h is one same_is leaves enters bound referred =
     let first = taken root.tree h.number (suc (last_in root) - h.number) spots (true, e) later h.walk is in
     let there = node_there root.tree h.number (sym (ap (λ (s : Spot). s.0) first.first)) in
     let here : e ≡ record { tree = root.tree; number = h.number } = ap (λ (s : Spot). s.1) first.first in
@@ -175,21 +175,21 @@ found_node root bindings same more references others env outer inner left less s
     let high : h.number ≤ last_in root = omega (arith, first.one_more) in
     let nodes : List Located = filter (reaches h.number) h.nodes in
     let around_here = around_is root h.number h.nodes h.inside h.are_open in
-    let still : (p : Located → Bool) → still_open root left (filter p h.nodes) ≡ filter p nodes =
-    λ p. still_open_is root left h.number h.count high p h.nodes h.are_open.nested in
-    let left_open : Sees root bindings outer h.number (filter is_scope nodes) (filter is_with_body nodes) (filter is_set nodes) =
+    let still : (p : Located → Bool) → still_open root remaining (filter p h.nodes) ≡ filter p nodes =
+    λ p. still_open_is root remaining h.number h.count high p h.nodes h.are_open.nested in
+    let remaining_open : Sees root bindings outer h.number (filter is_scope nodes) (filter is_with_body nodes) (filter is_set nodes) =
     subst (λ scopes. Sees root bindings outer h.number scopes (filter is_with_body nodes) (filter is_set nodes)) (still is_scope)
-    (subst (λ bodies. Sees root bindings outer h.number (still_open root left (filter is_scope h.nodes)) bodies (filter is_set nodes)) (still is_with_body)
+    (subst (λ bodies. Sees root bindings outer h.number (still_open root remaining (filter is_scope h.nodes)) bodies (filter is_set nodes)) (still is_with_body)
     (subst (λ sets.
-    Sees root bindings outer h.number (still_open root left (filter is_scope h.nodes)) (still_open root left (filter is_with_body h.nodes)) sets)
+    Sees root bindings outer h.number (still_open root remaining (filter is_scope h.nodes)) (still_open root remaining (filter is_with_body h.nodes)) sets)
     (still is_set)
     (subst (λ bs. Sees root bs env h.number (filter is_scope h.nodes) (filter is_with_body h.nodes) (filter is_set h.nodes) →
-    Sees root bs outer h.number (still_open root left (filter is_scope h.nodes)) (still_open root left (filter is_with_body h.nodes))
-    (still_open root left (filter is_set h.nodes))) same_is
+    Sees root bs outer h.number (still_open root remaining (filter is_scope h.nodes)) (still_open root remaining (filter is_with_body h.nodes))
+    (still_open root remaining (filter is_set h.nodes))) same_is
     (leaves root h.number (filter is_scope h.nodes) (filter is_with_body h.nodes) (filter is_set h.nodes)) h.sees))) in
     let entered : Sees root more inner (e.number + 1) (filter is_scope (e ∷ nodes)) (filter is_with_body (e ∷ nodes)) (filter is_set (e ∷ nodes)) =
     enters root h.number (filter is_scope nodes) (filter is_with_body nodes) (filter is_set nodes) (omega (arith, number))
-    (omega (arith, number, h.count)) left_open in
+    (omega (arith, number, h.count)) remaining_open in
     let listed : nodes_in spots ≡ e ∷ nodes_in later = ap nodes_in is in
     found_entered root bindings more references others inner less (h.number + 1) later e nodes (omega (arith, h.inside)) (omega (arith, one, h.count))
     (first.are ∙ ap (λ k. map (spot_at root.tree) (counted (h.number + 1) k)) (one_less (last_in root) h.number first.others first.one_more))
@@ -203,13 +203,13 @@ found_node root bindings same more references others env outer inner left less s
     (ap (λ es. map resolved_of references ++ flat_map (resolved_at root) es) (sym listed) ∙ h.listing) bound referred
 
 -- the same is found where all is the same
-pub found_same : (root : Located) (bindings others : List Binding) (references alike : List Reference) (env same : Environment) (left : ℕ)
-    (spots : List Spot) → others ≡ bindings → alike ≡ references → same ≡ env → IsFound root bindings references env left spots →
-    IsFound root others alike same left spots
-found_same root bindings others references alike env same left spots bindings_are references_are env_is h =
-    subst (λ bs. IsFound root bs alike same left spots) (sym bindings_are)
-    (subst (λ rs. IsFound root bindings rs same left spots) (sym references_are)
-    (subst (λ around. IsFound root bindings references around left spots) (sym env_is) h))
+pub found_same : (root : Located) (bindings others : List Binding) (references alike : List Reference) (env same : Environment) (remaining : ℕ)
+    (spots : List Spot) → others ≡ bindings → alike ≡ references → same ≡ env → IsFound root bindings references env remaining spots →
+    IsFound root others alike same remaining spots
+found_same root bindings others references alike env same remaining spots bindings_are references_are env_is h =
+    subst (λ bs. IsFound root bs alike same remaining spots) (sym bindings_are)
+    (subst (λ rs. IsFound root bindings rs same remaining spots) (sym references_are)
+    (subst (λ around. IsFound root bindings references around remaining spots) (sym env_is) h))
 
 -- the names of what is resolved in a text are its references
 pub names_resolved : (root : Located) (references : List Reference) → map resolved_of references ≡ resolved_in root →

@@ -138,12 +138,12 @@ still_seen bindings sight n m scopes l h = record {
 }
 
 -- a scope is left
-pub scope_left : (bindings : List Binding) (old new : Sight) (own : Scope) (n : ℕ) (scope : Located) (outer : List Located) →
+pub scope_remaining : (bindings : List Binding) (old new : Sight) (own : Scope) (n : ℕ) (scope : Located) (outer : List Located) →
     old.scopes.items ≡ new.scopes.items ++ own ∷ [] → new.hidden.items ≡ old.hidden.items →
     ((out : List ℕ → Option ℕ) → IsHidden out (map bound_of bindings) old.numbers old.hidden.items own → (text : List ℕ) →
     IsShownAgain out (map bound_of bindings) own.first own.end old.numbers new.numbers text) →
     IsSeen bindings old n (scope ∷ outer) → IsSeen bindings new n outer
-scope_left bindings old new own n scope outer popped same_hidden shown h =
+scope_remaining bindings old new own n scope outer popped same_hidden shown h =
     let bs : List Bound = map bound_of bindings in
     let same = same_from_push new.scopes.items h.are_open.1 own h.are_open.0 (sym popped ∙ h.are_open.2) in
     let opened : IsOpen (λ text. innermost bs text outer) bs old.hidden.items own.first own.end scope =
@@ -183,9 +183,9 @@ scope_left bindings old new own n scope outer popped same_hidden shown h =
         absurd (false≢true (sym (e.1 m found.binding inside.0 inside.1 found.at) ∙ found.named))
 
 -- where a scope is open, there is one to leave
-pub none_left : (bindings : List Binding) (old new : Sight) (n : ℕ) (scope : Located) (outer : List Located) → old.scopes.items ≡ [] →
+pub none_remaining : (bindings : List Binding) (old new : Sight) (n : ℕ) (scope : Located) (outer : List Located) → old.scopes.items ≡ [] →
     IsSeen bindings old n (scope ∷ outer) → IsSeen bindings new n outer
-none_left bindings old new n scope outer none h =
+none_remaining bindings old new n scope outer none h =
     absurd (omega (arith, ap length none, ap length h.are_open.2, length_push h.are_open.1 h.are_open.0))
 
 -- the number of a name outside of the innermost scope

@@ -38,7 +38,7 @@ rename_by new = rename_of new.number new.old new.text.now (ended_by new.ends.ite
 
 -- a new name for the binding of a number, in place of one of this length
 abbrev pub rename_in : Resolution → ℕ → ℕ → List ℕ → Rename
-rename_in names number old name = rename_of number old name (ended_by (map (λ place. place.end) (occurrences_of number names)))
+rename_in names number old name = rename_of number old name (ended_by (map (λ extent. extent.end) (occurrences_of number names)))
 
 -- the offset moves to the other one: by the difference of the lengths for each occurrence that ends at it or before it
 abbrev pub IsMovedBy : ℕ → ℕ → ℕ → ℕ → ℕ → Type 0

@@ -26,7 +26,7 @@ written_at number bindings = map (λ part. extent_of part.node) (filter (λ part
 
 -- where the binding of a number is referred to
 abbrev pub referred_at : ℕ → List Reference → List Extent
-referred_at number references = map (λ place. extent_of place.node) (filter (λ place. is_number number place.binding) references)
+referred_at number references = map (λ extent. extent_of extent.node) (filter (λ extent. is_number number extent.binding) references)
 
 -- where the binding of a number is written, and then where it is referred to
 abbrev pub occurrences_of : ℕ → Resolution → List Extent
@@ -53,21 +53,21 @@ IsNameAt root offset name = (tokens : TokenAtOffset Located) × AreTouched root 
 
 -- whether a node is at a place
 abbrev pub is_at : Extent → Located → Bool
-is_at place e = nat_eq (extent_of e).start place.start && nat_eq (extent_of e).end place.end
+is_at extent e = nat_eq (extent_of e).start extent.start && nat_eq (extent_of e).end extent.end
 
 -- the number of the first of these bindings that is written at a place
 abbrev pub written_number : Extent → List Binding → Option ℕ
-written_number place [] = None
-written_number place (binding ∷ more) = if is_at place binding.node then Some binding.first else written_number place more
+written_number extent [] = None
+written_number extent (binding ∷ more) = if is_at extent binding.node then Some binding.first else written_number extent more
 
 -- the number of the binding to which the first of these references at a place refers
 abbrev pub referred_number : Extent → List Reference → Option ℕ
-referred_number place [] = None
-referred_number place (reference ∷ more) = if is_at place reference.node then reference.binding else referred_number place more
+referred_number extent [] = None
+referred_number extent (reference ∷ more) = if is_at extent reference.node then reference.binding else referred_number extent more
 
 -- the number of the binding that is written at a place, or to which what is there refers
 abbrev pub number_at : Resolution → Extent → Option ℕ
-number_at names place = option_or (written_number place (bindings_of names)) (referred_number place (references_of names))
+number_at names extent = option_or (written_number extent (bindings_of names)) (referred_number extent (references_of names))
 
 -- the binding of a number, if there is one
 abbrev pub binding_of : Resolution → Option ℕ → Option Binding
@@ -76,4 +76,4 @@ binding_of names (Some number) = slice_get (bindings_of names) number
 
 -- the binding that is written at a place, or to which what is there refers
 abbrev pub binding_at : Resolution → Extent → Option Binding
-binding_at names place = binding_of names (number_at names place)
+binding_at names extent = binding_of names (number_at names extent)

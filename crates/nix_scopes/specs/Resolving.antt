@@ -140,17 +140,17 @@ counts_behind root (e ∷ es) = counts_behind root es ++ count_behind root e ∷
 
 -- whether this count, if there is one, is more than what is left
 abbrev pub is_more : ℕ → Option ℕ → Bool
-is_more left None = false
-is_more left (Some behind) = nat_lt left behind
+is_more remaining None = false
+is_more remaining (Some behind) = nat_lt remaining behind
 
 -- so it is of the last of these counts
 abbrev pub has_ended : ℕ → List ℕ → Bool
-has_ended left ends = is_more left (slice_get ends (length ends - 1))
+has_ended remaining ends = is_more remaining (slice_get ends (length ends - 1))
 
 -- these elements without the first ones that have ended, after which come more elements than are left
 abbrev pub still_open : Located → ℕ → List Located → List Located
-still_open root left [] = []
-still_open root left (e ∷ es) = if nat_lt left (count_behind root e) then still_open root left es else e ∷ es
+still_open root remaining [] = []
+still_open root remaining (e ∷ es) = if nat_lt remaining (count_behind root e) then still_open root remaining es else e ∷ es
 
 -- what these scopes bind is in sight, and these are their ends
 abbrev pub SeesScopes : Located → List Binding → Sight → List ℕ → ℕ → List Located → Type 0
@@ -178,9 +178,9 @@ pub record Sees (root : Located) (bindings : List Binding) (around : Environment
 -- after the scopes, bodies of `with` and attribute sets are left that end before an element, after which come so many more, what is known is of those
 -- that are still open
 abbrev pub LeavesEnded : ℕ → List Binding → Environment → Environment → Type 0
-LeavesEnded left bindings old new =
+LeavesEnded remaining bindings old new =
     (root : Located) → (n : ℕ) → (scopes bodies sets : List Located) → Sees root bindings old n scopes bodies sets →
-    Sees root bindings new n (still_open root left scopes) (still_open root left bodies) (still_open root left sets)
+    Sees root bindings new n (still_open root remaining scopes) (still_open root remaining bodies) (still_open root remaining sets)
 
 -- the number of the first binding of the last of these scopes
 abbrev pub first_of : List Scope → Option ℕ

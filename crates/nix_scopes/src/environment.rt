@@ -7,7 +7,7 @@ ghost use Rattle.nix_scopes.specs.Scopes.{is_with_body, bindings_at};
 ghost use Rattle.nix_scopes.specs.Bound.{bound_of};
 ghost use Rattle.nix_scopes.specs.Resolving.{number_by, last_in, counts_behind, has_ended, still_open, is_set, is_scope_around, SeesScopes, SeesSets, Sees, LeavesEnded};
 
-use crate::places::is_with_body;
+use crate::name_roles::is_with_body;
 use crate::resolution::Binding;
 use crate::scopes::{is_binder, is_scope};
 use crate::sight::Sight;
@@ -27,11 +27,11 @@ pub struct Environment<'t> {
 }
 
 // Whether the last of these ends comes before an element, after which the walk has `left` more.
-fn has_ended(ends: &[usize], left: usize) -> bool
-    ensures { result ≡ has_ended left ends.now }
+fn has_ended(ends: &[usize], remaining: usize) -> bool
+    ensures { result ≡ has_ended remaining ends.now }
 {
     match ends.last() {
-        Some(behind) => *behind > left,
+        Some(behind) => *behind > remaining,
         None => false,
     }
 }
@@ -41,13 +41,13 @@ fn enter_scope<'t>(
     alloc: Global,
     node: &SyntaxNode<'t>,
     binds: bool,
-    left: usize,
+    remaining: usize,
     sight: &mut Sight<'t>,
     ends: &mut Vec<usize>,
     bindings: &mut Vec<Binding<'t>>,
 ) -> Result<(), AllocError>
     requires { binds ≡ is_scope node.now }
-    ensures sees { OnOk result ((root : Located) → (n : ℕ) → (scopes : List Located) → n ≤ node.now.number → left ≡ last_in root - node.now.number →
+    ensures sees { OnOk result ((root : Located) → (n : ℕ) → (scopes : List Located) → n ≤ node.now.number → remaining ≡ last_in root - node.now.number →
         SeesScopes root bindings.old.items sight.old ends.old.items n scopes →
         SeesScopes root bindings.new.items sight.new ends.new.items (node.now.number + 1)
         (if is_scope node.now then node.now ∷ scopes else scopes)) }
@@ -55,19 +55,23 @@ fn enter_scope<'t>(
 {
     if binds {
         sight.enter(alloc, node, bindings)?;
-        ends.push(left.saturating_sub(node.inside_count()))?;
+        ends.push(remaining.saturating_sub(node.inside_count()))?;
     }
     Ok(())
 }
 
 // Enters a node, after which the walk has `left` more elements: it may be the body of a `with`.
-fn enter_body(node: &SyntaxNode<'_>, left: usize, ends: &mut Vec<usize>) -> Result<(), AllocError>
-    ensures { OnOk result ((root : Located) → (bodies : List Located) → left ≡ last_in root - node.now.number →
+fn enter_body(
+    node: &SyntaxNode<'_>,
+    remaining: usize,
+    ends: &mut Vec<usize>,
+) -> Result<(), AllocError>
+    ensures { OnOk result ((root : Located) → (bodies : List Located) → remaining ≡ last_in root - node.now.number →
         ends.old.items ≡ counts_behind root bodies →
         ends.new.items ≡ counts_behind root (if is_with_body node.now then node.now ∷ bodies else bodies)) }
 {
     if is_with_body(node) {
-        ends.push(left.saturating_sub(node.inside_count()))?;
+        ends.push(remaining.saturating_sub(node.inside_count()))?;
     }
     Ok(())
 }
@@ -76,17 +80,17 @@ fn enter_body(node: &SyntaxNode<'_>, left: usize, ends: &mut Vec<usize>) -> Resu
 fn enter_set(
     node: &SyntaxNode<'_>,
     binds: bool,
-    left: usize,
+    remaining: usize,
     ends: &mut Vec<usize>,
     scopes: &mut Vec<bool>,
 ) -> Result<(), AllocError>
     requires { binds ≡ is_scope node.now }
-    ensures { OnOk result ((root : Located) → (sets : List Located) → left ≡ last_in root - node.now.number →
+    ensures { OnOk result ((root : Located) → (sets : List Located) → remaining ≡ last_in root - node.now.number →
         SeesSets root ends.old.items scopes.old.items sets →
         SeesSets root ends.new.items scopes.new.items (if is_set node.now then node.now ∷ sets else sets)) }
 {
     if node.kind() == SyntaxKind::NODE_ATTR_SET {
-        ends.push(left.saturating_sub(node.inside_count()))?;
+        ends.push(remaining.saturating_sub(node.inside_count()))?;
         scopes.push(binds)?;
     }
     Ok(())
@@ -94,16 +98,16 @@ fn enter_set(
 
 // Leaves the scopes that end before an element, after which the walk has `left` more.
 fn leave_scopes<'t>(
-    left: usize,
+    remaining: usize,
     sight: &mut Sight<'t>,
     ends: &mut Vec<usize>,
     bindings: &[Binding<'t>],
 ) -> Result<(), AllocError>
     ensures { OnOk result ((root : Located) → (n : ℕ) → (scopes : List Located) →
         SeesScopes root bindings.now sight.old ends.old.items n scopes →
-        SeesScopes root bindings.now sight.new ends.new.items n (still_open root left scopes)) }
+        SeesScopes root bindings.now sight.new ends.new.items n (still_open root remaining scopes)) }
 {
-    while has_ended(ends, left) {
+    while has_ended(ends, remaining) {
         let _end = ends.pop();
         sight.leave(bindings)?;
     }
@@ -111,21 +115,21 @@ fn leave_scopes<'t>(
 }
 
 // Leaves the bodies of `with` that end before an element, after which the walk has `left` more.
-fn leave_bodies(left: usize, ends: &mut Vec<usize>)
+fn leave_bodies(remaining: usize, ends: &mut Vec<usize>)
     ensures { (root : Located) → (bodies : List Located) → ends.old.items ≡ counts_behind root bodies →
-        ends.new.items ≡ counts_behind root (still_open root left bodies) }
+        ends.new.items ≡ counts_behind root (still_open root remaining bodies) }
 {
-    while has_ended(ends, left) {
+    while has_ended(ends, remaining) {
         let _end = ends.pop();
     }
 }
 
 // Leaves the attribute sets that end before an element, after which the walk has `left` more.
-fn leave_sets(left: usize, ends: &mut Vec<usize>, scopes: &mut Vec<bool>)
+fn leave_sets(remaining: usize, ends: &mut Vec<usize>, scopes: &mut Vec<bool>)
     ensures { (root : Located) → (sets : List Located) → SeesSets root ends.old.items scopes.old.items sets →
-        SeesSets root ends.new.items scopes.new.items (still_open root left sets) }
+        SeesSets root ends.new.items scopes.new.items (still_open root remaining sets) }
 {
-    while has_ended(ends, left) {
+    while has_ended(ends, remaining) {
         let _end = ends.pop();
         let _scope = scopes.pop();
     }
@@ -156,11 +160,11 @@ impl<'t> Environment<'t> {
         &mut self,
         alloc: Global,
         node: &SyntaxNode<'t>,
-        left: usize,
+        remaining: usize,
         bindings: &mut Vec<Binding<'t>>,
     ) -> Result<(), AllocError>
         ensures sees { OnOk result ((root : Located) → (n : ℕ) → (scopes bodies sets : List Located) → n ≤ node.now.number →
-            left ≡ last_in root - node.now.number → Sees root bindings.old.items self.old n scopes bodies sets →
+            remaining ≡ last_in root - node.now.number → Sees root bindings.old.items self.old n scopes bodies sets →
             Sees root bindings.new.items self.new (node.now.number + 1) (if is_scope node.now then node.now ∷ scopes else scopes)
             (if is_with_body node.now then node.now ∷ bodies else bodies) (if is_set node.now then node.now ∷ sets else sets)) }
         ensures bindings { OnOk result (map bound_of bindings.new.items ≡ map bound_of bindings.old.items ++ bindings_at node.now) }
@@ -170,23 +174,33 @@ impl<'t> Environment<'t> {
             alloc,
             node,
             binds,
-            left,
+            remaining,
             &mut self.sight,
             &mut self.scope_ends,
             bindings,
         )?;
-        enter_body(node, left, &mut self.body_ends)?;
-        enter_set(node, binds, left, &mut self.set_ends, &mut self.set_scopes)?;
+        enter_body(node, remaining, &mut self.body_ends)?;
+        enter_set(
+            node,
+            binds,
+            remaining,
+            &mut self.set_ends,
+            &mut self.set_scopes,
+        )?;
         Ok(())
     }
 
     /// Leaves the scopes, the bodies of `with` and the attribute sets that end before an element, after which the walk has `left` more.
-    pub fn leave_ended(&mut self, left: usize, bindings: &[Binding<'t>]) -> Result<(), AllocError>
-        ensures { OnOk result (LeavesEnded left bindings.now self.old self.new) }
+    pub fn leave_ended(
+        &mut self,
+        remaining: usize,
+        bindings: &[Binding<'t>],
+    ) -> Result<(), AllocError>
+        ensures { OnOk result (LeavesEnded remaining bindings.now self.old self.new) }
     {
-        leave_scopes(left, &mut self.sight, &mut self.scope_ends, bindings)?;
-        leave_bodies(left, &mut self.body_ends);
-        leave_sets(left, &mut self.set_ends, &mut self.set_scopes);
+        leave_scopes(remaining, &mut self.sight, &mut self.scope_ends, bindings)?;
+        leave_bodies(remaining, &mut self.body_ends);
+        leave_sets(remaining, &mut self.set_ends, &mut self.set_scopes);
         Ok(())
     }
 

@@ -2,10 +2,10 @@
 #![tactic(auto)]
 
 mod environment;
+mod name_roles;
 mod name_text;
 mod names;
 mod occurrences;
-mod places;
 mod renaming;
 mod resolution;
 mod resolving;

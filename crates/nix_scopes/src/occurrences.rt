@@ -38,13 +38,13 @@ pub fn name_at<'t>(root: &SyntaxNode<'t>, offset: usize) -> Option<SyntaxNode<'t
 fn add_written(
     bindings: &[Binding<'_>],
     number: usize,
-    places: &mut Vec<TextRange>,
+    extents: &mut Vec<TextRange>,
 ) -> Result<(), AllocError>
-    ensures { OnOk result (map bounds_of places.new.items ≡ map bounds_of places.old.items ++ written_at number bindings.now) }
+    ensures { OnOk result (map bounds_of extents.new.items ≡ map bounds_of extents.old.items ++ written_at number bindings.now) }
 {
     for binding in bindings {
         if binding.first == number {
-            places.push(binding.node.text_range())?;
+            extents.push(binding.node.text_range())?;
         }
     }
     Ok(())
@@ -54,13 +54,13 @@ fn add_written(
 fn add_referred(
     references: &[Reference<'_>],
     number: usize,
-    places: &mut Vec<TextRange>,
+    extents: &mut Vec<TextRange>,
 ) -> Result<(), AllocError>
-    ensures { OnOk result (map bounds_of places.new.items ≡ map bounds_of places.old.items ++ referred_at number references.now) }
+    ensures { OnOk result (map bounds_of extents.new.items ≡ map bounds_of extents.old.items ++ referred_at number references.now) }
 {
     for reference in references {
         if reference.binding == Some(number) {
-            places.push(reference.node.text_range())?;
+            extents.push(reference.node.text_range())?;
         }
     }
     Ok(())
@@ -70,11 +70,11 @@ impl Resolution<'_> {
     /// Where the binding of a number is written, in each of its parts, and then where it is referred to. The range of a name in quotes has
     /// the quotes.
     pub fn occurrences(&self, alloc: Global, number: usize) -> Result<Vec<TextRange>, AllocError>
-        ensures { IfOk result (λ places. map bounds_of places.items ≡ occurrences_of number self.now) }
+        ensures { IfOk result (λ extents. map bounds_of extents.items ≡ occurrences_of number self.now) }
     {
-        let mut places = Vec::new(alloc);
-        add_written(self.bindings(), number, &mut places)?;
-        add_referred(self.references(), number, &mut places)?;
-        Ok(places)
+        let mut extents = Vec::new(alloc);
+        add_written(self.bindings(), number, &mut extents)?;
+        add_referred(self.references(), number, &mut extents)?;
+        Ok(extents)
     }
 }

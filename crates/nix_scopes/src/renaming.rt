@@ -137,12 +137,12 @@ fn are_alike(names: &Resolution<'_>, others: &Resolution<'_>, name: &NewName<'_>
 impl Resolution<'_> {
     // Where the occurrences of the binding of a number end, in ascending order.
     fn ends(&self, alloc: Global, number: usize) -> Result<Vec<usize>, AllocError>
-        ensures exactly { IfOk result (λ ends. IsPermutation (map (λ place. place.end) (occurrences_of number self.now)) ends.items) }
+        ensures exactly { IfOk result (λ ends. IsPermutation (map (λ extent. extent.end) (occurrences_of number self.now)) ends.items) }
         ensures order { IfOk result (λ ends. IsNonDecreasing ends.items) }
     {
         let mut ends = Vec::new(alloc);
-        for place in &self.occurrences(alloc, number)? {
-            ends.push(place.end())?;
+        for extent in &self.occurrences(alloc, number)? {
+            ends.push(extent.end())?;
         }
         ends.sort()?;
         Ok(ends)

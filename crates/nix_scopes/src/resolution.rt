@@ -79,32 +79,32 @@ impl<'t> Resolution<'t> {
     }
 }
 
-// Whether a node is at a place.
-fn is_at(node: &SyntaxNode<'_>, place: TextRange) -> bool
-    ensures { result ≡ is_at (bounds_of place) node.now }
+// Whether a node is at a range.
+fn is_at(node: &SyntaxNode<'_>, extent: TextRange) -> bool
+    ensures { result ≡ is_at (bounds_of extent) node.now }
 {
     let range = node.text_range();
-    range.start() == place.start() && range.end() == place.end()
+    range.start() == extent.start() && range.end() == extent.end()
 }
 
-// The number of the binding that is written at a place.
-fn written_number(bindings: &[Binding<'_>], place: TextRange) -> Option<usize>
-    ensures { result ≡ written_number (bounds_of place) bindings.now }
+// The number of the binding that is written at a range.
+fn written_number(bindings: &[Binding<'_>], extent: TextRange) -> Option<usize>
+    ensures { result ≡ written_number (bounds_of extent) bindings.now }
 {
     for binding in bindings {
-        if is_at(&binding.node, place) {
+        if is_at(&binding.node, extent) {
             return Some(binding.first);
         }
     }
     None
 }
 
-// The number of the binding to which the reference at a place refers.
-fn referred_number(references: &[Reference<'_>], place: TextRange) -> Option<usize>
-    ensures { result ≡ referred_number (bounds_of place) references.now }
+// The number of the binding to which the reference at a range refers.
+fn referred_number(references: &[Reference<'_>], extent: TextRange) -> Option<usize>
+    ensures { result ≡ referred_number (bounds_of extent) references.now }
 {
     for reference in references {
-        if is_at(&reference.node, place) {
+        if is_at(&reference.node, extent) {
             return reference.binding;
         }
     }

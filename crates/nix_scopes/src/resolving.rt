@@ -13,8 +13,8 @@ ghost use Rattle.nix_scopes.specs.Scopes.{bindings_in, resolved_in};
 ghost use Rattle.nix_scopes.specs.Resolving.{is_in_scope, number_in_sight, referring, resolve_name, resolve_at};
 
 use crate::environment::Environment;
+use crate::name_roles::is_expression;
 use crate::names::{Name, attr_name};
-use crate::places::is_expression;
 use crate::resolution::{Reference, Resolution};
 use crate::sight::Sight;
 use rnix::ast::{AstNode, Attr, Inherit};
@@ -143,14 +143,14 @@ pub fn resolve<'t>(alloc: Global, root: &SyntaxNode<'t>) -> Result<Resolution<'t
     let mut references = Vec::new(alloc);
     let mut around = Environment::new(alloc);
     // How many elements come after the current one.
-    let mut left = root.inside_count();
+    let mut remaining = root.inside_count();
     for element in root.descendants_with_tokens() {
         if let NodeOrToken::Node(node) = element {
-            around.leave_ended(left, &bindings)?;
-            around.enter(alloc, &node, left, &mut bindings)?;
+            around.leave_ended(remaining, &bindings)?;
+            around.enter(alloc, &node, remaining, &mut bindings)?;
             add_references(alloc, &around, node, &mut references)?;
         }
-        left = left.saturating_sub(1);
+        remaining = remaining.saturating_sub(1);
     }
     Ok(Resolution {
         bindings,

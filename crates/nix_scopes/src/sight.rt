@@ -43,10 +43,10 @@ pub struct Sight<'t> {
 }
 
 // The byte at a place, or 0 behind the end.
-fn byte_at(bytes: &[u8], place: usize) -> u8
-    ensures { result ≡ get_or bytes.now place 0 }
+fn byte_at(bytes: &[u8], index: usize) -> u8
+    ensures { result ≡ get_or bytes.now index 0 }
 {
-    match bytes.get(place) {
+    match bytes.get(index) {
         Some(byte) => *byte,
         None => 0,
     }

@@ -9,57 +9,57 @@ pub record GoOnAlike {A B : Type 0} (R : A → B → Type 0) (p : A → Bool) (x
   pub back : AllZip R (filter p xs) ys → AllZip R (filter p (drop n xs)) (drop m ys)
 
 -- what is left from the number of an element on begins with it
-left_from : {A : Type 0} (xs : List A) (n : ℕ) (x : A) → n < length xs → x ≡ get_or xs n x → drop n xs ≡ x ∷ drop (n + 1) xs
-left_from xs n x l is = drop_more xs n x l ∙ ap (λ z. z ∷ drop (n + 1) xs) (sym is)
+remaining_from : {A : Type 0} (xs : List A) (n : ℕ) (x : A) → n < length xs → x ≡ get_or xs n x → drop n xs ≡ x ∷ drop (n + 1) xs
+remaining_from xs n x l is = drop_more xs n x l ∙ ap (λ z. z ∷ drop (n + 1) xs) (sym is)
 
 -- the same, where the element is read as an option
-left_from_some : {A : Type 0} (xs : List A) (n : ℕ) (x : A) → slice_get xs n ≡ Some x → drop n xs ≡ x ∷ drop (n + 1) xs
-left_from_some xs n x is = left_from xs n x (slice_get_within xs n x is) (sym (get_or_from_slice_get xs n x x is))
+remaining_from_some : {A : Type 0} (xs : List A) (n : ℕ) (x : A) → slice_get xs n ≡ Some x → drop n xs ≡ x ∷ drop (n + 1) xs
+remaining_from_some xs n x is = remaining_from xs n x (slice_get_within xs n x is) (sym (get_or_from_slice_get xs n x x is))
 
 -- none is left from a number on at which there is no element
-none_left : {A : Type 0} (xs : List A) (n : ℕ) → slice_get xs n ≡ None → drop n xs ≡ []
-none_left [] zero is = refl
-none_left [] (suc n) is = refl
-none_left (y ∷ xs) zero is = absurd (none-some y (sym is))
-none_left (y ∷ xs) (suc n) is = none_left xs n is
+none_remaining : {A : Type 0} (xs : List A) (n : ℕ) → slice_get xs n ≡ None → drop n xs ≡ []
+none_remaining [] zero is = refl
+none_remaining [] (suc n) is = refl
+none_remaining (y ∷ xs) zero is = absurd (none-some y (sym is))
+none_remaining (y ∷ xs) (suc n) is = none_remaining xs n is
 
 module _ {A B : Type 0} (R : A → B → Type 0) (p : A → Bool) (xs : List A) (ys : List B) (n m : ℕ) (x : A) (there : n < length xs)
     (is : x ≡ get_or xs n x) (h : GoOnAlike R p xs ys n m) where
-  left : drop n xs ≡ x ∷ drop (n + 1) xs
-  left = left_from xs n x there is
+  remaining : drop n xs ≡ x ∷ drop (n + 1) xs
+  remaining = remaining_from xs n x there is
 
   -- the element is left out
   pub one_left_out : p x ≡ false → GoOnAlike R p xs ys (n + 1) m
   one_left_out fails =
       let same : filter p (drop n xs) ≡ filter p (drop (n + 1) xs) =
-      ap (filter p) left ∙ cond-false (p x) (x ∷ filter p (drop (n + 1) xs)) (filter p (drop (n + 1) xs)) fails in
+      ap (filter p) remaining ∙ cond-false (p x) (x ∷ filter p (drop (n + 1) xs)) (filter p (drop (n + 1) xs)) fails in
       record {
         there = λ all. h.there (subst (λ zs. AllZip R zs (drop m ys)) (sym same) all);
         back = λ all. subst (λ zs. AllZip R zs (drop m ys)) same (h.back all);
       }
 
   kept : p x ≡ true → filter p (drop n xs) ≡ x ∷ filter p (drop (n + 1) xs)
-  kept passes = ap (filter p) left ∙ cond-true (p x) (x ∷ filter p (drop (n + 1) xs)) (filter p (drop (n + 1) xs)) passes
+  kept passes = ap (filter p) remaining ∙ cond-true (p x) (x ∷ filter p (drop (n + 1) xs)) (filter p (drop (n + 1) xs)) passes
 
   -- the element is alike
   pub one_alike : (y : B) → p x ≡ true → slice_get ys m ≡ Some y → R x y → GoOnAlike R p xs ys (n + 1) (m + 1)
   one_alike y passes at alike = record {
     there = λ all. h.there (subst (λ zs. AllZip R zs (drop m ys)) (sym (kept passes))
-        (subst (λ zs. AllZip R (x ∷ filter p (drop (n + 1) xs)) zs) (sym (left_from_some ys m y at)) (alike, all)));
-    back = λ all. (subst (λ zs. AllZip R (x ∷ filter p (drop (n + 1) xs)) zs) (left_from_some ys m y at)
+        (subst (λ zs. AllZip R (x ∷ filter p (drop (n + 1) xs)) zs) (sym (remaining_from_some ys m y at)) (alike, all)));
+    back = λ all. (subst (λ zs. AllZip R (x ∷ filter p (drop (n + 1) xs)) zs) (remaining_from_some ys m y at)
         (subst (λ zs. AllZip R zs (drop m ys)) (kept passes) (h.back all))).1;
   }
 
   -- the element is not alike
   pub one_unlike : (y : B) → p x ≡ true → slice_get ys m ≡ Some y → ¬ R x y → ¬ AllZip R (filter p xs) ys
   one_unlike y passes at unlike = λ all.
-      unlike (subst (λ zs. AllZip R (x ∷ filter p (drop (n + 1) xs)) zs) (left_from_some ys m y at)
+      unlike (subst (λ zs. AllZip R (x ∷ filter p (drop (n + 1) xs)) zs) (remaining_from_some ys m y at)
       (subst (λ zs. AllZip R zs (drop m ys)) (kept passes) (h.back all))).0
 
   -- nothing is left of the other list
   pub one_more : p x ≡ true → slice_get ys m ≡ None → ¬ AllZip R (filter p xs) ys
   one_more passes none = λ all.
-      subst (λ zs. AllZip R (x ∷ filter p (drop (n + 1) xs)) zs) (none_left ys m none)
+      subst (λ zs. AllZip R (x ∷ filter p (drop (n + 1) xs)) zs) (none_remaining ys m none)
       (subst (λ zs. AllZip R zs (drop m ys)) (kept passes) (h.back all))
 
 -- nothing is left of the first list
@@ -74,9 +74,9 @@ module _ {A B : Type 0} (R : A → B → Type 0) (p : A → Bool) (xs : List A) 
   -- nor of the other
   pub both_ended : slice_get ys m ≡ None → AllZip R (filter p xs) ys
   both_ended none =
-      h.there (subst (λ zs. AllZip R (filter p zs) (drop m ys)) (sym (ended xs n past)) (subst (λ zs. AllZip R [] zs) (sym (none_left ys m none)) tt))
+      h.there (subst (λ zs. AllZip R (filter p zs) (drop m ys)) (sym (ended xs n past)) (subst (λ zs. AllZip R [] zs) (sym (none_remaining ys m none)) tt))
 
   -- but of the other
   pub first_ended : (y : B) → slice_get ys m ≡ Some y → ¬ AllZip R (filter p xs) ys
   first_ended y at = λ all.
-      subst (λ zs. AllZip R [] zs) (left_from_some ys m y at) (subst (λ zs. AllZip R (filter p zs) (drop m ys)) (ended xs n past) (h.back all))
+      subst (λ zs. AllZip R [] zs) (remaining_from_some ys m y at) (subst (λ zs. AllZip R (filter p zs) (drop m ys)) (ended xs n past) (h.back all))

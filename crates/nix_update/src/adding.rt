@@ -6,9 +6,9 @@ ghost use Rattle.nix_update.specs.Updated.{IfMade, IsRest, IsEntryAdded, IsAdded
 use crate::change::add_value;
 use crate::guard::{Site, hinders_adding};
 use crate::home::{end_of_way, homes_of};
+use crate::node_start::start_of;
 use crate::outcome::{Attempt, Reason, refuse, refuse_at, refuse_twice};
 use crate::path::Path;
-use crate::place::start_of;
 use crate::request::Update;
 use crate::ways::Way;
 use rnix::SyntaxNode;

@@ -161,7 +161,7 @@ fn unlike_with(
     set: &SyntaxNode<'_>,
     made: &str,
 ) -> Result<Option<usize>, AllocError>
-    ensures { IfOk result (λ place. IfNone place (IsMeaningKeptWith text.now root.now set.now made.now)) }
+    ensures { IfOk result (λ offset. IfNone offset (IsMeaningKeptWith text.now root.now set.now made.now)) }
 {
     let start = set.text_range().start();
     let read = Root::parse(alloc, made)?;
@@ -185,7 +185,7 @@ fn unlike_without(
     entry: &SyntaxNode<'_>,
     made: &str,
 ) -> Result<Option<usize>, AllocError>
-    ensures { IfOk result (λ place. IfNone place (IsMeaningKeptWithout text.now root.now entry.now made.now)) }
+    ensures { IfOk result (λ offset. IfNone offset (IsMeaningKeptWithout text.now root.now entry.now made.now)) }
 {
     let start = entry.text_range().start();
     let read = Root::parse(alloc, made)?;
@@ -198,11 +198,11 @@ fn unlike_without(
 }
 
 // Returns the refusal for a name that would mean something else, if there is one.
-fn other_meaning(place: Option<usize>) -> Option<Refused>
-    ensures { IfNone result (place ≡ None) }
+fn other_meaning(offset: Option<usize>) -> Option<Refused>
+    ensures { IfNone result (offset ≡ None) }
 {
-    match place {
-        Some(place) => Some(refuse_at(Reason::OtherMeaning, place)),
+    match offset {
+        Some(offset) => Some(refuse_at(Reason::OtherMeaning, offset)),
         None => None,
     }
 }
@@ -218,8 +218,8 @@ pub fn hinders_adding(
     if let Some(refused) = barred(alloc, site)? {
         return Ok(Some(refused));
     }
-    let place = unlike_with(alloc, site.text, site.root, site.set, made)?;
-    Ok(other_meaning(place))
+    let offset = unlike_with(alloc, site.text, site.root, site.set, made)?;
+    Ok(other_meaning(offset))
 }
 
 /// Returns why an entry is not removed, if without it a name would refer to something else.
@@ -234,6 +234,6 @@ pub fn hinders_removing(
     if let Some(refused) = barred(alloc, site)? {
         return Ok(Some(refused));
     }
-    let place = unlike_without(alloc, site.text, site.root, entry, made)?;
-    Ok(other_meaning(place))
+    let offset = unlike_without(alloc, site.text, site.root, entry, made)?;
+    Ok(other_meaning(offset))
 }

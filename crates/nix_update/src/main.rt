@@ -11,9 +11,9 @@ mod inner;
 mod makers;
 mod meaning;
 mod meeting;
+mod node_start;
 mod outcome;
 mod path;
-mod place;
 mod plain;
 mod removing;
 mod request;
@@ -23,7 +23,7 @@ mod value;
 mod ways;
 
 use nix_cli::{
-    Arguments, FAILED, FOUND, Program, Start, end, place_of, read_arguments, read_text, refuse,
+    Arguments, FAILED, FOUND, Program, Start, end, location_of, read_arguments, read_text, refuse,
     shown_name, write_text,
 };
 use outcome::{Outcome, Refused};
@@ -116,7 +116,7 @@ fn report(
     let shown = shown_name(name);
     match offset {
         Some(offset) => {
-            let (line, column) = place_of(text, offset);
+            let (line, column) = location_of(text, offset);
             eprintln!(rt; "nix-update: {shown}:{line}:{column}: {message}")?;
         }
         None => eprintln!(rt; "nix-update: {shown}: {message}")?,
@@ -129,12 +129,12 @@ fn refuse_update(rt: &HostRuntime, name: &str, text: &str, refused: Refused) -> 
     let reason = refused.reason;
     let message = match refused.first {
         Some(first) => {
-            let (line, column) = place_of(text, first);
+            let (line, column) = location_of(text, first);
             format!(in rt.alloc(); "{reason}; the first is at {line}:{column}")?
         }
         None => format!(in rt.alloc(); "{reason}")?,
     };
-    report(rt, name, text, refused.place, message.as_str())?;
+    report(rt, name, text, refused.offset, message.as_str())?;
     Ok(if reason.is_failure() { FAILED } else { FOUND })
 }
 

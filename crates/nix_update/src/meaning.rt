@@ -100,7 +100,7 @@ fn refers_alike(
 }
 
 // Returns where a reference is, if there is one.
-fn place_of(reference: Option<&Reference<'_>>) -> Option<usize> {
+fn offset_of(reference: Option<&Reference<'_>>) -> Option<usize> {
     match reference {
         Some(reference) => Some(start_of(&reference.node)),
         None => None,
@@ -110,8 +110,8 @@ fn place_of(reference: Option<&Reference<'_>>) -> Option<usize> {
 // Returns names of which at least one does not mean the same.
 fn names_at(longer: Option<&Reference<'_>>, shorter: Option<&Reference<'_>>) -> Unlike {
     Unlike {
-        longer: place_of(longer),
-        shorter: place_of(shorter),
+        longer: offset_of(longer),
+        shorter: offset_of(shorter),
     }
 }
 

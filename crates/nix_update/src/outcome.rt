@@ -40,7 +40,7 @@ pub enum Reason {
 #[derive(Clone, Copy, PartialEq, Eq, Debug)]
 pub struct Refused {
     pub reason: Reason,
-    pub place: Option<usize>,
+    pub offset: Option<usize>,
     pub first: Option<usize>,
 }
 
@@ -62,29 +62,29 @@ pub enum Attempt {
     Refused(Refused),
 }
 
-/// Returns the refusal for a reason that has one place.
-pub fn refuse_at(reason: Reason, place: usize) -> Refused {
+/// Returns the refusal for a reason that has one offset.
+pub fn refuse_at(reason: Reason, offset: usize) -> Refused {
     Refused {
         reason,
-        place: Some(place),
+        offset: Some(offset),
         first: None,
     }
 }
 
-/// Returns the refusal for a reason that has two places.
+/// Returns the refusal for a reason that has two offsets.
 pub fn refuse_twice(reason: Reason, first: usize, second: usize) -> Refused {
     Refused {
         reason,
-        place: Some(second),
+        offset: Some(second),
         first: Some(first),
     }
 }
 
-/// Returns the refusal for a reason that has no place in the text.
+/// Returns the refusal for a reason that has no offset in the text.
 pub fn refuse(reason: Reason) -> Refused {
     Refused {
         reason,
-        place: None,
+        offset: None,
         first: None,
     }
 }

@@ -5,8 +5,8 @@ ghost use Rattle.nix_update.specs.Updated.{IfMade, IsEntryRemoved, IsMeaningKept
 
 use crate::guard::{Site, hinders_removing};
 use crate::makers::Maker;
+use crate::node_start::start_of;
 use crate::outcome::{Attempt, Reason, refuse_at};
-use crate::place::start_of;
 use crate::request::Update;
 use crate::ways::Way;
 use rnix::SyntaxNode;

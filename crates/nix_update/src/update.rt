@@ -6,9 +6,9 @@ ghost use Rattle.nix_update.specs.Updated.{IfMade, IfUpdated, IfSetInLet, outcom
 use crate::adding::add;
 use crate::home::end_of_way;
 use crate::makers::{Maker, makers_of};
+use crate::node_start::start_of;
 use crate::outcome::{Attempt, Outcome, Reason, Refused, refuse, refuse_at, refuse_twice};
 use crate::path::{Path, path_of};
-use crate::place::start_of;
 use crate::removing::remove_entry;
 use crate::request::{Action, Update};
 use crate::setting::set_entry;

@@ -226,25 +226,27 @@ found_no_key keys others m sound none s n e =
     none-some {A = ℕ × List ℕ} (s, n) (sym none ∙ found_key keys others s n m sound e)
 
 -- all but some of the values of a name are added
-pub record AreSetsTill (keys : Keys) (others : Attributes) (sets : BTreeMap ℕ ℕ) (old new : Attributes) (left : List ℕ) : Type 0 where
+pub record AreSetsTill (keys : Keys) (others : Attributes) (sets : BTreeMap ℕ ℕ) (old new : Attributes) (remaining : List ℕ) : Type 0 where
   pub sound : IsConsistent keys new
   pub within : IsWithin keys new others
   pub kept : IsWithin keys old new
-  pub all : (m : ℕ) → IsOneOf (values sets) m → IsOneOf left m ⊎ ((s : ℕ) (n : List ℕ) → found_in others keys s n ≡ Some m → found_in new keys s n ≡ Some m)
+  pub all : (m : ℕ) → IsOneOf (values sets) m → IsOneOf remaining m ⊎ ((s : ℕ) (n : List ℕ) → found_in others keys s n ≡ Some m
+      → found_in new keys s n ≡ Some m)
 
-pub sets_start : (keys : Keys) (others : Attributes) (sets : BTreeMap ℕ ℕ) (old : Attributes) (left : List ℕ) → IsConsistent keys old →
+pub sets_start : (keys : Keys) (others : Attributes) (sets : BTreeMap ℕ ℕ) (old : Attributes) (remaining : List ℕ) → IsConsistent keys old →
     IsWithin keys old others →
-    left ≡ values sets → AreSetsTill keys others sets old old left
-sets_start keys others sets old left sound within is = record {
+    remaining ≡ values sets → AreSetsTill keys others sets old old remaining
+sets_start keys others sets old remaining sound within is = record {
   sound = sound;
   within = within;
   kept = λ s n m e. e;
   all = λ m one. inl (subst (λ xs. IsOneOf xs m) (sym is) one);
 }
 
-pub sets_more : (keys : Keys) (others : Attributes) (sets : BTreeMap ℕ ℕ) (old middle new : Attributes) (before left : List ℕ) (m : ℕ) → before ≡ m ∷ left →
-    AreSetsTill keys others sets old middle before → IsFoundAdded keys others m middle new → AreSetsTill keys others sets old new left
-sets_more keys others sets old middle new before left m is till added = record {
+pub sets_more : (keys : Keys) (others : Attributes) (sets : BTreeMap ℕ ℕ) (old middle new : Attributes) (before remaining : List ℕ) (m : ℕ)
+    → before ≡ m ∷ remaining →
+    AreSetsTill keys others sets old middle before → IsFoundAdded keys others m middle new → AreSetsTill keys others sets old new remaining
+sets_more keys others sets old middle new before remaining m is till added = record {
   sound = added.sound;
   within = added.within;
   kept = λ s n x e. added.kept s n x (till.kept s n x e);
@@ -257,9 +259,10 @@ sets_more keys others sets old middle new before left m is till added = record {
       (till.all x one);
 }
 
-pub sets_all : (keys : Keys) (others : Attributes) (sets : BTreeMap ℕ ℕ) (old new : Attributes) (left : List ℕ) → AreSetsTill keys others sets old new left →
-    left ≡ [] → AreSetsAdded keys others sets old new
-sets_all keys others sets old new left till none = record {
+pub sets_all : (keys : Keys) (others : Attributes) (sets : BTreeMap ℕ ℕ) (old new : Attributes) (remaining : List ℕ)
+    → AreSetsTill keys others sets old new remaining →
+    remaining ≡ [] → AreSetsAdded keys others sets old new
+sets_all keys others sets old new remaining till none = record {
   sound = till.sound;
   within = till.within;
   kept = till.kept;
@@ -267,25 +270,26 @@ sets_all keys others sets old new left till none = record {
 }
 
 -- all but some names are added
-pub record AreNamesTill (keys : Keys) (others old new : Attributes) (left : List (BTreeMap ℕ ℕ)) : Type 0 where
+pub record AreNamesTill (keys : Keys) (others old new : Attributes) (remaining : List (BTreeMap ℕ ℕ)) : Type 0 where
   pub sound : IsConsistent keys new
   pub within : IsWithin keys new others
   pub kept : IsWithin keys old new
-  pub all : (sets : BTreeMap ℕ ℕ) → IsOneOf (values others.crowded.names) sets → IsOneOf left sets ⊎
+  pub all : (sets : BTreeMap ℕ ℕ) → IsOneOf (values others.crowded.names) sets → IsOneOf remaining sets ⊎
       ((s : ℕ) (n : List ℕ) (m : ℕ) → IsOneOf (values sets) m → found_in others keys s n ≡ Some m → found_in new keys s n ≡ Some m)
 
-pub names_start : (keys : Keys) (others old : Attributes) (left : List (BTreeMap ℕ ℕ)) → IsConsistent keys old → IsWithin keys old others →
-    left ≡ values others.crowded.names → AreNamesTill keys others old old left
-names_start keys others old left sound within is = record {
+pub names_start : (keys : Keys) (others old : Attributes) (remaining : List (BTreeMap ℕ ℕ)) → IsConsistent keys old → IsWithin keys old others →
+    remaining ≡ values others.crowded.names → AreNamesTill keys others old old remaining
+names_start keys others old remaining sound within is = record {
   sound = sound;
   within = within;
   kept = λ s n m e. e;
   all = λ sets one. inl (subst (λ xs. IsOneOf xs sets) (sym is) one);
 }
 
-pub names_added : (keys : Keys) (others old middle new : Attributes) (before left : List (BTreeMap ℕ ℕ)) (sets : BTreeMap ℕ ℕ) → before ≡ sets ∷ left →
-    AreNamesTill keys others old middle before → AreSetsAdded keys others sets middle new → AreNamesTill keys others old new left
-names_added keys others old middle new before left sets is till added = record {
+pub names_added : (keys : Keys) (others old middle new : Attributes) (before remaining : List (BTreeMap ℕ ℕ)) (sets : BTreeMap ℕ ℕ)
+    → before ≡ sets ∷ remaining →
+    AreNamesTill keys others old middle before → AreSetsAdded keys others sets middle new → AreNamesTill keys others old new remaining
+names_added keys others old middle new before remaining sets is till added = record {
   sound = added.sound;
   within = added.within;
   kept = λ s n x e. added.kept s n x (till.kept s n x e);
@@ -308,9 +312,9 @@ one_of test (p ∷ ps) x e =
     (λ wrong. inr (one_of test ps x (sym (cond-false (test p.0) (Some p.1) (lookup test ps) wrong) ∙ e)))
     (cases_Bool (test p.0))
 
-pub names_all : (keys : Keys) (others old new : Attributes) (left : List (BTreeMap ℕ ℕ)) → AreNamesTill keys others old new left → left ≡ [] →
+pub names_all : (keys : Keys) (others old new : Attributes) (remaining : List (BTreeMap ℕ ℕ)) → AreNamesTill keys others old new remaining → remaining ≡ [] →
     AreCrowdedAdded keys others old new
-names_all keys others old new left till none = record {
+names_all keys others old new remaining till none = record {
   sound = till.sound;
   within = till.within;
   kept = till.kept;

@@ -7,13 +7,13 @@ use Rattle.nix_values.specs.declared.slots.TheConstants.{FREE}
 use Rattle.nix_values.specs.declared.slots.Spot.{Spot}
 use Rattle.nix_values.specs.declared.slots.Spot.TheVariants.{Free, Taken, Full}
 use Rattle.nix_values.specs.declared.slots.Slots.{Slots}
-use Rattle.nix_values.specs.declared.attributes.Place.TheVariants as place
+use Rattle.nix_values.specs.declared.attributes.Probe.TheVariants as probe
 use Rattle.nix_values.specs.declared.attributes.Attributes.{Attributes}
 use Rattle.nix_values.specs.AttributeHash.{attribute_hash}
 use Rattle.nix_values.specs.Keys.{Keys, is_key}
 use Rattle.nix_values.specs.HashSlots.{is_free, slot_at, spot_of, first_of, HasNone, IsPut, IsStored}
 use Rattle.nix_values.specs.OrderedNames.{HasNoCrowded, IsWithCrowded}
-use Rattle.nix_values.specs.IndexedAttributes.{place_of, place_in, found_in, HasHash, IsConsistent, FindsNone, IsWithin, IsSame, IsWith, IsInserted, IsNew, IsAddedTo}
+use Rattle.nix_values.specs.IndexedAttributes.{probe_of, probe_in, found_in, HasHash, IsConsistent, FindsNone, IsWithin, IsSame, IsWith, IsInserted, IsNew, IsAddedTo}
 use Rattle.nix_values.proofs.SlotLemmas.{Holds, taken_in}
 use Rattle.nix_values.proofs.AttributeLemmas.{hash_key, has_hash, key_is, same_key, spot_at, crowded_at, spot_cases, found_free, found_full, found_taken, found_other}
 use Rattle.nix_values.proofs.AttributePutLemmas.{with_free, with_taken, with_crowded}
@@ -81,43 +81,43 @@ later_finds keys later a sound more s n =
 
 -- ---- the place of an attribute
 
-pub place_free : (r : Spot) (keys : Keys) (s : ℕ) (n : List ℕ) (i : ℕ) → place_of r keys s n ≡ place.Free i → r ≡ Free i
-place_free (Free j) keys s n i e = cc
-place_free (Taken j m) keys s n i e = absurd (by (is_key (keys m) s n) e)
+pub probe_free : (r : Spot) (keys : Keys) (s : ℕ) (n : List ℕ) (i : ℕ) → probe_of r keys s n ≡ probe.Free i → r ≡ Free i
+probe_free (Free j) keys s n i e = cc
+probe_free (Taken j m) keys s n i e = absurd (by (is_key (keys m) s n) e)
   where
-    by : (b : Bool) → (if b then place.Taken j m else place.Crowded) ≡ place.Free i → ⊥
+    by : (b : Bool) → (if b then probe.Taken j m else probe.Crowded) ≡ probe.Free i → ⊥
     by true e = absurd (cc)
     by false e = absurd (cc)
-place_free Full keys s n i e = absurd (cc)
+probe_free Full keys s n i e = absurd (cc)
 
-pub place_taken : (r : Spot) (keys : Keys) (s : ℕ) (n : List ℕ) (i m : ℕ) → place_of r keys s n ≡ place.Taken i m →
+pub probe_taken : (r : Spot) (keys : Keys) (s : ℕ) (n : List ℕ) (i m : ℕ) → probe_of r keys s n ≡ probe.Taken i m →
     (r ≡ Taken i m) × (is_key (keys m) s n ≡ true)
-place_taken (Free j) keys s n i m e = absurd (cc)
-place_taken (Taken j x) keys s n i m e = by (is_key (keys x) s n) refl
+probe_taken (Free j) keys s n i m e = absurd (cc)
+probe_taken (Taken j x) keys s n i m e = by (is_key (keys x) s n) refl
   where
     by : (b : Bool) → is_key (keys x) s n ≡ b → (Taken j x ≡ Taken i m) × (is_key (keys m) s n ≡ true)
     by true right =
-        let is : place.Taken j x ≡ place.Taken i m = sym (cond-true (is_key (keys x) s n) (place.Taken j x) place.Crowded right) ∙ e in
+        let is : probe.Taken j x ≡ probe.Taken i m = sym (cond-true (is_key (keys x) s n) (probe.Taken j x) probe.Crowded right) ∙ e in
         let number : x ≡ m = cc in
         let spot : Taken j x ≡ Taken i m = cc in
         (spot, ap (λ y. is_key (keys y) s n) (sym number) ∙ right)
     by false wrong =
-        let is : place.Crowded ≡ place.Taken i m = sym (cond-false (is_key (keys x) s n) (place.Taken j x) place.Crowded wrong) ∙ e in
+        let is : probe.Crowded ≡ probe.Taken i m = sym (cond-false (is_key (keys x) s n) (probe.Taken j x) probe.Crowded wrong) ∙ e in
         absurd (cc)
-place_taken Full keys s n i m e = absurd (cc)
+probe_taken Full keys s n i m e = absurd (cc)
 
-pub place_crowded : (r : Spot) (keys : Keys) (s : ℕ) (n : List ℕ) → place_of r keys s n ≡ place.Crowded →
+pub probe_crowded : (r : Spot) (keys : Keys) (s : ℕ) (n : List ℕ) → probe_of r keys s n ≡ probe.Crowded →
     ((i : ℕ) → r ≡ Free i → ⊥) × ((i m : ℕ) → r ≡ Taken i m → is_key (keys m) s n ≡ true → ⊥)
-place_crowded r keys s n e = (
-  λ i f. free_place i (sym (ap (λ x. place_of x keys s n) f) ∙ e),
-  λ i m t right. taken_place i m (sym (ap (λ x. place_of x keys s n) t ∙ cond-true (is_key (keys m) s n) (place.Taken i m) place.Crowded right) ∙ e),
+probe_crowded r keys s n e = (
+  λ i f. free_probe i (sym (ap (λ x. probe_of x keys s n) f) ∙ e),
+  λ i m t right. taken_probe i m (sym (ap (λ x. probe_of x keys s n) t ∙ cond-true (is_key (keys m) s n) (probe.Taken i m) probe.Crowded right) ∙ e),
 )
   where
-    free_place : (i : ℕ) → place.Free i ≡ place.Crowded → ⊥
-    free_place i wrong = absurd (cc)
+    free_probe : (i : ℕ) → probe.Free i ≡ probe.Crowded → ⊥
+    free_probe i wrong = absurd (cc)
 
-    taken_place : (i m : ℕ) → place.Taken i m ≡ place.Crowded → ⊥
-    taken_place i m wrong = absurd (cc)
+    taken_probe : (i m : ℕ) → probe.Taken i m ≡ probe.Crowded → ⊥
+    taken_probe i m wrong = absurd (cc)
 
 -- ---- one more
 
@@ -153,15 +153,15 @@ added_crowded keys a b m h t k sound has number new none slots is more = λ s n 
 
 module _ (keys later : Keys) (a b : Attributes) (s : ℕ) (n : List ℕ) (m : ℕ) (sound : IsConsistent keys a) (more : Extends keys later)
     (number : m ≢ FREE) (key : later m ≡ Some (s, n)) where
-  pub inserted_free : (p : ℕ) → place_in a keys s n ≡ place.Free p → IsPut a.slots p (attribute_hash s n) m b.slots → b.crowded ≡ a.crowded →
+  pub inserted_free : (p : ℕ) → probe_in a keys s n ≡ probe.Free p → IsPut a.slots p (attribute_hash s n) m b.slots → b.crowded ≡ a.crowded →
       IsWith later a s n m b
   inserted_free p at put rest =
-      with_free later a b s n m p (later_sound keys later a sound more) (place_free (spot_at a s n) keys s n p at) put rest number key
+      with_free later a b s n m p (later_sound keys later a sound more) (probe_free (spot_at a s n) keys s n p at) put rest number key
 
-  pub inserted_taken : (p x : ℕ) → place_in a keys s n ≡ place.Taken p x → IsPut a.slots p (attribute_hash s n) m b.slots → b.crowded ≡ a.crowded →
+  pub inserted_taken : (p x : ℕ) → probe_in a keys s n ≡ probe.Taken p x → IsPut a.slots p (attribute_hash s n) m b.slots → b.crowded ≡ a.crowded →
       IsWith later a s n m b
   inserted_taken p x at put rest =
-      let there = place_taken (spot_at a s n) keys s n p x at in
+      let there = probe_taken (spot_at a s n) keys s n p x at in
       with_taken later a b s n m p x (later_sound keys later a sound more) there.0 (more x (s, n) (key_is (keys x) s n there.1)) put rest number key
 
   later_key : (i x : ℕ) → spot_at a s n ≡ Taken i x → is_key (later x) s n ≡ true → is_key (keys x) s n ≡ true
@@ -170,9 +170,9 @@ module _ (keys later : Keys) (a b : Attributes) (s : ℕ) (n : List ℕ) (m : �
       let same : later x ≡ keys x = more x (h.0, h.1) h.2 ∙ sym h.2 in
       ap (λ o. is_key o s n) (sym same) ∙ is
 
-  pub inserted_crowded : place_in a keys s n ≡ place.Crowded → b.slots ≡ a.slots → IsWithCrowded a.crowded s n m b.crowded → IsWith later a s n m b
+  pub inserted_crowded : probe_in a keys s n ≡ probe.Crowded → b.slots ≡ a.slots → IsWithCrowded a.crowded s n m b.crowded → IsWith later a s n m b
   inserted_crowded at slots with_it =
-      let there = place_crowded (spot_at a s n) keys s n at in
+      let there = probe_crowded (spot_at a s n) keys s n at in
       with_crowded later a b s n m (later_sound keys later a sound more) slots with_it number key there.0
       (λ i x e is. absurd (there.1 i x e (later_key i x e is)))
 

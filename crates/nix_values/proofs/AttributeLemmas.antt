@@ -14,7 +14,7 @@ use Rattle.nix_values.specs.AttributeHash.{attribute_hash}
 use Rattle.nix_values.specs.Keys.{Keys, is_key}
 use Rattle.nix_values.specs.HashSlots.{is_free, slot_at, spot_of}
 use Rattle.nix_values.specs.OrderedNames.{crowded_in}
-use Rattle.nix_values.specs.IndexedAttributes.{place_of, number_at, found_in, HasHash, taken_at, IsConsistent}
+use Rattle.nix_values.specs.IndexedAttributes.{probe_of, number_at, found_in, HasHash, taken_at, IsConsistent}
 use Rattle.nix_values.proofs.SlotLemmas.{Holds, taken_in}
 
 -- ---- names of sets
@@ -83,19 +83,19 @@ spot_cases Full = inr (inr refl)
 
 module _ (keys : Keys) (a : Attributes) (s : ℕ) (n : List ℕ) where
   pub found_free : (i : ℕ) → spot_at a s n ≡ Free i → found_in a keys s n ≡ None
-  found_free i e = ap (λ r. number_at (place_of r keys s n) (crowded_at a s n)) e
+  found_free i e = ap (λ r. number_at (probe_of r keys s n) (crowded_at a s n)) e
 
   pub found_full : spot_at a s n ≡ Full → found_in a keys s n ≡ crowded_at a s n
-  found_full e = ap (λ r. number_at (place_of r keys s n) (crowded_at a s n)) e
+  found_full e = ap (λ r. number_at (probe_of r keys s n) (crowded_at a s n)) e
 
   pub found_taken : (i m : ℕ) → spot_at a s n ≡ Taken i m → is_key (keys m) s n ≡ true → found_in a keys s n ≡ Some m
   found_taken i m e key =
-      ap (λ r. number_at (place_of r keys s n) (crowded_at a s n)) e
+      ap (λ r. number_at (probe_of r keys s n) (crowded_at a s n)) e
       ∙ ap (λ p. number_at p (crowded_at a s n)) (cond-true (is_key (keys m) s n) _ _ key)
 
   pub found_other : (i m : ℕ) → spot_at a s n ≡ Taken i m → is_key (keys m) s n ≡ false → found_in a keys s n ≡ crowded_at a s n
   found_other i m e key =
-      ap (λ r. number_at (place_of r keys s n) (crowded_at a s n)) e
+      ap (λ r. number_at (probe_of r keys s n) (crowded_at a s n)) e
       ∙ ap (λ p. number_at p (crowded_at a s n)) (cond-false (is_key (keys m) s n) _ _ key)
 
   -- what is found is found in a slot or among the crowded
@@ -143,8 +143,8 @@ crowded_none keys a s n i sound e = by (crowded_at a s n) refl
 pub found_same : (keys : Keys) (a b : Attributes) (s : ℕ) (n : List ℕ) → spot_at b s n ≡ spot_at a s n → crowded_at b s n ≡ crowded_at a s n →
     found_in b keys s n ≡ found_in a keys s n
 found_same keys a b s n spot crowded =
-    ap (λ r. number_at (place_of r keys s n) (crowded_at b s n)) spot
-    ∙ ap (λ o. number_at (place_of (spot_at a s n) keys s n) o) crowded
+    ap (λ r. number_at (probe_of r keys s n) (crowded_at b s n)) spot
+    ∙ ap (λ o. number_at (probe_of (spot_at a s n) keys s n) o) crowded
 
 -- a search that ends at a taken slot, or at none, ends at no free one
 pub ends_taken : (r : Spot) → ((i : ℕ) × (m : ℕ) × (r ≡ Taken i m)) ⊎ (r ≡ Full) → (j : ℕ) → r ≡ Free j → ⊥
@@ -154,8 +154,8 @@ ends_taken r (inr f) j wrong = let both : Full ≡ Free j = sym f ∙ wrong in a
 pub free_not : (j i m : ℕ) → Free j ≡ Taken i m → ⊥
 free_not j i m wrong = absurd (cc)
 
-pub taken_place : (i p m x : ℕ) → Taken i m ≡ Taken p x → i ≡ p
-taken_place i p m x e = cc
+pub taken_probe : (i p m x : ℕ) → Taken i m ≡ Taken p x → i ≡ p
+taken_probe i p m x e = cc
 
 -- with another one, where a test tells which
 pub choose : (b : Bool) (m : ℕ) (o r : Option ℕ) → (b ≡ true → r ≡ Some m) → (b ≡ false → r ≡ o) → r ≡ cond b (Some m) o

@@ -12,7 +12,7 @@ use Rattle.nix_values.specs.Keys.{Keys, is_key}
 use Rattle.nix_values.specs.HashSlots.{is_free, slot_at, spot_of, first_of, IsPut}
 use Rattle.nix_values.specs.OrderedNames.{crowded_in, IsWithCrowded, IsSameCrowded}
 use Rattle.nix_values.specs.IndexedAttributes.{found_in, HasHash, taken_at, IsConsistent, IsSame, IsWith}
-use Rattle.nix_values.proofs.AttributeLemmas.{reached_at, has_hash, same_key, same_is, other_key, spot_at, crowded_at, spot_cases, found_free, found_full, found_taken, found_other, crowded_none, found_same, ends_taken, free_not, taken_place, choose}
+use Rattle.nix_values.proofs.AttributeLemmas.{reached_at, has_hash, same_key, same_is, other_key, spot_at, crowded_at, spot_cases, found_free, found_full, found_taken, found_other, crowded_none, found_same, ends_taken, free_not, taken_probe, choose}
 use Rattle.nix_values.proofs.SlotLemmas.{end_of, Holds, taken_in, free_in, same_slot, new_slot, put_same_in, put_free_in, put_again_in, end_inside, spot_put}
 
 -- ---- a value in a slot that was free
@@ -180,7 +180,7 @@ module _ (keys : Keys) (a b : Attributes) (s : ℕ) (n : List ℕ) (m p x : ℕ)
       let was = reached_at keys a i sound (ap is_free (sym slot) ∙ e) in
       ap (λ y. spot_of b.slots y.hash) slot
       ∙ again_other (slot_at a.slots.slots.items i).hash
-      (λ same. away (taken_place i p (slot_at a.slots.slots.items i).number x (sym was ∙ ap (spot_of a.slots) (sym same) ∙ ended)))
+      (λ same. away (taken_probe i p (slot_at a.slots.slots.items i).number x (sym was ∙ ap (spot_of a.slots) (sym same) ∙ ended)))
       ∙ was ∙ ap (λ y. Taken i y.number) (sym slot))
       (cases_eq i p)
 

@@ -84,52 +84,56 @@ read_none text = record {
 }
 
 -- a run more is read
-pub read_run : (text value rest mid left : List ℕ) → IsReadTo text value rest → left ≡ drop (prefix_len is_plain rest) rest
-    → mid ≡ value ++ take (prefix_len is_plain rest) rest → prefix_len is_plain rest ≤ length rest → IsReadTo text mid left
-read_run text value rest mid left h behind_is mid_is fits =
+pub read_run : (text value rest mid remaining : List ℕ) → IsReadTo text value rest → remaining ≡ drop (prefix_len is_plain rest) rest
+    → mid ≡ value ++ take (prefix_len is_plain rest) rest → prefix_len is_plain rest ≤ length rest → IsReadTo text mid remaining
+read_run text value rest mid remaining h behind_is mid_is fits =
     let n = prefix_len is_plain rest in
-    let len : length left ≡ length rest - n = ap length behind_is ∙ length-drop n rest in
-    let e : length text - length rest + n ≡ length text - length left = omega (arith, len, h.within) in
+    let len : length remaining ≡ length rest - n = ap length behind_is ∙ length-drop n rest in
+    let e : length text - length rest + n ≡ length text - length remaining = omega (arith, len, h.within) in
     record {
       within = omega (arith, len, h.within);
       same = h.same ∙ ap (behind value (length text - length rest)) (plain_run rest)
           ∙ behind_twice value (take n rest) (length text - length rest) n (content 0 (drop n rest))
-          ∙ ap₂ (λ v k. behind v k (content 0 (drop n rest))) (sym mid_is) e ∙ ap (λ l. behind mid (length text - length left) (content 0 l)) (sym behind_is);
+          ∙ ap₂ (λ v k. behind v k (content 0 (drop n rest))) (sym mid_is) e
+          ∙ ap (λ l. behind mid (length text - length remaining) (content 0 l)) (sym behind_is);
     }
 
 -- an escape more is read
-pub read_escape : (text mid left bs new rest : List ℕ) (c n : ℕ) → IsReadTo text mid left → left ≡ 92 ∷ bs → escape_at bs ≡ Some (c, n) → n ≤ length bs
+pub read_escape : (text mid remaining bs new rest : List ℕ) (c n : ℕ) → IsReadTo text mid remaining → remaining ≡ 92 ∷ bs → escape_at bs ≡ Some (c, n)
+    → n ≤ length bs
     → new ≡ mid ++ encode_utf8 c → rest ≡ drop n bs → IsReadTo text new rest
-read_escape text mid left bs new rest c n h left_is found fits new_is rest_is =
+read_escape text mid remaining bs new rest c n h remaining_is found fits new_is rest_is =
     let len : length rest ≡ length bs - n = ap length rest_is ∙ length-drop n bs in
-    let more : length left ≡ suc (length bs) = ap length left_is in
-    let e : length text - length left + (1 + n) ≡ length text - length rest = omega (arith, len, more, h.within, fits) in
+    let more : length remaining ≡ suc (length bs) = ap length remaining_is in
+    let e : length text - length remaining + (1 + n) ≡ length text - length rest = omega (arith, len, more, h.within, fits) in
     record {
       within = omega (arith, len, more, h.within);
-      same = h.same ∙ ap (λ l. behind mid (length text - length left) (content 0 l)) left_is
-          ∙ ap (behind mid (length text - length left)) (escape_first bs c n found fits)
-          ∙ behind_twice mid (encode_utf8 c) (length text - length left) (1 + n) (content 0 (drop n bs))
+      same = h.same ∙ ap (λ l. behind mid (length text - length remaining) (content 0 l)) remaining_is
+          ∙ ap (behind mid (length text - length remaining)) (escape_first bs c n found fits)
+          ∙ behind_twice mid (encode_utf8 c) (length text - length remaining) (1 + n) (content 0 (drop n bs))
           ∙ ap₂ (λ v k. behind v k (content 0 (drop n bs))) (sym new_is) e ∙ ap (λ l. behind new (length text - length rest) (content 0 l)) (sym rest_is);
     }
 
 -- the closing quote is read
-pub read_quote : (text mid left bs : List ℕ) → IsReadTo text mid left → left ≡ 34 ∷ bs → content 0 text ≡ Some (mid, length text - length left + 1)
+pub read_quote : (text mid remaining bs : List ℕ) → IsReadTo text mid remaining → remaining ≡ 34 ∷ bs
+    → content 0 text ≡ Some (mid, length text - length remaining + 1)
 unfolding content
-read_quote text mid left bs h left_is =
-    h.same ∙ ap (λ l. behind mid (length text - length left) (content 0 l)) left_is ∙ ap (λ v. Some (v, length text - length left + 1)) (append-nil mid)
+read_quote text mid remaining bs h remaining_is =
+    h.same ∙ ap (λ l. behind mid (length text - length remaining) (content 0 l)) remaining_is
+    ∙ ap (λ v. Some (v, length text - length remaining + 1)) (append-nil mid)
 
 -- what is left is no string
-pub read_wrong : (text mid left : List ℕ) → IsReadTo text mid left → content 0 left ≡ None → content 0 text ≡ None
-read_wrong text mid left h none = h.same ∙ ap (behind mid (length text - length left)) none
+pub read_wrong : (text mid remaining : List ℕ) → IsReadTo text mid remaining → content 0 remaining ≡ None → content 0 text ≡ None
+read_wrong text mid remaining h none = h.same ∙ ap (behind mid (length text - length remaining)) none
 
 -- what is no string
-pub no_quote : (left : List ℕ) → left ≡ [] → content 0 left ≡ None
+pub no_quote : (remaining : List ℕ) → remaining ≡ [] → content 0 remaining ≡ None
 unfolding content
-no_quote left h = ap (content 0) h
+no_quote remaining h = ap (content 0) h
 
-pub no_escape : (left bs : List ℕ) → left ≡ 92 ∷ bs → escape_at bs ≡ None → content 0 left ≡ None
+pub no_escape : (remaining bs : List ℕ) → remaining ≡ 92 ∷ bs → escape_at bs ≡ None → content 0 remaining ≡ None
 unfolding content
-no_escape left bs h none = ap (content 0) h ∙ rw none refl
+no_escape remaining bs h none = ap (content 0) h ∙ rw none refl
 
 -- a byte that is not allowed without an escape, and is neither a quote nor a backslash
 third_of_four : {A : Type 0} (x y z : Bool) (p q r s : A) → not z && (not x && not y) ≡ false → x ≡ false → y ≡ false
@@ -139,50 +143,52 @@ third_of_four false false false p q r s h i j = absurd (cc)
 third_of_four true y z p q r s h i j = absurd (cc)
 third_of_four false true z p q r s h i j = absurd (cc)
 
-pub no_control : (left bs : List ℕ) (b : ℕ) → left ≡ b ∷ bs → is_plain b ≡ false → b == 34 ≡ false → b == 92 ≡ false → content 0 left ≡ None
+pub no_control : (remaining bs : List ℕ) (b : ℕ) → remaining ≡ b ∷ bs → is_plain b ≡ false → b == 34 ≡ false → b == 92 ≡ false → content 0 remaining ≡ None
 unfolding content
-no_control left bs b h plain quote backslash = ap (content 0) h ∙ third_of_four (b == 34) (b == 92) (nat_lt b 32) _ _ _ _ plain quote backslash
+no_control remaining bs b h plain quote backslash = ap (content 0) h ∙ third_of_four (b == 34) (b == 92) (nat_lt b 32) _ _ _ _ plain quote backslash
 
 -- a byte at the front of what is left
-head_is : (left : List ℕ) (b : ℕ) → 0 < length left → get_or left 0 0 ≡ b → left ≡ b ∷ drop 1 left
+head_is : (remaining : List ℕ) (b : ℕ) → 0 < length remaining → get_or remaining 0 0 ≡ b → remaining ≡ b ∷ drop 1 remaining
 head_is [] b some is = absurd (omega (arith, some))
 head_is (x ∷ xs) b some is = ap (λ y. y ∷ xs) is
 
 -- the closing quote comes next
-pub quote_next : (text mid left : List ℕ) → IsReadTo text mid left → 0 < length left → get_or left 0 0 ≡ 34 →
-    content 0 text ≡ Some (mid, length text - length left + 1)
-quote_next text mid left h some is = read_quote text mid left (drop 1 left) h (head_is left 34 some is)
+pub quote_next : (text mid remaining : List ℕ) → IsReadTo text mid remaining → 0 < length remaining → get_or remaining 0 0 ≡ 34 →
+    content 0 text ≡ Some (mid, length text - length remaining + 1)
+quote_next text mid remaining h some is = read_quote text mid remaining (drop 1 remaining) h (head_is remaining 34 some is)
 
 -- an escape comes next
-pub escape_next : (text mid left bs new rest : List ℕ) (c n : ℕ) → IsReadTo text mid left → 0 < length left → get_or left 0 0 ≡ 92 → bs ≡ drop 1 left →
+pub escape_next : (text mid remaining bs new rest : List ℕ) (c n : ℕ) → IsReadTo text mid remaining → 0 < length remaining → get_or remaining 0 0 ≡ 92
+    → bs ≡ drop 1 remaining →
     escape_at bs ≡ Some (c, n) → n ≤ length bs → new ≡ mid ++ encode_utf8 c → rest ≡ drop n bs → IsReadTo text new rest
-escape_next text mid left bs new rest c n h some is behind_is found fits new_is rest_is =
-    read_escape text mid left bs new rest c n h (head_is left 92 some is ∙ ap (λ l. 92 ∷ l) (sym behind_is)) found fits new_is rest_is
+escape_next text mid remaining bs new rest c n h some is behind_is found fits new_is rest_is =
+    read_escape text mid remaining bs new rest c n h (head_is remaining 92 some is ∙ ap (λ l. 92 ∷ l) (sym behind_is)) found fits new_is rest_is
 
-pub no_escape_next : (text mid left bs : List ℕ) → IsReadTo text mid left → 0 < length left → get_or left 0 0 ≡ 92 → bs ≡ drop 1 left →
+pub no_escape_next : (text mid remaining bs : List ℕ) → IsReadTo text mid remaining → 0 < length remaining → get_or remaining 0 0 ≡ 92 → bs ≡ drop 1 remaining →
     escape_at bs ≡ None → content 0 text ≡ None
-no_escape_next text mid left bs h some is behind_is none =
-    read_wrong text mid left h (no_escape left bs (head_is left 92 some is ∙ ap (λ l. 92 ∷ l) (sym behind_is)) none)
+no_escape_next text mid remaining bs h some is behind_is none =
+    read_wrong text mid remaining h (no_escape remaining bs (head_is remaining 92 some is ∙ ap (λ l. 92 ∷ l) (sym behind_is)) none)
 
 -- the text ends
-pub end_next : (text mid left : List ℕ) → IsReadTo text mid left → left ≡ [] → content 0 text ≡ None
-end_next text mid left h none = read_wrong text mid left h (no_quote left none)
+pub end_next : (text mid remaining : List ℕ) → IsReadTo text mid remaining → remaining ≡ [] → content 0 text ≡ None
+end_next text mid remaining h none = read_wrong text mid remaining h (no_quote remaining none)
 
 -- a byte comes next that needs an escape, or ends the string
-run_stops : (rest left : List ℕ) → left ≡ drop (prefix_len is_plain rest) rest → 0 < length left → is_plain (get_or left 0 0) ≡ false
-run_stops rest left is some =
+run_stops : (rest remaining : List ℕ) → remaining ≡ drop (prefix_len is_plain rest) rest → 0 < length remaining → is_plain (get_or remaining 0 0) ≡ false
+run_stops rest remaining is some =
     let n = prefix_len is_plain rest in
-    let len : length left ≡ length rest - n = ap length is ∙ length-drop n rest in
+    let len : length remaining ≡ length rest - n = ap length is ∙ length-drop n rest in
     let within : n < length rest = omega (arith, len, some) in
     let e : n + 0 ≡ n = omega arith in
-    let same : get_or left 0 0 ≡ get_or rest n 0 = ap (λ l. get_or l 0 0) is ∙ get_or-drop n rest 0 0 ∙ ap (λ k. get_or rest k 0) e in
+    let same : get_or remaining 0 0 ≡ get_or rest n 0 = ap (λ l. get_or l 0 0) is ∙ get_or-drop n rest 0 0 ∙ ap (λ k. get_or rest k 0) e in
     ap is_plain same ∙ prefix_len_stops is_plain rest 0 within
 
-pub control_next : (text mid rest left : List ℕ) → IsReadTo text mid left → left ≡ drop (prefix_len is_plain rest) rest → 0 < length left →
-    (get_or left 0 0 ≡ 34 → ⊥) → (get_or left 0 0 ≡ 92 → ⊥) → content 0 text ≡ None
-control_next text mid rest left h is some no_34 no_92 =
-    read_wrong text mid left h (no_control left (drop 1 left) (get_or left 0 0) (head_is left (get_or left 0 0) some refl) (run_stops rest left is some)
-    (ne_eqb (get_or left 0 0) 34 no_34) (ne_eqb (get_or left 0 0) 92 no_92))
+pub control_next : (text mid rest remaining : List ℕ) → IsReadTo text mid remaining → remaining ≡ drop (prefix_len is_plain rest) rest → 0 < length remaining →
+    (get_or remaining 0 0 ≡ 34 → ⊥) → (get_or remaining 0 0 ≡ 92 → ⊥) → content 0 text ≡ None
+control_next text mid rest remaining h is some no_34 no_92 =
+    read_wrong text mid remaining h
+    (no_control remaining (drop 1 remaining) (get_or remaining 0 0) (head_is remaining (get_or remaining 0 0) some refl) (run_stops rest remaining is some)
+    (ne_eqb (get_or remaining 0 0) 34 no_34) (ne_eqb (get_or remaining 0 0) 92 no_92))
 
 -- ---- escapes by number
 

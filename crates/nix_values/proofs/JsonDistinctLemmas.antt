@@ -12,12 +12,12 @@ use Rattle.nix_values.specs.Contents.{Plain, Entry, entry_of}
 use Rattle.nix_values.specs.FoundKeys.{found_keys}
 use Rattle.nix_values.specs.IndexedAttributes.{found_in}
 use Rattle.nix_values.specs.RepeatedNames.{entry_key, entry_keys, HasDistinctNames}
-use Rattle.nix_values.specs.JsonPlaces.{last_frame, set_of, in_set}
+use Rattle.nix_values.specs.JsonLocations.{last_frame, set_of, in_set}
 use Rattle.nix_values.specs.JsonReading.{name_of, entries_in, is_value_next, is_colon_next, state_behind, opened, IsInside, IsPlacedIn, IsFree, IsNextFree, IsDistinct, IsNotTaken, IsAdded}
 use Rattle.nix_values.proofs.JsonStateLemmas.{inside_last, one_sort, behind_comma}
 use Rattle.nix_values.proofs.BuiltLemmas.{get_last}
 use Rattle.nix_values.proofs.RepeatedNameLemmas.{key_front, key_added, key_within}
-use Rattle.nix_values.proofs.JsonPlaceLemmas.{next_key}
+use Rattle.nix_values.proofs.JsonLocationLemmas.{next_key}
 
 -- ---- a value is added
 
@@ -72,8 +72,8 @@ list_free r f name last is number key next there =
 last_pushed : (fs : List Frame) (f : Frame) → last_frame (fs ++ f ∷ []) ≡ Some f
 last_pushed fs f =
     let len : length (fs ++ f ∷ []) ≡ length fs + 1 = length-append fs (f ∷ []) in
-    let place : length (fs ++ f ∷ []) - 1 ≡ length fs = omega (arith, len) in
-    ap (slice_get (fs ++ f ∷ [])) place ∙ get_last fs f
+    let index_is : length (fs ++ f ∷ []) - 1 ≡ length fs = omega (arith, len) in
+    ap (slice_get (fs ++ f ∷ [])) index_is ∙ get_last fs f
 
 pub opened_free : (b : Bool) (r : Reading) (fs : List Frame) (f : Frame) → f.is_set ≡ b → r.frames.items ≡ fs ++ f ∷ [] → IsNextFree (opened b) r
 opened_free true r fs f is frames = tt

@@ -65,10 +65,10 @@ digits_ascii text from end within is some =
     subst (λ k. n ≤ k) (length-drop from text) (prefix_len-le-length is_ascii_digit (drop from text)) in
     let more : 0 < n = omega (arith, is, some) in
     let last : n - 1 < n = omega arith in
-    let place : from + (n - 1) ≡ end - 1 = omega (arith, is) in
+    let index_is : from + (n - 1) ≡ end - 1 = omega (arith, is) in
     let low : get_or (drop from text) (n - 1) 0 < 128 = digit_low _ (prefix_len_passes is_ascii_digit (drop from text) (n - 1) 0 last) in
     let ascii : get_or text (end - 1) 0 < 128 =
-    subst (λ k. get_or text k 0 < 128) place (subst (λ b. b < 128) (get_or-drop from text (n - 1) 0) low) in
+    subst (λ k. get_or text k 0 < 128) index_is (subst (λ b. b < 128) (get_or-drop from text (n - 1) 0) low) in
     (omega (arith, is), omega (arith, is), ascii)
 
 -- digits are digits

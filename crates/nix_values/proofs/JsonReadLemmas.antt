@@ -6,14 +6,14 @@ use Rattle.nix_values.specs.declared.json_reader.Reading.{Reading}
 use Rattle.nix_values.specs.declared.json_error.JsonStop.{JsonStop}
 use Rattle.nix_values.specs.Contents.{Entry}
 use Rattle.nix_values.specs.Json.{Token, is_space, token_at, tokens_behind, value, in_front, parts_from, meaning, values_of, json_values}
-use Rattle.nix_values.specs.JsonReading.{parts_left, name_of, IsSound, is_end, entries_in, IsPlacedIn, IsDistinct, IsBegun, IfRefused, IfStopped, RepeatsWith, RepeatsIn, FoundOrNot}
+use Rattle.nix_values.specs.JsonReading.{parts_remaining, name_of, IsSound, is_end, entries_in, IsPlacedIn, IsDistinct, IsBegun, IfRefused, IfStopped, RepeatsWith, RepeatsIn, FoundOrNot}
 use Rattle.nix_values.proofs.JsonTokenLemmas.{fitting_token, repeating_token, wrong_token, no_token, text_end, text_cut}
-use Rattle.nix_values.proofs.JsonStateLemmas.{nothing_left, something_left}
-use Rattle.nix_values.proofs.JsonReadingLemmas.{stopped_text, stopped_map, stopped_refused, left_in, sound_in}
+use Rattle.nix_values.proofs.JsonStateLemmas.{nothing_remaining, something_remaining}
+use Rattle.nix_values.proofs.JsonReadingLemmas.{stopped_text, stopped_map, stopped_refused, remaining_in, sound_in}
 
 -- the values so far are in front of those that the rest of a text means
 abbrev pub IsReadUpTo : List ℕ → ℕ → Reading → Type 0
-IsReadUpTo bytes at r = json_values bytes ≡ in_front (entries_in r) (values_of (parts_left r) (drop at bytes))
+IsReadUpTo bytes at r = json_values bytes ≡ in_front (entries_in r) (values_of (parts_remaining r) (drop at bytes))
 
 -- nothing is in front
 in_front_none : (es : Option (List Entry)) → in_front [] es ≡ es
@@ -24,9 +24,9 @@ in_front_none (Some es) = refl
 pub read_begun : (bytes : List ℕ) (at : ℕ) (r : Reading) → IsBegun r → tokens_behind 0 (drop at bytes) ≡ tokens_behind 0 (drop 0 bytes) →
     IsReadUpTo bytes at r
 read_begun bytes at r begun space =
-    sym (ap (λ es. in_front es (values_of (parts_left r) (drop at bytes))) begun.no_entries
-    ∙ in_front_none (values_of (parts_left r) (drop at bytes))
-    ∙ ap (λ ps. values_of ps (drop at bytes)) (sym (left_in r state.Value [] [] begun.is_state begun.no_frames begun.no_name))
+    sym (ap (λ es. in_front es (values_of (parts_remaining r) (drop at bytes))) begun.no_entries
+    ∙ in_front_none (values_of (parts_remaining r) (drop at bytes))
+    ∙ ap (λ ps. values_of ps (drop at bytes)) (sym (remaining_in r state.Value [] [] begun.is_state begun.no_frames begun.no_name))
     ∙ ap (λ ts. option_and_then (meaning (value 0 [] ∷ [])) ts) space)
 
 pub begun_sound : (r : Reading) → IsBegun r → IsSound r
@@ -39,7 +39,7 @@ pub read_token : (found : Option Token) (bytes : List ℕ) (at end next : ℕ) (
     IsReadUpTo bytes next new × IsSound new × IsPlacedIn new × IsDistinct new
 read_token None bytes at end next old new so_far there solid onward is h space = absurd h
 read_token (Some t) bytes at end next old new so_far there solid onward is takes space = (
-  fitting_token (json_values bytes) (parts_left old) (parts_left new) bytes at end next t (entries_in old) takes.added (entries_in new)
+  fitting_token (json_values bytes) (parts_remaining old) (parts_remaining new) bytes at end next t (entries_in old) takes.added (entries_in new)
       so_far there solid onward is takes.parts takes.entries space,
   takes.sound,
   takes.placed,
@@ -52,11 +52,11 @@ pub read_wrong_token : (found : Option Token) (stop : JsonStop) (bytes : List �
     token_at (get_or bytes at 0) (drop (at + 1) bytes) ≡ option_map (λ t. (t, end - at)) found → FoundOrNot (Err stop) old found new →
     IfStopped stop (json_values bytes ≡ None) (RepeatsIn bytes)
 read_wrong_token None stop bytes at end old new so_far there solid onward is h =
-    stopped_text stop bytes (no_token (json_values bytes) (parts_left old) bytes at (entries_in old) so_far there solid is)
+    stopped_text stop bytes (no_token (json_values bytes) (parts_remaining old) bytes at (entries_in old) so_far there solid is)
 read_wrong_token (Some t) stop bytes at end old new so_far there solid onward is h =
-    stopped_map stop (parts_from (parts_left old) t ≡ None) (json_values bytes ≡ None) (RepeatsWith old t) (RepeatsIn bytes)
-    (λ wrong. wrong_token (json_values bytes) (parts_left old) bytes at end t (entries_in old) so_far there solid onward is wrong)
-    (λ repeats. repeating_token (json_values bytes) (parts_left old) bytes at end t (entries_in old) so_far there solid onward is repeats) h
+    stopped_map stop (parts_from (parts_remaining old) t ≡ None) (json_values bytes ≡ None) (RepeatsWith old t) (RepeatsIn bytes)
+    (λ wrong. wrong_token (json_values bytes) (parts_remaining old) bytes at end t (entries_in old) so_far there solid onward is wrong)
+    (λ repeats. repeating_token (json_values bytes) (parts_remaining old) bytes at end t (entries_in old) so_far there solid onward is repeats) h
 
 -- there is no token
 pub read_no_token : (stop : JsonStop) (bytes : List ℕ) (at : ℕ) (r : Reading) → IsReadUpTo bytes at r → at < length bytes →
@@ -64,17 +64,17 @@ pub read_no_token : (stop : JsonStop) (bytes : List ℕ) (at : ℕ) (r : Reading
     IfStopped stop (json_values bytes ≡ None) (RepeatsIn bytes)
 read_no_token stop bytes at r so_far there solid h =
     stopped_refused stop (token_at (get_or bytes at 0) (drop (at + 1) bytes) ≡ None) bytes
-    (λ none. no_token (json_values bytes) (parts_left r) bytes at (entries_in r) so_far there solid none) h
+    (λ none. no_token (json_values bytes) (parts_remaining r) bytes at (entries_in r) so_far there solid none) h
 
 -- the text ends
 pub read_end : (bytes : List ℕ) (at : ℕ) (r : Reading) → IsReadUpTo bytes at r → IsSound r → length bytes ≤ at → is_end r.state ≡ true →
     json_values bytes ≡ Some (entries_in r)
 read_end bytes at r so_far sound past done =
-    text_end (json_values bytes) (parts_left r) bytes at (entries_in r) so_far past (nothing_left r.state r.frames.items (name_of r.name) done sound)
+    text_end (json_values bytes) (parts_remaining r) bytes at (entries_in r) so_far past (nothing_remaining r.state r.frames.items (name_of r.name) done sound)
 
 pub read_cut : (stop : JsonStop) (bytes : List ℕ) (at : ℕ) (r : Reading) → IsReadUpTo bytes at r → IsSound r → length bytes ≤ at → is_end r.state ≡ false →
     IfStopped stop (json_values bytes ≡ None) (RepeatsIn bytes)
 read_cut stop bytes at r so_far sound past more =
-    let left = something_left r.state r.frames.items (name_of r.name) more sound in
+    let remaining = something_remaining r.state r.frames.items (name_of r.name) more sound in
     stopped_text stop bytes
-    (text_cut (json_values bytes) (parts_left r) left.1 left.0 bytes at (entries_in r) so_far past left.2)
+    (text_cut (json_values bytes) (parts_remaining r) remaining.1 remaining.0 bytes at (entries_in r) so_far past remaining.2)

@@ -13,12 +13,12 @@ use Rattle.nix_values.specs.declared.json_error.JsonStop.{JsonStop}
 use Rattle.nix_values.specs.declared.json_error.JsonStop.TheVariants.{Memory, Refused}
 use Rattle.nix_values.specs.Contents.{Plain, text, Entry}
 use Rattle.nix_values.specs.Json.{Token, Part, in_front, parts_from, values_of, json_values, opening, closing, comma, colon, string, scalar, entry}
-use Rattle.nix_values.specs.JsonReading.{parts_in, parts_left, name_of, IsInside, IsState, IsSound, is_value_next, is_name_next, is_close_next, is_comma_next, is_colon_next, opened, opened_plain, state_behind, entries_in, IsPlacedIn, IsDistinct, IsAdded, Takes, IfRefused, IfStopped, RepeatsWith, RepeatsIn, TakesOrNot}
+use Rattle.nix_values.specs.JsonReading.{parts_in, parts_remaining, name_of, IsInside, IsState, IsSound, is_value_next, is_name_next, is_close_next, is_comma_next, is_colon_next, opened, opened_plain, state_behind, entries_in, IsPlacedIn, IsDistinct, IsAdded, Takes, IfRefused, IfStopped, RepeatsWith, RepeatsIn, TakesOrNot}
 use Rattle.nix_values.proofs.JsonStateLemmas.{rest_pop, parts_behind, state_sound, scalar_fits, name_fits, string_scalar, opened_sound, open_fits, close_fits, behind_comma, comma_fits, comma_sound, colon_fits, none_inside}
 
 -- what a refusal may say
-pub stopped : (stop : JsonStop) (old : Reading) (token : Token) → parts_from (parts_left old) token ≡ None →
-    IfStopped stop (parts_from (parts_left old) token ≡ None) (RepeatsWith old token)
+pub stopped : (stop : JsonStop) (old : Reading) (token : Token) → parts_from (parts_remaining old) token ≡ None →
+    IfStopped stop (parts_from (parts_remaining old) token ≡ None) (RepeatsWith old token)
 stopped Memory old token h = tt
 stopped (Refused error) old token h =
     (λ other. h, λ rest more e. absurd (none-some more (sym (ap (λ taken. option_and_then (λ r. in_front r.1 (values_of r.0 rest)) taken) h) ∙ e)))
@@ -39,9 +39,9 @@ no_name state.CommaOrClose fs name next h = h.1
 no_name _ fs name next h = absurd (cc)
 
 -- what is left, and sound, in a state with frames and a name
-pub left_in : (r : Reading) (s : State) (fs : List Frame) (name : List ℕ) → r.state ≡ s → r.frames.items ≡ fs → name_of r.name ≡ name →
-    parts_in s fs name ≡ parts_left r
-left_in r s fs name s_is fs_is name_is =
+pub remaining_in : (r : Reading) (s : State) (fs : List Frame) (name : List ℕ) → r.state ≡ s → r.frames.items ≡ fs → name_of r.name ≡ name →
+    parts_in s fs name ≡ parts_remaining r
+remaining_in r s fs name s_is fs_is name_is =
     sym (ap (λ t. parts_in t r.frames.items (name_of r.name)) s_is ∙ ap (λ gs. parts_in s gs (name_of r.name)) fs_is ∙ ap (parts_in s fs) name_is)
 
 pub sound_in : (r : Reading) (s : State) (fs : List Frame) (name : List ℕ) → r.state ≡ s → r.frames.items ≡ fs → name_of r.name ≡ name →
@@ -63,7 +63,7 @@ takes_scalar old mid new p sound next added s_is fs_is name_is es_is placed dist
     record {
       added = es;
       parts = scalar_fits old.state fs (name_of old.name) p next sound
-          ∙ ap (λ (ps : List Part). Some (ps, es)) (sym (parts_behind fs []) ∙ left_in new (state_behind fs) fs [] st frames name);
+          ∙ ap (λ (ps : List Part). Some (ps, es)) (sym (parts_behind fs []) ∙ remaining_in new (state_behind fs) fs [] st frames name);
       entries = es_is ∙ added.entries;
       sound = sound_in new (state_behind fs) fs [] st frames name (state_sound fs [] refl);
       placed = placed;
@@ -82,7 +82,7 @@ takes_open old mid new b f sound next room added is s_is fs_is name_is es_is pla
     record {
       added = es;
       parts = open_fits b old.state fs f (name_of old.name) [] next room sound
-          ∙ ap (λ (ps : List Part). Some (ps, es)) (left_in new (opened b) (fs ++ f ∷ []) [] s_is frames name);
+          ∙ ap (λ (ps : List Part). Some (ps, es)) (remaining_in new (opened b) (fs ++ f ∷ []) [] s_is frames name);
       entries = es_is ∙ added.entries;
       sound = sound_in new (opened b) (fs ++ f ∷ []) [] s_is frames name (opened_sound b fs f [] is refl);
       placed = placed;
@@ -98,7 +98,7 @@ takes_name old new t sound next s_is fs_is name_is es_is placed distinct =
     record {
       added = [];
       parts = name_fits old.state fs (name_of old.name) t next sound
-          ∙ ap (λ (ps : List Part). Some (ps, none)) (left_in new state.Colon fs t s_is fs_is name_is);
+          ∙ ap (λ (ps : List Part). Some (ps, none)) (remaining_in new state.Colon fs t s_is fs_is name_is);
       entries = es_is ∙ sym (append-nil (entries_in old));
       sound = sound_in new state.Colon fs t s_is fs_is name_is tt;
       placed = placed;
@@ -123,7 +123,7 @@ takes_close old new b sound next inside s_is fs_is name_is es_is placed distinct
       added = [];
       parts = close_fits b old.state fs (name_of old.name) next inside sound
           ∙ ap (λ (ps : List Part). Some (ps, none)) (sym (rest_pop fs new.frames.items some fs_is)
-          ∙ sym (parts_behind new.frames.items []) ∙ left_in new (state_behind new.frames.items) new.frames.items [] s_is refl name);
+          ∙ sym (parts_behind new.frames.items []) ∙ remaining_in new (state_behind new.frames.items) new.frames.items [] s_is refl name);
       entries = es_is ∙ sym (append-nil (entries_in old));
       sound = sound_in new (state_behind new.frames.items) new.frames.items [] s_is refl name (state_sound new.frames.items [] refl);
       placed = placed;
@@ -141,7 +141,7 @@ takes_comma old new b sound next inside s_is fs_is name_is es_is placed distinct
     record {
       added = [];
       parts = comma_fits b old.state fs name next inside sound
-          ∙ ap (λ (ps : List Part). Some (ps, none)) (left_in new (behind_comma b) fs name s_is fs_is name_is);
+          ∙ ap (λ (ps : List Part). Some (ps, none)) (remaining_in new (behind_comma b) fs name s_is fs_is name_is);
       entries = es_is ∙ sym (append-nil (entries_in old));
       sound = sound_in new (behind_comma b) fs name s_is fs_is name_is (comma_sound b old.state fs name next inside sound);
       placed = placed;
@@ -158,7 +158,7 @@ takes_colon old new next s_is fs_is name_is es_is placed distinct =
     let none : List Entry = [] in
     record {
       added = [];
-      parts = colon_fits old.state fs name next ∙ ap (λ (ps : List Part). Some (ps, none)) (left_in new state.Value fs name s_is fs_is name_is);
+      parts = colon_fits old.state fs name next ∙ ap (λ (ps : List Part). Some (ps, none)) (remaining_in new state.Value fs name s_is fs_is name_is);
       entries = es_is ∙ sym (append-nil (entries_in old));
       sound = sound_in new state.Value fs name s_is fs_is name_is tt;
       placed = placed;
@@ -191,9 +191,9 @@ text_taken (Ok x) old new t next sound h = record {
   distinct = h.distinct;
 }
 text_taken (Err stop) old new t next sound h =
-    let same : parts_from (parts_left old) (scalar (text t)) ≡ parts_from (parts_left old) (string t) =
+    let same : parts_from (parts_remaining old) (scalar (text t)) ≡ parts_from (parts_remaining old) (string t) =
     string_scalar old.state old.frames.items (name_of old.name) t next sound in
-    stopped_map stop (parts_from (parts_left old) (scalar (text t)) ≡ None) (parts_from (parts_left old) (string t) ≡ None)
+    stopped_map stop (parts_from (parts_remaining old) (scalar (text t)) ≡ None) (parts_from (parts_remaining old) (string t) ≡ None)
     (RepeatsWith old (scalar (text t))) (RepeatsWith old (string t))
     (λ none. sym same ∙ none)
     (λ repeats rest more e. repeats rest more (ap (λ taken. option_and_then (λ r. in_front r.1 (values_of r.0 rest)) taken) same ∙ e)) h

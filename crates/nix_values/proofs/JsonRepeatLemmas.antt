@@ -11,12 +11,12 @@ use Rattle.nix_values.specs.declared.json_reader.Reading.{Reading}
 use Rattle.nix_values.specs.Contents.{Plain, text, list, set, Entry}
 use Rattle.nix_values.specs.Json.{Token, opening, closing, comma, colon, string, scalar, Part, value, named, Taken, entry, value_from, in_front, parts_from, meaning, tokens_behind, values_of}
 use Rattle.nix_values.specs.RepeatedNames.{entry_keys, entry_key, HasRepeatedName}
-use Rattle.nix_values.specs.JsonPlaces.{last_frame, set_of, in_set}
+use Rattle.nix_values.specs.JsonLocations.{last_frame, set_of, in_set}
 use Rattle.nix_values.specs.JsonReading.{rest_of, parts_in, name_of, IsInside, IsState, IsSound, is_name_next, entries_in, IsPlacedIn, IsTaken, RepeatsWith}
 use Rattle.nix_values.proofs.JsonTokenLemmas.{in_front_some}
 use Rattle.nix_values.proofs.JsonStateLemmas.{inside_last, one_sort, name_fits}
 use Rattle.nix_values.proofs.RepeatedNameLemmas.{key_within, repeated}
-use Rattle.nix_values.proofs.JsonPlaceLemmas.{next_key}
+use Rattle.nix_values.proofs.JsonLocationLemmas.{next_key}
 
 -- values begin with one that has a depth and a name
 abbrev Begins : ℕ → List ℕ → List Entry → Type 0

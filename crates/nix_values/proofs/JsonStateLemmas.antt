@@ -351,17 +351,17 @@ colon_wrong state.End fs name other h = end_wrong colon fs h.0
 
 -- ---- the end of the text
 
-pub nothing_left : (s : State) (fs : List Frame) (name : List ℕ) → is_end s ≡ true → IsState s fs name → parts_in s fs name ≡ []
-nothing_left state.End fs name next h = ap rest_of h.0
-nothing_left _ fs name next h = absurd (cc)
+pub nothing_remaining : (s : State) (fs : List Frame) (name : List ℕ) → is_end s ≡ true → IsState s fs name → parts_in s fs name ≡ []
+nothing_remaining state.End fs name next h = ap rest_of h.0
+nothing_remaining _ fs name next h = absurd (cc)
 
-pub something_left : (s : State) (fs : List Frame) (name : List ℕ) → is_end s ≡ false → IsState s fs name →
+pub something_remaining : (s : State) (fs : List Frame) (name : List ℕ) → is_end s ≡ false → IsState s fs name →
     (part : Part) × (parts : List Part) × (parts_in s fs name ≡ part ∷ parts)
-something_left state.Value fs name other h = (value (length fs) name, rest_of fs, refl)
-something_left state.ValueOrClose fs name other h = (first_item (length fs), drop 1 (rest_of fs), refl)
-something_left state.Name fs name other h = (member (length fs), drop 1 (rest_of fs), refl)
-something_left state.NameOrClose fs name other h = (first_member (length fs), drop 1 (rest_of fs), refl)
-something_left state.Colon fs name other h = (named (length fs) name, rest_of fs, refl)
-something_left state.CommaOrClose fs name other h =
+something_remaining state.Value fs name other h = (value (length fs) name, rest_of fs, refl)
+something_remaining state.ValueOrClose fs name other h = (first_item (length fs), drop 1 (rest_of fs), refl)
+something_remaining state.Name fs name other h = (member (length fs), drop 1 (rest_of fs), refl)
+something_remaining state.NameOrClose fs name other h = (first_member (length fs), drop 1 (rest_of fs), refl)
+something_remaining state.Colon fs name other h = (named (length fs) name, rest_of fs, refl)
+something_remaining state.CommaOrClose fs name other h =
     let inside = some_inside fs h.0 in (more_of inside.0 (length fs), drop 1 (rest_of fs), inside.1)
-something_left state.End fs name other h = absurd (cc)
+something_remaining state.End fs name other h = absurd (cc)

@@ -112,8 +112,8 @@ text_end all parts bytes i es so_far past done =
 pub text_cut : (all : Option (List Entry)) (parts more : List Part) (part : Part) (bytes : List ℕ) (i : ℕ) (es : List Entry) →
     all ≡ in_front es (values_of parts (drop i bytes)) → length bytes ≤ i → parts ≡ part ∷ more → all ≡ None
 unfolding tokens_behind meaning
-text_cut all parts more part bytes i es so_far past left =
-    so_far ∙ ap (λ l. in_front es (values_of parts l)) (drop_all i bytes past) ∙ ap (λ ps. in_front es (values_of ps [])) left
+text_cut all parts more part bytes i es so_far past remaining =
+    so_far ∙ ap (λ l. in_front es (values_of parts l)) (drop_all i bytes past) ∙ ap (λ ps. in_front es (values_of ps [])) remaining
 
 -- values in front of others
 pub in_front_some : (es found : List Entry) (x : Option (List Entry)) → in_front es x ≡ Some found →

@@ -16,6 +16,6 @@ pub mod AttributeInsertLemmas
 pub mod AttributeGrowthLemmas
 pub mod BuiltLemmas
 pub mod RepeatedNameLemmas
-pub mod JsonPlaceLemmas
+pub mod JsonLocationLemmas
 pub mod JsonRepeatLemmas
 pub mod JsonDistinctLemmas

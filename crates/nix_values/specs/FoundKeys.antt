@@ -7,5 +7,5 @@ use Rattle.nix_values.specs.Keys.{Keys}
 abbrev pub found_keys : Found → Keys
 found_keys found number =
     option_and_then
-    (λ place. option_and_then (λ item. option_map (λ set. (set, string_bytes item.name)) place.set) (slice_get found.items.items number))
-    (slice_get found.places.items number)
+    (λ location. option_and_then (λ item. option_map (λ set. (set, string_bytes item.name)) location.set) (slice_get found.items.items number))
+    (slice_get found.locations.items number)

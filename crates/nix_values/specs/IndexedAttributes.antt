@@ -5,8 +5,8 @@ use Rattle.std.specs.BTreeMap.{BTreeMap, values}
 use Rattle.nix_values.specs.declared.slots.TheConstants.{FREE}
 use Rattle.nix_values.specs.declared.slots.Spot.{Spot}
 use Rattle.nix_values.specs.declared.slots.Spot.TheVariants.{Free, Taken, Full}
-use Rattle.nix_values.specs.declared.attributes.Place.{Place}
-use Rattle.nix_values.specs.declared.attributes.Place.TheVariants as place
+use Rattle.nix_values.specs.declared.attributes.Probe.{Probe}
+use Rattle.nix_values.specs.declared.attributes.Probe.TheVariants as probe
 use Rattle.nix_values.specs.declared.attributes.Attributes.{Attributes}
 use Rattle.nix_values.specs.AttributeHash.{attribute_hash}
 use Rattle.nix_values.specs.HashSlots.{is_free, slot_at, spot_of}
@@ -14,24 +14,24 @@ use Rattle.nix_values.specs.OrderedNames.{crowded_in, IsOneOf}
 use Rattle.nix_values.specs.Keys.{Keys, is_key}
 
 -- where the attribute of a set that has a name is, by where the search for its hash ends
-abbrev pub place_of : Spot → Keys → ℕ → List ℕ → Place
-place_of (Free at) keys set name = place.Free at
-place_of (Taken at number) keys set name = if is_key (keys number) set name then place.Taken at number else place.Crowded
-place_of Full keys set name = place.Crowded
+abbrev pub probe_of : Spot → Keys → ℕ → List ℕ → Probe
+probe_of (Free at) keys set name = probe.Free at
+probe_of (Taken at number) keys set name = if is_key (keys number) set name then probe.Taken at number else probe.Crowded
+probe_of Full keys set name = probe.Crowded
 
 -- the place of an attribute
-abbrev pub place_in : Attributes → Keys → ℕ → List ℕ → Place
-place_in attributes keys set name = place_of (spot_of attributes.slots (attribute_hash set name)) keys set name
+abbrev pub probe_in : Attributes → Keys → ℕ → List ℕ → Probe
+probe_in attributes keys set name = probe_of (spot_of attributes.slots (attribute_hash set name)) keys set name
 
 -- the value at a place, where the crowded have another one
-abbrev pub number_at : Place → Option ℕ → Option ℕ
-number_at (place.Taken at number) crowded = Some number
-number_at (place.Free at) crowded = None
-number_at place.Crowded crowded = crowded
+abbrev pub number_at : Probe → Option ℕ → Option ℕ
+number_at (probe.Taken at number) crowded = Some number
+number_at (probe.Free at) crowded = None
+number_at probe.Crowded crowded = crowded
 
 -- the value that is found as the attribute of a set that has a name
 abbrev pub found_in : Attributes → Keys → ℕ → List ℕ → Option ℕ
-found_in attributes keys set name = number_at (place_in attributes keys set name) (crowded_in attributes.crowded set name)
+found_in attributes keys set name = number_at (probe_in attributes keys set name) (crowded_in attributes.crowded set name)
 
 -- a value is an attribute with a hash
 abbrev pub HasHash : Keys → ℕ → ℕ → Type 0

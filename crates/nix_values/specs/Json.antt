@@ -119,9 +119,9 @@ parts_from [] token = None
 parts_from (part ∷ parts) token = option_map (λ r. (r.0 ++ parts, r.1)) (part_from part token)
 
 -- no part is left
-abbrev pub none_left : List Part → Option (List Entry)
-none_left [] = Some []
-none_left (part ∷ parts) = None
+abbrev pub none_remaining : List Part → Option (List Entry)
+none_remaining [] = Some []
+none_remaining (part ∷ parts) = None
 
 -- values in front of those that follow
 abbrev pub in_front : List Entry → Option (List Entry) → Option (List Entry)
@@ -129,7 +129,7 @@ in_front entries others = option_map (λ more. entries ++ more) others
 
 -- the values that tokens mean, if they are these parts, one after the other
 unfoldable pub meaning : List Part → List Token → Option (List Entry)
-meaning parts [] = none_left parts
+meaning parts [] = none_remaining parts
 meaning parts (token ∷ tokens) = option_and_then (λ r. in_front r.1 (meaning r.0 tokens)) (parts_from parts token)
 
 -- the values that a text means, if it is these parts, one after the other

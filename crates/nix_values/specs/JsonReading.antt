@@ -20,7 +20,7 @@ use Rattle.nix_values.specs.JsonContent.{escape_at}
 use Rattle.nix_values.specs.Json.{Token, opening, closing, comma, colon, string, scalar, word_at, Part, value, first_item, more_items, first_member, more_members, member, named, entry, in_front, parts_from, values_of, json_values, IsJson}
 use Rattle.nix_values.specs.RepeatedNames.{entry_keys, HasRepeatedName, HasDistinctNames}
 use Rattle.nix_values.specs.FoundKeys.{found_keys}
-use Rattle.nix_values.specs.JsonPlaces.{last_frame, set_of, in_set, IsPlaced}
+use Rattle.nix_values.specs.JsonLocations.{last_frame, set_of, in_set, IsPlaced}
 
 -- a part of a text ends behind a byte of ASCII
 abbrev pub EndsAscii : List ℕ → ℕ → Type 0
@@ -104,8 +104,8 @@ parts_in state.Colon frames name = named (length frames) name ∷ rest_of frames
 parts_in state.CommaOrClose frames name = rest_of frames
 parts_in state.End frames name = rest_of frames
 
-abbrev pub parts_left : Reading → List Part
-parts_left r = parts_in r.state r.frames.items (name_of r.name)
+abbrev pub parts_remaining : Reading → List Part
+parts_remaining r = parts_in r.state r.frames.items (name_of r.name)
 
 -- the innermost list or set is of a sort
 abbrev pub IsInside : Bool → List Frame → Type 0
@@ -217,7 +217,7 @@ pub record IsAdded (old : Reading) (plain : Plain) (new : Reading) : Type 0 wher
 -- a token is taken
 pub record Takes (old : Reading) (token : Token) (new : Reading) : Type 0 where
   pub added : List Entry
-  pub parts : parts_from (parts_left old) token ≡ Some (parts_left new, added)
+  pub parts : parts_from (parts_remaining old) token ≡ Some (parts_remaining new, added)
   pub entries : entries_in new ≡ entries_in old ++ added
   pub sound : IsSound new
   pub placed : IsPlacedIn new
@@ -237,12 +237,12 @@ values_with parts token rest = option_and_then (λ r. in_front r.1 (values_of r.
 
 -- if a token and what follows it mean values, some set has two of one name
 abbrev pub RepeatsWith : Reading → Token → Type 0
-RepeatsWith r token = (rest : List ℕ) (more : List Entry) → values_with (parts_left r) token rest ≡ Some more → HasRepeatedName (entries_in r ++ more)
+RepeatsWith r token = (rest : List ℕ) (more : List Entry) → values_with (parts_remaining r) token rest ≡ Some more → HasRepeatedName (entries_in r ++ more)
 
 -- a token is taken, or it does not fit
 abbrev pub TakesOrNot : Result (Unit {0}) JsonStop → Reading → Token → Reading → Type 0
 TakesOrNot r old token new = MatchResult r (λ x. Takes old token new)
-    (λ stop. IfStopped stop (parts_from (parts_left old) token ≡ None) (RepeatsWith old token))
+    (λ stop. IfStopped stop (parts_from (parts_remaining old) token ≡ None) (RepeatsWith old token))
 
 -- the same of what the reader found
 abbrev pub FoundOrNot : Result (Unit {0}) JsonStop → Reading → Option Token → Reading → Type 0

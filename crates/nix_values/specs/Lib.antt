@@ -16,4 +16,4 @@ pub mod FoundKeys
 pub mod Building
 pub mod RepeatedNames
 pub mod Attached
-pub mod JsonPlaces
+pub mod JsonLocations

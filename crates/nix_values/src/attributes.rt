@@ -20,7 +20,7 @@ pub trait Values {
 }
 
 // Where an attribute is found.
-enum Place {
+enum Probe {
     // In this slot, as this number.
     Taken(usize, usize),
     // Nowhere, and this slot of its hash is free.
@@ -48,7 +48,7 @@ fn is_attribute(found: Option<(usize, &str)>, set: usize, name: &str) -> bool
 }
 
 impl Attributes {
-    ghost use Rattle.nix_values.specs.IndexedAttributes.{place_in, found_in, HasHash, IsConsistent, FindsNone, IsWithin, IsSame, IsInserted, IsNew, IsAddedTo};
+    ghost use Rattle.nix_values.specs.IndexedAttributes.{probe_in, found_in, HasHash, IsConsistent, FindsNone, IsWithin, IsSame, IsInserted, IsNew, IsAddedTo};
     ghost use Rattle.nix_values.specs.IndexedAttributes.{IsFoundAdded, AreSlotsAdded, AreSetsAdded, AreCrowdedAdded};
 
     /// Returns no attributes.
@@ -62,20 +62,20 @@ impl Attributes {
     }
 
     // Where the attribute of a set is that has a name with this hash. At most one name is compared.
-    fn place<V: Values>(&self, values: &V, hash: u64, set: usize, name: &str) -> Place
+    fn probe<V: Values>(&self, values: &V, hash: u64, set: usize, name: &str) -> Probe
         requires { hash ≡ attribute_hash set name.now }
-        ensures { result ≡ place_in self.now (V.keys values.now) set name.now }
+        ensures { result ≡ probe_in self.now (V.keys values.now) set name.now }
     {
         match self.slots.spot(hash) {
-            Spot::Free(at) => Place::Free(at),
+            Spot::Free(at) => Probe::Free(at),
             Spot::Taken(at, number) => {
                 if is_attribute(values.attribute(number), set, name) {
-                    Place::Taken(at, number)
+                    Probe::Taken(at, number)
                 } else {
-                    Place::Crowded
+                    Probe::Crowded
                 }
             }
-            Spot::Full => Place::Crowded,
+            Spot::Full => Probe::Crowded,
         }
     }
 
@@ -83,10 +83,10 @@ impl Attributes {
     pub fn get<V: Values>(&self, values: &V, set: usize, name: &str) -> Option<usize>
         ensures { result ≡ found_in self.now (V.keys values.now) set name.now }
     {
-        match self.place(values, hash_of(set, name), set, name) {
-            Place::Taken(_, number) => Some(number),
-            Place::Free(_) => None,
-            Place::Crowded => self.crowded.get(set, name),
+        match self.probe(values, hash_of(set, name), set, name) {
+            Probe::Taken(_, number) => Some(number),
+            Probe::Free(_) => None,
+            Probe::Crowded => self.crowded.get(set, name),
         }
     }
 
@@ -233,10 +233,10 @@ impl Attributes {
         ensures kept { OnErr result (IsSame (V.keys values.now) self.old self.new) }
     {
         let hash = hash_of(set, name);
-        match self.place(values, hash, set, name) {
-            Place::Taken(at, _) => self.slots.put(at, hash, number),
-            Place::Free(at) => self.slots.put(at, hash, number),
-            Place::Crowded => self.crowded.insert(alloc, set, name, number)?,
+        match self.probe(values, hash, set, name) {
+            Probe::Taken(at, _) => self.slots.put(at, hash, number),
+            Probe::Free(at) => self.slots.put(at, hash, number),
+            Probe::Crowded => self.crowded.insert(alloc, set, name, number)?,
         }
         Ok(())
     }

@@ -11,7 +11,7 @@ use std::alloc::{AllocError, Global};
 
 /// Where a value was found.
 #[derive(Clone, Copy)]
-pub struct Place {
+pub struct Location {
     /// The offset of its name, or of the value if it has no name.
     pub offset: usize,
     /// The set that it is an attribute of.
@@ -23,19 +23,19 @@ pub struct Place {
 pub struct Found {
     /// The values.
     pub items: Vec<Item>,
-    /// The place of each value.
-    pub places: Vec<Place>,
+    /// The location of each value.
+    pub locations: Vec<Location>,
 }
 
 impl Found {
     /// Returns no values.
     pub fn new(alloc: Global) -> Found
         ensures items { result.items.items ≡ [] }
-        ensures places { result.places.items ≡ [] }
+        ensures locations { result.locations.items ≡ [] }
     {
         Found {
             items: Vec::new(alloc),
-            places: Vec::new(alloc),
+            locations: Vec::new(alloc),
         }
     }
 
@@ -58,7 +58,7 @@ impl Found {
 
     /// Returns the offset of a value's name, or of the value if it has no name.
     pub fn offset(&self, number: usize) -> Option<usize> {
-        self.places.get(number).map(|place| place.offset)
+        self.locations.get(number).map(|location| location.offset)
     }
 }
 
@@ -66,9 +66,9 @@ impl Values for Found {
     ghost keys = { found_keys };
 
     fn attribute(&self, number: usize) -> Option<(usize, &str)> {
-        let place = self.places.get(number)?;
+        let location = self.locations.get(number)?;
         let item = self.items.get(number)?;
-        match place.set {
+        match location.set {
             Some(set) => Some((set, item.name.as_str())),
             None => None,
         }

@@ -13,7 +13,7 @@ use crate::float::{float_of, without_first};
 use crate::json_error::{JsonReason, JsonStop, refused};
 use std::alloc::Global;
 
-// Where the digits end that must be at a place.
+// Where the digits end that must be at an offset.
 fn some_digits(text: &[u8], from: usize) -> Option<usize>
     requires { from ≤ length text.now }
     ensures end { result ≡ some_digits from text.now }
@@ -36,7 +36,7 @@ fn whole_end(text: &[u8], from: usize) -> Option<usize>
     }
 }
 
-// Where the fraction ends that may be at a place.
+// Where the fraction ends that may be at an offset.
 fn fraction_end(text: &[u8], from: usize) -> Option<usize>
     requires { EndsAscii text.now from }
     ensures end { result ≡ fraction_end from text.now }
@@ -49,7 +49,7 @@ fn fraction_end(text: &[u8], from: usize) -> Option<usize>
     }
 }
 
-// Where the exponent ends that may be at a place.
+// Where the exponent ends that may be at an offset.
 fn exponent_end(text: &[u8], from: usize) -> Option<usize>
     requires { EndsAscii text.now from }
     ensures end { result ≡ exponent_end from text.now }
@@ -66,7 +66,7 @@ fn exponent_end(text: &[u8], from: usize) -> Option<usize>
     }
 }
 
-// Where the fraction and the exponent end that may be at a place.
+// Where the fraction and the exponent end that may be at an offset.
 fn decimals_end(text: &[u8], from: usize) -> Option<usize>
     requires { EndsAscii text.now from }
     ensures end { result ≡ decimals_end from text.now }

@@ -3,14 +3,14 @@
 ghost use Rattle.std.specs.Prelude.{◌≡◌, [], IfNone, IfSome, IfOk, OnOk, MatchResult, length, string_bytes};
 ghost use Rattle.nix_values.specs.Contents.{plain_of, contents};
 ghost use Rattle.nix_values.specs.Json.{opening, closing, comma, colon, string, scalar, IsJson};
-ghost use Rattle.nix_values.specs.JsonPlaces.{last_frame, set_of};
+ghost use Rattle.nix_values.specs.JsonLocations.{last_frame, set_of};
 ghost use Rattle.nix_values.specs.JsonReading.{opened, opened_plain, IsNoJson, ReadsJson, ReadsDistinct};
 ghost use Rattle.nix_values.specs.RepeatedNames.{HasDistinctNames};
 
 use crate::attributes::Attributes;
 use crate::data::{Data, Item, Value};
 use crate::json_error::{JsonError, JsonReason, JsonStop, refused};
-use crate::json_found::{Found, Place};
+use crate::json_found::{Found, Location};
 use crate::json_tokens::{Token, after_space, json_token};
 use std::alloc::{AllocError, Global};
 
@@ -154,7 +154,7 @@ impl Reading {
         let set = self.innermost_set();
         self.found
             .attach(self.alloc, &mut self.attributes, set, name.as_str())?;
-        self.found.places.push(Place { offset, set })?;
+        self.found.locations.push(Location { offset, set })?;
         self.found.items.push(Item { depth, name, value })?;
         Ok(number)
     }

@@ -20,7 +20,7 @@ struct Writing {
 
 impl Writing {
     // Begins a line.
-    fn begin_line(&mut self) -> Result<(), AllocError> {
+    fn start_line(&mut self) -> Result<(), AllocError> {
         self.text.push('\n')?;
         push_indentation(self.open.len(), &mut self.text)
     }
@@ -29,7 +29,7 @@ impl Writing {
     fn close(&mut self, depth: usize) -> Result<(), AllocError> {
         for _open in depth..self.open.len() {
             if let Some(is_set) = self.open.pop() {
-                self.begin_line()?;
+                self.start_line()?;
                 self.text.push(if is_set { '}' } else { ']' })?;
             }
         }
@@ -37,7 +37,7 @@ impl Writing {
     }
 
     // Begins a list or a set.
-    fn begin(&mut self, is_set: bool, is_empty: bool) -> Result<(), AllocError> {
+    fn write_opening(&mut self, is_set: bool, is_empty: bool) -> Result<(), AllocError> {
         self.text.push(if is_set { '{' } else { '[' })?;
         if is_empty {
             return self.text.push(if is_set { '}' } else { ']' });
@@ -54,8 +54,8 @@ impl Writing {
             Value::Integer(number) => write!(self.text, "{number}"),
             Value::Float(digits) => self.text.push_str(digits.as_str()),
             Value::Text(value) => push_json_string(value.as_str(), &mut self.text),
-            Value::List => self.begin(false, is_empty),
-            Value::Set => self.begin(true, is_empty),
+            Value::List => self.write_opening(false, is_empty),
+            Value::Set => self.write_opening(true, is_empty),
         }
     }
 
@@ -64,7 +64,7 @@ impl Writing {
         self.close(item.depth)?;
         if !self.open.is_empty() {
             self.text.push_str(if is_first { "" } else { "," })?;
-            self.begin_line()?;
+            self.start_line()?;
         }
         if self.open.last() == Some(&true) {
             push_json_string(item.name.as_str(), &mut self.text)?;

@@ -8,7 +8,7 @@ use std::alloc::{AllocError, Global};
 fn inside(items: &[Item], number: usize, name: &PathName) -> Option<usize> {
     let around = items.get(number)?;
     let is_set = matches!(&around.value, Value::Set);
-    let mut place = name.place();
+    let mut index = name.index();
     let start = number.saturating_add(1);
     for (item, found) in items.get(start..)?.iter().enumerate() {
         if found.depth <= around.depth {
@@ -17,10 +17,10 @@ fn inside(items: &[Item], number: usize, name: &PathName) -> Option<usize> {
         if found.depth > around.depth.saturating_add(1) {
             continue;
         }
-        if is_set && found.name.as_str() == name.text.as_str() || !is_set && place == Some(0) {
+        if is_set && found.name.as_str() == name.text.as_str() || !is_set && index == Some(0) {
             return Some(start.saturating_add(item));
         }
-        place = place.map(|left| left.saturating_sub(1));
+        index = index.map(|remaining| remaining.saturating_sub(1));
     }
     None
 }

@@ -13,7 +13,7 @@ pub struct PathName {
 
 impl PathName {
     /// Returns the index of a list item if the name is a number.
-    pub fn place(&self) -> Option<usize> {
+    pub fn index(&self) -> Option<usize> {
         if self.is_quoted {
             None
         } else {

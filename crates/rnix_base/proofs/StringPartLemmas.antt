@@ -3,30 +3,32 @@ use Rattle.std.proofs.Common.{◌≡◌, ◌≢◌, ◌<◌, ◌≤◌, ◌++◌
 use Rattle.std.{proofs.{Common.{append_assoc, append-nil}, lemmas.Bool.Decides.nat_tests}, specs.Prelude.{if◌then◌else◌, option_to_list}}
 use Rattle.rnix_base.specs.{declared.parts.InterpolPart.TheVariants.{Literal, Interpolation}, Escapes.unescaped, Normal.{Parts, Symbol, symbols, lines}}
 use Rattle.rnix_base.specs.Normal.{least_indentation, unindented, part_text, with_texts, with_text, without_last_spaces, opened, closed, indented_parts}
-use Rattle.rnix_base.{specs.Indent.{is_lost, left_after, kept, left_behind, indent_of, no_indent}, proofs.SymbolLineLemmas.{row_kept, row_kept-lines, kept_step}}
+use Rattle.rnix_base.{specs.Indent.{is_lost, remaining_after, kept, remaining_behind, indent_of, no_indent}, proofs.SymbolLineLemmas.{row_kept, row_kept-lines, kept_step}}
 use Rattle.rnix_base.proofs.LeastLemmas.{least-parts}
 
 -- the parts without indentation, part by part
 unfoldable pub unindented_parts : {I : Type 0} → ℕ → ℕ → Parts I → Parts I
-unindented_parts n left [] = []
-unindented_parts n left (Literal text ∷ parts) = Literal (kept n left text) ∷ unindented_parts n (left_behind n left text) parts
-unindented_parts n left (Interpolation i ∷ parts) = Interpolation i ∷ unindented_parts n 0 parts
+unindented_parts n remaining [] = []
+unindented_parts n remaining (Literal text ∷ parts) = Literal (kept n remaining text) ∷ unindented_parts n (remaining_behind n remaining text) parts
+unindented_parts n remaining (Interpolation i ∷ parts) = Interpolation i ∷ unindented_parts n 0 parts
 
 -- a row of the bytes of one part
 abbrev pub text_row : ℕ → List ℕ → List Symbol
 text_row m text = map (λ b. record { part = m; byte = Some b }) text
 
 -- what one text leaves of a row
-row_kept-text : (n m : ℕ) (text : List ℕ) (left : ℕ) (row : List Symbol) → row_kept n left (text_row m text ++ row) ≡ text_row m (kept n left text)
-    ++ row_kept n (left_behind n left text) row
-unfolding row_kept kept left_behind
-row_kept-text n m [] left row = refl
-row_kept-text n m (b ∷ text) left row = text_step (is_lost left (Some b)) (row_kept-text n m text (left_after n left (Some b)) row) where
-  text_step : (lost : Bool) → row_kept n (left_after n left (Some b)) (text_row m text ++ row) ≡ text_row m (kept n (left_after n left (Some b)) text)
-      ++ row_kept n (left_behind n (left_after n left (Some b)) text) row
-      → (if lost then [] else record { part = m; byte = Some b } ∷ []) ++ row_kept n (left_after n left (Some b)) (text_row m text ++ row)
-      ≡ text_row m ((if lost then [] else b ∷ []) ++ kept n (left_after n left (Some b)) text)
-      ++ row_kept n (left_behind n (left_after n left (Some b)) text) row
+row_kept-text : (n m : ℕ) (text : List ℕ) (remaining : ℕ) (row : List Symbol) → row_kept n remaining (text_row m text ++ row)
+    ≡ text_row m (kept n remaining text)
+    ++ row_kept n (remaining_behind n remaining text) row
+unfolding row_kept kept remaining_behind
+row_kept-text n m [] remaining row = refl
+row_kept-text n m (b ∷ text) remaining row = text_step (is_lost remaining (Some b)) (row_kept-text n m text (remaining_after n remaining (Some b)) row) where
+  text_step : (lost : Bool) → row_kept n (remaining_after n remaining (Some b)) (text_row m text ++ row)
+      ≡ text_row m (kept n (remaining_after n remaining (Some b)) text)
+      ++ row_kept n (remaining_behind n (remaining_after n remaining (Some b)) text) row
+      → (if lost then [] else record { part = m; byte = Some b } ∷ []) ++ row_kept n (remaining_after n remaining (Some b)) (text_row m text ++ row)
+      ≡ text_row m ((if lost then [] else b ∷ []) ++ kept n (remaining_after n remaining (Some b)) text)
+      ++ row_kept n (remaining_behind n (remaining_after n remaining (Some b)) text) row
   text_step true e = e
   text_step false e = ap (λ t. record { part = m; byte = Some b } ∷ t) e
 
@@ -64,50 +66,50 @@ part_text-gap m k row = gap_step (m == k) where
   gap_step true = refl
   gap_step false = refl
 
-row_kept-gap : (n left m : ℕ) (row : List Symbol) → row_kept n left (record { part = m; byte = None } ∷ row) ≡ record { part = m; byte = None }
+row_kept-gap : (n remaining m : ℕ) (row : List Symbol) → row_kept n remaining (record { part = m; byte = None } ∷ row) ≡ record { part = m; byte = None }
     ∷ row_kept n 0 row
-row_kept-gap n left m row = kept_step n left 0 record { part = m; byte = None } row refl refl
+row_kept-gap n remaining m row = kept_step n remaining 0 record { part = m; byte = None } row refl refl
 
 -- later parts have no bytes of an earlier one
-part_text-later : {I : Type 0} (n k : ℕ) (parts : Parts I) (left m : ℕ) → k < m → part_text k (row_kept n left (symbols m parts)) ≡ []
+part_text-later : {I : Type 0} (n k : ℕ) (parts : Parts I) (remaining m : ℕ) → k < m → part_text k (row_kept n remaining (symbols m parts)) ≡ []
 unfolding symbols row_kept part_text
-part_text-later n k [] left m h = refl
-part_text-later n k (Literal text ∷ parts) left m h =
-    ap (part_text k) (row_kept-text n m text left (symbols (suc m) parts))
-    ∙ part_text-append k (text_row m (kept n left text)) (row_kept n (left_behind n left text) (symbols (suc m) parts))
-    ∙ ap (λ t. t ++ part_text k (row_kept n (left_behind n left text) (symbols (suc m) parts)))
-    (part_text-other m k (kept n left text) (λ e. absurd (omega (arith, h, e))))
-    ∙ part_text-later n k parts (left_behind n left text) (suc m) (omega arith)
-part_text-later n k (Interpolation i ∷ parts) left m h =
-    ap (part_text k) (row_kept-gap n left m (symbols (suc m) parts)) ∙ part_text-gap m k (row_kept n 0 (symbols (suc m) parts))
+part_text-later n k [] remaining m h = refl
+part_text-later n k (Literal text ∷ parts) remaining m h =
+    ap (part_text k) (row_kept-text n m text remaining (symbols (suc m) parts))
+    ∙ part_text-append k (text_row m (kept n remaining text)) (row_kept n (remaining_behind n remaining text) (symbols (suc m) parts))
+    ∙ ap (λ t. t ++ part_text k (row_kept n (remaining_behind n remaining text) (symbols (suc m) parts)))
+    (part_text-other m k (kept n remaining text) (λ e. absurd (omega (arith, h, e))))
+    ∙ part_text-later n k parts (remaining_behind n remaining text) (suc m) (omega arith)
+part_text-later n k (Interpolation i ∷ parts) remaining m h =
+    ap (part_text k) (row_kept-gap n remaining m (symbols (suc m) parts)) ∙ part_text-gap m k (row_kept n 0 (symbols (suc m) parts))
     ∙ part_text-later n k parts 0 (suc m) (omega arith)
 
 -- a row that goes on behind what earlier parts left of it
-pub with_texts-behind : {I : Type 0} (n : ℕ) (parts : Parts I) (before : List Symbol) (left m : ℕ) → ((k : ℕ) → m ≤ k → part_text k before ≡ [])
-    → with_texts (before ++ row_kept n left (symbols m parts)) m parts ≡ unindented_parts n left parts
+pub with_texts-behind : {I : Type 0} (n : ℕ) (parts : Parts I) (before : List Symbol) (remaining m : ℕ) → ((k : ℕ) → m ≤ k → part_text k before ≡ [])
+    → with_texts (before ++ row_kept n remaining (symbols m parts)) m parts ≡ unindented_parts n remaining parts
 unfolding with_texts unindented_parts symbols
-with_texts-behind n [] before left m none = refl
-with_texts-behind n (Literal text ∷ parts) before left m none =
-    let own = kept n left text in
-    let later = row_kept n (left_behind n left text) (symbols (suc m) parts) in
-    let whole : before ++ row_kept n left (text_row m text ++ symbols (suc m) parts) ≡ (before ++ text_row m own) ++ later =
-    ap (λ t. before ++ t) (row_kept-text n m text left (symbols (suc m) parts)) ∙ sym (append_assoc before (text_row m own) later) in
+with_texts-behind n [] before remaining m none = refl
+with_texts-behind n (Literal text ∷ parts) before remaining m none =
+    let own = kept n remaining text in
+    let later = row_kept n (remaining_behind n remaining text) (symbols (suc m) parts) in
+    let whole : before ++ row_kept n remaining (text_row m text ++ symbols (suc m) parts) ≡ (before ++ text_row m own) ++ later =
+    ap (λ t. before ++ t) (row_kept-text n m text remaining (symbols (suc m) parts)) ∙ sym (append_assoc before (text_row m own) later) in
     let mine : part_text m ((before ++ text_row m own) ++ later) ≡ own =
     part_text-append m (before ++ text_row m own) later
     ∙ ap (λ t. t ++ part_text m later) (part_text-append m before (text_row m own) ∙ ap (λ t. t ++ part_text m (text_row m own)) (none m (omega arith))
     ∙ part_text-own m own)
-    ∙ ap (λ t. own ++ t) (part_text-later n m parts (left_behind n left text) (suc m) (omega arith)) ∙ append-nil own in
+    ∙ ap (λ t. own ++ t) (part_text-later n m parts (remaining_behind n remaining text) (suc m) (omega arith)) ∙ append-nil own in
     let passed : (k : ℕ) → suc m ≤ k → part_text k (before ++ text_row m own) ≡ [] =
     λ k h. part_text-append k before (text_row m own) ∙ ap (λ t. t ++ part_text k (text_row m own)) (none k (omega (arith, h)))
     ∙ part_text-other m k own (λ e. absurd (omega (arith, h, e))) in
     ap (λ row. Literal (part_text m row) ∷ with_texts row (suc m) parts) whole
     ∙ ap (λ t. Literal t ∷ with_texts ((before ++ text_row m own) ++ later) (suc m) parts) mine
-    ∙ ap (λ t. Literal own ∷ t) (with_texts-behind n parts (before ++ text_row m own) (left_behind n left text) (suc m) passed)
-with_texts-behind n (Interpolation i ∷ parts) before left m none =
+    ∙ ap (λ t. Literal own ∷ t) (with_texts-behind n parts (before ++ text_row m own) (remaining_behind n remaining text) (suc m) passed)
+with_texts-behind n (Interpolation i ∷ parts) before remaining m none =
     let gap : Symbol = record { part = m; byte = None } in
     let later = row_kept n 0 (symbols (suc m) parts) in
-    let whole : before ++ row_kept n left (gap ∷ symbols (suc m) parts) ≡ (before ++ gap ∷ []) ++ later =
-    ap (λ t. before ++ t) (row_kept-gap n left m (symbols (suc m) parts)) ∙ sym (append_assoc before (gap ∷ []) later) in
+    let whole : before ++ row_kept n remaining (gap ∷ symbols (suc m) parts) ≡ (before ++ gap ∷ []) ++ later =
+    ap (λ t. before ++ t) (row_kept-gap n remaining m (symbols (suc m) parts)) ∙ sym (append_assoc before (gap ∷ []) later) in
     let passed : (k : ℕ) → suc m ≤ k → part_text k (before ++ gap ∷ []) ≡ [] =
     λ k h. part_text-append k before (gap ∷ []) ∙ ap (λ t. t ++ part_text k (gap ∷ [])) (none k (omega (arith, h))) ∙ part_text-gap m k [] ∙ part_text-none k in
     ap (λ row. Interpolation i ∷ with_texts row (suc m) parts) whole
@@ -120,20 +122,21 @@ last_text (part ∷ parts) text = text
 
 -- the parts of an indented string, one by one
 unfoldable pub indented_from : {I : Type 0} → ℕ → ℕ → Parts I → Parts I
-indented_from n left [] = []
-indented_from n left (Literal text ∷ parts) = Literal (unescaped true (last_text parts (kept n left text))) ∷ indented_from n (left_behind n left text) parts
-indented_from n left (Interpolation i ∷ parts) = Interpolation i ∷ indented_from n 0 parts
+indented_from n remaining [] = []
+indented_from n remaining (Literal text ∷ parts) = Literal (unescaped true (last_text parts (kept n remaining text)))
+    ∷ indented_from n (remaining_behind n remaining text) parts
+indented_from n remaining (Interpolation i ∷ parts) = Interpolation i ∷ indented_from n 0 parts
 
-closed_from : {I : Type 0} (n left : ℕ) (parts : Parts I) → map (with_text (unescaped true))
-    (closed (unindented_parts n left parts)) ≡ indented_from n left parts
+closed_from : {I : Type 0} (n remaining : ℕ) (parts : Parts I) → map (with_text (unescaped true))
+    (closed (unindented_parts n remaining parts)) ≡ indented_from n remaining parts
 unfolding closed unindented_parts indented_from
-closed_from n left [] = refl
-closed_from n left (Literal text ∷ []) = refl
-closed_from n left (Literal text ∷ Literal more ∷ parts) =
-    ap (λ t. Literal (unescaped true (kept n left text)) ∷ t) (closed_from n (left_behind n left text) (Literal more ∷ parts))
-closed_from n left (Literal text ∷ Interpolation i ∷ parts) =
-    ap (λ t. Literal (unescaped true (kept n left text)) ∷ t) (closed_from n (left_behind n left text) (Interpolation i ∷ parts))
-closed_from n left (Interpolation i ∷ parts) = ap (λ t. Interpolation i ∷ t) (closed_from n 0 parts)
+closed_from n remaining [] = refl
+closed_from n remaining (Literal text ∷ []) = refl
+closed_from n remaining (Literal text ∷ Literal more ∷ parts) =
+    ap (λ t. Literal (unescaped true (kept n remaining text)) ∷ t) (closed_from n (remaining_behind n remaining text) (Literal more ∷ parts))
+closed_from n remaining (Literal text ∷ Interpolation i ∷ parts) =
+    ap (λ t. Literal (unescaped true (kept n remaining text)) ∷ t) (closed_from n (remaining_behind n remaining text) (Interpolation i ∷ parts))
+closed_from n remaining (Interpolation i ∷ parts) = ap (λ t. Interpolation i ∷ t) (closed_from n 0 parts)
 
 -- the normalized parts, one by one
 pub indented_parts-from : {I : Type 0} (parts : Parts I) (n : ℕ) → n ≡ (indent_of no_indent (opened parts)).least

@@ -1,17 +1,17 @@
 -- The lines of a row, symbol by symbol.
 use Rattle.std.proofs.Common.{◌≡◌, ◌+◌, ◌-◌, ◌++◌, ◌∙◌, ℕ, zero, suc, min, Bool, true, false, cond, ◌&&◌, nat_lt, List, [], ◌∷◌, Option, Some, None, refl, sym}
 use Rattle.{std.{proofs.{Common.{ap, drop, arith}, lemmas.Bool.Decides.nat_tests}, specs.{Prelude.if◌then◌else◌, List.flat_map}}, rnix_base.specs.Normal.Symbol}
-use Rattle.rnix_base.specs.{Normal.{is_byte, is_gap, is_feed, before_line, lines, indentation, shortened}, Indent.{is_lost, left_after}}
+use Rattle.rnix_base.specs.{Normal.{is_byte, is_gap, is_feed, before_line, lines, indentation, shortened}, Indent.{is_lost, remaining_after}}
 
 -- what stays of a row, where its first line loses up to `left` spaces and each other line up to n
 unfoldable pub shortened_from : ℕ → ℕ → List (List Symbol) → List Symbol
-shortened_from n left [] = []
-shortened_from n left (line ∷ lines) = shortened left line ++ flat_map (shortened n) lines
+shortened_from n remaining [] = []
+shortened_from n remaining (line ∷ lines) = shortened remaining line ++ flat_map (shortened n) lines
 
 -- the same, symbol by symbol
 unfoldable pub row_kept : ℕ → ℕ → List Symbol → List Symbol
-row_kept n left [] = []
-row_kept n left (s ∷ row) = (if is_lost left s.byte then [] else s ∷ []) ++ row_kept n (left_after n left s.byte) row
+row_kept n remaining [] = []
+row_kept n remaining (s ∷ row) = (if is_lost remaining s.byte then [] else s ∷ []) ++ row_kept n (remaining_after n remaining s.byte) row
 
 from_start : (n : ℕ) (ls : List (List Symbol)) → shortened_from n n ls ≡ flat_map (shortened n) ls
 unfolding shortened_from
@@ -70,42 +70,44 @@ unfolding lines
 lines_more s row e = ap (λ f. if f then (s ∷ []) ∷ lines row else before_line s (lines row)) e
 
 -- what one symbol does
-pub kept_step : (n left next : ℕ) (s : Symbol) (row : List Symbol) → is_lost left s.byte ≡ false → left_after n left s.byte ≡ next
-    → row_kept n left (s ∷ row) ≡ s ∷ row_kept n next row
+pub kept_step : (n remaining next : ℕ) (s : Symbol) (row : List Symbol) → is_lost remaining s.byte ≡ false → remaining_after n remaining s.byte ≡ next
+    → row_kept n remaining (s ∷ row) ≡ s ∷ row_kept n next row
 unfolding row_kept
-kept_step n left next s row lost after = ap (λ b. (if b then [] else s ∷ []) ++ row_kept n (left_after n left s.byte) row) lost
+kept_step n remaining next s row lost after = ap (λ b. (if b then [] else s ∷ []) ++ row_kept n (remaining_after n remaining s.byte) row) lost
     ∙ ap (λ l. s ∷ row_kept n l row) after
 
-lost_step : (n left : ℕ) (s : Symbol) (row : List Symbol) → is_lost left s.byte ≡ true → row_kept n left (s ∷ row) ≡ row_kept n (left - 1) row
+lost_step : (n remaining : ℕ) (s : Symbol) (row : List Symbol) → is_lost remaining s.byte ≡ true
+    → row_kept n remaining (s ∷ row) ≡ row_kept n (remaining - 1) row
 unfolding row_kept
-lost_step n left s row lost =
-    ap (λ b. (if b then [] else s ∷ []) ++ row_kept n (left_after n left s.byte) row) lost
-    ∙ ap (λ b. row_kept n (if b then left - 1 else (if is_feed s then n else 0)) row) lost
+lost_step n remaining s row lost =
+    ap (λ b. (if b then [] else s ∷ []) ++ row_kept n (remaining_after n remaining s.byte) row) lost
+    ∙ ap (λ b. row_kept n (if b then remaining - 1 else (if is_feed s then n else 0)) row) lost
 
-stays_after : (n left : ℕ) (s : Symbol) (feed : Bool) → is_lost left s.byte ≡ false → is_feed s ≡ feed → left_after n left s.byte ≡ (if feed then n else 0)
-stays_after n left s feed lost e = ap (λ b. if b then left - 1 else (if is_feed s then n else 0)) lost ∙ ap (λ f. if f then n else 0) e
+stays_after : (n remaining : ℕ) (s : Symbol) (feed : Bool) → is_lost remaining s.byte ≡ false → is_feed s ≡ feed
+    → remaining_after n remaining s.byte ≡ (if feed then n else 0)
+stays_after n remaining s feed lost e = ap (λ b. if b then remaining - 1 else (if is_feed s then n else 0)) lost ∙ ap (λ f. if f then n else 0) e
 
-not_lost : (left : ℕ) (s : Symbol) → is_gap s ≡ false → is_lost left s.byte ≡ false
-not_lost left s e = ap (λ g. g && nat_lt 0 left) e
+not_lost : (remaining : ℕ) (s : Symbol) → is_gap s ≡ false → is_lost remaining s.byte ≡ false
+not_lost remaining s e = ap (λ g. g && nat_lt 0 remaining) e
 
-lines_step : (n left : ℕ) (s : Symbol) (row : List Symbol) (feed gap : Bool) → is_feed s ≡ feed → is_gap s ≡ gap
-    → ((l : ℕ) → row_kept n l row ≡ shortened_from n l (lines row)) → row_kept n left (s ∷ row) ≡ shortened_from n left (lines (s ∷ row))
-lines_step n left s row true gap f g more =
+lines_step : (n remaining : ℕ) (s : Symbol) (row : List Symbol) (feed gap : Bool) → is_feed s ≡ feed → is_gap s ≡ gap
+    → ((l : ℕ) → row_kept n l row ≡ shortened_from n l (lines row)) → row_kept n remaining (s ∷ row) ≡ shortened_from n remaining (lines (s ∷ row))
+lines_step n remaining s row true gap f g more =
     let none = feed_is_no_gap s f in
-    kept_step n left n s row (not_lost left s none) (stays_after n left s true (not_lost left s none) f)
-    ∙ ap (λ t. s ∷ t) (more n) ∙ sym (from_feed n left s (lines row) none) ∙ ap (shortened_from n left) (sym (lines_feed s row f))
-lines_step n left s row false false f g more =
-    kept_step n left 0 s row (not_lost left s g) (stays_after n left s false (not_lost left s g) f)
-    ∙ ap (λ t. s ∷ t) (more 0) ∙ sym (from_stays n left s (lines row) (λ line. shortened_none left s line g))
-    ∙ ap (shortened_from n left) (sym (lines_more s row f))
+    kept_step n remaining n s row (not_lost remaining s none) (stays_after n remaining s true (not_lost remaining s none) f)
+    ∙ ap (λ t. s ∷ t) (more n) ∙ sym (from_feed n remaining s (lines row) none) ∙ ap (shortened_from n remaining) (sym (lines_feed s row f))
+lines_step n remaining s row false false f g more =
+    kept_step n remaining 0 s row (not_lost remaining s g) (stays_after n remaining s false (not_lost remaining s g) f)
+    ∙ ap (λ t. s ∷ t) (more 0) ∙ sym (from_stays n remaining s (lines row) (λ line. shortened_none remaining s line g))
+    ∙ ap (shortened_from n remaining) (sym (lines_more s row f))
 lines_step n zero s row false true f g more =
     let lost : is_lost 0 s.byte ≡ false = ap (λ b. b && nat_lt 0 0) g in
     kept_step n 0 0 s row lost (stays_after n 0 s false lost f)
     ∙ ap (λ t. s ∷ t) (more 0) ∙ sym (from_stays n 0 s (lines row) (λ line. shortened_zero (s ∷ line))) ∙ ap (shortened_from n 0) (sym (lines_more s row f))
-lines_step n (suc left) s row false true f g more =
-    lost_step n (suc left) s row (ap (λ b. b && nat_lt 0 (suc left)) g ∙ positive left)
-    ∙ ap (λ l. row_kept n l row) (suc_minus left) ∙ more left ∙ sym (from_gap n left s (lines row) g)
-    ∙ ap (shortened_from n (suc left)) (sym (lines_more s row f))
+lines_step n (suc remaining) s row false true f g more =
+    lost_step n (suc remaining) s row (ap (λ b. b && nat_lt 0 (suc remaining)) g ∙ positive remaining)
+    ∙ ap (λ l. row_kept n l row) (suc_minus remaining) ∙ more remaining ∙ sym (from_gap n remaining s (lines row) g)
+    ∙ ap (shortened_from n (suc remaining)) (sym (lines_more s row f))
   where
     positive : (k : ℕ) → nat_lt 0 (suc k) ≡ true
     positive k = grind (arith, nat_tests)
@@ -113,10 +115,10 @@ lines_step n (suc left) s row false true f g more =
     suc_minus : (k : ℕ) → suc k - 1 ≡ k
     suc_minus k = omega arith
 
-row_is_shortened : (n left : ℕ) (row : List Symbol) → row_kept n left row ≡ shortened_from n left (lines row)
+row_is_shortened : (n remaining : ℕ) (row : List Symbol) → row_kept n remaining row ≡ shortened_from n remaining (lines row)
 unfolding row_kept shortened_from lines
-row_is_shortened n left [] = refl
-row_is_shortened n left (s ∷ row) = lines_step n left s row (is_feed s) (is_gap s) refl refl (λ l. row_is_shortened n l row)
+row_is_shortened n remaining [] = refl
+row_is_shortened n remaining (s ∷ row) = lines_step n remaining s row (is_feed s) (is_gap s) refl refl (λ l. row_is_shortened n l row)
 
 -- the lines of a row are shortened symbol by symbol
 pub row_kept-lines : (n : ℕ) (row : List Symbol) → flat_map (shortened n) (lines row) ≡ row_kept n n row

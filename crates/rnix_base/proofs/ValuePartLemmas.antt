@@ -1,7 +1,7 @@
 -- The value of a string in `''`, part by part.
 use Rattle.std.proofs.Common.{◌≡◌, ◌≢◌, ◌++◌, ◌∙◌, ℕ, true, List, [], ◌∷◌, refl, sym, ap, map, length, arith, append-nil}
 use Rattle.rnix_base.specs.{declared.parts.InterpolPart.{InterpolPart, TheVariants.{Literal, Interpolation}}, Escapes.unescaped, Normal.{Parts, with_text, borrowed, symbols}}
-use Rattle.rnix_base.specs.{Normal.{opened, with_texts}, Indent.{kept, left_behind, indent_of, no_indent}}
+use Rattle.rnix_base.specs.{Normal.{opened, with_texts}, Indent.{kept, remaining_behind, indent_of, no_indent}}
 use Rattle.rnix_base.specs.Value.{without_escapes, without_last_line, ended, value_indentation, dedented, indented_value, quoted_value}
 use Rattle.rnix_base.proofs.{SymbolLineLemmas.row_kept-lines, LeastLemmas.least-parts, StringPartLemmas.{unindented_parts, with_texts-behind, part_text-none}}
 use denote.Ref.{Bor}
@@ -13,31 +13,34 @@ ended_text (part ∷ parts) text = text
 
 -- the value of parts, where the first line loses up to `left` spaces
 abbrev pub value_from : {I : Type 0} → ℕ → ℕ → Parts I → Parts I
-value_from n left parts = unindented_parts n left (map (with_text (unescaped true)) (ended parts))
+value_from n remaining parts = unindented_parts n remaining (map (with_text (unescaped true)) (ended parts))
 
-literal_first : {I : Type 0} (n left : ℕ) (text : List ℕ) (parts : Parts I) → value_from n left (Literal text ∷ parts) ≡
-    Literal (kept n left (unescaped true (ended_text parts text))) ∷ value_from n (left_behind n left (unescaped true (ended_text parts text))) parts
+literal_first : {I : Type 0} (n remaining : ℕ) (text : List ℕ) (parts : Parts I) → value_from n remaining (Literal text ∷ parts) ≡
+    Literal (kept n remaining (unescaped true (ended_text parts text)))
+    ∷ value_from n (remaining_behind n remaining (unescaped true (ended_text parts text))) parts
 unfolding ended unindented_parts
-literal_first n left text [] = refl
-literal_first n left text (part ∷ parts) = refl
+literal_first n remaining text [] = refl
+literal_first n remaining text (part ∷ parts) = refl
 
-interpolation_first : {I : Type 0} (n left : ℕ) (i : I) (parts : Parts I) → value_from n left (Interpolation i ∷ parts) ≡ Interpolation i ∷ value_from n 0 parts
+interpolation_first : {I : Type 0} (n remaining : ℕ) (i : I) (parts : Parts I) → value_from n remaining (Interpolation i ∷ parts) ≡ Interpolation i
+    ∷ value_from n 0 parts
 unfolding ended unindented_parts
-interpolation_first n left i parts = refl
+interpolation_first n remaining i parts = refl
 
 -- the next part
-pub interpolation_next : {I : Type 0} (n left : ℕ) (rest more : List (InterpolPart (Bor (List ℕ)) I)) (part : InterpolPart (Bor (List ℕ)) I) (i : I)
+pub interpolation_next : {I : Type 0} (n remaining : ℕ) (rest more : List (InterpolPart (Bor (List ℕ)) I)) (part : InterpolPart (Bor (List ℕ)) I) (i : I)
     → rest ≡ part ∷ more → part ≡ Interpolation i
-    → value_from n left (borrowed rest) ≡ Interpolation i ∷ [] ++ value_from n 0 (borrowed more)
-interpolation_next n left rest more part i e h =
-    ap (λ r. value_from n left (borrowed r)) (e ∙ ap (λ p. p ∷ more) h) ∙ interpolation_first n left i (borrowed more)
+    → value_from n remaining (borrowed rest) ≡ Interpolation i ∷ [] ++ value_from n 0 (borrowed more)
+interpolation_next n remaining rest more part i e h =
+    ap (λ r. value_from n remaining (borrowed r)) (e ∙ ap (λ p. p ∷ more) h) ∙ interpolation_first n remaining i (borrowed more)
 
-pub literal_next : {I : Type 0} (n left : ℕ) (rest more : List (InterpolPart (Bor (List ℕ)) I)) (part : InterpolPart (Bor (List ℕ)) I) (text : Bor (List ℕ))
+pub literal_next : {I : Type 0} (n remaining : ℕ) (rest more : List (InterpolPart (Bor (List ℕ)) I)) (part : InterpolPart (Bor (List ℕ)) I)
+    (text : Bor (List ℕ))
     → rest ≡ part ∷ more → part ≡ Literal text
-    → value_from n left (borrowed rest) ≡ Literal (kept n left (unescaped true (ended_text (borrowed more) text.now))) ∷ []
-    ++ value_from n (left_behind n left (unescaped true (ended_text (borrowed more) text.now))) (borrowed more)
-literal_next n left rest more part text e h =
-    ap (λ r. value_from n left (borrowed r)) (e ∙ ap (λ p. p ∷ more) h) ∙ literal_first n left text.now (borrowed more)
+    → value_from n remaining (borrowed rest) ≡ Literal (kept n remaining (unescaped true (ended_text (borrowed more) text.now))) ∷ []
+    ++ value_from n (remaining_behind n remaining (unescaped true (ended_text (borrowed more) text.now))) (borrowed more)
+literal_next n remaining rest more part text e h =
+    ap (λ r. value_from n remaining (borrowed r)) (e ∙ ap (λ p. p ∷ more) h) ∙ literal_first n remaining text.now (borrowed more)
 
 -- the text of the last part
 pub ended_at_end : {I : Type 0} (more : List (InterpolPart (Bor (List ℕ)) I)) (text : List ℕ) → length more ≡ 0
@@ -50,11 +53,11 @@ ended_before_end [] text e = absurd (e refl)
 ended_before_end (part ∷ more) text e = refl
 
 -- all parts are read
-pub all_read : {I : Type 0} (n left : ℕ) (done whole : Parts I) (rest : List (InterpolPart (Bor (List ℕ)) I)) → whole ≡ done
-    ++ value_from n left (borrowed rest) → length rest ≡ 0 → done ≡ whole
+pub all_read : {I : Type 0} (n remaining : ℕ) (done whole : Parts I) (rest : List (InterpolPart (Bor (List ℕ)) I)) → whole ≡ done
+    ++ value_from n remaining (borrowed rest) → length rest ≡ 0 → done ≡ whole
 unfolding ended unindented_parts
-all_read n left done whole [] e h = sym (e ∙ append-nil done)
-all_read n left done whole (part ∷ rest) e h = absurd (omega (arith, h))
+all_read n remaining done whole [] e h = sym (e ∙ append-nil done)
+all_read n remaining done whole (part ∷ rest) e h = absurd (omega (arith, h))
 
 -- the value, part by part
 pub indented_value-from : {I : Type 0} (parts : Parts I) (n : ℕ) → n ≡ (indent_of no_indent (map (with_text without_escapes) (opened parts))).least

@@ -36,29 +36,29 @@ no_indent = record { least = 1000000; spaces = Some 0 }
 
 -- a symbol is one of the `left` spaces that the line still loses
 abbrev pub is_lost : ℕ → Option ℕ → Bool
-is_lost left symbol = is_byte 32 symbol && nat_lt 0 left
+is_lost remaining symbol = is_byte 32 symbol && nat_lt 0 remaining
 
 -- how many spaces the line still loses after one more symbol, where each line loses up to `least`
-abbrev pub left_after : ℕ → ℕ → Option ℕ → ℕ
-left_after least left symbol = if is_lost left symbol then left - 1 else (if is_byte 10 symbol then least else 0)
+abbrev pub remaining_after : ℕ → ℕ → Option ℕ → ℕ
+remaining_after least remaining symbol = if is_lost remaining symbol then remaining - 1 else (if is_byte 10 symbol then least else 0)
 
 -- what the lines of a text do not lose
 unfoldable pub kept : ℕ → ℕ → List ℕ → List ℕ
-kept least left [] = []
-kept least left (b ∷ text) =
-    (if is_lost left (Some b) then [] else b ∷ []) ++ kept least (left_after least left (Some b)) text
+kept least remaining [] = []
+kept least remaining (b ∷ text) =
+    (if is_lost remaining (Some b) then [] else b ∷ []) ++ kept least (remaining_after least remaining (Some b)) text
 
 -- how many spaces the last line of a text still loses
-unfoldable pub left_behind : ℕ → ℕ → List ℕ → ℕ
-left_behind least left [] = left
-left_behind least left (b ∷ text) = left_behind least (left_after least left (Some b)) text
+unfoldable pub remaining_behind : ℕ → ℕ → List ℕ → ℕ
+remaining_behind least remaining [] = remaining
+remaining_behind least remaining (b ∷ text) = remaining_behind least (remaining_after least remaining (Some b)) text
 
 -- a byte that does not end a line
 abbrev pub is_inside_line : ℕ → Bool
 is_inside_line b = not (b == 10)
 
 -- a text keeps this line and then what this shorter rest keeps, which still loses `next` spaces
-pub record KeepsLine (least left : ℕ) (text line rest : List ℕ) (next : ℕ) : Type 0 where
-  pub stays : kept least left text ≡ line ++ kept least next rest
-  pub leaves : left_behind least left text ≡ left_behind least next rest
+pub record KeepsLine (least remaining : ℕ) (text line rest : List ℕ) (next : ℕ) : Type 0 where
+  pub stays : kept least remaining text ≡ line ++ kept least next rest
+  pub leaves : remaining_behind least remaining text ≡ remaining_behind least next rest
   pub shorter : length rest < length text

@@ -3,7 +3,7 @@
 ghost use Rattle.std.specs.Prelude.{◌≡◌, ◌<◌, ◌≤◌, ◌+◌, length, drop, IfOk, MatchOption, string_bytes, false};
 ghost use Rattle.std.specs.List.{prefix_len, suffix_len};
 ghost use Rattle.rnix_base.specs.Normal.{is_space, spaces, opens_blank, without_last_spaces, IsBehindBlank, borrowed};
-ghost use Rattle.rnix_base.specs.Indent.{indent_after, indent_behind, indent_of, no_indent, kept, left_behind, is_inside_line, KeepsLine};
+ghost use Rattle.rnix_base.specs.Indent.{indent_after, indent_behind, indent_of, no_indent, kept, remaining_behind, is_inside_line, KeepsLine};
 
 use crate::parts::InterpolPart;
 use std::alloc::{AllocError, Global};
@@ -113,12 +113,12 @@ fn line_end(bytes: &[u8]) -> &[u8]
 }
 
 // Returns the first line without the spaces that it loses, up to `left`; what follows it; and how many spaces the text still loses there.
-fn first_line(text: &str, least: usize, left: usize) -> (&str, &str, usize)
+fn first_line(text: &str, least: usize, remaining: usize) -> (&str, &str, usize)
     requires { 0 < length text.now }
-    ensures { KeepsLine least left text.now result.0.now result.1.now result.2 }
+    ensures { KeepsLine least remaining text.now result.0.now result.1.now result.2 }
 {
     let bytes = text.as_bytes();
-    let lost = spaces_before(bytes).min(left);
+    let lost = spaces_before(bytes).min(remaining);
     let (_, kept) = text.split_at(lost);
     let len = line_len(kept.as_bytes());
     if len < kept.len() {
@@ -127,7 +127,7 @@ fn first_line(text: &str, least: usize, left: usize) -> (&str, &str, usize)
     } else if len > 0 {
         (kept, "", 0)
     } else {
-        ("", "", left - lost)
+        ("", "", remaining - lost)
     }
 }
 
@@ -136,21 +136,21 @@ pub(crate) fn unindented(
     alloc: Global,
     text: &str,
     least: usize,
-    left: usize,
+    remaining: usize,
 ) -> Result<(String, usize), AllocError>
-    ensures kept { IfOk result (λ r. string_bytes r.0 ≡ kept least left text.now) }
-    ensures left { IfOk result (λ r. r.1 ≡ left_behind least left text.now) }
+    ensures kept { IfOk result (λ r. string_bytes r.0 ≡ kept least remaining text.now) }
+    ensures remaining { IfOk result (λ r. r.1 ≡ remaining_behind least remaining text.now) }
 {
     let mut kept = String::new(alloc);
-    let mut left = left;
+    let mut remaining = remaining;
     let mut rest = text;
     while !rest.is_empty() {
-        let (line, behind, next) = first_line(rest, least, left);
+        let (line, behind, next) = first_line(rest, least, remaining);
         kept.push_str(line)?;
-        left = next;
+        remaining = next;
         rest = behind;
     }
-    Ok((kept, left))
+    Ok((kept, remaining))
 }
 
 /// Returns what follows the first line feed, if only spaces precede it.

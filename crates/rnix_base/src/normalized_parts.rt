@@ -36,14 +36,14 @@ pub fn indented_parts<'t, I: Drop>(
 {
     let parts = opened(parts);
     let least = least_indentation(&parts);
-    let mut left = least;
+    let mut remaining = least;
     let mut rest = parts.into_iter();
     let mut normal = Vec::new(alloc);
     while let Some(part) = rest.next() {
         match part {
             InterpolPart::Literal(text) => {
-                let (text, after) = unindented(alloc, text, least, left)?;
-                left = after;
+                let (text, after) = unindented(alloc, text, least, remaining)?;
+                remaining = after;
                 let text = if rest.len() == 0 {
                     without_last_spaces(text.as_str())
                 } else {
@@ -52,7 +52,7 @@ pub fn indented_parts<'t, I: Drop>(
                 normal.push(InterpolPart::Literal(unescape(alloc, text, true)?))?;
             }
             InterpolPart::Interpolation(interpolation) => {
-                left = 0;
+                remaining = 0;
                 normal.push(InterpolPart::Interpolation(interpolation))?;
             }
         }

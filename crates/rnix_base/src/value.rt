@@ -119,7 +119,7 @@ pub fn indented_value<'t, I: Drop>(
 {
     let parts = opened(parts);
     let least = value_indentation(&parts);
-    let mut left = least;
+    let mut remaining = least;
     let mut rest = parts.into_iter();
     let mut value = Vec::new(alloc);
     while let Some(part) = rest.next() {
@@ -131,12 +131,12 @@ pub fn indented_value<'t, I: Drop>(
                     text
                 };
                 let unescaped = unescape(alloc, text, true)?;
-                let (kept, after) = unindented(alloc, unescaped.as_str(), least, left)?;
-                left = after;
+                let (kept, after) = unindented(alloc, unescaped.as_str(), least, remaining)?;
+                remaining = after;
                 value.push(InterpolPart::Literal(kept))?;
             }
             InterpolPart::Interpolation(interpolation) => {
-                left = 0;
+                remaining = 0;
                 value.push(InterpolPart::Interpolation(interpolation))?;
             }
         }

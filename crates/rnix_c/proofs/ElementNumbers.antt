@@ -57,18 +57,18 @@ pub cast_found : (t : Tree) (n : ℕ) (node : Located) (r : Option Located) → 
 cast_found t n node None e some same = tt
 cast_found t n node (Some value) e some same =
     let here : (true, node) ≡ spot_at t n = spot_is t n (true, node) e in
-    let place : node ≡ located t n = ap (λ (s : Spot). s.1) here in (
-      same ∙ place,
+    let located_is : node ≡ located t n = ap (λ (s : Spot). s.1) here in (
+      same ∙ located_is,
       (
         record { is_there = is_there t n (true, node) e; is_node = sym (ap (λ (s : Spot). s.0) here) },
-        ap (λ (e : Located). (item_of e).kind) (sym place) ∙ sym ((same_kind-decides NODE_STRING (item_of node).kind).0 (sym some)),
+        ap (λ (e : Located). (item_of e).kind) (sym located_is) ∙ sym ((same_kind-decides NODE_STRING (item_of node).kind).0 (sym some)),
       ),
     )
 
 pub cast_missing : (t : Tree) (n : ℕ) (node : Located) (r : Option Located) → slice_get (elements_of (located t 0)) n ≡ Some (true, node)
     → is_some r ≡ same_kind NODE_STRING (item_of node).kind → IfNone r (¬ IsString (located t n))
 cast_missing t n node None e some = λ string.
-    let place : node ≡ located t n = ap (λ (s : Spot). s.1) (spot_is t n (true, node) e) in
-    let is : NODE_STRING ≡ (item_of node).kind = sym (ap (λ (e : Located). (item_of e).kind) place ∙ string.1) in
+    let located_is : node ≡ located t n = ap (λ (s : Spot). s.1) (spot_is t n (true, node) e) in
+    let is : NODE_STRING ≡ (item_of node).kind = sym (ap (λ (e : Located). (item_of e).kind) located_is ∙ string.1) in
     cc (some, (same_kind-decides NODE_STRING (item_of node).kind).1 is)
 cast_missing t n node (Some value) e some = tt

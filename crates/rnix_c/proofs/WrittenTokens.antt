@@ -1,7 +1,7 @@
 -- Tokens that are written one after another.
 use Rattle.std.proofs.Common.{◌≡◌, ℕ, suc, ◌+◌, ◌<◌, ◌≤◌, List, [], ◌∷◌, length, drop, get_or, IsUtf8, refl, sym, ap, ◌∙◌, arith, add-one, length-append}
 use Rattle.std.{proofs.{Math.Seq.{drop-cons}, lemmas.List.{Elements.{All-head, All-tail}}}, specs.List.{flat_map, All}}
-use Rattle.rnix_kinds.{specs.{declared.kinds.SyntaxKind.{SyntaxKind}, SyntaxKind.{place_of}, Lexical.Tokens.{Lexeme, text_of, tokens_of}}, proofs.LexicalLemmas.Laws.{AreSound-tokens_under}}
+use Rattle.rnix_kinds.{specs.{declared.kinds.SyntaxKind.{SyntaxKind}, SyntaxKind.{discriminant_of}, Lexical.Tokens.{Lexeme, text_of, tokens_of}}, proofs.LexicalLemmas.Laws.{AreSound-tokens_under}}
 use Rattle.rnix_c.specs.{declared.tokens.RnixToken.{RnixToken}, TokenCalls.{tokens_from, tokens_written}}
 
 -- a token has text
@@ -9,11 +9,11 @@ abbrev HasText : Lexeme → Type 0
 HasText token = 0 < length token.1
 
 -- so many tokens of a text are behind, the next begins at an offset, and these are left
-pub record IsAt (text : List ℕ) (left : List Lexeme) (count start : ℕ) : Type 0 where
-  pub rest : drop count (tokens_written text) ≡ tokens_from start left
-  pub counted : count + length left ≡ length (tokens_written text)
-  pub fits : start + length (flat_map text_of left) ≡ length text
-  pub some : All HasText left
+pub record IsAt (text : List ℕ) (remaining : List Lexeme) (count start : ℕ) : Type 0 where
+  pub rest : drop count (tokens_written text) ≡ tokens_from start remaining
+  pub counted : count + length remaining ≡ length (tokens_written text)
+  pub fits : start + length (flat_map text_of remaining) ≡ length text
+  pub some : All HasText remaining
   pub ahead : count ≤ start
 
 length-tokens_from : (start : ℕ) (tokens : List Lexeme) → length (tokens_from start tokens) ≡ length tokens
@@ -34,14 +34,15 @@ at_first text utf8 =
 
 -- what is written of a token that begins at an offset
 abbrev token_at : ℕ → SyntaxKind → List ℕ → RnixToken
-token_at start kind token = record { start = start; end = start + length token; kind = place_of kind }
+token_at start kind token = record { start = start; end = start + length token; kind = discriminant_of kind }
 
-module _ (text : List ℕ) (kind : SyntaxKind) (token : List ℕ) (left : List Lexeme) (count start : ℕ) (h : IsAt text ((kind, token) ∷ left) count start) where
+module _ (text : List ℕ) (kind : SyntaxKind) (token : List ℕ) (remaining : List Lexeme) (count start : ℕ) (h : IsAt text ((kind, token)
+    ∷ remaining) count start) where
   -- the next token is one of the list
   pub is_there : count < length (tokens_written text)
   is_there = omega (arith, h.counted)
 
-  cut : token_at start kind token ∷ tokens_from (start + length token) left
+  cut : token_at start kind token ∷ tokens_from (start + length token) remaining
       ≡ get_or (tokens_written text) count (token_at start kind token) ∷ drop (suc count) (tokens_written text)
   cut = sym h.rest ∙ drop-cons (tokens_written text) count (token_at start kind token) is_there
 
@@ -51,16 +52,16 @@ module _ (text : List ℕ) (kind : SyntaxKind) (token : List ℕ) (left : List L
 
   -- it ends in the text
   pub ends_inside : start + length token ≤ length text
-  ends_inside = omega (arith, h.fits, length-append token (flat_map text_of left))
+  ends_inside = omega (arith, h.fits, length-append token (flat_map text_of remaining))
 
   -- behind it the others are left
-  pub at_next : IsAt text left (count + 1) (start + length token)
+  pub at_next : IsAt text remaining (count + 1) (start + length token)
   at_next = record {
     rest = ap (λ n. drop n (tokens_written text)) (add-one count) ∙ (cc cut);
     counted = omega (arith, h.counted);
-    fits = omega (arith, h.fits, length-append token (flat_map text_of left));
-    some = All-tail HasText (kind, token) left h.some;
-    ahead = omega (arith, h.ahead, All-head HasText (kind, token) left h.some);
+    fits = omega (arith, h.fits, length-append token (flat_map text_of remaining));
+    some = All-tail HasText (kind, token) remaining h.some;
+    ahead = omega (arith, h.ahead, All-head HasText (kind, token) remaining h.some);
   }
 
 -- where none is left, all are counted

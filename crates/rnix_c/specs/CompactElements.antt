@@ -1,6 +1,6 @@
 -- The elements of a tree as they are written for C in 20 bytes each: their ranges, and the rest.
 use Rattle.std.specs.Prelude.{◌<◌, ℕ, ◌-◌, ◌^◌, cond, List, length, map, Option, Some, None}
-use Rattle.rnix_kinds.specs.SyntaxKind.{place_of}
+use Rattle.rnix_kinds.specs.SyntaxKind.{discriminant_of}
 use Rattle.rnix_green.specs.Tree.{Tree, Item, items_of}
 use Rattle.rnix_c.specs.declared.compact.RnixRange.{RnixRange}
 use Rattle.rnix_c.specs.declared.compact.RnixLink.{RnixLink}
@@ -16,7 +16,7 @@ range_of i = record { start = i.start; end = i.end }
 
 -- what is written of an element but for its range
 abbrev pub link_of : Item → RnixLink
-link_of i = record { parent = parent_or_none i.parent; inside = i.below; kind = place_of i.kind; is_token = cond i.is_node 0 1 }
+link_of i = record { parent = parent_or_none i.parent; inside = i.below; kind = discriminant_of i.kind; is_token = cond i.is_node 0 1 }
 
 -- what is written of a tree in the first array: the range of each element, in preorder
 abbrev pub ranges_of : Tree → List RnixRange

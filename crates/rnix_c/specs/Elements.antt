@@ -1,6 +1,6 @@
 -- The elements of a tree as they are written for C.
 use Rattle.std.specs.Prelude.{◌≤◌, ℕ, ◌+◌, ◌*◌, ◌-◌, ◌^◌, cond, List, length, map, Option, Some, None}
-use Rattle.rnix_kinds.specs.SyntaxKind.{place_of}
+use Rattle.rnix_kinds.specs.SyntaxKind.{discriminant_of}
 use Rattle.rnix_green.specs.Tree.{Tree, Item, items_of}
 use Rattle.rnix_c.specs.declared.elements.RnixElement.{RnixElement}
 
@@ -16,7 +16,7 @@ element_of i = record {
   end = i.end;
   parent = number_or_none i.parent;
   inside = i.below;
-  kind = place_of i.kind;
+  kind = discriminant_of i.kind;
   is_token = cond i.is_node 0 1;
 }
 

@@ -1,7 +1,7 @@
 -- The errors of a text as they are written for C.
 use Rattle.std.specs.Prelude.{ℕ, ◌-◌, ◌^◌, List, map, replicate}
 use Rattle.rnix_kinds.specs.declared.kinds.SyntaxKind.{SyntaxKind}
-use Rattle.rnix_kinds.specs.SyntaxKind.{place_of}
+use Rattle.rnix_kinds.specs.SyntaxKind.{discriminant_of}
 use Rattle.rnix_green.specs.Range.{Extent}
 use Rattle.rnix_grammar.specs.Fault.{Fault, unexpected_at, extra, unwanted, double_bind, unexpected_eof, unexpected_eof_wanted, duplicated_args, too_deep}
 use Rattle.rnix_c.specs.declared.errors.RnixError.{RnixError}
@@ -9,7 +9,7 @@ use Rattle.rnix_c.specs.Answers.{filled}
 
 -- the numbers of the first 16 of some kinds, in their order, and 255 in the places that are left
 abbrev pub wanted_of : List SyntaxKind → List ℕ
-wanted_of kinds = filled (map place_of kinds) (replicate 16 255)
+wanted_of kinds = filled (map discriminant_of kinds) (replicate 16 255)
 
 -- no kinds
 abbrev pub none_wanted : List ℕ
@@ -27,7 +27,7 @@ placed variant range = record { start = range.start; end = range.end; wanted = n
 abbrev pub error_of : Fault → RnixError
 error_of (unexpected_at range) = placed 0 range
 error_of (extra range) = placed 1 range
-error_of (unwanted kind range kinds) = record { start = range.start; end = range.end; wanted = wanted_of kinds; variant = 2; found = place_of kind }
+error_of (unwanted kind range kinds) = record { start = range.start; end = range.end; wanted = wanted_of kinds; variant = 2; found = discriminant_of kind }
 error_of (double_bind range) = placed 3 range
 error_of unexpected_eof = unplaced 4
 error_of (unexpected_eof_wanted kinds) = record { start = 2 ^ 64 - 1; end = 2 ^ 64 - 1; wanted = wanted_of kinds; variant = 5; found = 2 ^ 32 - 1 }

@@ -1,6 +1,6 @@
 -- What calls write of bindings and references.
 use Rattle.std.specs.Prelude.{◌≡◌, ℕ, ℤ, cond, List, map, length}
-use Rattle.rnix_kinds.specs.SyntaxKind.{place_of}
+use Rattle.rnix_kinds.specs.SyntaxKind.{discriminant_of}
 use Rattle.rnix_green.specs.Tree.{Tree, Located, item_of}
 use Rattle.nix_scopes.specs.Scopes.{Bound, Resolved, number_in, bindings_in, resolved_in}
 use Rattle.rnix_c.specs.declared.names.RnixBinding.{RnixBinding}
@@ -17,8 +17,8 @@ binding_of first bound = record {
   scope_start = (item_of bound.scope).start;
   scope_end = (item_of bound.scope).end;
   first = first;
-  kind = place_of (item_of bound.node).kind;
-  scope_kind = place_of (item_of bound.scope).kind;
+  kind = discriminant_of (item_of bound.node).kind;
+  scope_kind = discriminant_of (item_of bound.scope).kind;
 }
 
 -- what is written of a reference
@@ -27,7 +27,7 @@ reference_of name = record {
   start = (item_of name.node).start;
   end = (item_of name.node).end;
   binding = number_or_none name.binding;
-  kind = place_of (item_of name.node).kind;
+  kind = discriminant_of (item_of name.node).kind;
   is_inherited = cond name.is_inherited 1 0;
   is_open = cond name.is_open 1 0;
 }

@@ -1,6 +1,6 @@
 -- The tokens of a text as they are written for C.
 use Rattle.std.specs.Prelude.{◌≡◌, ◌⊎◌, ℕ, ℤ, ◌+◌, List, [], ◌∷◌, length, take, IsUtf8}
-use Rattle.rnix_kinds.specs.SyntaxKind.{place_of}
+use Rattle.rnix_kinds.specs.SyntaxKind.{discriminant_of}
 use Rattle.rnix_kinds.specs.Lexical.Tokens.{Lexeme, tokens_of}
 use Rattle.rnix_c.specs.declared.tokens.RnixToken.{RnixToken}
 use Rattle.rnix_c.specs.Answers.{filled, IsWritten, not_utf8, no_memory}
@@ -9,7 +9,7 @@ use Rattle.rnix_c.specs.Answers.{filled, IsWritten, not_utf8, no_memory}
 abbrev pub tokens_from : ℕ → List Lexeme → List RnixToken
 tokens_from start [] = []
 tokens_from start ((kind, text) ∷ tokens) =
-    record { start = start; end = start + length text; kind = place_of kind } ∷ tokens_from (start + length text) tokens
+    record { start = start; end = start + length text; kind = discriminant_of kind } ∷ tokens_from (start + length text) tokens
 
 -- what is written of a text: of each of its tokens, in order
 abbrev pub tokens_written : List ℕ → List RnixToken

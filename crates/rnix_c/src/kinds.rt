@@ -1,7 +1,7 @@
 //! The kinds by their numbers.
 
 ghost use Rattle.std.specs.Prelude.{◌≡◌, ◌≤◌, IfSome, IfNone};
-ghost use Rattle.rnix_kinds.specs.SyntaxKind.{place_of, kind_count};
+ghost use Rattle.rnix_kinds.specs.SyntaxKind.{discriminant_of, kind_count};
 ghost use Rattle.rnix_c.specs.KindCalls.{NamesKind, FindsKind};
 
 use crate::answers::{NONE_SUCH, written};
@@ -9,7 +9,7 @@ use rnix::SyntaxKind;
 
 // The kind of this number.
 fn kind_at(number: u32) -> Option<SyntaxKind>
-    ensures found { IfSome result (λ kind. place_of kind ≡ number) }
+    ensures found { IfSome result (λ kind. discriminant_of kind ≡ number) }
     ensures missing { IfNone result (kind_count ≤ number) }
 {
     SyntaxKind::from_raw(u16::try_from(number).ok()?)

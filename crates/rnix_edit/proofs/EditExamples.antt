@@ -3,7 +3,7 @@ use Rattle.std.proofs.Common.{◌≡◌, ℕ, List, [], refl, codes, arith}
 use Rattle.std.proofs.lemmas.Bool.{false≢true}
 use Rattle.rnix_kinds.specs.declared.kinds.SyntaxKind.TheVariants as k
 use Rattle.rnix_green.specs.{Forest.{Forest, empty, leaf, node}, Tree.Located}
-use Rattle.rnix_edit.specs.{Steps.place_of, EditRanges.{Gap, cut_of, gap_after, gap_inside, put_in}, Edited.{spliced, place_at, IsLastIn}}
+use Rattle.rnix_edit.specs.{Steps.node_range_of, EditRanges.{Gap, cut_of, gap_after, gap_inside, put_in}, Edited.{spliced, node_range_at, IsLastIn}}
 
 -- an element of the tree of a text
 abbrev at : Forest → ℕ → Located
@@ -76,8 +76,8 @@ in_one_line_set : with_c one_line (gap_inside one_line (in_one_line 1)) ≡ code
 in_one_line_set = refl
 
 -- an entry is last in a set: its closing brace alone follows there
-entry_is_last : IsLastIn (at (set closing empty) 0) (place_of (at (set closing empty) 1)) (at (set (entry (codes "c;") closing) empty) 0)
-    (place_at k.NODE_ATTRPATH_VALUE 1 (codes "c;"))
+entry_is_last : IsLastIn (at (set closing empty) 0) (node_range_of (at (set closing empty) 1)) (at (set (entry (codes "c;") closing) empty) 0)
+    (node_range_at k.NODE_ATTRPATH_VALUE 1 (codes "c;"))
 entry_is_last = record { added = record { is_there = refl; rest = refl }; fits = omega arith; token = refl; after = refl }
 
 -- a body that ends with a set, as that of a function does
@@ -85,6 +85,6 @@ abbrev body : Forest → Forest
 body entries = node k.NODE_LAMBDA (set entries empty) empty
 
 -- an entry at the end of that set, after the brace, is not last in the function: no token of the function follows
-entry_is_not_last : ¬ (IsLastIn (at (body closing) 0) (place_of (at (body closing) 1))
-    (at (body (leaf k.TOKEN_R_BRACE (codes "}") (entry (codes "c;") empty))) 0) (place_at k.NODE_ATTRPATH_VALUE 2 (codes "c;")))
+entry_is_not_last : ¬ (IsLastIn (at (body closing) 0) (node_range_of (at (body closing) 1))
+    (at (body (leaf k.TOKEN_R_BRACE (codes "}") (entry (codes "c;") empty))) 0) (node_range_at k.NODE_ATTRPATH_VALUE 2 (codes "c;")))
 entry_is_not_last = λ last. false≢true last.token

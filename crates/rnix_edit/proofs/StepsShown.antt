@@ -5,7 +5,7 @@ use Rattle.std.specs.{Prelude.{if◌then◌else◌, ◌&&◌}, List.All}
 use Rattle.rnix_green.specs.{Equality.same_kind, Tree.{Located, Item, items_of, item_of, text_at, forest_of, no_item}, Walk.Event}
 use Rattle.rnix_green.proofs.{StartLemmas.in_text, InsideLemmas.elements_in_all}
 use Rattle.rnix_tree.specs.WalksAlike.{Shown, shown_event, shown_of, EndsBefore, PassesAlike}
-use Rattle.rnix_edit.specs.declared.place.Place.{Place}
+use Rattle.rnix_edit.specs.declared.node_range.NodeRange.{NodeRange}
 use Rattle.rnix_edit.specs.Steps.{Step, node_step, token_steps, step_at, steps_of, enters, events_before, events_inside, ArePassed}
 use Rattle.rnix_edit.proofs.StepLemmas.{GoesOn}
 
@@ -33,27 +33,28 @@ same_steps : (passed twins : List Event) → map shown_of passed ≡ map shown_o
 same_steps passed twins e = all_shown passed ∙ ap (flat_map steps_shown) e ∙ sym (all_shown twins)
 
 -- the same steps come first in two walks, and these are left
-pub record GoOnAlike (a b a_left b_left : List Step) : Type 0 where
+pub record GoOnAlike (a b a_remaining b_remaining : List Step) : Type 0 where
   pub front : List Step
-  pub first : a ≡ front ++ a_left
-  pub second : b ≡ front ++ b_left
+  pub first : a ≡ front ++ a_remaining
+  pub second : b ≡ front ++ b_remaining
 
 -- what is left of them is the same just if all was, and no more is left of each
-pub alike_there : (a b a_left b_left : List Step) → GoOnAlike a b a_left b_left → a_left ≡ b_left → a ≡ b
-alike_there a b a_left b_left h rests = h.first ∙ ap (λ steps. h.front ++ steps) rests ∙ sym h.second
+pub alike_there : (a b a_remaining b_remaining : List Step) → GoOnAlike a b a_remaining b_remaining → a_remaining ≡ b_remaining → a ≡ b
+alike_there a b a_remaining b_remaining h rests = h.first ∙ ap (λ steps. h.front ++ steps) rests ∙ sym h.second
 
-pub alike_back : (a b a_left b_left : List Step) → GoOnAlike a b a_left b_left → a ≡ b → a_left ≡ b_left
-alike_back a b a_left b_left h whole = append_cancel_left h.front a_left b_left (sym h.first ∙ whole ∙ h.second)
+pub alike_back : (a b a_remaining b_remaining : List Step) → GoOnAlike a b a_remaining b_remaining → a ≡ b → a_remaining ≡ b_remaining
+alike_back a b a_remaining b_remaining h whole = append_cancel_left h.front a_remaining b_remaining (sym h.first ∙ whole ∙ h.second)
 
-pub alike_shorter : (a b a_left b_left : List Step) → GoOnAlike a b a_left b_left → length a_left ≤ length a
-alike_shorter a b a_left b_left h = omega (arith, ap length h.first, length-append h.front a_left)
+pub alike_shorter : (a b a_remaining b_remaining : List Step) → GoOnAlike a b a_remaining b_remaining → length a_remaining ≤ length a
+alike_shorter a b a_remaining b_remaining h = omega (arith, ap length h.first, length-append h.front a_remaining)
 
-pub other_shorter : (a b a_left b_left : List Step) → GoOnAlike a b a_left b_left → length b_left ≤ length b
-other_shorter a b a_left b_left h = omega (arith, ap length h.second, length-append h.front b_left)
+pub other_shorter : (a b a_remaining b_remaining : List Step) → GoOnAlike a b a_remaining b_remaining → length b_remaining ≤ length b
+other_shorter a b a_remaining b_remaining h = omega (arith, ap length h.second, length-append h.front b_remaining)
 
 -- one more step was taken before
-pub fewer : (x : Step) (left all left_after : List Step) → all ≡ x ∷ left → length left_after ≤ length left → length left_after < length all
-fewer x left all left_after e h = omega (arith, ap length e, h)
+pub fewer : (x : Step) (remaining all remaining_after : List Step) → all ≡ x ∷ remaining → length remaining_after ≤ length remaining
+    → length remaining_after < length all
+fewer x remaining all remaining_after e h = omega (arith, ap length e, h)
 
 pub step_taken : (first all : List Step) (x y : Step) (a b all_a all_b : List Step) → GoesOn first all all_a all_b → all_a ≡ x ∷ a → all_b ≡ y ∷ b → x ≡ y
     → GoesOn first all a b
@@ -67,23 +68,25 @@ step_taken first all x y a b all_a all_b so_far one two same = record {
 }
 
 -- the second one goes on with what is left of the first one just if all of it begins with all of that
-pub alike_goes_on : (a b a_left b_left first all : List Step) → GoOnAlike a b a_left b_left → GoesOn first all a b → GoesOn first all a_left b_left
-alike_goes_on a b a_left b_left first all h so_far = record {
+pub alike_goes_on : (a b a_remaining b_remaining first all : List Step) → GoOnAlike a b a_remaining b_remaining → GoesOn first all a b
+    → GoesOn first all a_remaining b_remaining
+alike_goes_on a b a_remaining b_remaining first all h so_far = record {
   there = λ rest e.
-      so_far.there rest (h.second ∙ ap (λ steps. h.front ++ steps) e ∙ sym (append_assoc h.front a_left rest) ∙ ap (λ steps. steps ++ rest) (sym h.first));
+      so_far.there rest (h.second ∙ ap (λ steps. h.front ++ steps) e ∙ sym (append_assoc h.front a_remaining rest) ∙ ap (λ steps. steps ++ rest) (sym h.first));
   back = λ rest e.
-      append_cancel_left h.front b_left (a_left ++ rest)
-      (sym h.second ∙ so_far.back rest e ∙ ap (λ steps. steps ++ rest) h.first ∙ append_assoc h.front a_left rest);
+      append_cancel_left h.front b_remaining (a_remaining ++ rest)
+      (sym h.second ∙ so_far.back rest e ∙ ap (λ steps. steps ++ rest) h.first ∙ append_assoc h.front a_remaining rest);
 }
 
 -- walks that pass events that show the same go on by the same steps
-go_on_alike : (passed twins a b a_left b_left : List Event) → map shown_of passed ≡ map shown_of twins → a ≡ passed ++ a_left → b ≡ twins ++ b_left
-    → GoOnAlike (steps_of a) (steps_of b) (steps_of a_left) (steps_of b_left)
-go_on_alike passed twins a b a_left b_left e first second = record {
+go_on_alike : (passed twins a b a_remaining b_remaining : List Event) → map shown_of passed ≡ map shown_of twins → a ≡ passed ++ a_remaining
+    → b ≡ twins ++ b_remaining
+    → GoOnAlike (steps_of a) (steps_of b) (steps_of a_remaining) (steps_of b_remaining)
+go_on_alike passed twins a b a_remaining b_remaining e first second = record {
   front = steps_of passed;
-  first = ap steps_of first ∙ flat_map-append step_at passed a_left;
+  first = ap steps_of first ∙ flat_map-append step_at passed a_remaining;
   second =
-      ap steps_of second ∙ flat_map-append step_at twins b_left ∙ ap (λ steps. steps ++ steps_of b_left) (sym (same_steps passed twins e));
+      ap steps_of second ∙ flat_map-append step_at twins b_remaining ∙ ap (λ steps. steps ++ steps_of b_remaining) (sym (same_steps passed twins e));
 }
 
 -- an element starts before it ends
@@ -101,13 +104,13 @@ ordered e = elim (cases_lt e.number (length (items_of e.tree))) [
     get_or_past (i ∷ is) (suc n) l = get_or_past is n (omega (arith, l))
 
 -- an element that ends before a place is not at it
-not_entered : (place : Place) (event : Event) → EndsBefore place.start event → enters place event ≡ false
-not_entered place (false, spot) l = refl
-not_entered place (true, (false, e)) l = refl
-not_entered place (true, (true, e)) l =
-    let apart : ((item_of e).start == place.start) ≡ false = other (item_of e).start place.start (omega (arith, ordered e, l)) in
-    ap (λ b. same_kind (item_of e).kind place.kind && (b && (((item_of e).end - (item_of e).start) == place.len))) apart
-    ∙ and_false (same_kind (item_of e).kind place.kind)
+not_entered : (target : NodeRange) (event : Event) → EndsBefore target.start event → enters target event ≡ false
+not_entered target (false, spot) l = refl
+not_entered target (true, (false, e)) l = refl
+not_entered target (true, (true, e)) l =
+    let apart : ((item_of e).start == target.start) ≡ false = other (item_of e).start target.start (omega (arith, ordered e, l)) in
+    ap (λ b. same_kind (item_of e).kind target.kind && (b && (((item_of e).end - (item_of e).start) == target.len))) apart
+    ∙ and_false (same_kind (item_of e).kind target.kind)
   where
     other : (a b : ℕ) → a < b → (a == b) ≡ false
     other a b h = grind (arith, nat_tests)
@@ -117,14 +120,14 @@ not_entered place (true, (true, e)) l =
     and_false false = refl
 
 -- events of elements that end before a place are before the one that enters the node there
-pub passed_before : (place : Place) (passed rest : List Event) → All (EndsBefore place.start) passed
-    → (events_before place (passed ++ rest) ≡ passed ++ events_before place rest) × (events_inside place (passed ++ rest) ≡ events_inside place rest)
-passed_before place [] rest all = (refl, refl)
-passed_before place (event ∷ passed) rest all =
-    let fails = not_entered place event (All-head (EndsBefore place.start) event passed all) in
-    let h = passed_before place passed rest (All-tail (EndsBefore place.start) event passed all) in (
-      ap (λ b. if b then [] else event ∷ events_before place (passed ++ rest)) fails ∙ ap (λ es. event ∷ es) h.0,
-      ap (λ b. if b then passed ++ rest else events_inside place (passed ++ rest)) fails ∙ h.1,
+pub passed_before : (target : NodeRange) (passed rest : List Event) → All (EndsBefore target.start) passed
+    → (events_before target (passed ++ rest) ≡ passed ++ events_before target rest) × (events_inside target (passed ++ rest) ≡ events_inside target rest)
+passed_before target [] rest all = (refl, refl)
+passed_before target (event ∷ passed) rest all =
+    let fails = not_entered target event (All-head (EndsBefore target.start) event passed all) in
+    let h = passed_before target passed rest (All-tail (EndsBefore target.start) event passed all) in (
+      ap (λ b. if b then [] else event ∷ events_before target (passed ++ rest)) fails ∙ ap (λ es. event ∷ es) h.0,
+      ap (λ b. if b then passed ++ rest else events_inside target (passed ++ rest)) fails ∙ h.1,
     )
 
 -- no event was passed
@@ -140,15 +143,16 @@ none_passed before other_before a b = record {
 }
 
 -- or those of siblings
-pub as_passed : (before other_before : ℕ) (result : Option Bool) (a b a_left b_left : List Event) → PassesAlike before other_before result a b a_left b_left
-    → ArePassed before other_before a b a_left b_left
-as_passed before other_before None a b a_left b_left h =
-    subst (λ es. ArePassed before other_before a b es b_left) (sym h.1)
+pub as_passed : (before other_before : ℕ) (result : Option Bool) (a b a_remaining b_remaining : List Event)
+    → PassesAlike before other_before result a b a_remaining b_remaining
+    → ArePassed before other_before a b a_remaining b_remaining
+as_passed before other_before None a b a_remaining b_remaining h =
+    subst (λ es. ArePassed before other_before a b es b_remaining) (sym h.1)
     (subst (ArePassed before other_before a b a) (sym h.2) (none_passed before other_before a b))
-as_passed before other_before (Some false) a b a_left b_left h =
-    subst (λ es. ArePassed before other_before a b es b_left) (sym h.2)
+as_passed before other_before (Some false) a b a_remaining b_remaining h =
+    subst (λ es. ArePassed before other_before a b es b_remaining) (sym h.2)
     (subst (ArePassed before other_before a b a) (sym h.3) (none_passed before other_before a b))
-as_passed before other_before (Some true) a b a_left b_left h = record {
+as_passed before other_before (Some true) a b a_remaining b_remaining h = record {
   passed = h.passed;
   twins = h.twins;
   first = h.first;
@@ -159,40 +163,40 @@ as_passed before other_before (Some true) a b a_left b_left h = record {
 }
 
 -- what is left of two walks that passed alike events
-module _ (before other_before : ℕ) (a b a_left b_left : List Event) (h : ArePassed before other_before a b a_left b_left) where
+module _ (before other_before : ℕ) (a b a_remaining b_remaining : List Event) (h : ArePassed before other_before a b a_remaining b_remaining) where
   -- goes on alike
-  pub passed_alike : GoOnAlike (steps_of a) (steps_of b) (steps_of a_left) (steps_of b_left)
-  passed_alike = go_on_alike h.passed h.twins a b a_left b_left h.alike h.first h.second
+  pub passed_alike : GoOnAlike (steps_of a) (steps_of b) (steps_of a_remaining) (steps_of b_remaining)
+  passed_alike = go_on_alike h.passed h.twins a b a_remaining b_remaining h.alike h.first h.second
 
   -- up to nodes at the offsets
-  before_first : (place : Place) → before ≡ place.start
-      → (events_before place (h.passed ++ a_left) ≡ h.passed ++ events_before place a_left)
-      × (events_inside place (h.passed ++ a_left) ≡ events_inside place a_left)
-  before_first place e = passed_before place h.passed a_left (subst (λ n. All (EndsBefore n) h.passed) e h.ends)
+  before_first : (target : NodeRange) → before ≡ target.start
+      → (events_before target (h.passed ++ a_remaining) ≡ h.passed ++ events_before target a_remaining)
+      × (events_inside target (h.passed ++ a_remaining) ≡ events_inside target a_remaining)
+  before_first target e = passed_before target h.passed a_remaining (subst (λ n. All (EndsBefore n) h.passed) e h.ends)
 
-  before_second : (place : Place) → other_before ≡ place.start
-      → (events_before place (h.twins ++ b_left) ≡ h.twins ++ events_before place b_left)
-      × (events_inside place (h.twins ++ b_left) ≡ events_inside place b_left)
-  before_second place e = passed_before place h.twins b_left (subst (λ n. All (EndsBefore n) h.twins) e h.other_ends)
+  before_second : (target : NodeRange) → other_before ≡ target.start
+      → (events_before target (h.twins ++ b_remaining) ≡ h.twins ++ events_before target b_remaining)
+      × (events_inside target (h.twins ++ b_remaining) ≡ events_inside target b_remaining)
+  before_second target e = passed_before target h.twins b_remaining (subst (λ n. All (EndsBefore n) h.twins) e h.other_ends)
 
   -- the nodes there are entered as before
-  pub inside_first : (place : Place) → before ≡ place.start → events_inside place a_left ≡ events_inside place a
-  inside_first place e = sym (ap (events_inside place) h.first ∙ (before_first place e).1)
+  pub inside_first : (target : NodeRange) → before ≡ target.start → events_inside target a_remaining ≡ events_inside target a
+  inside_first target e = sym (ap (events_inside target) h.first ∙ (before_first target e).1)
 
-  pub inside_second : (place : Place) → other_before ≡ place.start → events_inside place b_left ≡ events_inside place b
-  inside_second place e = sym (ap (events_inside place) h.second ∙ (before_second place e).1)
+  pub inside_second : (target : NodeRange) → other_before ≡ target.start → events_inside target b_remaining ≡ events_inside target b
+  inside_second target e = sym (ap (events_inside target) h.second ∙ (before_second target e).1)
 
   -- in the first walk up to the node, in the second one to its end
-  pub alike_before : (place : Place) → before ≡ place.start
-      → GoOnAlike (steps_of (events_before place a)) (steps_of b) (steps_of (events_before place a_left)) (steps_of b_left)
-  alike_before place e =
-      go_on_alike h.passed h.twins (events_before place a) b (events_before place a_left) b_left h.alike
-      (ap (events_before place) h.first ∙ (before_first place e).0) h.second
+  pub alike_before : (target : NodeRange) → before ≡ target.start
+      → GoOnAlike (steps_of (events_before target a)) (steps_of b) (steps_of (events_before target a_remaining)) (steps_of b_remaining)
+  alike_before target e =
+      go_on_alike h.passed h.twins (events_before target a) b (events_before target a_remaining) b_remaining h.alike
+      (ap (events_before target) h.first ∙ (before_first target e).0) h.second
 
   -- in both up to nodes
-  pub both_before : (place other : Place) → before ≡ place.start → other_before ≡ other.start
-      → GoOnAlike (steps_of (events_before place a)) (steps_of (events_before other b)) (steps_of (events_before place a_left))
-      (steps_of (events_before other b_left))
-  both_before place other e f =
-      go_on_alike h.passed h.twins (events_before place a) (events_before other b) (events_before place a_left) (events_before other b_left) h.alike
-      (ap (events_before place) h.first ∙ (before_first place e).0) (ap (events_before other) h.second ∙ (before_second other f).0)
+  pub both_before : (target other : NodeRange) → before ≡ target.start → other_before ≡ other.start
+      → GoOnAlike (steps_of (events_before target a)) (steps_of (events_before other b)) (steps_of (events_before target a_remaining))
+      (steps_of (events_before other b_remaining))
+  both_before target other e f =
+      go_on_alike h.passed h.twins (events_before target a) (events_before other b) (events_before target a_remaining) (events_before other b_remaining) h.alike
+      (ap (events_before target) h.first ∙ (before_first target e).0) (ap (events_before other) h.second ∙ (before_second other f).0)

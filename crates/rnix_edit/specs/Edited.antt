@@ -7,13 +7,13 @@ use Rattle.rnix_green.specs.Tree.{Tree, Located, item_of}
 use Rattle.rnix_grammar.specs.Parsed.{IsParsed}
 use Rattle.rnix.specs.ParseResult.{Reading}
 use Rattle.rnix_text.specs.Changes.{IsInside, IsBetween}
-use Rattle.rnix_edit.specs.declared.place.Place.{Place}
+use Rattle.rnix_edit.specs.declared.node_range.NodeRange.{NodeRange}
 use Rattle.rnix_edit.specs.declared.edited.Edited.{Edited}
 use Rattle.rnix_edit.specs.declared.edited.Edited.TheVariants as edited
 use Rattle.rnix_edit.specs.declared.edited.Refusal.{Refusal}
 use Rattle.rnix_edit.specs.declared.edited.Refusal.TheVariants as refusal
 use Rattle.rnix_edit.specs.declared.cut.Cut.{Cut}
-use Rattle.rnix_edit.specs.Steps.{place_of, has_node, steps_in, steps_before, steps_after, is_comment, enters_first}
+use Rattle.rnix_edit.specs.Steps.{node_range_of, has_node, steps_in, steps_before, steps_after, is_comment, enters_first}
 use Rattle.rnix_edit.specs.EditRanges.{Gap, put_in, cut_of, gap_after, gap_inside}
 
 -- the text with new bytes in place of those from start up to end
@@ -21,24 +21,24 @@ abbrev pub spliced : List ℕ → ℕ → ℕ → List ℕ → List ℕ
 spliced text start end new = take start text ++ (new ++ drop end text)
 
 -- a node is at a place, and the tree around it is the tree around another place of another tree, white space aside
-pub record IsAround (root : Located) (old : Place) (other : Located) (new : Place) : Type 0 where
+pub record IsAround (root : Located) (old : NodeRange) (other : Located) (new : NodeRange) : Type 0 where
   pub is_there : has_node new other ≡ true
   pub before : steps_before new other ≡ steps_before old root
   pub after : steps_after new other ≡ steps_after old root
 
 -- a tree is another one without the node at a place and this number of comments after it, white space aside
-pub record IsWithout (root : Located) (old : Place) (comments : ℕ) (other : Located) : Type 0 where
+pub record IsWithout (root : Located) (old : NodeRange) (comments : ℕ) (other : Located) : Type 0 where
   pub fits : comments ≤ length (steps_after old root)
   pub are_comments : list_all is_comment (take comments (steps_after old root)) ≡ true
   pub rest : steps_in other ≡ steps_before old root ++ drop comments (steps_after old root)
 
 -- a node is at a place of a tree, and without it that is another tree, white space aside
-pub record IsWith (root other : Located) (new : Place) : Type 0 where
+pub record IsWith (root other : Located) (new : NodeRange) : Type 0 where
   pub is_there : has_node new other ≡ true
   pub rest : steps_in root ≡ steps_before new other ++ steps_after new other
 
 -- such a node comes right after a node of the other tree and this number of comments
-pub record IsAfter (root : Located) (old : Place) (comments : ℕ) (other : Located) (new : Place) : Type 0 where
+pub record IsAfter (root : Located) (old : NodeRange) (comments : ℕ) (other : Located) (new : NodeRange) : Type 0 where
   pub added : IsWith root other new
   pub fits : comments ≤ length (steps_after old root)
   pub are_comments : list_all is_comment (take comments (steps_after old root)) ≡ true
@@ -46,7 +46,7 @@ pub record IsAfter (root : Located) (old : Place) (comments : ℕ) (other : Loca
 
 -- such a node comes right before the last token of a node of the other tree: after it, the walk enters one more element, which can only be that
 -- token, and then leaves the node
-pub record IsLastIn (root : Located) (old : Place) (other : Located) (new : Place) : Type 0 where
+pub record IsLastIn (root : Located) (old : NodeRange) (other : Located) (new : NodeRange) : Type 0 where
   pub added : IsWith root other new
   pub fits : 2 ≤ length (steps_after new other)
   pub token : enters_first (steps_after new other) ≡ true
@@ -57,8 +57,8 @@ abbrev pub root_in : Tree → Located
 root_in tree = record { tree = tree; number = 0 }
 
 -- the place at which a new node is read
-abbrev pub place_at : SyntaxKind → ℕ → List ℕ → Place
-place_at kind start new = record { kind = kind; start = start; len = length new }
+abbrev pub node_range_at : SyntaxKind → ℕ → List ℕ → NodeRange
+node_range_at kind start new = record { kind = kind; start = start; len = length new }
 
 -- a text is read without errors, as a tree whose root satisfies `so`
 pub record IsReadSo (text : List ℕ) (so : Located → Type 0) : Type 0 where
@@ -91,7 +91,7 @@ IsHindered refusal.ReadOtherwise text start end new so = IsReadOtherwise (splice
 
 -- the root is that of the tree with a new node of a kind in place of the other one
 abbrev pub IsTreeReplaced : Located → Located → SyntaxKind → List ℕ → Located → Type 0
-IsTreeReplaced root node kind new other = IsAround root (place_of node) other (place_at kind (item_of node).start new)
+IsTreeReplaced root node kind new other = IsAround root (node_range_of node) other (node_range_at kind (item_of node).start new)
 
 -- the text with a new text in place of that of a node: it is one node of the kind, and the tree around it is as before
 abbrev pub IsReplaced : List ℕ → Located → Located → SyntaxKind → List ℕ → List ℕ → Type 0
@@ -105,11 +105,11 @@ IsNotReplaced refusal text root node kind new =
 
 -- the text without the bytes of a cut: its tree is the old one without the node and the comments in the cut
 abbrev pub IsCutOut : List ℕ → Located → Located → Cut → List ℕ → Type 0
-IsCutOut text root node cut made = IsMade text cut.start cut.end [] (IsWithout root (place_of node) cut.comments) made
+IsCutOut text root node cut made = IsMade text cut.start cut.end [] (IsWithout root (node_range_of node) cut.comments) made
 
 -- why there is no such text
 abbrev pub IsNotCutOut : Refusal → List ℕ → Located → Located → Cut → Type 0
-IsNotCutOut refusal text root node cut = IsHindered refusal text cut.start cut.end [] (IsWithout root (place_of node) cut.comments)
+IsNotCutOut refusal text root node cut = IsHindered refusal text cut.start cut.end [] (IsWithout root (node_range_of node) cut.comments)
 
 -- the text without a node: without the bytes that go with it
 abbrev pub IsRemoved : List ℕ → Located → Located → List ℕ → Type 0
@@ -120,8 +120,8 @@ abbrev pub IsNotRemoved : Refusal → List ℕ → Located → Located → Type 
 IsNotRemoved refusal text root node = IsNotCutOut refusal text root node (cut_of text node)
 
 -- the place of a node of a kind that is put into a gap
-abbrev pub place_in : Gap → SyntaxKind → List ℕ → Place
-place_in gap kind new = place_at kind (gap.start + length gap.before) new
+abbrev pub node_range_in : Gap → SyntaxKind → List ℕ → NodeRange
+node_range_in gap kind new = node_range_at kind (gap.start + length gap.before) new
 
 -- the text with a new text in a gap: the root of its tree satisfies `so`
 abbrev pub IsFilled : (Gap → Located → Type 0) → List ℕ → List ℕ → Gap → List ℕ → Type 0
@@ -133,7 +133,7 @@ IsNotFilled so refusal text new gap = IsHindered refusal text gap.start gap.end 
 
 -- the root is that of the tree with what is put into a gap: one node of a kind, right after the other one and the comments up to the gap
 abbrev pub IsTreeAfter : Located → Located → SyntaxKind → List ℕ → Gap → Located → Type 0
-IsTreeAfter root node kind new gap other = IsAfter root (place_of node) gap.comments other (place_in gap kind new)
+IsTreeAfter root node kind new gap other = IsAfter root (node_range_of node) gap.comments other (node_range_in gap kind new)
 
 -- the text with a new text after a node, in the gap there
 abbrev pub IsInsertedAfter : List ℕ → Located → Located → SyntaxKind → List ℕ → List ℕ → Type 0
@@ -145,7 +145,7 @@ IsNotInsertedAfter refusal text root node kind new = IsNotFilled (IsTreeAfter ro
 
 -- the root is that of the tree with what is put into a gap: one node of a kind, right before the last token of the other one
 abbrev pub IsTreeInside : Located → Located → SyntaxKind → List ℕ → Gap → Located → Type 0
-IsTreeInside root node kind new gap other = IsLastIn root (place_of node) other (place_in gap kind new)
+IsTreeInside root node kind new gap other = IsLastIn root (node_range_of node) other (node_range_in gap kind new)
 
 -- the text with a new text before the closing bracket of a node, in the gap there
 abbrev pub IsInsertedInside : List ℕ → Located → Located → SyntaxKind → List ℕ → List ℕ → Type 0

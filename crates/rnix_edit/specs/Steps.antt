@@ -9,7 +9,7 @@ use Rattle.rnix_green.specs.Equality.{same_kind}
 use Rattle.rnix_green.specs.Tree.{Located, item_of, text_at}
 use Rattle.rnix_green.specs.Walk.{Event, preorder_of, elements_of, nodes_in}
 use Rattle.rnix_tree.specs.WalksAlike.{shown_of, EndsBefore}
-use Rattle.rnix_edit.specs.declared.place.Place.{Place}
+use Rattle.rnix_edit.specs.declared.node_range.NodeRange.{NodeRange}
 use Rattle.rnix_edit.specs.declared.steps.Step.{Step as Made}
 
 -- a node is entered or left, and then has no text, or a token is passed
@@ -53,55 +53,55 @@ abbrev pub steps_in : Located → List Step
 steps_in root = steps_of (preorder_of root)
 
 -- the place of an element: its kind, where it begins, and its length
-abbrev pub place_of : Located → Place
-place_of e = record { kind = (item_of e).kind; start = (item_of e).start; len = (item_of e).end - (item_of e).start }
+abbrev pub node_range_of : Located → NodeRange
+node_range_of e = record { kind = (item_of e).kind; start = (item_of e).start; len = (item_of e).end - (item_of e).start }
 
 -- two places are one
-abbrev pub same_place : Place → Place → Bool
-same_place a b = same_kind a.kind b.kind && (a.start == b.start && a.len == b.len)
+abbrev pub same_node_range : NodeRange → NodeRange → Bool
+same_node_range a b = same_kind a.kind b.kind && (a.start == b.start && a.len == b.len)
 
 -- whether an element is at a place
-abbrev pub is_at : Place → Located → Bool
-is_at place e = same_place (place_of e) place
+abbrev pub is_at : NodeRange → Located → Bool
+is_at target e = same_node_range (node_range_of e) target
 
 -- whether a node inside an element is at a place
-abbrev pub has_node : Place → Located → Bool
-has_node place root = list_any (is_at place) (nodes_in (elements_of root))
+abbrev pub has_node : NodeRange → Located → Bool
+has_node target root = list_any (is_at target) (nodes_in (elements_of root))
 
 -- whether an event enters a node at a place
-abbrev pub enters : Place → Event → Bool
-enters place event = event.0 && (event.1.0 && is_at place event.1.1)
+abbrev pub enters : NodeRange → Event → Bool
+enters target event = event.0 && (event.1.0 && is_at target event.1.1)
 
 -- whether an event leaves a node at a place
-abbrev pub leaves : Place → Event → Bool
-leaves place event = not event.0 && (event.1.0 && is_at place event.1.1)
+abbrev pub leaves : NodeRange → Event → Bool
+leaves target event = not event.0 && (event.1.0 && is_at target event.1.1)
 
 -- the events before the node at a place is entered
-abbrev pub events_before : Place → List Event → List Event
-events_before place [] = []
-events_before place (event ∷ events) = if enters place event then [] else event ∷ events_before place events
+abbrev pub events_before : NodeRange → List Event → List Event
+events_before target [] = []
+events_before target (event ∷ events) = if enters target event then [] else event ∷ events_before target events
 
 -- the events after the node at a place is left
-abbrev pub events_after : Place → List Event → List Event
-events_after place [] = []
-events_after place (event ∷ events) = if leaves place event then events else events_after place events
+abbrev pub events_after : NodeRange → List Event → List Event
+events_after target [] = []
+events_after target (event ∷ events) = if leaves target event then events else events_after target events
 
 -- the events after the node at a place is entered
-abbrev pub events_inside : Place → List Event → List Event
-events_inside place [] = []
-events_inside place (event ∷ events) = if enters place event then events else events_inside place events
+abbrev pub events_inside : NodeRange → List Event → List Event
+events_inside target [] = []
+events_inside target (event ∷ events) = if enters target event then events else events_inside target events
 
 -- whether the node at a place is left
-abbrev pub is_left : Place → List Event → Bool
-is_left place events = list_any (leaves place) events
+abbrev pub is_exited : NodeRange → List Event → Bool
+is_exited target events = list_any (leaves target) events
 
 -- the steps of a walk over an element before the node at a place
-abbrev pub steps_before : Place → Located → List Step
-steps_before place root = steps_of (events_before place (preorder_of root))
+abbrev pub steps_before : NodeRange → Located → List Step
+steps_before target root = steps_of (events_before target (preorder_of root))
 
 -- the steps of a walk over an element after the node at a place
-abbrev pub steps_after : Place → Located → List Step
-steps_after place root = steps_of (events_after place (preorder_of root))
+abbrev pub steps_after : NodeRange → Located → List Step
+steps_after target root = steps_of (events_after target (preorder_of root))
 
 -- whether a step passes a comment
 abbrev pub is_comment : Step → Bool
@@ -117,8 +117,8 @@ abbrev pub AreComments : ℕ → List Step → Type 0
 AreComments count all = (count ≤ length all) × (list_all is_comment (take count all) ≡ true)
 
 -- whether so many comments come first; if so, they were taken, and these steps are left
-pub record AreCommentsTaken (taken : Bool) (count : ℕ) (all left : List Step) : Type 0 where
-  pub passed : taken ≡ true → AreComments count all × (left ≡ drop count all)
+pub record AreCommentsTaken (taken : Bool) (count : ℕ) (all remaining : List Step) : Type 0 where
+  pub passed : taken ≡ true → AreComments count all × (remaining ≡ drop count all)
   pub found : AreComments count all → taken ≡ true
 
 -- two steps come first, and the first one enters an element
@@ -126,21 +126,21 @@ abbrev pub IsClosing : List Step → Type 0
 IsClosing all = (2 ≤ length all) × (enters_first all ≡ true)
 
 -- whether these two come first; if so, they were taken, and these steps are left
-pub record IsClosingTaken (taken : Bool) (all left : List Step) : Type 0 where
-  pub passed : taken ≡ true → IsClosing all × (left ≡ drop 2 all)
+pub record IsClosingTaken (taken : Bool) (all remaining : List Step) : Type 0 where
+  pub passed : taken ≡ true → IsClosing all × (remaining ≡ drop 2 all)
   pub found : IsClosing all → taken ≡ true
 
 -- whether steps begin with some others; if so, these were taken, and what is left
-pub record AreTaken (taken : Bool) (first all left : List Step) : Type 0 where
-  pub passed : taken ≡ true → all ≡ first ++ left
+pub record AreTaken (taken : Bool) (first all remaining : List Step) : Type 0 where
+  pub passed : taken ≡ true → all ≡ first ++ remaining
   pub found : (rest : List Step) → all ≡ first ++ rest → taken ≡ true
 
 -- two walks have passed events that show the same, or none, of elements that end before two offsets
-pub record ArePassed (before other_before : ℕ) (a b a_left b_left : List Event) : Type 0 where
+pub record ArePassed (before other_before : ℕ) (a b a_remaining b_remaining : List Event) : Type 0 where
   pub passed : List Event
   pub twins : List Event
-  pub first : a ≡ passed ++ a_left
-  pub second : b ≡ twins ++ b_left
+  pub first : a ≡ passed ++ a_remaining
+  pub second : b ≡ twins ++ b_remaining
   pub alike : map shown_of passed ≡ map shown_of twins
   pub ends : All (EndsBefore before) passed
   pub other_ends : All (EndsBefore other_before) twins

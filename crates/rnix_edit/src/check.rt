@@ -3,14 +3,19 @@
 ghost use Rattle.std.specs.Bool.{Decides};
 ghost use Rattle.rnix_edit.specs.Edited.{IsAround, IsWithout, IsWith, IsAfter, IsLastIn};
 
-use crate::place::Place;
+use crate::node_range::NodeRange;
 use crate::steps::{
     are_same_before, are_same_walks, begins_before, skip_node, takes_closing, takes_comments,
 };
 use rnix::SyntaxNode;
 
 /// Returns whether `other` has a node at `new`, and the trees around `old` in `root` and around `new` in `other` are the same.
-pub fn is_around(root: &SyntaxNode<'_>, old: Place, other: &SyntaxNode<'_>, new: Place) -> bool
+pub fn is_around(
+    root: &SyntaxNode<'_>,
+    old: NodeRange,
+    other: &SyntaxNode<'_>,
+    new: NodeRange,
+) -> bool
     ensures { Decides result (IsAround root.now old other.now new) }
 {
     let mut old_walk = root.preorder_with_tokens();
@@ -25,7 +30,7 @@ pub fn is_around(root: &SyntaxNode<'_>, old: Place, other: &SyntaxNode<'_>, new:
 /// Returns whether `other` is `root` without the node at `old` and the next `comments` comments.
 pub fn is_without(
     root: &SyntaxNode<'_>,
-    old: Place,
+    old: NodeRange,
     comments: usize,
     other: &SyntaxNode<'_>,
 ) -> bool
@@ -41,7 +46,7 @@ pub fn is_without(
 }
 
 // Returns whether `other` has a node at `new`, and is `root` without this node.
-fn is_with(root: &SyntaxNode<'_>, other: &SyntaxNode<'_>, new: Place) -> bool
+fn is_with(root: &SyntaxNode<'_>, other: &SyntaxNode<'_>, new: NodeRange) -> bool
     ensures { Decides result (IsWith root.now other.now new) }
 {
     let mut old_walk = root.preorder_with_tokens();
@@ -56,10 +61,10 @@ fn is_with(root: &SyntaxNode<'_>, other: &SyntaxNode<'_>, new: Place) -> bool
 // Apart from the new node both trees have the same steps, so its position is right if the steps after it are.
 pub fn is_after(
     root: &SyntaxNode<'_>,
-    old: Place,
+    old: NodeRange,
     comments: usize,
     other: &SyntaxNode<'_>,
-    new: Place,
+    new: NodeRange,
 ) -> bool
     ensures { Decides result (IsAfter root.now old comments other.now new) }
 {
@@ -75,7 +80,12 @@ pub fn is_after(
 
 /// Returns whether `other` is `root` plus one node at `new`, directly before the last token of the node at `old`.
 // As above, the steps after the new node determine its position.
-pub fn is_inside(root: &SyntaxNode<'_>, old: Place, other: &SyntaxNode<'_>, new: Place) -> bool
+pub fn is_inside(
+    root: &SyntaxNode<'_>,
+    old: NodeRange,
+    other: &SyntaxNode<'_>,
+    new: NodeRange,
+) -> bool
     ensures { Decides result (IsLastIn root.now old other.now new) }
 {
     if !is_with(root, other, new) {

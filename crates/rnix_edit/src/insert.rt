@@ -2,13 +2,13 @@
 
 ghost use Rattle.std.specs.Prelude.{◌≡◌, ◌++◌, string_bytes, IfOk};
 ghost use Rattle.rnix_edit.specs.EditRanges.{put_in};
-ghost use Rattle.rnix_edit.specs.Edited.{IfDone, IfRefused, spliced, place_in, IsInsertedAfter, IsNotInsertedAfter, IsInsertedInside, IsNotInsertedInside};
+ghost use Rattle.rnix_edit.specs.Edited.{IfDone, IfRefused, spliced, node_range_in, IsInsertedAfter, IsNotInsertedAfter, IsInsertedInside, IsNotInsertedInside};
 ghost use Rattle.rnix_edit.specs.Tried.{IsUnread, IfRead, IfNotRead, gap_of};
 
 use crate::check::{is_after, is_inside};
 use crate::edited::{Edited, Refusal};
 use crate::gap::{Gap, gap_after, gap_inside};
-use crate::place::{Place, place_of};
+use crate::node_range::{NodeRange, node_range_of};
 use crate::tried::{Tried, read_spliced};
 use rnix::{SyntaxKind, SyntaxNode};
 use std::alloc::{AllocError, Global};
@@ -32,12 +32,12 @@ fn read_filled(alloc: Global, text: &str, gap: &Gap, new: &str) -> Result<Tried,
     read_spliced(alloc, text, gap.start, gap.end, put.as_str())
 }
 
-// Returns the place of a node of a kind that is put into a gap.
-fn place_in(gap: &Gap, kind: SyntaxKind, new: &str) -> Result<Place, AllocError>
-    ensures { IfOk result (λ place. place ≡ place_in (gap_of gap.now) kind new.now) }
+// Returns the range of a node of a kind that is put into a gap.
+fn node_range_in(gap: &Gap, kind: SyntaxKind, new: &str) -> Result<NodeRange, AllocError>
+    ensures { IfOk result (λ target. target ≡ node_range_in (gap_of gap.now) kind new.now) }
 {
     match gap.start.checked_add(gap.before.len()) {
-        Some(start) => Ok(Place {
+        Some(start) => Ok(NodeRange {
             kind,
             start,
             len: new.len(),
@@ -65,9 +65,9 @@ pub fn insert_after(
         Tried::Read(made, read) => (made, read),
         Tried::Refused(refusal) => return Ok(Edited::Refused(refusal)),
     };
-    let place = place_in(&gap, kind, new)?;
-    let old = place_of(node);
-    if is_after(root, old, gap.comments, &read.syntax(), place) {
+    let target = node_range_in(&gap, kind, new)?;
+    let old = node_range_of(node);
+    if is_after(root, old, gap.comments, &read.syntax(), target) {
         Ok(Edited::Done(made))
     } else {
         Ok(Edited::Refused(Refusal::ReadOtherwise))
@@ -92,9 +92,9 @@ pub fn insert_inside(
         Tried::Read(made, read) => (made, read),
         Tried::Refused(refusal) => return Ok(Edited::Refused(refusal)),
     };
-    let place = place_in(&gap, kind, new)?;
-    let old = place_of(node);
-    if is_inside(root, old, &read.syntax(), place) {
+    let target = node_range_in(&gap, kind, new)?;
+    let old = node_range_of(node);
+    if is_inside(root, old, &read.syntax(), target) {
         Ok(Edited::Done(made))
     } else {
         Ok(Edited::Refused(Refusal::ReadOtherwise))

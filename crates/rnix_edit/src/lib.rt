@@ -8,7 +8,7 @@ mod edited;
 mod gap;
 mod insert;
 mod line;
-mod place;
+mod node_range;
 mod removing;
 mod replacing;
 mod steps;

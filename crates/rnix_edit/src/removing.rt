@@ -6,7 +6,7 @@ ghost use Rattle.rnix_edit.specs.Edited.{IfDone, IfRefused, IsRemoved, IsNotRemo
 use crate::check::is_without;
 use crate::cut::cut_of;
 use crate::edited::{Edited, Refusal};
-use crate::place::place_of;
+use crate::node_range::node_range_of;
 use crate::tried::{Tried, read_spliced};
 use rnix::SyntaxNode;
 use std::alloc::{AllocError, Global};
@@ -27,7 +27,7 @@ pub fn remove(
         Tried::Read(made, read) => (made, read),
         Tried::Refused(refusal) => return Ok(Edited::Refused(refusal)),
     };
-    let old = place_of(node);
+    let old = node_range_of(node);
     if is_without(root, old, cut.comments, &read.syntax()) {
         Ok(Edited::Done(made))
     } else {

@@ -3,12 +3,12 @@
 ghost use Rattle.std.specs.Prelude.{◌≡◌, IfOk};
 ghost use Rattle.std.specs.Bool.{Decides};
 ghost use Rattle.rnix_green.specs.Tree.{item_of};
-ghost use Rattle.rnix_edit.specs.Edited.{IfDone, IfRefused, spliced, place_at, IsTreeReplaced, IsReplaced, IsNotReplaced};
+ghost use Rattle.rnix_edit.specs.Edited.{IfDone, IfRefused, spliced, node_range_at, IsTreeReplaced, IsReplaced, IsNotReplaced};
 ghost use Rattle.rnix_edit.specs.Tried.{IsUnread, IfRead, IfNotRead};
 
 use crate::check::is_around;
 use crate::edited::{Edited, Refusal};
-use crate::place::{Place, place_of};
+use crate::node_range::{NodeRange, node_range_of};
 use crate::tried::{Tried, read_spliced};
 use rnix::{SyntaxKind, SyntaxNode};
 use std::alloc::{AllocError, Global};
@@ -27,11 +27,11 @@ fn read_replaced(
     read_spliced(alloc, text, range.start(), range.end(), new)
 }
 
-// Returns the place of a new text that must be read as one node of a kind.
-fn place_at(kind: SyntaxKind, start: usize, new: &str) -> Place
-    ensures { result ≡ place_at kind start new.now }
+// Returns the kind and the range of a new text that must be read as one node of a kind.
+fn node_range_at(kind: SyntaxKind, start: usize, new: &str) -> NodeRange
+    ensures { result ≡ node_range_at kind start new.now }
 {
-    Place {
+    NodeRange {
         kind,
         start,
         len: new.len(),
@@ -48,8 +48,8 @@ fn is_replaced(
 ) -> bool
     ensures { Decides result (IsTreeReplaced root.now node.now kind new.now other.now) }
 {
-    let old = place_of(node);
-    is_around(root, old, other, place_at(kind, old.start, new))
+    let old = node_range_of(node);
+    is_around(root, old, other, node_range_at(kind, old.start, new))
 }
 
 /// Returns the text with a new text in place of a node. The new text must be read as one node of this kind.

@@ -5,9 +5,9 @@ ghost use Rattle.rnix_green.specs.Tree.{item_of, text_at};
 ghost use Rattle.std.specs.Bool.{Decides};
 ghost use Rattle.rnix_tree.specs.{Spots.{event_of}, WalksAlike.{siblings_before}};
 ghost use Rattle.rnix_edit.specs.Steps.{step_of, token_steps, node_step, step_at, steps_of, enters, leaves, events_before, events_inside, events_after};
-ghost use Rattle.rnix_edit.specs.Steps.{is_left, is_comment, ArePassed, AreTaken, AreCommentsTaken, IsClosingTaken};
+ghost use Rattle.rnix_edit.specs.Steps.{is_exited, is_comment, ArePassed, AreTaken, AreCommentsTaken, IsClosingTaken};
 
-use crate::place::{Place, is_at};
+use crate::node_range::{NodeRange, is_at};
 use rnix::{
     NodeOrToken, PreorderWithTokens, SyntaxElement, SyntaxKind, SyntaxNode, SyntaxToken, WalkEvent,
 };
@@ -50,33 +50,33 @@ fn node_step<'t>(node: &SyntaxNode<'t>, enters: bool) -> Step<'t>
     }
 }
 
-// Returns whether an event enters the node at a place.
-fn enters(event: &WalkEvent<SyntaxElement<'_>>, place: Place) -> bool
-    ensures { result ≡ enters place (event_of event.now) }
+// Returns whether an event enters the node of a range.
+fn enters(event: &WalkEvent<SyntaxElement<'_>>, target: NodeRange) -> bool
+    ensures { result ≡ enters target (event_of event.now) }
 {
     match event {
-        WalkEvent::Enter(NodeOrToken::Node(node)) => is_at(node, place),
+        WalkEvent::Enter(NodeOrToken::Node(node)) => is_at(node, target),
         _ => false,
     }
 }
 
-// Returns whether an event leaves the node at a place.
-fn leaves(event: &WalkEvent<SyntaxElement<'_>>, place: Place) -> bool
-    ensures { result ≡ leaves place (event_of event.now) }
+// Returns whether an event leaves the node of a range.
+fn leaves(event: &WalkEvent<SyntaxElement<'_>>, target: NodeRange) -> bool
+    ensures { result ≡ leaves target (event_of event.now) }
 {
     match event {
-        WalkEvent::Leave(NodeOrToken::Node(node)) => is_at(node, place),
+        WalkEvent::Leave(NodeOrToken::Node(node)) => is_at(node, target),
         _ => false,
     }
 }
 
-/// Takes the events up to the one that leaves the node at a place, and returns whether there is one.
-pub fn skip_node(events: &mut PreorderWithTokens<'_>, place: Place) -> bool
-    ensures rest { events.new ≡ events_after place events.old }
-    ensures found { result ≡ is_left place events.old }
+/// Takes the events up to the one that leaves the node of a range, and returns whether there is one.
+pub fn skip_node(events: &mut PreorderWithTokens<'_>, target: NodeRange) -> bool
+    ensures rest { events.new ≡ events_after target events.old }
+    ensures found { result ≡ is_exited target events.old }
 {
     while let Some(event) = events.next() {
-        if leaves(&event, place) {
+        if leaves(&event, target) {
             return true;
         }
     }
@@ -127,15 +127,15 @@ fn next_step<'t>(events: &mut PreorderWithTokens<'t>) -> Option<Step<'t>>
     None
 }
 
-// Takes the next step of a walk before the node at a place, or else what is left up to where the walk enters that node.
-fn next_before<'t>(events: &mut PreorderWithTokens<'t>, place: Place) -> Option<Step<'t>>
-    ensures steps { MatchOption result (steps_of (events_before place events.old) ≡ [])
-        (λ step. steps_of (events_before place events.old) ≡ step_of step ∷ steps_of (events_before place events.new)) }
-    ensures entered { IfNone result (events.new ≡ events_inside place events.old) }
-    ensures inside { IfSome result (λ _. events_inside place events.new ≡ events_inside place events.old) }
+// Takes the next step of a walk before the node of a range, or else what is left up to where the walk enters that node.
+fn next_before<'t>(events: &mut PreorderWithTokens<'t>, target: NodeRange) -> Option<Step<'t>>
+    ensures steps { MatchOption result (steps_of (events_before target events.old) ≡ [])
+        (λ step. steps_of (events_before target events.old) ≡ step_of step ∷ steps_of (events_before target events.new)) }
+    ensures entered { IfNone result (events.new ≡ events_inside target events.old) }
+    ensures inside { IfSome result (λ _. events_inside target events.new ≡ events_inside target events.old) }
 {
     while let Some(event) = events.next() {
-        if enters(&event, place) {
+        if enters(&event, target) {
             return None;
         }
         if let Some(step) = step_at(&event) {
@@ -203,13 +203,13 @@ pub fn are_same_walks<'t>(mut a: PreorderWithTokens<'t>, mut b: PreorderWithToke
     are_done(b)
 }
 
-/// Returns whether two walks have the same steps before the nodes at two places. If so, both walks have then entered these nodes, or are at their
+/// Returns whether two walks have the same steps before the nodes of two ranges. If so, both walks have then entered these nodes, or are at their
 /// ends.
 pub fn are_same_before(
     events: &mut PreorderWithTokens<'_>,
-    old: Place,
+    old: NodeRange,
     others: &mut PreorderWithTokens<'_>,
-    new: Place,
+    new: NodeRange,
 ) -> bool
     ensures same { Decides result (steps_of (events_before new others.old) ≡ steps_of (events_before old events.old)) }
     ensures entered { IsTrue result → events.new ≡ events_inside old events.old }
@@ -228,25 +228,25 @@ pub fn are_same_before(
     next_before(events, old).is_none()
 }
 
-/// Takes the steps of `wanted` before the node at a place from both walks, if `events` begins with them, and returns whether it does. `wanted` has then
+/// Takes the steps of `wanted` before the node of a range from both walks, if `events` begins with them, and returns whether it does. `wanted` has then
 /// entered the node, or is at its end.
 // Siblings that are alike are passed together.
 pub fn begins_before(
     events: &mut PreorderWithTokens<'_>,
     wanted: &mut PreorderWithTokens<'_>,
-    place: Place,
+    target: NodeRange,
 ) -> bool
-    ensures taken { AreTaken result (steps_of (events_before place wanted.old)) (steps_of events.old) (steps_of events.new) }
-    ensures entered { IsTrue result → wanted.new ≡ events_inside place wanted.old }
+    ensures taken { AreTaken result (steps_of (events_before target wanted.old)) (steps_of events.old) (steps_of events.new) }
+    ensures entered { IsTrue result → wanted.new ≡ events_inside target wanted.old }
 {
     let mut misses = 0;
-    while let Some(step) = next_before(wanted, place) {
+    while let Some(step) = next_before(wanted, target) {
         match next_step(events) {
             Some(other) if is_step(step, other) => {}
             _ => return false,
         }
         if step.enters {
-            misses = try_pass(wanted, place.start, events, usize::MAX, misses);
+            misses = try_pass(wanted, target.start, events, usize::MAX, misses);
         }
     }
     true
@@ -256,10 +256,10 @@ pub fn begins_before(
 pub fn takes_comments(events: &mut PreorderWithTokens<'_>, count: usize) -> bool
     ensures { AreCommentsTaken result count (steps_of events.old) (steps_of events.new) }
 {
-    let mut left = count;
-    while left > 0 {
+    let mut remaining = count;
+    while remaining > 0 {
         match next_step(events) {
-            Some(step) if is_comment(&step) => left -= 1,
+            Some(step) if is_comment(&step) => remaining -= 1,
             _ => return false,
         }
     }

@@ -34,48 +34,48 @@ expected_set_of kind = u.Ident
 
 -- a token that is wanted
 abbrev pub token_action : SyntaxKind → ℕ → ℕ → SyntaxKind → Action
-token_action wanted left after kind = if same_kind wanted kind then a.Take after else a.Run (expected_set_of wanted) left
+token_action wanted index after kind = if same_kind wanted kind then a.Take after else a.Run (expected_set_of wanted) index
 
 -- a name that is wanted
 abbrev pub name_action : ℕ → ℕ → SyntaxKind → Action
-name_action left after TOKEN_IDENT = a.Leaf NODE_IDENT after
-name_action left after kind = a.Run u.Ident left
+name_action index after TOKEN_IDENT = a.Leaf NODE_IDENT after
+name_action index after kind = a.Run u.Ident index
 
 -- where a child of a kind is wanted: a token, or a name
 abbrev pub wanted_action : SyntaxKind → ℕ → ℕ → Option SyntaxKind → Action
-wanted_action wanted left after None = a.MissWanted (expected_set_of wanted) after
-wanted_action wanted left after (Some kind) = if same_kind wanted NODE_IDENT then name_action left after kind else token_action wanted left after kind
+wanted_action wanted index after None = a.MissWanted (expected_set_of wanted) after
+wanted_action wanted index after (Some kind) = if same_kind wanted NODE_IDENT then name_action index after kind else token_action wanted index after kind
 
 -- where more operands of a level may stand, or what closes the row
 abbrev pub many_action : ℕ → SyntaxKind → ℕ → ℕ → Option SyntaxKind → Action
-many_action level closer left after None = a.Miss after
-many_action level closer left after (Some kind) = if same_kind closer kind then a.Take after else a.Read level true left
+many_action level closer index after None = a.Miss after
+many_action level closer index after (Some kind) = if same_kind closer kind then a.Take after else a.Read level true index
 
 -- where more entries of a set or of bindings may stand, or what closes the row
 abbrev pub entries_action : SyntaxKind → ℕ → ℕ → Option SyntaxKind → Action
-entries_action closer left after None = a.Miss after
-entries_action closer left after (Some TOKEN_INHERIT) = a.Open NODE_INHERIT INHERIT left
-entries_action closer left after (Some kind) = if same_kind closer kind then a.Take after else a.Begin NODE_ATTRPATH_VALUE ATTRPATH_VALUE left
+entries_action closer index after None = a.Miss after
+entries_action closer index after (Some TOKEN_INHERIT) = a.Open NODE_INHERIT INHERIT index
+entries_action closer index after (Some kind) = if same_kind closer kind then a.Take after else a.OpenEmpty NODE_ATTRPATH_VALUE ATTRPATH_VALUE index
 
 -- inside a string
 abbrev pub pieces_action : ℕ → ℕ → Option SyntaxKind → Action
-pieces_action left after None = a.MissWanted u.Piece after
-pieces_action left after (Some TOKEN_STRING_END) = a.Take STRING_CLOSED
-pieces_action left after (Some TOKEN_STRING_CONTENT) = a.Take left
-pieces_action left after (Some TOKEN_INTERPOL_START) = a.Open NODE_INTERPOL INTERPOL left
-pieces_action left after (Some kind) = a.Run u.Piece left
+pieces_action index after None = a.MissWanted u.Piece after
+pieces_action index after (Some TOKEN_STRING_END) = a.Take STRING_CLOSED
+pieces_action index after (Some TOKEN_STRING_CONTENT) = a.Take index
+pieces_action index after (Some TOKEN_INTERPOL_START) = a.Open NODE_INTERPOL INTERPOL index
+pieces_action index after (Some kind) = a.Run u.Piece index
 
 -- a piece of a path
 abbrev pub piece_action : ℕ → Option SyntaxKind → Action
-piece_action left (Some TOKEN_PATH_ABS) = a.Take left
-piece_action left (Some TOKEN_PATH_REL) = a.Take left
-piece_action left (Some TOKEN_PATH_HOME) = a.Take left
-piece_action left (Some TOKEN_INTERPOL_START) = a.Open NODE_INTERPOL INTERPOL left
-piece_action left next = a.Close
+piece_action index (Some TOKEN_PATH_ABS) = a.Take index
+piece_action index (Some TOKEN_PATH_REL) = a.Take index
+piece_action index (Some TOKEN_PATH_HOME) = a.Take index
+piece_action index (Some TOKEN_INTERPOL_START) = a.Open NODE_INTERPOL INTERPOL index
+piece_action index next = a.Close
 
 -- where more pieces of a path may stand, by whether the next item touches what is before it
 abbrev pub path_pieces_action : ℕ → Bool → Option SyntaxKind → Action
-path_pieces_action left touches next = if touches then piece_action left next else a.Close
+path_pieces_action index touches next = if touches then piece_action index next else a.Close
 
 -- a name, a string or an interpolation; after a run of other items, at another position
 abbrev pub attr_action : ℕ → ℕ → Option SyntaxKind → Action
@@ -89,8 +89,8 @@ attr_action again after (Some kind) = a.Run u.Attr again
 
 -- where more inherited names may stand, or `;`
 abbrev pub names_action : ℕ → ℕ → Option SyntaxKind → Action
-names_action left after None = a.Miss after
-names_action left after (Some kind) = if same_kind kind TOKEN_SEMICOLON then a.Take INHERIT_CLOSED else attr_action INHERITED_NAME left (Some kind)
+names_action index after None = a.Miss after
+names_action index after (Some kind) = if same_kind kind TOKEN_SEMICOLON then a.Take INHERIT_CLOSED else attr_action INHERITED_NAME index (Some kind)
 
 -- after `inherit`: `(`, or names
 abbrev pub source_action : ℕ → Option SyntaxKind → Action
@@ -157,34 +157,34 @@ close_action kind = a.Close
 
 -- another position
 abbrev pub is_not : ℕ → ℕ → Bool
-is_not left other = if nat_eq left other then false else true
+is_not index other = if nat_eq index other then false else true
 
 -- where a part of a row comes next, by its index
 abbrev pub part_action : Part → ℕ → Option SyntaxKind → Bool → Action
-part_action (r.Operand level counted) left next touches = a.Read level counted (left + 1)
-part_action (r.Wanted kind) left next touches = wanted_action kind left (left + 1) next
-part_action (r.Many level closer) left next touches = many_action level closer left (left + 1) next
-part_action (r.Entries closer) left next touches = entries_action closer left (left + 1) next
-part_action r.Attr left next touches = attr_action left (left + 1) next
-part_action r.Attrpath left next touches = a.Begin NODE_ATTRPATH ATTRPATH (left + 1)
-part_action r.MoreAttrs left next touches = more_attrs_action next
-part_action r.Names left next touches = names_action left (left + 1) next
-part_action (r.Optional kind) left next touches = source_action (left + 1) next
-part_action r.Pieces left next touches = pieces_action left (left + 1) next
-part_action r.PathPieces left next touches = path_pieces_action left touches next
-part_action r.Formals left next touches = first_formals_action (is_not left PATTERN) (left + 1) next
-part_action r.FormalsAfterComma left next touches = formals_action (is_not left AFTER_COMMA) (left + 1) next
-part_action r.Comma left next touches = comma_action (is_not left AFTER_FORMAL) (left + 1) next
-part_action (r.EndOr kind) left next touches = end_or_action kind (left + 1) next
-part_action r.BoundAlready left next touches = bound_action (left + 1) next
-part_action r.TextEnd left next touches = end_action next
-part_action part left next touches = child_action (left + 1) next
+part_action (r.Operand level counted) index next touches = a.Read level counted (index + 1)
+part_action (r.Wanted kind) index next touches = wanted_action kind index (index + 1) next
+part_action (r.Many level closer) index next touches = many_action level closer index (index + 1) next
+part_action (r.Entries closer) index next touches = entries_action closer index (index + 1) next
+part_action r.Attr index next touches = attr_action index (index + 1) next
+part_action r.Attrpath index next touches = a.OpenEmpty NODE_ATTRPATH ATTRPATH (index + 1)
+part_action r.MoreAttrs index next touches = more_attrs_action next
+part_action r.Names index next touches = names_action index (index + 1) next
+part_action (r.Optional kind) index next touches = source_action (index + 1) next
+part_action r.Pieces index next touches = pieces_action index (index + 1) next
+part_action r.PathPieces index next touches = path_pieces_action index touches next
+part_action r.Formals index next touches = first_formals_action (is_not index PATTERN) (index + 1) next
+part_action r.FormalsAfterComma index next touches = formals_action (is_not index AFTER_COMMA) (index + 1) next
+part_action r.Comma index next touches = comma_action (is_not index AFTER_FORMAL) (index + 1) next
+part_action (r.EndOr kind) index next touches = end_or_action kind (index + 1) next
+part_action r.BoundAlready index next touches = bound_action (index + 1) next
+part_action r.TextEnd index next touches = end_action next
+part_action part index next touches = child_action (index + 1) next
 
 -- what goes on with an operand
 abbrev pub continue_action : SyntaxKind → Action
-continue_action TOKEN_DOT = a.Wrap NODE_SELECT (p.Left SELECT) application_level
+continue_action TOKEN_DOT = a.Wrap NODE_SELECT (p.InRow SELECT) application_level
 continue_action TOKEN_OR = a.ApplyOr
-continue_action TOKEN_QUESTION = a.Wrap NODE_HAS_ATTR (p.Left HAS_ATTR) has_attr_level
+continue_action TOKEN_QUESTION = a.Wrap NODE_HAS_ATTR (p.InRow HAS_ATTR) has_attr_level
 continue_action kind = if is_fn_arg kind then a.Apply else a.Wrap NODE_BIN_OP (p.Right (right_of kind)) (max_bp_of kind)
 
 -- an operator goes on whose level is between these
@@ -198,16 +198,16 @@ more_action min_bp max_bp (Some kind) = if may_continue min_bp max_bp kind then 
 
 -- at a slot of the table
 abbrev pub slot_action : Option Slot → ℕ → Option SyntaxKind → Bool → Action
-slot_action None left next touches = a.Close
-slot_action (Some (Next part)) left next touches = part_action part left next touches
-slot_action (Some (End kind)) left next touches = close_action kind
+slot_action None index next touches = a.Close
+slot_action (Some (Next part)) index next touches = part_action part index next touches
+slot_action (Some (End kind)) index next touches = close_action kind
 
 -- at a position of a row
-abbrev pub left_action : ℕ → Option SyntaxKind → Bool → Action
-left_action left next touches = slot_action (slot_at left) left next touches
+abbrev pub action_at_slot : ℕ → Option SyntaxKind → Bool → Action
+action_at_slot index next touches = slot_action (slot_at index) index next touches
 
 -- what is done at a position, by the next token that is not trivia, and by whether it touches the one before
 abbrev pub action_at : Position → Option SyntaxKind → Bool → Action
-action_at (p.Left left) next touches = left_action left next touches
+action_at (p.InRow index) next touches = action_at_slot index next touches
 action_at (p.AfterOperand min_bp max_bp) next touches = more_action min_bp max_bp next
 action_at (p.Right level) next touches = a.Read level false BIN_OP_END

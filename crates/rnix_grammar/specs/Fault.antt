@@ -5,7 +5,7 @@ use Rattle.std.specs.Cmp.Lexicographic.{pointwise}
 use Rattle.rnix_kinds.specs.declared.kinds.SyntaxKind.{SyntaxKind}
 use Rattle.rnix_kinds.specs.SyntaxKind.{name_of}
 use Rattle.rnix_green.specs.Equality.{same_kind}
-use Rattle.rnix_green.specs.Range.{place_text}
+use Rattle.rnix_green.specs.Range.{extent_text}
 use Rattle.rnix_green.specs.Range.{Extent, bounds_of}
 use Rattle.rnix_grammar.specs.declared.error.ParseError.{ParseError}
 use Rattle.rnix_grammar.specs.declared.error.ParseError.TheVariants.{Unexpected, UnexpectedExtra, UnexpectedWanted, UnexpectedDoubleBind, UnexpectedEOF, UnexpectedEOFWanted, DuplicatedArgs, RecursionLimitExceeded}
@@ -50,7 +50,7 @@ same_fault _ _ = false
 
 -- what is said of a range, and the range
 abbrev pub range_text : List ℕ → Extent → List ℕ
-range_text what range = what ++ codes " at " ++ place_text range
+range_text what range = what ++ codes " at " ++ extent_text range
 
 -- kinds behind the first, each behind a comma
 abbrev pub more_kinds_text : List SyntaxKind → List ℕ
@@ -67,7 +67,7 @@ wanted_text kinds = codes ", wanted any of " ++ kinds_text kinds
 
 -- where a name stands again
 abbrev pub again_text : Extent → List ℕ
-again_text range = codes "` is duplicated in " ++ place_text range
+again_text range = codes "` is duplicated in " ++ extent_text range
 
 -- how an error is printed
 abbrev pub fault_text : Fault → List ℕ

@@ -6,7 +6,7 @@ use Rattle.rnix_green.specs.Forest.{Forest, empty, leaf, node}
 use Rattle.rnix_grammar.specs.Tables.{is_cur_pos, is_or, is_among}
 use Rattle.rnix_grammar.specs.TokenKinds.{is_path_piece}
 use Rattle.rnix_grammar.specs.Levels.{expression_level, inversion_level, has_attr_level, negation_level, application_level, selection_level, binding_power, left_of, right_of}
-use Rattle.rnix_grammar.specs.Rows.{is_infix, is_plain_literal}
+use Rattle.rnix_grammar.specs.NodeClasses.{is_infix, is_plain_literal}
 
 -- a name, and the trees behind it
 abbrev pub name : List ℕ → Forest → Forest

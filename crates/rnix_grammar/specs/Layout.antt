@@ -54,22 +54,22 @@ rest_after true ts = from_item ts
 rest_after false ts = ts
 
 -- the tokens that are left after a forest of items
-abbrev pub left_after : AnnotatedForest → List Token → List Token
-left_after blank ts = ts
-left_after (token k t f) ts = left_after f (tail_of (from_item ts))
-left_after (branch k c f) ts = left_after f (left_after c (from_item ts))
-left_after (fault n c f) ts = left_after f (rest_after (is_last n) (left_after c (from_item ts)))
+abbrev pub remaining_after : AnnotatedForest → List Token → List Token
+remaining_after blank ts = ts
+remaining_after (token k t f) ts = remaining_after f (tail_of (from_item ts))
+remaining_after (branch k c f) ts = remaining_after f (remaining_after c (from_item ts))
+remaining_after (fault n c f) ts = remaining_after f (rest_after (is_last n) (remaining_after c (from_item ts)))
 
 -- a forest of items with the trivia of the tokens that it is read from
 abbrev pub with_trivia : AnnotatedForest → List Token → AnnotatedForest
 with_trivia blank ts = blank
 with_trivia (token k t f) ts = trivia_before ts ⊕ token k t (with_trivia f (tail_of (from_item ts)))
-with_trivia (branch k c f) ts = trivia_before ts ⊕ branch k (with_trivia c (from_item ts)) (with_trivia f (left_after c (from_item ts)))
+with_trivia (branch k c f) ts = trivia_before ts ⊕ branch k (with_trivia c (from_item ts)) (with_trivia f (remaining_after c (from_item ts)))
 with_trivia (fault n c f) ts =
     trivia_before ts
     ⊕ fault n (with_trivia c (from_item ts))
-    (trivia_after (is_last n) (left_after c (from_item ts)) ⊕ with_trivia f (rest_after (is_last n) (left_after c (from_item ts))))
+    (trivia_after (is_last n) (remaining_after c (from_item ts)) ⊕ with_trivia f (rest_after (is_last n) (remaining_after c (from_item ts))))
 
 -- a whole text: the trivia behind the last item stand in the root
 abbrev pub with_all_trivia : AnnotatedForest → List Token → AnnotatedForest
-with_all_trivia f ts = with_trivia f ts ⊕ trivia_before (left_after f ts)
+with_all_trivia f ts = with_trivia f ts ⊕ trivia_before (remaining_after f ts)

@@ -4,11 +4,11 @@ pub mod Tables
 pub mod Levels
 pub mod Slots
 pub mod Actions
-pub mod Begins
+pub mod OperandStarts
 pub mod AnnotatedForest
 pub mod Layout
 pub mod Reports
-pub mod Rows
+pub mod NodeClasses
 pub mod UnwantedRun
 pub mod Grammar
 pub mod Trim
@@ -29,7 +29,7 @@ pub mod Unfinished
 pub mod Operands
 pub mod Rules
 pub mod CompleteRows
-pub mod Beginnings
+pub mod FirstKinds
 pub mod Reads
 pub mod Reading
 pub mod Ranges

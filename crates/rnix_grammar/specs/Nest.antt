@@ -3,7 +3,7 @@ use Rattle.std.specs.Prelude.{ℕ, suc, max, Bool, true, false, if◌then◌else
 use Rattle.rnix_kinds.specs.declared.kinds.SyntaxKind.{SyntaxKind}
 use Rattle.rnix_kinds.specs.declared.kinds.SyntaxKind.TheVariants.{NODE_APPLY, NODE_ATTRPATH, NODE_BIN_OP, NODE_HAS_ATTR, NODE_IDENT_PARAM, NODE_INHERIT, NODE_PAT_BIND, NODE_PAT_ENTRY, NODE_SELECT}
 use Rattle.rnix_green.specs.Forest.{Forest, empty, leaf, node}
-use Rattle.rnix_grammar.specs.Rows.{is_expression}
+use Rattle.rnix_grammar.specs.NodeClasses.{is_expression}
 
 -- no child of these counts: operands of binary operators, a function and its argument, what stands before `.` or `?`, the default behind `or`, and names
 abbrev pub counts_no_child : SyntaxKind → Bool

@@ -6,7 +6,7 @@ use Rattle.rnix_kinds.specs.SyntaxKind.{is_fn_arg}
 use Rattle.rnix_grammar.specs.Levels.{has_attr_level, application_level, binding_power, left_of}
 use Rattle.rnix_grammar.specs.AnnotatedForest.{Token, AnnotatedForest, branch}
 use Rattle.rnix_grammar.specs.TokenKinds.{is_or, is_question, is_dot}
-use Rattle.rnix_grammar.specs.Rows.{is_infix}
+use Rattle.rnix_grammar.specs.NodeClasses.{is_infix}
 use Rattle.rnix_grammar.specs.TreeLevels.{row_level, is_atom_row}
 
 -- the kind of the first tree of an operand, down the first trees of operators, calls and selections; a function is known by its parameter

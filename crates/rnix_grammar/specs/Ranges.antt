@@ -34,13 +34,13 @@ abbrev pub leaves_error : Event → Bool
 leaves_error event = if event.0 then false else (if event.1.0 then is_error_node (item_of event.1.1).kind else false)
 
 -- the numbers of the error nodes that a walk leaves, in order
-abbrev pub errors_left : List Event → List ℕ
-errors_left [] = []
-errors_left (event ∷ events) = if leaves_error event then event.1.1.number ∷ errors_left events else errors_left events
+abbrev pub errors_remaining : List Event → List ℕ
+errors_remaining [] = []
+errors_remaining (event ∷ events) = if leaves_error event then event.1.1.number ∷ errors_remaining events else errors_remaining events
 
 -- the numbers of a tree's error nodes, in the order in which they close
 abbrev pub error_nodes : Tree → List ℕ
-error_nodes tree = errors_left (preorder_of record { tree = tree; number = 0 })
+error_nodes tree = errors_remaining (preorder_of record { tree = tree; number = 0 })
 
 -- the range of an error, if it has one
 abbrev pub range_in : Fault → Option Extent

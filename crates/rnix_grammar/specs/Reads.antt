@@ -8,7 +8,7 @@ use Rattle.rnix_grammar.specs.Tables.{wanted_kinds, depth_limit}
 use Rattle.rnix_grammar.specs.AnnotatedForest.{Token, Note, Stray, Unwanted, Extra, DoubleBind, TooDeep, AnnotatedForest, blank, token, branch, fault, ◌⊕◌, one_token, one_branch, one_fault, row_of, tokens_in, is_some, leaf_kind, head_kind, end_from}
 use Rattle.rnix_grammar.specs.Reports.{report, repeats}
 use Rattle.rnix_grammar.specs.UnwantedRun.{run_of}
-use Rattle.rnix_grammar.specs.Beginnings.{IsOperandOf}
+use Rattle.rnix_grammar.specs.FirstKinds.{IsOperandOf}
 use Rattle.rnix_grammar.specs.Rules.{Row, done, ◌·◌, row, second_name, after, may_end, missing, run_at, expects_end, IsExpected, is_first_expected, level_at, counts, IsFollowed}
 
 -- one more operand may stand here, inside so many counted positions

@@ -14,7 +14,7 @@ use Rattle.rnix_grammar.specs.AnnotatedForest.{Token, AnnotatedForest, one_branc
 use Rattle.rnix_grammar.specs.TokenKinds.{is_or, is_path_piece, is_piece_start, is_inherit_token}
 use Rattle.rnix_grammar.specs.TreeLevels.{is_or_row}
 use Rattle.rnix_grammar.specs.Operands.{follows}
-use Rattle.rnix_grammar.specs.Rows.{is_atom, is_simple, is_infix, is_attr, is_entry, fits}
+use Rattle.rnix_grammar.specs.NodeClasses.{is_atom, is_simple, is_infix, is_attr, is_entry, fits}
 
 -- what is left of a row: no such row, nothing more, a part and what is after it, or one of two
 infixr 30 ◌·◌

@@ -5,7 +5,7 @@ use Rattle.rnix_kinds.specs.declared.kinds.SyntaxKind.TheVariants.{TOKEN_INVERT,
 use Rattle.rnix_grammar.specs.Levels.{expression_level, no_level, inversion_level, has_attr_level, negation_level, application_level, selection_level, binding_power}
 use Rattle.rnix_grammar.specs.AnnotatedForest.{AnnotatedForest, blank, token, branch, fault}
 use Rattle.rnix_grammar.specs.TokenKinds.{is_or}
-use Rattle.rnix_grammar.specs.Rows.{is_atom, is_keyword_expression}
+use Rattle.rnix_grammar.specs.NodeClasses.{is_atom, is_keyword_expression}
 
 -- the operator behind the first tree
 abbrev pub operator_in : AnnotatedForest → SyntaxKind

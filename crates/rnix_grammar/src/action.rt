@@ -3,7 +3,7 @@
 ghost use Rattle.std.specs.Prelude.{◌≡◌, Bool, Option, true};
 ghost use Rattle.rnix_kinds.specs.declared.kinds.SyntaxKind.{SyntaxKind};
 ghost use Rattle.rnix_grammar.specs.declared.action.Action.TheVariants.{Close};
-ghost use Rattle.rnix_grammar.specs.Actions.{close_action, continue_action, may_continue, left_action};
+ghost use Rattle.rnix_grammar.specs.Actions.{close_action, continue_action, may_continue, action_at_slot};
 
 use crate::expected_set::ExpectedSet;
 use crate::level::{
@@ -44,7 +44,7 @@ pub enum Action {
     /// The next token begins a node, which continues at the first position.
     Open(SyntaxKind, u8, u8),
     /// A node begins before any of its tokens is read.
-    Begin(SyntaxKind, u8, u8),
+    OpenEmpty(SyntaxKind, u8, u8),
     /// A name begins an entry of a pattern.
     Entry(u8),
     /// The next token begins a second name of a pattern.
@@ -79,14 +79,14 @@ pub fn continue_action(kind: SyntaxKind) -> Action
     match kind {
         SyntaxKind::TOKEN_DOT => Action::Wrap(
             SyntaxKind::NODE_SELECT,
-            Position::Left(SELECT),
+            Position::InRow(SELECT),
             APPLICATION_LEVEL,
         ),
         SyntaxKind::TOKEN_OR => Action::ApplyOr,
         SyntaxKind::TOKEN_QUESTION => {
             Action::Wrap(
                 SyntaxKind::NODE_HAS_ATTR,
-                Position::Left(HAS_ATTR),
+                Position::InRow(HAS_ATTR),
                 HAS_ATTR_LEVEL,
             )
         }
@@ -115,11 +115,11 @@ pub fn may_continue(min_bp: u8, max_bp: u8, kind: SyntaxKind) -> bool
 
 /// Returns what the reader does at a position of a row, by the next token that is not trivia, and by whether it touches the one before.
 #[inline(always)]
-pub fn left_action(left: u8, next: Option<SyntaxKind>, touches: bool) -> Action
-    ensures { result ≡ left_action left next touches }
+pub fn action_at_slot(index: u8, next: Option<SyntaxKind>, touches: bool) -> Action
+    ensures { result ≡ action_at_slot index next touches }
 {
-    match slot_at(left) {
-        Some(Slot::Next(part)) => part_action(part, left, next, touches),
+    match slot_at(index) {
+        Some(Slot::Next(part)) => part_action(part, index, next, touches),
         Some(Slot::End(kind)) => close_action(kind),
         None => Action::Close,
     }
@@ -138,10 +138,10 @@ fn is_plain_end(kind: SyntaxKind) -> bool
 
 /// Returns whether a row is complete at the position, and nothing but the end of its node is to be done.
 #[inline(always)]
-pub fn is_past(left: u8) -> bool
-    ensures { (next : Option SyntaxKind) (touches : Bool) → result ≡ true → left_action left next touches ≡ Close }
+pub fn is_past(index: u8) -> bool
+    ensures { (next : Option SyntaxKind) (touches : Bool) → result ≡ true → action_at_slot index next touches ≡ Close }
 {
-    match slot_at(left) {
+    match slot_at(index) {
         Some(Slot::End(kind)) => is_plain_end(kind),
         _ => false,
     }

@@ -6,7 +6,7 @@ ghost use Rattle.std.specs.Cmp.Lexicographic.{pointwise};
 ghost use Rattle.std.specs.Fmt.{DisplaysOnOk};
 ghost use Rattle.rnix_green.specs.Equality.{same_kind};
 ghost use Rattle.rnix_green.specs.Range.{bounds_of};
-ghost use Rattle.rnix_green.specs.Range.{place_text};
+ghost use Rattle.rnix_green.specs.Range.{extent_text};
 ghost use Rattle.rnix_grammar.specs.Fault.{fault_of, more_kinds_text, kinds_text, wanted_text, again_text, range_text, fault_text, unwanted, duplicated_args, same_extent};
 ghost use Rattle.rnix_grammar.specs.Ranges.{range_in};
 
@@ -85,7 +85,7 @@ fn same_kinds(a: &[SyntaxKind], b: &[SyntaxKind]) -> bool
     a == b
 }
 
-// Whether two tokens are of one kind in one place.
+// Whether two tokens are of one kind in one range.
 fn same_token(kind: SyntaxKind, range: TextRange, other: SyntaxKind, position: TextRange) -> bool
     ensures { result ≡ (same_kind kind other && same_extent (bounds_of range) (bounds_of position)) }
 {
@@ -161,8 +161,8 @@ fn write_wanted<W: fmt::Write>(kinds: &[SyntaxKind], f: &mut fmt::Formatter<W>) 
 }
 
 // A range in decimal.
-fn write_place<W: fmt::Write>(range: TextRange, f: &mut fmt::Formatter<W>) -> fmt::Result
-    ensures { DisplaysOnOk W.write_str_gives f.old result (Some (place_text (bounds_of range))) f.new }
+fn write_extent<W: fmt::Write>(range: TextRange, f: &mut fmt::Formatter<W>) -> fmt::Result
+    ensures { DisplaysOnOk W.write_str_gives f.old result (Some (extent_text (bounds_of range))) f.new }
 {
     let (start, end) = (range.start(), range.end());
     write!(f, "{start}..{end}")
@@ -178,7 +178,7 @@ fn write_range<W: fmt::Write>(
 {
     f.write_str(what)?;
     f.write_str(" at ")?;
-    write_place(range, f)
+    write_extent(range, f)
 }
 
 // A token that is not wanted.
@@ -201,7 +201,7 @@ fn write_again<W: fmt::Write>(range: TextRange, f: &mut fmt::Formatter<W>) -> fm
     ensures { DisplaysOnOk W.write_str_gives f.old result (Some (again_text (bounds_of range))) f.new }
 {
     f.write_str("` is duplicated in ")?;
-    write_place(range, f)
+    write_extent(range, f)
 }
 
 // An argument that is named twice.

@@ -34,38 +34,38 @@ fn expected_set_of(kind: SyntaxKind) -> ExpectedSet
 
 // A token that is wanted.
 #[inline(always)]
-fn token_action(wanted: SyntaxKind, left: u8, after: u8, kind: SyntaxKind) -> Action
-    ensures { result ≡ token_action wanted left after kind }
+fn token_action(wanted: SyntaxKind, index: u8, after: u8, kind: SyntaxKind) -> Action
+    ensures { result ≡ token_action wanted index after kind }
 {
     if wanted == kind {
         Action::Take(after)
     } else {
-        Action::Run(expected_set_of(wanted), left)
+        Action::Run(expected_set_of(wanted), index)
     }
 }
 
 // A name that is wanted.
-fn name_action(left: u8, after: u8, kind: SyntaxKind) -> Action
-    ensures { result ≡ name_action left after kind }
+fn name_action(index: u8, after: u8, kind: SyntaxKind) -> Action
+    ensures { result ≡ name_action index after kind }
 {
     match kind {
         SyntaxKind::TOKEN_IDENT => Action::Leaf(SyntaxKind::NODE_IDENT, after),
-        _ => Action::Run(ExpectedSet::Ident, left),
+        _ => Action::Run(ExpectedSet::Ident, index),
     }
 }
 
 // A child that is wanted.
 #[inline(always)]
-fn wanted_action(wanted: SyntaxKind, left: u8, after: u8, next: Option<SyntaxKind>) -> Action
-    ensures { result ≡ wanted_action wanted left after next }
+fn wanted_action(wanted: SyntaxKind, index: u8, after: u8, next: Option<SyntaxKind>) -> Action
+    ensures { result ≡ wanted_action wanted index after next }
 {
     match next {
         None => Action::MissWanted(expected_set_of(wanted), after),
         Some(kind) => {
             if wanted == SyntaxKind::NODE_IDENT {
-                name_action(left, after, kind)
+                name_action(index, after, kind)
             } else {
-                token_action(wanted, left, after, kind)
+                token_action(wanted, index, after, kind)
             }
         }
     }
@@ -75,11 +75,11 @@ fn wanted_action(wanted: SyntaxKind, left: u8, after: u8, next: Option<SyntaxKin
 fn many_action(
     level: u8,
     closer: SyntaxKind,
-    left: u8,
+    index: u8,
     after: u8,
     next: Option<SyntaxKind>,
 ) -> Action
-    ensures { result ≡ many_action level closer left after next }
+    ensures { result ≡ many_action level closer index after next }
 {
     match next {
         None => Action::Miss(after),
@@ -87,45 +87,45 @@ fn many_action(
             if closer == kind {
                 Action::Take(after)
             } else {
-                Action::Read(level, true, left)
+                Action::Read(level, true, index)
             }
         }
     }
 }
 
 #[inline(always)]
-fn entries_action(closer: SyntaxKind, left: u8, after: u8, next: Option<SyntaxKind>) -> Action
-    ensures { result ≡ entries_action closer left after next }
+fn entries_action(closer: SyntaxKind, index: u8, after: u8, next: Option<SyntaxKind>) -> Action
+    ensures { result ≡ entries_action closer index after next }
 {
     match next {
         None => Action::Miss(after),
-        Some(SyntaxKind::TOKEN_INHERIT) => Action::Open(SyntaxKind::NODE_INHERIT, INHERIT, left),
+        Some(SyntaxKind::TOKEN_INHERIT) => Action::Open(SyntaxKind::NODE_INHERIT, INHERIT, index),
         Some(kind) => {
             if closer == kind {
                 Action::Take(after)
             } else {
-                Action::Begin(SyntaxKind::NODE_ATTRPATH_VALUE, ATTRPATH_VALUE, left)
+                Action::OpenEmpty(SyntaxKind::NODE_ATTRPATH_VALUE, ATTRPATH_VALUE, index)
             }
         }
     }
 }
 
-fn pieces_action(left: u8, after: u8, next: Option<SyntaxKind>) -> Action
-    ensures { result ≡ pieces_action left after next }
+fn pieces_action(index: u8, after: u8, next: Option<SyntaxKind>) -> Action
+    ensures { result ≡ pieces_action index after next }
 {
     match next {
         None => Action::MissWanted(ExpectedSet::Piece, after),
         Some(SyntaxKind::TOKEN_STRING_END) => Action::Take(STRING_CLOSED),
-        Some(SyntaxKind::TOKEN_STRING_CONTENT) => Action::Take(left),
+        Some(SyntaxKind::TOKEN_STRING_CONTENT) => Action::Take(index),
         Some(SyntaxKind::TOKEN_INTERPOL_START) => {
-            Action::Open(SyntaxKind::NODE_INTERPOL, INTERPOL, left)
+            Action::Open(SyntaxKind::NODE_INTERPOL, INTERPOL, index)
         }
-        Some(_) => Action::Run(ExpectedSet::Piece, left),
+        Some(_) => Action::Run(ExpectedSet::Piece, index),
     }
 }
 
-fn path_pieces_action(left: u8, touches: bool, next: Option<SyntaxKind>) -> Action
-    ensures { result ≡ path_pieces_action left touches next }
+fn path_pieces_action(index: u8, touches: bool, next: Option<SyntaxKind>) -> Action
+    ensures { result ≡ path_pieces_action index touches next }
 {
     if !touches {
         return Action::Close;
@@ -133,9 +133,9 @@ fn path_pieces_action(left: u8, touches: bool, next: Option<SyntaxKind>) -> Acti
     match next {
         Some(
             SyntaxKind::TOKEN_PATH_ABS | SyntaxKind::TOKEN_PATH_REL | SyntaxKind::TOKEN_PATH_HOME,
-        ) => Action::Take(left),
+        ) => Action::Take(index),
         Some(SyntaxKind::TOKEN_INTERPOL_START) => {
-            Action::Open(SyntaxKind::NODE_INTERPOL, INTERPOL, left)
+            Action::Open(SyntaxKind::NODE_INTERPOL, INTERPOL, index)
         }
         _ => Action::Close,
     }
@@ -161,8 +161,8 @@ fn attr_action(again: u8, after: u8, next: Option<SyntaxKind>) -> Action
     }
 }
 
-fn names_action(left: u8, after: u8, next: Option<SyntaxKind>) -> Action
-    ensures { result ≡ names_action left after next }
+fn names_action(index: u8, after: u8, next: Option<SyntaxKind>) -> Action
+    ensures { result ≡ names_action index after next }
 {
     match next {
         None => Action::Miss(after),
@@ -170,7 +170,7 @@ fn names_action(left: u8, after: u8, next: Option<SyntaxKind>) -> Action
             if kind == SyntaxKind::TOKEN_SEMICOLON {
                 Action::Take(INHERIT_CLOSED)
             } else {
-                attr_action(INHERITED_NAME, left, next)
+                attr_action(INHERITED_NAME, index, next)
             }
         }
     }
@@ -302,26 +302,26 @@ fn child_action(after: u8, next: Option<SyntaxKind>) -> Action
 
 // What is done where a part of a row comes next.
 #[inline(always)]
-pub(crate) fn part_action(part: Part, left: u8, next: Option<SyntaxKind>, touches: bool) -> Action
-    requires { left < 255 }
-    ensures { result ≡ part_action part left next touches }
+pub(crate) fn part_action(part: Part, index: u8, next: Option<SyntaxKind>, touches: bool) -> Action
+    requires { index < 255 }
+    ensures { result ≡ part_action part index next touches }
 {
-    let after = left + 1;
+    let after = index + 1;
     match part {
         Part::Operand(level, counted) => Action::Read(level, counted, after),
-        Part::Wanted(kind) => wanted_action(kind, left, after, next),
-        Part::Many(level, closer) => many_action(level, closer, left, after, next),
-        Part::Entries(closer) => entries_action(closer, left, after, next),
-        Part::Attr => attr_action(left, after, next),
-        Part::Attrpath => Action::Begin(SyntaxKind::NODE_ATTRPATH, ATTRPATH, after),
+        Part::Wanted(kind) => wanted_action(kind, index, after, next),
+        Part::Many(level, closer) => many_action(level, closer, index, after, next),
+        Part::Entries(closer) => entries_action(closer, index, after, next),
+        Part::Attr => attr_action(index, after, next),
+        Part::Attrpath => Action::OpenEmpty(SyntaxKind::NODE_ATTRPATH, ATTRPATH, after),
         Part::MoreAttrs => more_attrs_action(next),
-        Part::Names => names_action(left, after, next),
+        Part::Names => names_action(index, after, next),
         Part::Optional(_) => source_action(after, next),
-        Part::Pieces => pieces_action(left, after, next),
-        Part::PathPieces => path_pieces_action(left, touches, next),
-        Part::Formals => first_formals_action(left != PATTERN, after, next),
-        Part::FormalsAfterComma => formals_action(left != AFTER_COMMA, after, next),
-        Part::Comma => comma_action(left != AFTER_FORMAL, after, next),
+        Part::Pieces => pieces_action(index, after, next),
+        Part::PathPieces => path_pieces_action(index, touches, next),
+        Part::Formals => first_formals_action(index != PATTERN, after, next),
+        Part::FormalsAfterComma => formals_action(index != AFTER_COMMA, after, next),
+        Part::Comma => comma_action(index != AFTER_FORMAL, after, next),
         Part::EndOr(kind) => end_or_action(kind, after, next),
         Part::BoundAlready => bound_action(after, next),
         Part::TextEnd => end_action(next),

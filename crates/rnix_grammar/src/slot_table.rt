@@ -146,9 +146,9 @@ pub const SECOND_BIND: u8 = BOUND_PATTERN_CLOSE + 3;
 
 /// Returns what is at an index of the table.
 #[inline(always)]
-pub(crate) fn slot_at(left: u8) -> Option<Slot>
-    ensures slot { result ≡ slot_at left }
-    ensures within { IfSome result (λ slot. left < 255) }
+pub(crate) fn slot_at(index: u8) -> Option<Slot>
+    ensures slot { result ≡ slot_at index }
+    ensures within { IfSome result (λ slot. index < 255) }
 {
-    SLOTS.get(usize::from(left)).copied()
+    SLOTS.get(usize::from(index)).copied()
 }

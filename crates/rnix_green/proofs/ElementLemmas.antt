@@ -2,7 +2,7 @@
 use Rattle.std.proofs.Common.{◌≡◌, ℕ, zero, suc, ◌+◌, ◌-◌, ◌≤◌, ◌<◌, List, [], ◌∷◌, ◌++◌, length, map, get_or, Option, Some, None, Bool, true, false, nat_lt}
 use Rattle.std.proofs.{Common.{cond, refl, ap, sym, ◌∙◌, subst, arith, length-append}, lemmas.List.{get_or-map, length-map, map-append, get_or-append_right}}
 use Rattle.{std.proofs.lemmas.List.get_or_past, rnix_kinds.specs.declared.kinds.SyntaxKind.SyntaxKind, rnix_green.specs.declared.packed.Packed.Packed}
-use Rattle.rnix_green.specs.{Packed.{limit, place_in, parent_in, size_in}, Forest.{Forest, empty, leaf, node, text_of, element_count}, Tree.{Tree, Item}}
+use Rattle.rnix_green.specs.{Packed.{limit, len_or_start_in, parent_in, size_in}, Forest.{Forest, empty, leaf, node, text_of, element_count}, Tree.{Tree, Item}}
 use Rattle.rnix_green.specs.{Tree.{items_from, items_of, forest_of, no_item, item}, Kept.{item_from, parent_or_root, parent_kept, size_of, kept_of, start_at}}
 use Rattle.rnix_green.{specs.Kept.IsKept, proofs.{NumberTests.is_below, PackedLemmas.packed_again, PieceLemmas.length-items_from}}
 use Rattle.rnix_green.proofs.{ParentLemmas.parent_is_before, SiblingLemmas.{below_fits, next_inside}, NestLemmas.{at, inside, beyond, behind}}
@@ -15,7 +15,7 @@ length_kept t es text h = ap length h.elements ∙ length-map (items_of t) kept_
 -- an element is that of the tree with the number n
 pub record IsElement (t : Tree) (n : ℕ) (e : Packed) : Type 0 where
   pub kind : e.kind ≡ (item t n).kind
-  pub place : place_in e ≡ (item t n).start
+  pub len_or_start : len_or_start_in e ≡ (item t n).start
   pub parent : parent_in e ≡ parent_or_root (item t n).parent
   pub size : size_in e ≡ size_of (item t n)
 
@@ -37,7 +37,7 @@ element_of t es text n d h l =
     let between = in_text 0 0 None (forest_of t) n (omega (arith, elements_in_all t)) in
     record {
       kind = ap (λ (e : Packed). e.kind) is;
-      place = ap place_in is ∙ packed_again i.start (omega (arith, between.ordered, between.high));
+      len_or_start = ap len_or_start_in is ∙ packed_again i.start (omega (arith, between.ordered, between.high));
       parent = ap parent_in is ∙ packed_again (parent_or_root i.parent) (omega (arith, parent_fits t n i.parent refl l));
       size = ap size_in is ∙ packed_again (size_of i) (omega (arith, size_fits i.is_node i (length (items_of t)) refl (omega (arith, next_inside t n l))));
     }
@@ -170,9 +170,9 @@ pub end_read : (t : Tree) (n : ℕ) (e : Packed) → n < length (items_of t) →
 end_read t n e l h = ap (λ b. start_at t (n + 1 + b)) (below_read t n e l h) ∙ end_by t n l
 
 -- it does not end before it starts
-pub read_in_order : (t : Tree) (n : ℕ) (e : Packed) → n < length (items_of t) → IsElement t n e → place_in e ≤ start_at t (n + 1 + (size_in e - 1))
+pub read_in_order : (t : Tree) (n : ℕ) (e : Packed) → n < length (items_of t) → IsElement t n e → len_or_start_in e ≤ start_at t (n + 1 + (size_in e - 1))
 read_in_order t n e l h =
-    omega (arith, h.place, end_read t n e l h, (in_text 0 0 None (forest_of t) n (omega (arith, elements_in_all t))).ordered)
+    omega (arith, h.len_or_start, end_read t n e l h, (in_text 0 0 None (forest_of t) n (omega (arith, elements_in_all t))).ordered)
 
 -- what it shows
 pub item_read : (t : Tree) (n : ℕ) (e : Packed) → n < length (items_of t) → IsElement t n e →
@@ -180,7 +180,7 @@ pub item_read : (t : Tree) (n : ℕ) (e : Packed) → n < length (items_of t) �
     record {
       kind = e.kind;
       is_node = nat_lt 0 (size_in e);
-      start = place_in e;
+      start = len_or_start_in e;
       end = start_at t (n + 1 + (size_in e - 1));
       parent = parent_kept n (parent_in e);
       below = size_in e - 1;
@@ -191,4 +191,4 @@ item_read t n e l h =
     let parents : parent_kept n (parent_in e) ≡ (item t n).parent = ap (parent_kept n) h.parent ∙ parent_by t n l in
     let belows = below_read t n e l h in
     let ends = end_read t n e l h in
-    λ i. record { kind = h.kind i; is_node = nodes i; start = h.place i; end = ends i; parent = parents i; below = belows i }
+    λ i. record { kind = h.kind i; is_node = nodes i; start = h.len_or_start i; end = ends i; parent = parents i; below = belows i }

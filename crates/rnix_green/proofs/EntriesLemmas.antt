@@ -125,12 +125,12 @@ pub tree_count-wrapped : (k : SyntaxKind) (p : ℕ) (f : Forest) → p ≤ tree_
 tree_count-wrapped k p f h = omega (arith, tree_count-join (first_trees p f) (node k (trees_after p f) empty), tree_count-first p f h)
 
 -- the last of the open nodes is the innermost
-pub open_pairs-push : (os : List Pending) (o : Pending) → open_pairs (os ++ o ∷ []) ≡ (o.kind, o.place) ∷ open_pairs os
+pub open_pairs-push : (os : List Pending) (o : Pending) → open_pairs (os ++ o ∷ []) ≡ (o.kind, o.first_child) ∷ open_pairs os
 open_pairs-push os o = rw (reverse-append os (o ∷ [])) refl
 
 -- the last node is the innermost
 pub open_pairs-last : (os : List Pending) (n : ℕ) (o : Pending) → n < length os → n + 1 ≡ length os → get_or os n o ≡ o →
-    open_pairs os ≡ (o.kind, o.place) ∷ open_pairs (take n os)
+    open_pairs os ≡ (o.kind, o.first_child) ∷ open_pairs (take n os)
 open_pairs-last os n o l e is =
     let all : os ≡ take n os ++ o ∷ [] = sym (take_all (n + 1) os (omega arith)) ∙ take_more os n o l ∙ ap (λ x. take n os ++ x ∷ []) is in
     ap open_pairs all ∙ open_pairs-push (take n os) o
@@ -174,10 +174,10 @@ pub built-token : (f : Forest) (text later s : List ℕ) (es more : List Packed)
     later ≡ text ++ s → more ≡ es ++ x ∷ [] → starts ≡ st ++ n ∷ [] → IsBuilt (with_leaf k s f) later (map entry_of more) os starts
 built-token f text later s es more os st starts k x n h u short few is many le mo sta =
     let entry : entry_of x ≡ Leaf k (length s) = ap entry_of is ∙ packed_leaf k (length s) (omega arith) in
-    let place : n ≡ length (map entry_of es) = many ∙ sym (length-map es entry_of) in
+    let first_child : n ≡ length (map entry_of es) = many ∙ sym (length-map es entry_of) in
     built-tree f (leaf k s empty) text later (map entry_of es) (map entry_of more) os st starts h (u, tt) refl refl
     (omega (arith, ap length le, length-append text s)) (omega (arith, length-map more entry_of, ap length mo, length_push es x))
-    (le ∙ ap (λ t. text ++ t) (sym (append-nil s))) (entries_push es more x (Leaf k (length s)) mo entry) (sta ∙ ap (λ m. st ++ m ∷ []) place)
+    (le ∙ ap (λ t. text ++ t) (sym (append-nil s))) (entries_push es more x (Leaf k (length s)) mo entry) (sta ∙ ap (λ m. st ++ m ∷ []) first_child)
 
 -- a builder with one more node, over one token
 pub built-leaf_node : (f : Forest) (text later s : List ℕ) (es both more : List Packed) (os : List Pending) (st starts : List ℕ) (i k : SyntaxKind)
@@ -189,7 +189,7 @@ built-leaf_node f text later s es both more os st starts i k x y n h u short few
     let g = node i (leaf k s empty) empty in
     let token : entry_of x ≡ Leaf k (length s) = ap entry_of is ∙ packed_leaf k (length s) (omega arith) in
     let over : entry_of y ≡ Node i 1 = ap entry_of node_is ∙ packed_node i 1 (omega arith) in
-    let place : n ≡ length (map entry_of es) = many ∙ sym (length-map es entry_of) in
+    let first_child : n ≡ length (map entry_of es) = many ∙ sym (length-map es entry_of) in
     let entries : map entry_of more ≡ map entry_of es ++ (Leaf k (length s) ∷ (Node i 1 ∷ [])) =
     entries_push both more y (Node i 1) mo over ∙ ap (λ z. z ++ Node i 1 ∷ []) (entries_push es both x (Leaf k (length s)) bo token)
     ∙ append_assoc (map entry_of es) (Leaf k (length s) ∷ []) (Node i 1 ∷ []) in
@@ -198,11 +198,11 @@ built-leaf_node f text later s es both more os st starts i k x y n h u short few
     (built-tree f g text later (map entry_of es) (map entry_of more) os st starts h ((u, tt), tt) refl refl
     (omega (arith, ap length le, length-append text s))
     (omega (arith, length-map more entry_of, ap length mo, length_push both y, ap length bo, length_push es x))
-    (le ∙ ap (λ t. text ++ t) texts) entries (sta ∙ ap (λ m. st ++ m ∷ []) place))
+    (le ∙ ap (λ t. text ++ t) texts) entries (sta ∙ ap (λ m. st ++ m ∷ []) first_child))
 
 -- the innermost open node, the last of the list
 pub innermost : (f : Forest) (text : List ℕ) (es : List Entry) (os : List Pending) (st : List ℕ) (j : ℕ) (o : Pending) → IsBuilt f text es os st →
-    j + 1 ≡ length os → o ≡ get_or os j o → IsNested (tree_count f) ((o.kind, o.place) ∷ open_pairs (take j os))
+    j + 1 ≡ length os → o ≡ get_or os j o → IsNested (tree_count f) ((o.kind, o.first_child) ∷ open_pairs (take j os))
 innermost f text es os st j o h e is = rw (open_pairs-last os j o (omega arith) e (sym is)) at h.nested
 
 -- where the first entry of the trees from a place on stands
@@ -234,9 +234,10 @@ first_entry_le f text es os st p h =
 -- a builder whose innermost node is closed
 pub built-closed : (f : Forest) (text : List ℕ) (es more : List Packed) (os outer : List Pending) (st starts : List ℕ) (j first : ℕ) (o : Pending) (x : Packed)
     →
-    IsBuilt f text (map entry_of es) os st → length es + 1 < limit → j + 1 ≡ length os → o ≡ get_or os j o → first ≡ element_count (first_trees o.place f) →
-    x ≡ packed o.kind 0 0 (length es - first + 1) → more ≡ es ++ x ∷ [] → outer ≡ take j os → starts ≡ take o.place st ++ first ∷ [] →
-    IsBuilt (wrapped o.kind o.place f) text (map entry_of more) outer starts
+    IsBuilt f text (map entry_of es) os st → length es + 1 < limit → j + 1 ≡ length os → o ≡ get_or os j o
+    → first ≡ element_count (first_trees o.first_child f) →
+    x ≡ packed o.kind 0 0 (length es - first + 1) → more ≡ es ++ x ∷ [] → outer ≡ take j os → starts ≡ take o.first_child st ++ first ∷ [] →
+    IsBuilt (wrapped o.kind o.first_child f) text (map entry_of more) outer starts
 built-closed f text packs more os outer st starts j first o x h room e is fi new pushed ou sta =
     let es = map entry_of packs in
     let many : length es ≡ length packs = length-map packs entry_of in
@@ -244,10 +245,10 @@ built-closed f text packs more os outer st starts j first o x h room e is fi new
     let entry : entry_of x ≡ Node o.kind (length es - first) =
     ap entry_of (new ∙ ap (packed o.kind 0 0) size) ∙ packed_node o.kind (length es - first) (omega arith) in
     let mo : map entry_of more ≡ es ++ Node o.kind (length es - first) ∷ [] = entries_push packs more x _ pushed entry in
-    let i : IsNested (tree_count f) ((o.kind, o.place) ∷ open_pairs (take j os)) = innermost f text es os st j o h e is in
-    let a = first_trees o.place f in
-    let b = trees_after o.place f in
-    let whole : join a b ≡ f = join_first_after o.place f in
+    let i : IsNested (tree_count f) ((o.kind, o.first_child) ∷ open_pairs (take j os)) = innermost f text es os st j o h e is in
+    let a = first_trees o.first_child f in
+    let b = trees_after o.first_child f in
+    let whole : join a b ≡ f = join_first_after o.first_child f in
     let count : element_count a + element_count b ≡ element_count f = sym (element_count-join a b) ∙ ap element_count whole in
     let below : length es - first ≡ element_count b = omega (arith, ap length h.entries, length-post_of f) in
     record {
@@ -259,21 +260,21 @@ built-closed f text packs more os outer st starts j first o x h room e is fi new
           h.text_is ∙ ap text_of (sym whole) ∙ text_of-join a b
           ∙ sym (text_of-join a (node o.kind b empty) ∙ ap (λ x. text_of a ++ x) (append-nil (text_of b)));
       characters =
-          HasText-join a (node o.kind b empty) (HasText-first o.place f h.characters) (HasText-after o.place f h.characters, tt);
+          HasText-join a (node o.kind b empty) (HasText-first o.first_child f h.characters) (HasText-after o.first_child f h.characters, tt);
       starts_are =
-          sta ∙ ap (λ x. take o.place x ++ first ∷ []) h.starts_are ∙ ap (λ x. x ++ first ∷ []) (take-starts_from 0 f o.place)
+          sta ∙ ap (λ x. take o.first_child x ++ first ∷ []) h.starts_are ∙ ap (λ x. x ++ first ∷ []) (take-starts_from 0 f o.first_child)
           ∙ ap (λ n. starts_from 0 a ++ n ∷ []) (fi ∙ (omega arith)) ∙ sym (starts_from-join 0 a (node o.kind b empty));
       counted =
           omega (
             arith,
             ap length sta,
-            length_push (take o.place st) first,
-            length-take-le o.place st (omega (arith, h.counted, i.0)),
-            tree_count-wrapped o.kind o.place f i.0,
+            length_push (take o.first_child st) first,
+            length-take-le o.first_child st (omega (arith, h.counted, i.0)),
+            tree_count-wrapped o.kind o.first_child f i.0,
           );
       nested =
-          rw ou (IsNested-weaker o.place (tree_count (wrapped o.kind o.place f)) (open_pairs (take j os))
-          (omega (arith, tree_count-wrapped o.kind o.place f i.0)) i.1);
+          rw ou (IsNested-weaker o.first_child (tree_count (wrapped o.kind o.first_child f)) (open_pairs (take j os))
+          (omega (arith, tree_count-wrapped o.kind o.first_child f i.0)) i.1);
       short = h.short;
       few = omega (arith, ap length mo, length_push es (Node o.kind (length es - first)));
     }
@@ -284,5 +285,5 @@ complete-parts d h = and_parts (is_nothing d.open_nodes) (is_one_node d.finished
 
 -- the innermost open node is closed, as a draft
 pub closed_view : (f later : Forest) (os outer : List Pending) (j : ℕ) (o : Pending) → j + 1 ≡ length os → o ≡ get_or os j o → outer ≡ take j os →
-    later ≡ wrapped o.kind o.place f → closed_over f (open_pairs os) ≡ record { finished = later; open_nodes = open_pairs outer }
+    later ≡ wrapped o.kind o.first_child f → closed_over f (open_pairs os) ≡ record { finished = later; open_nodes = open_pairs outer }
 closed_view f later os outer j o e is ou la = rw (la, ou, open_pairs-last os j o (omega arith) e (sym is)) refl

@@ -2,7 +2,7 @@
 use Rattle.std.proofs.Common.{◌≡◌, ℕ, zero, suc, ◌+◌, ◌-◌, ◌<◌, List, [], ◌∷◌, ◌++◌, length, take, drop, Option, Some, None, true, map, refl, ap, sym, subst}
 use Rattle.std.proofs.{Common.{◌∙◌, arith, length-append, append_assoc}, lemmas.List.{take_at, drop_at, append-nil, drop-drop, map-append, length-map}}
 use Rattle.{std.specs.Prelude.slice_get, rnix_green.specs.{declared.{packed.Packed.Packed, builder.OpenNode.OpenNode as Pending}, Forest.{Forest, empty, leaf}}}
-use Rattle.rnix_green.specs.{Forest.{node, join, element_count, tree_count, text_of}, Packed.{limit, word_of, packed, place_in}, Kept.{parent_or_root, kept_of}}
+use Rattle.rnix_green.specs.{Forest.{node, join, element_count, tree_count, text_of}, Packed.{limit, word_of, packed, len_or_start_in}, Kept.{parent_or_root, kept_of}}
 use Rattle.rnix_green.specs.{Kept.{kept_from, first_elements, elements_after, tree_before, start_of_first, forest_from, as_tree, tree_from, IsKept}, Tree.Tree}
 use Rattle.rnix_green.specs.{Tree.{items_from, items_of, forest_of}, Draft.{is_one_node, is_complete_of}, Postorder.{Entry, Node, entries_of}, Entries.IsBuilt}
 use Rattle.rnix_green.specs.{Entries.{IsBuilder, made, open_pairs, is_node_last, is_node_entry}, ForestCode.join_empty}
@@ -24,7 +24,7 @@ forest_from-row whole n s p empty rest es e b l m = refl
 forest_from-row whole n s p (leaf k t f) rest es e b l m =
     let behind : s + length t + length (text_of f) ≡ start_of_first whole es = omega (arith, length-append t (text_of f)) in
     let low : s + length t + length (text_of f) < limit = omega (arith, length-append t (text_of f)) in
-    let here : place_in (packed k s (parent_or_root p) 0) ≡ s = packed_again s (omega arith) in
+    let here : len_or_start_in (packed k s (parent_or_root p) 0) ≡ s = packed_again s (omega arith) in
     let next : start_of_first whole (kept_from (n + 1) (s + length t) p f ++ es) ≡ s + length t =
     start_of_first-row whole (n + 1) (s + length t) p f es behind (omega arith) in
     let len : s + length t - s ≡ length t = omega arith in
@@ -56,8 +56,8 @@ forest_from-row whole n s p (node k c f) rest es e b l m =
     ∙ forest_from-row whole (n + 1) s (Some n) c (text_of f ++ rest) (ys ++ es) at next (omega arith) (omega arith)
     ∙ ap (join c) (forest_from-row whole (n + 1 + element_count c) (s + length (text_of c)) p f rest es later behind low (omega arith)) in
     let row = map kept_of (items_from (n + 1) s (Some n) c ++ items_from (n + 1 + element_count c) (s + length (text_of c)) p f) ++ es in
-    let place = word_of s in
-    ap (λ x. tree_before x k (take (start_of_first whole row - place) (drop place whole)) (forest_from whole row))
+    let len_or_start = word_of s in
+    ap (λ x. tree_before x k (take (start_of_first whole row - len_or_start) (drop len_or_start whole)) (forest_from whole row))
     (packed_again (suc (element_count c)) (omega arith))
     ∙ ap (λ x. node k (first_elements (element_count c) x) (elements_after (element_count c) x)) all
     ∙ ap (λ x. node k x (elements_after (element_count c) (join c (join f (forest_from whole es))))) (first_elements-join c (join f (forest_from whole es)))

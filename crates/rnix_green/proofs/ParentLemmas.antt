@@ -21,8 +21,8 @@ after_one n m q i is h =
       is_node = ap (λ x. x.is_node) (tail ∙ ap (λ k. get_or is k no_item) same) ∙ h.is_node;
     }
 
-in_left : (n m q : ℕ) (xs ys : List Item) → m ≤ length xs → IsNodeBefore n m q xs → IsNodeBefore n m q (xs ++ ys)
-in_left n m q xs ys l h = record {
+in_remaining : (n m q : ℕ) (xs ys : List Item) → m ≤ length xs → IsNodeBefore n m q xs → IsNodeBefore n m q (xs ++ ys)
+in_remaining n m q xs ys l h = record {
   low = h.low;
   high = h.high;
   is_node = ap (λ x. x.is_node) (get_or_append_left xs ys no_item (q - n) (omega (arith, h.low, h.high))) ∙ h.is_node;
@@ -62,7 +62,7 @@ parent_of n s p (node k c f) (suc m) q l e =
                   high = omega arith;
                   is_node = ap (λ x. x.is_node) (get_or_head _ (xs ++ ys) (q - n) no_item first);
                 }
-            | inr h ↦ inr (after_one n m q _ (xs ++ ys) (in_left (n + 1) m q xs ys (omega arith) h))
+            | inr h ↦ inr (after_one n m q _ (xs ++ ys) (in_remaining (n + 1) m q xs ys (omega arith) h))
           ]
       | inr high ↦
           let e' : (get_or ys (m - element_count c) no_item).parent ≡ Some q =

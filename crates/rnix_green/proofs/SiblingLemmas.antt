@@ -26,11 +26,11 @@ passed n (suc k) room (i ∷ is) =
 pub next_sibling : (is : List Item) (n end below : ℕ) → n < end → end ≤ length is → below ≡ (get_or is n no_item).below →
     siblings_between is n end ≡ n ∷ siblings_between is (n + 1 + below) end
 next_sibling is n end below l h e =
-    let left : end - n ≡ suc (end - n - 1) = omega arith in
+    let remaining : end - n ≡ suc (end - n - 1) = omega arith in
     let rest : end - n - 1 - below ≡ end - (n + 1 + below) = omega arith in
     let later = drop (n + 1) is in
     ap (λ xs. passed_over n 0 (end - n) xs) (drop_more is n no_item (omega arith))
-    ∙ ap (λ m. passed_over n 0 m (get_or is n no_item ∷ later)) left
+    ∙ ap (λ m. passed_over n 0 m (get_or is n no_item ∷ later)) remaining
     ∙ ap (λ b. n ∷ passed_over (n + 1) b (end - n - 1) later) (sym e)
     ∙ ap (λ x. n ∷ x) (passed (n + 1) below (end - n - 1) later
     ∙ ap (λ m. passed_over (n + 1 + below) 0 m (drop below later)) rest
@@ -80,10 +80,10 @@ passed_trees n s p (leaf k u f) rest = ap (λ x. n ∷ x) (passed_trees (n + 1) 
 passed_trees n s p (node k c f) rest =
     let xs = items_from (n + 1) s (Some n) c in
     let ys = items_from (n + 1 + element_count c) (s + length (text_of c)) p f in
-    let left : element_count c + element_count f - element_count c ≡ element_count f = omega arith in
+    let remaining : element_count c + element_count f - element_count c ≡ element_count f = omega arith in
     ap (λ x. n ∷ x)
     (passed (n + 1) (element_count c) (element_count c + element_count f) ((xs ++ ys) ++ rest)
-    ∙ ap (λ l. passed_over (n + 1 + element_count c) 0 l (drop (element_count c) ((xs ++ ys) ++ rest))) left
+    ∙ ap (λ l. passed_over (n + 1 + element_count c) 0 l (drop (element_count c) ((xs ++ ys) ++ rest))) remaining
     ∙ ap (λ is. passed_over (n + 1 + element_count c) 0 (element_count f) (drop (element_count c) is)) (append_assoc xs ys rest)
     ∙ ap (λ is. passed_over (n + 1 + element_count c) 0 (element_count f) is)
     (drop_at xs (ys ++ rest) (element_count c) (length-items_from (n + 1) s (Some n) c))

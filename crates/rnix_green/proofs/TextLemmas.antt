@@ -3,9 +3,15 @@ use Rattle.std.proofs.{Common.{◌≡◌, ℕ, ◌+◌, ◌-◌, ◌≤◌, List
 use Rattle.std.{proofs.lemmas.List.{take-append-le, drop-take, drop-drop, length-take-le, length-drop}, specs.Prelude.slice_range}
 
 -- a text is no shorter than what it begins with
-pub begins_short : (part left : List ℕ) → take (length part) left ≡ part → length part ≤ length left
-begins_short part left h =
-    omega (arith, ap length h, ap length (take-append-drop (length part) left), length-append (take (length part) left) (drop (length part) left))
+pub begins_short : (part remaining : List ℕ) → take (length part) remaining ≡ part → length part ≤ length remaining
+begins_short part remaining h =
+    omega (
+      arith,
+      ap length h,
+      ap length (take-append-drop (length part) remaining),
+      length-append (take (length part) remaining)
+          (drop (length part) remaining),
+    )
 
 -- there is as much text as is taken and what is next
 pub taken_within : (text part : List ℕ) (m : ℕ) → m ≤ length text → take (length part) (drop m text) ≡ part → m + length part ≤ length text
@@ -22,8 +28,8 @@ taken_more text part m w h =
     ∙ ap (λ x. take m text ++ x) (drop-take m (length part) text ∙ h)
 
 -- and what is left behind it
-pub left_more : (text part : List ℕ) (m : ℕ) → drop (m + length part) text ≡ drop (length part) (drop m text)
-left_more text part m = sym (drop-drop (length part) m text)
+pub remaining_more : (text part : List ℕ) (m : ℕ) → drop (m + length part) text ≡ drop (length part) (drop m text)
+remaining_more text part m = sym (drop-drop (length part) m text)
 
 -- the part of a text from its start on
 pub first_range : (text : List ℕ) (n : ℕ) → slice_range text 0 n ≡ take n text

@@ -25,12 +25,12 @@ draft_code =
 -- a draft of a text that is there, and the part of the text that has no leaves yet
 pub record TextDraft : Type 0 where
   pub draft : Draft
-  pub left : List ℕ
+  pub remaining : List ℕ
 
 -- such a draft as lists and numbers
 abbrev pub text_draft_code : Coded TextDraft
 text_draft_code =
-    code_by (Draft × List ℕ) (coded× draft_code (coded_list coded_ℕ)) (λ d. (d.draft, d.left)) (λ p. record { draft = p.0; left = p.1 }) (λ _. refl)
+    code_by (Draft × List ℕ) (coded× draft_code (coded_list coded_ℕ)) (λ d. (d.draft, d.remaining)) (λ p. record { draft = p.0; remaining = p.1 }) (λ _. refl)
 
 -- no trees, no open node
 abbrev pub blank : Draft
@@ -38,19 +38,19 @@ blank = record { finished = empty; open_nodes = [] }
 
 -- no trees, no open node, and a whole text
 abbrev pub blank_of : List ℕ → TextDraft
-blank_of t = record { draft = blank; left = t }
+blank_of t = record { draft = blank; remaining = t }
 
 -- a draft with as much of the text left
 abbrev pub with_draft : Draft → TextDraft → TextDraft
-with_draft d t = record { draft = d; left = t.left }
+with_draft d t = record { draft = d; remaining = t.remaining }
 
 -- a draft with a part less of the text
 abbrev pub taken : Draft → List ℕ → TextDraft → TextDraft
-taken d part t = record { draft = d; left = drop (length part) t.left }
+taken d part t = record { draft = d; remaining = drop (length part) t.remaining }
 
 -- the text that is left begins with a part
 abbrev pub IsNext : List ℕ → TextDraft → Type 0
-IsNext part t = take (length part) t.left ≡ part
+IsNext part t = take (length part) t.remaining ≡ part
 
 -- one more leaf behind the trees
 abbrev pub with_leaf : SyntaxKind → List ℕ → Forest → Forest
@@ -58,7 +58,7 @@ with_leaf k t f = join f (leaf k t empty)
 
 -- the trees from a place on become the children of one node
 abbrev pub wrapped : SyntaxKind → ℕ → Forest → Forest
-wrapped k place f = join (first_trees place f) (node k (trees_after place f) empty)
+wrapped k first_child f = join (first_trees first_child f) (node k (trees_after first_child f) empty)
 
 -- one more leaf
 abbrev pub leaf_added : SyntaxKind → List ℕ → Draft → Draft
@@ -66,12 +66,12 @@ leaf_added k t d = record { finished = with_leaf k t d.finished; open_nodes = d.
 
 -- one more node is open from a place on
 abbrev pub node_opened : SyntaxKind → ℕ → Draft → Draft
-node_opened k place d = record { finished = d.finished; open_nodes = (k, place) ∷ d.open_nodes }
+node_opened k first_child d = record { finished = d.finished; open_nodes = (k, first_child) ∷ d.open_nodes }
 
 -- the first of the open nodes is closed over the trees from its place on
 abbrev pub closed_over : Forest → List OpenNode → Draft
 closed_over f [] = record { finished = f; open_nodes = [] }
-closed_over f ((k, place) ∷ outer) = record { finished = wrapped k place f; open_nodes = outer }
+closed_over f ((k, first_child) ∷ outer) = record { finished = wrapped k first_child f; open_nodes = outer }
 
 -- the innermost open node is closed
 abbrev pub node_closed : Draft → Draft
@@ -80,7 +80,7 @@ node_closed d = closed_over d.finished d.open_nodes
 -- at or behind the place of the innermost open node
 abbrev pub is_inside : ℕ → List OpenNode → Bool
 is_inside n [] = true
-is_inside n ((k, place) ∷ outer) = nat_le place n
+is_inside n ((k, first_child) ∷ outer) = nat_le first_child n
 
 -- one more node over one leaf: it is opened behind the trees, the leaf is added, and it is closed
 abbrev pub leaf_node_added : SyntaxKind → SyntaxKind → List ℕ → Draft → Draft

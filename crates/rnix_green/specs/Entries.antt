@@ -37,12 +37,12 @@ starts_from n (node k c f) = n ∷ starts_from (n + 1 + element_count c) f
 
 -- the open nodes, the innermost first
 abbrev pub open_pairs : List Pending → List OpenNode
-open_pairs nodes = map (λ o. (o.kind, o.place)) (reverse nodes)
+open_pairs nodes = map (λ o. (o.kind, o.first_child)) (reverse nodes)
 
 -- no place is above n, nor above the place of a node that is open inside
 abbrev pub IsNested : ℕ → List OpenNode → Type 0
 IsNested n [] = Unit {0}
-IsNested n ((k, place) ∷ outer) = (place ≤ n) × IsNested place outer
+IsNested n ((k, first_child) ∷ outer) = (first_child ≤ n) × IsNested first_child outer
 
 -- the trees, the text, the entries and the open nodes are those of one builder, with less text and fewer entries than the limit
 pub record IsBuilt (f : Forest) (text : List ℕ) (es : List Entry) (pending : List Pending) (starts : List ℕ) : Type 0 where

@@ -5,16 +5,16 @@ use Rattle.std.specs.Cmp.{IsEquivalence}
 use Rattle.std.proofs.Common.{ap, sym, refl}
 use Rattle.std.proofs.lemmas.Bool.Decides.{Decides-eqb, Decides-like}
 use Rattle.rnix_kinds.specs.declared.kinds.SyntaxKind.{SyntaxKind}
-use Rattle.rnix_kinds.specs.SyntaxKind.{place_of}
-use Rattle.rnix_kinds.proofs.AllKinds.{same_place}
+use Rattle.rnix_kinds.specs.SyntaxKind.{discriminant_of}
+use Rattle.rnix_kinds.proofs.AllKinds.{same_discriminant}
 
 -- two kinds are one
 abbrev pub same_kind : SyntaxKind → SyntaxKind → Bool
-same_kind a b = place_of a == place_of b
+same_kind a b = discriminant_of a == discriminant_of b
 
 -- the test decides whether two kinds are one
 pub same_kind-decides : (a b : SyntaxKind) → Decides (same_kind a b) (a ≡ b)
-same_kind-decides a b = Decides-like (same_kind a b) (same_place a b) (ap place_of) (Decides-eqb (place_of a) (place_of b))
+same_kind-decides a b = Decides-like (same_kind a b) (same_discriminant a b) (ap discriminant_of) (Decides-eqb (discriminant_of a) (discriminant_of b))
 
 -- two tests of which each implies the other are one
 both_ways : (a b : Bool) → (a ≡ true → b ≡ true) → (b ≡ true → a ≡ true) → a ≡ b

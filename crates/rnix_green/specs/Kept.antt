@@ -5,7 +5,7 @@ use Rattle.rnix_kinds.specs.declared.kinds.SyntaxKind.TheVariants.{TOKEN_ERROR}
 use Rattle.rnix_green.specs.declared.green.Element.{Element}
 use Rattle.rnix_green.specs.declared.packed.Packed.{Packed}
 use Rattle.rnix_green.specs.Forest.{Forest, empty, leaf, node, text_of, element_count, HasText}
-use Rattle.rnix_green.specs.Packed.{limit, packed, place_in, size_in}
+use Rattle.rnix_green.specs.Packed.{limit, packed, len_or_start_in, size_in}
 use Rattle.rnix_green.specs.Tree.{Tree, Item, items_from, items_of, forest_of}
 
 -- what an element shows that was read
@@ -60,13 +60,13 @@ tree_before (suc below) k t f = node k (first_elements below f) (elements_after 
 -- where the first of these elements starts, or the end of the text where there is none
 abbrev pub start_of_first : List ℕ → List Packed → ℕ
 start_of_first text [] = length text
-start_of_first text (e ∷ es) = place_in e
+start_of_first text (e ∷ es) = len_or_start_in e
 
 -- the row whose elements these are
 abbrev pub forest_from : List ℕ → List Packed → Forest
 forest_from text [] = empty
 forest_from text (e ∷ es) =
-    tree_before (size_in e) e.kind (take (start_of_first text es - place_in e) (drop (place_in e) text)) (forest_from text es)
+    tree_before (size_in e) e.kind (take (start_of_first text es - len_or_start_in e) (drop (len_or_start_in e) text)) (forest_from text es)
 
 -- the tree that a row of one node is
 abbrev pub as_tree : Forest → Tree

@@ -13,11 +13,11 @@ word_of n = n % 2 ^ 32
 
 -- the element with these numbers
 abbrev pub packed : SyntaxKind → ℕ → ℕ → ℕ → Packed
-packed k place parent size = record { place = word_of place; parent = word_of parent; size = word_of size; kind = k }
+packed k len_or_start parent size = record { len_or_start = word_of len_or_start; parent = word_of parent; size = word_of size; kind = k }
 
 -- an element's place
-abbrev pub place_in : Packed → ℕ
-place_in e = e.place
+abbrev pub len_or_start_in : Packed → ℕ
+len_or_start_in e = e.len_or_start
 
 -- the number of its parent
 abbrev pub parent_in : Packed → ℕ

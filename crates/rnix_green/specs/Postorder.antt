@@ -4,7 +4,7 @@ use Rattle.rnix_kinds.specs.declared.kinds.SyntaxKind.{SyntaxKind}
 use Rattle.rnix_green.specs.declared.packed.Packed.{Packed}
 use Rattle.rnix_green.specs.declared.postorder.Frame.{Frame}
 use Rattle.rnix_green.specs.Forest.{Forest, empty, leaf, node, text_of, element_count}
-use Rattle.rnix_green.specs.Packed.{packed, place_in, size_in}
+use Rattle.rnix_green.specs.Packed.{packed, len_or_start_in, size_in}
 use Rattle.rnix_green.specs.Kept.{parent_or_root, kept_from}
 
 -- a leaf with the length of its text; a node with the number of elements inside it
@@ -19,7 +19,7 @@ entry_by (suc below) k n = Node k below
 
 -- what an element is that is not placed yet
 abbrev pub entry_of : Packed → Entry
-entry_of e = entry_by (size_in e) e.kind (place_in e)
+entry_of e = entry_by (size_in e) e.kind (len_or_start_in e)
 
 -- each leaf, and each node behind its children
 abbrev pub entries_of : Forest → List Entry
@@ -38,14 +38,14 @@ parent_number [] = None
 parent_number (fr ∷ frs) = Some fr.number
 
 -- the entries of rows side by side, the last one first
-abbrev pub entries_left : List Forest → List Entry
-entries_left [] = []
-entries_left (g ∷ gs) = entries_left gs ++ entries_of g
+abbrev pub rest_entries : List Forest → List Entry
+rest_entries [] = []
+rest_entries (g ∷ gs) = rest_entries gs ++ entries_of g
 
 -- the length of their text
-abbrev pub text_left : List Forest → ℕ
-text_left [] = 0
-text_left (g ∷ gs) = text_left gs + length (text_of g)
+abbrev pub rest_text : List Forest → ℕ
+rest_text [] = 0
+rest_text (g ∷ gs) = rest_text gs + length (text_of g)
 
 -- what is kept of the node of a frame
 abbrev pub frame_kept : Frame → ℕ → Option ℕ → Packed
@@ -57,7 +57,7 @@ around [] gs es = es
 around (fr ∷ frs) [] es = es
 around (fr ∷ frs) (g ∷ gs) es =
     around frs gs
-    (kept_from (child_number frs) (text_left gs) (parent_number frs) g ++ (frame_kept fr (text_left (g ∷ gs)) (parent_number frs) ∷ es))
+    (kept_from (child_number frs) (rest_text gs) (parent_number frs) g ++ (frame_kept fr (rest_text (g ∷ gs)) (parent_number frs) ∷ es))
 
 -- each frame knows how many entries precede it, and its number
 abbrev pub IsAligned : List Frame → List Forest → Type 0
@@ -65,7 +65,7 @@ IsAligned [] [] = Unit {0}
 IsAligned [] (g ∷ gs) = ⊥
 IsAligned (fr ∷ frs) [] = ⊥
 IsAligned (fr ∷ frs) (g ∷ gs) =
-    (fr.first ≡ length (entries_left (g ∷ gs))) × (fr.number ≡ length (entries_left (g ∷ gs)) + length frs) × IsAligned frs gs
+    (fr.first ≡ length (rest_entries (g ∷ gs))) × (fr.number ≡ length (rest_entries (g ∷ gs)) + length frs) × IsAligned frs gs
 
 -- an entry of the innermost frame is not read yet
 abbrev pub HasMore : List Frame → ℕ → Type 0
@@ -81,8 +81,8 @@ pub record IsReached (frames : List Frame) (n : ℕ) (fr : Frame) : Type 0 where
 pub record IsWork (forest : Forest) (prefix : List Entry) (offset : ℕ) (frames : List Frame) (done : List Packed) : Type 0 where
   pub current : Forest
   pub outer : List Forest
-  pub entries : prefix ≡ entries_left (current ∷ outer)
-  pub text : offset ≡ text_left (current ∷ outer)
+  pub entries : prefix ≡ rest_entries (current ∷ outer)
+  pub text : offset ≡ rest_text (current ∷ outer)
   pub aligned : IsAligned frames outer
   pub elements :
-      around frames outer (kept_from (child_number frames) (text_left outer) (parent_number frames) current ++ done) ≡ kept_from 0 0 None forest
+      around frames outer (kept_from (child_number frames) (rest_text outer) (parent_number frames) current ++ done) ≡ kept_from 0 0 None forest

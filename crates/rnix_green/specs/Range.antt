@@ -13,5 +13,5 @@ abbrev pub bounds_of : TextRange → Extent
 bounds_of range = record { start = range.start; end = range.end }
 
 -- a range in decimal
-abbrev pub place_text : Extent → List ℕ
-place_text range = decimal range.start ++ codes ".." ++ decimal range.end
+abbrev pub extent_text : Extent → List ℕ
+extent_text range = decimal range.start ++ codes ".." ++ decimal range.end

@@ -9,7 +9,7 @@ use Rattle.rnix_green.specs.Equality.{same_kind, same_kind-decides, equivalence_
 
 -- two elements have the same numbers
 abbrev pub same_numbers : Packed → Packed → Bool
-same_numbers a b = a.place == b.place && (a.parent == b.parent && a.size == b.size)
+same_numbers a b = a.len_or_start == b.len_or_start && (a.parent == b.parent && a.size == b.size)
 
 -- two elements have the same fields
 abbrev pub same_element : Packed → Packed → Bool
@@ -18,13 +18,13 @@ same_element a b = same_kind a.kind b.kind && same_numbers a b
 -- the test decides whether two elements have the same fields
 pub same_element-decides : (a b : Packed) → Decides (same_element a b) (a ≡ b)
 same_element-decides a b =
-    Decides-like (same_element a b) (λ e i. record { place = e.1.0 i; parent = e.1.1.0 i; size = e.1.1.1 i; kind = e.0 i })
+    Decides-like (same_element a b) (λ e i. record { len_or_start = e.1.0 i; parent = e.1.1.0 i; size = e.1.1.1 i; kind = e.0 i })
     (λ e. (
       ap (λ (x : Packed). x.kind) e,
-      (ap (λ (x : Packed). x.place) e, (ap (λ (x : Packed). x.parent) e, ap (λ (x : Packed). x.size) e)),
+      (ap (λ (x : Packed). x.len_or_start) e, (ap (λ (x : Packed). x.parent) e, ap (λ (x : Packed). x.size) e)),
     ))
     (Decides-and (same_kind a.kind b.kind) (same_numbers a b) (same_kind-decides a.kind b.kind)
-    (Decides-and (a.place == b.place) (a.parent == b.parent && a.size == b.size) (Decides-eqb a.place b.place)
+    (Decides-and (a.len_or_start == b.len_or_start) (a.parent == b.parent && a.size == b.size) (Decides-eqb a.len_or_start b.len_or_start)
     (Decides-and (a.parent == b.parent) (a.size == b.size) (Decides-eqb a.parent b.parent) (Decides-eqb a.size b.size))))
 
 -- equality of kept elements is an equivalence

@@ -18,13 +18,13 @@ use std::marker::Model;
 #[derive(Clone, Copy)]
 pub(crate) struct OpenNode {
     pub(crate) kind: SyntaxKind,
-    pub(crate) place: usize,
+    pub(crate) first_child: usize,
 }
 
 /// A point in the children built so far, before which a node can be opened later.
 #[derive(Clone, Copy, Debug)]
 pub struct Checkpoint {
-    pub(crate) place: usize,
+    pub(crate) first_child: usize,
 }
 
 impl Model for Checkpoint {
@@ -32,9 +32,9 @@ impl Model for Checkpoint {
 
     ghost Value = { ℕ };
 
-    ghost view = { λ c. c.place };
+    ghost view = { λ c. c.first_child };
 
-    ghost inverse = { λ n. record { place = n } };
+    ghost inverse = { λ n. record { first_child = n } };
 }
 
 /// Builds a tree. A call that is refused memory leaves the builder unchanged. A text of 2^32 bytes, or that many elements, is refused in the same way.
@@ -74,10 +74,10 @@ fn ends_with_node(entries: &[Packed]) -> bool
 }
 
 /// Returns the entry at which a finished tree begins, or the end if there is no such tree.
-pub(crate) fn start_at(starts: &[u32], place: usize, end: u32) -> u32
-    ensures { result ≡ slice_index_or starts.now place end }
+pub(crate) fn start_at(starts: &[u32], first_child: usize, end: u32) -> u32
+    ensures { result ≡ slice_index_or starts.now first_child end }
 {
-    starts.get(place).copied().unwrap_or(end)
+    starts.get(first_child).copied().unwrap_or(end)
 }
 
 impl GreenNodeBuilder {
@@ -107,8 +107,8 @@ impl GreenNodeBuilder {
         ensures ok { OnOk result (self.new ≡ node_opened kind (tree_count self.old.finished) self.old) }
         ensures err { OnErr result (self.new ≡ self.old) }
     {
-        let place = self.starts.len();
-        self.pending.push(OpenNode { kind, place })?;
+        let first_child = self.starts.len();
+        self.pending.push(OpenNode { kind, first_child })?;
         Ok(())
     }
 
@@ -132,11 +132,11 @@ impl GreenNodeBuilder {
 
     /// Returns the point after the finished trees.
     pub fn checkpoint(&self) -> Checkpoint
-        ensures place { result ≡ tree_count self.now.finished }
+        ensures first_child { result ≡ tree_count self.now.finished }
         ensures inside { IsTrue (is_checkpoint_of self.now result) }
     {
         Checkpoint {
-            place: self.starts.len(),
+            first_child: self.starts.len(),
         }
     }
 
@@ -150,8 +150,8 @@ impl GreenNodeBuilder {
         ensures ok { OnOk result (self.new ≡ node_opened kind checkpoint self.old) }
         ensures err { OnErr result (self.new ≡ self.old) }
     {
-        let place = checkpoint.place;
-        self.pending.push(OpenNode { kind, place })?;
+        let first_child = checkpoint.first_child;
+        self.pending.push(OpenNode { kind, first_child })?;
         Ok(())
     }
 
@@ -162,15 +162,15 @@ impl GreenNodeBuilder {
         ensures ok { OnOk result (self.new ≡ node_closed self.old) }
         ensures err { OnErr result (self.new ≡ self.old) }
     {
-        let OpenNode { kind, place } = self.pending[self.pending.len() - 1];
+        let OpenNode { kind, first_child } = self.pending[self.pending.len() - 1];
         let end = self.entries.len();
         room(end, 1)?;
-        let first = start_at(&self.starts, place, end as u32);
+        let first = start_at(&self.starts, first_child, end as u32);
         self.starts.reserve(1)?;
         self.entries
             .push(Packed::new(kind, 0, 0, end - first as usize + 1))?;
         self.pending.truncate(self.pending.len() - 1);
-        self.starts.truncate(place);
+        self.starts.truncate(first_child);
         self.starts.push_reserved(first);
         Ok(())
     }
@@ -210,10 +210,10 @@ impl GreenNodeBuilder {
     pub fn is_valid_checkpoint(&self, checkpoint: Checkpoint) -> bool
         ensures { result ≡ is_checkpoint_of self.now checkpoint }
     {
-        checkpoint.place <= self.starts.len()
+        checkpoint.first_child <= self.starts.len()
             && match self.pending.last() {
                 None => true,
-                Some(innermost) => innermost.place <= checkpoint.place,
+                Some(innermost) => innermost.first_child <= checkpoint.first_child,
             }
     }
 

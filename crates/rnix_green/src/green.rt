@@ -83,7 +83,7 @@ impl GreenNode {
         ensures { result ≡ start_at self.now number }
     {
         if number < self.elements.len() {
-            self.elements[number].place()
+            self.elements[number].len_or_start()
         } else {
             self.text.len()
         }
@@ -103,7 +103,7 @@ impl GreenNode {
         Element {
             kind: element.kind(),
             is_node: size > 0,
-            start: element.place(),
+            start: element.len_or_start(),
             end: self.start_at(number + 1 + below),
             parent: parent_kept(number, element.parent()),
             below,
@@ -126,7 +126,7 @@ impl GreenNode {
         ensures before { (m : ℕ) → from ≤ m → m < result → (item self.now m).start < offset }
         ensures behind { (m : ℕ) → result ≤ m → m < end → offset ≤ (item self.now m).start }
     {
-        from + self.elements[from..end].partition_point(|element| element.place() < offset)
+        from + self.elements[from..end].partition_point(|element| element.len_or_start() < offset)
     }
 
     /// Returns the number of elements in the tree.

@@ -3,7 +3,7 @@
 ghost use Rattle.std.specs.Prelude.{◌≡◌, ◌+◌, ◌<◌, ◌≤◌, OnOk, OnErr};
 ghost use Rattle.rnix_green.specs.Equality.{same_kind};
 ghost use Rattle.rnix_green.specs.SameElements.{same_numbers};
-ghost use Rattle.rnix_green.specs.Packed.{limit, word_of, packed, place_in, parent_in, size_in};
+ghost use Rattle.rnix_green.specs.Packed.{limit, word_of, packed, len_or_start_in, parent_in, size_in};
 
 use rnix_kinds::SyntaxKind;
 use std::alloc::AllocError;
@@ -14,7 +14,7 @@ const LIMIT: usize = 1 << 32;
 /// Three numbers below the limit, and a kind.
 #[derive(Clone, Copy)]
 pub(crate) struct Packed {
-    place: u32,
+    len_or_start: u32,
     parent: u32,
     size: u32,
     kind: SyntaxKind,
@@ -42,11 +42,11 @@ pub(crate) fn room(held: usize, more: usize) -> Result<(), AllocError>
 
 impl Packed {
     /// Returns an element with a count: the size of a node's subtree with the node itself, or 0 for a token.
-    pub(crate) fn new(kind: SyntaxKind, place: usize, parent: usize, size: usize) -> Packed
-        ensures { result ≡ packed kind place parent size }
+    pub(crate) fn new(kind: SyntaxKind, len_or_start: usize, parent: usize, size: usize) -> Packed
+        ensures { result ≡ packed kind len_or_start parent size }
     {
         Packed {
-            place: word(place),
+            len_or_start: word(len_or_start),
             parent: word(parent),
             size: word(size),
             kind,
@@ -60,10 +60,10 @@ impl Packed {
     }
 
     /// Returns the length of a token's text until the element is placed; then the offset at which it starts.
-    pub(crate) fn place(&self) -> usize
-        ensures { result ≡ place_in self.now }
+    pub(crate) fn len_or_start(&self) -> usize
+        ensures { result ≡ len_or_start_in self.now }
     {
-        self.place as usize
+        self.len_or_start as usize
     }
 
     /// Returns the number of the parent; 0 for the root.
@@ -92,7 +92,7 @@ fn same_kind(a: SyntaxKind, b: SyntaxKind) -> bool
 fn same_numbers(a: &Packed, b: &Packed) -> bool
     ensures { result ≡ same_numbers a.now b.now }
 {
-    a.place == b.place && a.parent == b.parent && a.size == b.size
+    a.len_or_start == b.len_or_start && a.parent == b.parent && a.size == b.size
 }
 
 impl PartialEq for Packed {

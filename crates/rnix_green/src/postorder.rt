@@ -49,12 +49,12 @@ fn innermost_number(frames: &[Frame]) -> usize
 }
 
 // Returns the innermost frame if all its entries have been placed.
-fn reached(frames: &[Frame], left: usize) -> Option<Frame>
-    ensures { MatchOption result (HasMore (reverse frames.now) left) (λ frame. IsReached frames.now left frame) }
+fn reached(frames: &[Frame], todo: usize) -> Option<Frame>
+    ensures { MatchOption result (HasMore (reverse frames.now) todo) (λ frame. IsReached frames.now todo frame) }
 {
     match frames.last() {
         Some(frame) => {
-            if frame.first as usize == left {
+            if frame.first as usize == todo {
                 Some(*frame)
             } else {
                 None
@@ -74,13 +74,13 @@ pub(crate) fn in_preorder(mut elements: Vec<Packed>, text: &str) -> Result<Vec<P
 {
     let mut frames: Vec<Frame> = Vec::new(*elements.allocator());
     let mut offset = text.len();
-    let mut left = elements.len();
+    let mut todo = elements.len();
     'elements: loop {
-        match reached(&frames, left) {
+        match reached(&frames, todo) {
             Some(frame) => {
                 frames.truncate(frames.len() - 1);
                 let parent = innermost_number(&frames);
-                elements[left + frames.len()] = Packed::new(
+                elements[todo + frames.len()] = Packed::new(
                     frame.kind,
                     offset,
                     parent,
@@ -88,26 +88,26 @@ pub(crate) fn in_preorder(mut elements: Vec<Packed>, text: &str) -> Result<Vec<P
                 );
             }
             None => {
-                if left == 0 {
+                if todo == 0 {
                     break;
                 }
-                left -= 1;
-                let entry = elements[left];
+                todo -= 1;
+                let entry = elements[todo];
                 let (kind, size) = (entry.kind(), entry.size());
-                if size == 2 && elements[left - 1].size() == 0 {
-                    left -= 1;
-                    let token = elements[left];
-                    offset -= token.place();
-                    let number = left + frames.len();
+                if size == 2 && elements[todo - 1].size() == 0 {
+                    todo -= 1;
+                    let token = elements[todo];
+                    offset -= token.len_or_start();
+                    let number = todo + frames.len();
                     elements[number + 1] = Packed::new(token.kind(), offset, number, 0);
                     elements[number] = Packed::new(kind, offset, innermost_number(&frames), 2);
                 } else if size > 0 {
-                    let first = left + 1 - size;
+                    let first = todo + 1 - size;
                     frames.push(Frame::new(kind, size, first + frames.len(), first))?;
                 } else {
-                    offset -= entry.place();
+                    offset -= entry.len_or_start();
                     let parent = innermost_number(&frames);
-                    elements[left + frames.len()] = Packed::new(kind, offset, parent, 0);
+                    elements[todo + frames.len()] = Packed::new(kind, offset, parent, 0);
                 }
             }
         }

@@ -39,7 +39,7 @@ impl<'t> Model for TextBuilder<'t> {
 
     ghost view = { λ b. record {
       draft = record { finished = made (take b.taken b.text.now) b.entries.items; open_nodes = open_pairs b.pending.items };
-      left = drop b.taken b.text.now;
+      remaining = drop b.taken b.text.now;
     } };
 
     ghost invariant = { λ b. IsTextBuilder b.text.now b.taken b.entries.items b.pending.items b.starts.items };
@@ -73,9 +73,9 @@ impl<'t> TextBuilder<'t> {
         ensures ok { OnOk result (self.new ≡ with_draft (node_opened kind (tree_count self.old.draft.finished) self.old.draft) self.old) }
         ensures err { OnErr result (self.new ≡ self.old) }
     {
-        let place = self.starts.len();
+        let first_child = self.starts.len();
         self.pending.reserve(1)?;
-        self.pending.push_reserved(OpenNode { kind, place });
+        self.pending.push_reserved(OpenNode { kind, first_child });
         Ok(())
     }
 
@@ -99,11 +99,11 @@ impl<'t> TextBuilder<'t> {
 
     /// Returns the point after the finished trees.
     pub fn checkpoint(&self) -> Checkpoint
-        ensures place { result ≡ tree_count self.now.draft.finished }
+        ensures first_child { result ≡ tree_count self.now.draft.finished }
         ensures inside { IsTrue (is_checkpoint_of self.now.draft result) }
     {
         Checkpoint {
-            place: self.starts.len(),
+            first_child: self.starts.len(),
         }
     }
 
@@ -117,9 +117,9 @@ impl<'t> TextBuilder<'t> {
         ensures ok { OnOk result (self.new ≡ with_draft (node_opened kind checkpoint self.old.draft) self.old) }
         ensures err { OnErr result (self.new ≡ self.old) }
     {
-        let place = checkpoint.place;
+        let first_child = checkpoint.first_child;
         self.pending.reserve(1)?;
-        self.pending.push_reserved(OpenNode { kind, place });
+        self.pending.push_reserved(OpenNode { kind, first_child });
         Ok(())
     }
 
@@ -130,15 +130,15 @@ impl<'t> TextBuilder<'t> {
         ensures ok { OnOk result (self.new ≡ with_draft (node_closed self.old.draft) self.old) }
         ensures err { OnErr result (self.new ≡ self.old) }
     {
-        let OpenNode { kind, place } = self.pending[self.pending.len() - 1];
+        let OpenNode { kind, first_child } = self.pending[self.pending.len() - 1];
         let end = self.entries.len();
         room(end, 1)?;
-        let first = start_at(&self.starts, place, end as u32);
+        let first = start_at(&self.starts, first_child, end as u32);
         self.starts.reserve(1)?;
         self.entries
             .push(Packed::new(kind, 0, 0, end - first as usize + 1))?;
         self.pending.truncate(self.pending.len() - 1);
-        self.starts.truncate(place);
+        self.starts.truncate(first_child);
         self.starts.push_reserved(first);
         Ok(())
     }

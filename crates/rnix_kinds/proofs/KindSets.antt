@@ -5,15 +5,15 @@ use Rattle.std.proofs.{lemmas.{Nat.Bits.{bit_at-zero, bit_at-pow_same, bit_at-po
 use Rattle.std.specs.{Prelude.{nat_eq, not, ◌==◌, ◌||◌, ◌&&◌}, Int.bit_at, Bool.Decides, List.{Contains, list_any}, Ordering.eq_by_cmp, Cmp.eq_by_cmp_equiv}
 use Rattle.std.specs.FinSet.{contains, union, insert, empty, IsAntisymmetric, nat_cmp-IsAntisymmetric, same_set, contains-from_list, contains-insert}
 use Rattle.{std.specs.FinSet.{contains-union, contains-empty, from_list_push}, rnix_kinds.specs.declared.kinds.{SyntaxKind.SyntaxKind, TheConstants.ALL}}
-use Rattle.rnix_kinds.specs.{contracts.kinds.SyntaxKind.the_type, SyntaxKind.{kind_count, place_of}, TokenSet.{kind_cmp, KindSet, set_of}, KindNumbers.as_bit}
-use Rattle.rnix_kinds.specs.KindNumbers.{kinds_of, number_of, same_number, kind_cmp_total, tied_in_place, contains-set_of, contains-kinds_of, bit_at-number_of}
-use Rattle.rnix_kinds.proofs.AllKinds.{every, place_in_range, kind_at_place, same_place}
+use Rattle.rnix_kinds.specs.{contracts.kinds.SyntaxKind.the_type, SyntaxKind.{kind_count, discriminant_of}, TokenSet.{kind_cmp, KindSet, set_of}, KindNumbers.as_bit}
+use Rattle.rnix_kinds.specs.KindNumbers.{kinds_of, number_of, same_number, kind_cmp_total, tied_by_discriminant, contains-set_of, contains-kinds_of, bit_at-number_of}
+use Rattle.rnix_kinds.proofs.AllKinds.{every, discriminant_in_range, kind_at_discriminant, same_discriminant}
 use denote.Enum.Declared.{tag_of}
 
 -- two kinds that tie are one
 pub kind_cmp_same : IsAntisymmetric kind_cmp
 unfolding kind_cmp
-kind_cmp_same a b e = same_place a b (nat_cmp-IsAntisymmetric (place_of a) (place_of b) e)
+kind_cmp_same a b e = same_discriminant a b (nat_cmp-IsAntisymmetric (discriminant_of a) (discriminant_of b) e)
 
 -- sets with the same members are equal
 pub same_members : (a b : KindSet) → ((kind : SyntaxKind) → contains a kind ≡ contains b kind) → a ≡ b
@@ -27,15 +27,15 @@ contains-decides kinds kind = (
 )
   where
     same_tied : (a b : SyntaxKind) → eq_by_cmp kind_cmp a b ≡ true → a ≡ b
-    same_tied a b e = same_place a b ((Decides-eqb (place_of a) (place_of b)).0 (sym (tied_in_place a b) ∙ e))
+    same_tied a b e = same_discriminant a b ((Decides-eqb (discriminant_of a) (discriminant_of b)).0 (sym (tied_by_discriminant a b) ∙ e))
 
 -- each kind is among all
 pub among_all : (kind : SyntaxKind) → contains (set_of ALL) kind ≡ true
-among_all kind = contains-set_of ALL kind ∙ every (λ k. list_any (λ a. place_of k == place_of a) ALL) refl kind
+among_all kind = contains-set_of ALL kind ∙ every (λ k. list_any (λ a. discriminant_of k == discriminant_of a) ALL) refl kind
 
 -- a kind is among those of a number exactly if its bit is set
-pub has_bit : (n : ℕ) (kind : SyntaxKind) → contains (kinds_of n) kind ≡ (bit_at n (place_of kind) == 1)
-has_bit n kind = contains-kinds_of n kind ∙ ap (λ b. b && bit_at n (place_of kind) == 1) (among_all kind)
+pub has_bit : (n : ℕ) (kind : SyntaxKind) → contains (kinds_of n) kind ≡ (bit_at n (discriminant_of kind) == 1)
+has_bit n kind = contains-kinds_of n kind ∙ ap (λ b. b && bit_at n (discriminant_of kind) == 1) (among_all kind)
 
 -- the larger of two bits is set if one of them is
 either_bit : (x y : ℕ) → x < 2 → y < 2 → (max x y == 1) ≡ (x == 1 || y == 1)
@@ -50,14 +50,14 @@ either_bit x (suc (suc y)) l m = absurd (omega arith)
 pub kinds_of-or : (a b : ℕ) → kinds_of (bit_or a b) ≡ union (kinds_of a) (kinds_of b)
 kinds_of-or a b = same_members _ _ (λ kind.
     has_bit (bit_or a b) kind
-    ∙ ap (λ n. n == 1) (bit_at_or a b (place_of kind))
-    ∙ either_bit (bit_at a (place_of kind)) (bit_at b (place_of kind)) (bit_at-lt a (place_of kind)) (bit_at-lt b (place_of kind))
+    ∙ ap (λ n. n == 1) (bit_at_or a b (discriminant_of kind))
+    ∙ either_bit (bit_at a (discriminant_of kind)) (bit_at b (discriminant_of kind)) (bit_at-lt a (discriminant_of kind)) (bit_at-lt b (discriminant_of kind))
     ∙ (λ i. sym (has_bit a kind) i || sym (has_bit b kind) i)
     ∙ sym (contains-union kind_cmp_total (kinds_of a) (kinds_of b) kind))
 
 -- no bit, no kind
 pub kinds_of-zero : kinds_of 0 ≡ empty
-kinds_of-zero = same_members _ _ (λ kind. has_bit 0 kind ∙ ap (λ n. n == 1) (bit_at-zero (place_of kind)) ∙ sym (contains-empty kind_cmp kind))
+kinds_of-zero = same_members _ _ (λ kind. has_bit 0 kind ∙ ap (λ n. n == 1) (bit_at-zero (discriminant_of kind)) ∙ sym (contains-empty kind_cmp kind))
 
 -- a power of two has one bit
 power_bit : (p k : ℕ) → (bit_at (2 ^ p) k == 1) ≡ ((k == p) || false)
@@ -67,17 +67,17 @@ power_bit p k = elim (eqb_tells k p) [
 ]
 
 -- the number that code makes for a kind
-kind_bit : (kind : SyntaxKind) → 1 * 2 ^ tag_of the_type kind % 2 ^ 128 ≡ 2 ^ place_of kind
+kind_bit : (kind : SyntaxKind) → 1 * 2 ^ tag_of the_type kind % 2 ^ 128 ≡ 2 ^ discriminant_of kind
 kind_bit kind =
-    let low : place_of kind < kind_count = place_in_range kind in
-    let fits : 2 ^ place_of kind < 2 ^ 128 = pow-lt {i = place_of kind} {j = 128} (omega arith) in
+    let low : discriminant_of kind < kind_count = discriminant_in_range kind in
+    let fits : 2 ^ discriminant_of kind < 2 ^ 128 = pow-lt {i = discriminant_of kind} {j = 128} (omega arith) in
     omega arith
 
 -- the number with one kind's bit is that of this kind alone
 pub kinds_of-one : (only : SyntaxKind) → kinds_of (1 * 2 ^ tag_of the_type only % 2 ^ 128) ≡ set_of (only ∷ [])
 kinds_of-one only = ap kinds_of (kind_bit only) ∙ same_members _ _ (λ kind.
-    has_bit (2 ^ place_of only) kind
-    ∙ power_bit (place_of only) (place_of kind)
+    has_bit (2 ^ discriminant_of only) kind
+    ∙ power_bit (discriminant_of only) (discriminant_of kind)
     ∙ sym (contains-set_of (only ∷ []) kind))
 
 -- a bit with any weight tells whether it is set
@@ -90,8 +90,8 @@ masked (suc (suc b)) m l p = absurd (omega arith)
 pub tests_bit : (n : ℕ) (kind : SyntaxKind) → not (nat_eq (bit_and n (1 * 2 ^ tag_of the_type kind % 2 ^ 128)) 0) ≡ contains (kinds_of n) kind
 tests_bit n kind =
     ap (λ m. not (nat_eq (bit_and n m) 0)) (kind_bit kind)
-    ∙ ap (λ m. not (nat_eq m 0)) (and_pow n (place_of kind))
-    ∙ masked (bit_at n (place_of kind)) (2 ^ place_of kind) (bit_at-lt n (place_of kind)) (pow_pos (place_of kind))
+    ∙ ap (λ m. not (nat_eq m 0)) (and_pow n (discriminant_of kind))
+    ∙ masked (bit_at n (discriminant_of kind)) (2 ^ discriminant_of kind) (bit_at-lt n (discriminant_of kind)) (pow_pos (discriminant_of kind))
     ∙ sym (has_bit n kind)
 
 joined_test : (a b : Bool) → (a || (b || false)) ≡ (b || a)
@@ -128,8 +128,9 @@ as_bit_test : (b : Bool) → (as_bit b == 1) ≡ b
 as_bit_test true = refl
 as_bit_test false = refl
 
-number_of-bit : (set : KindSet) (kind : SyntaxKind) → bit_at (number_of set) (place_of kind) ≡ as_bit (contains set kind)
-number_of-bit set kind = bit_at-number_of set (place_of kind) kind (place_in_range kind) ∙ ap (λ k. as_bit (contains set k)) (kind_at_place kind kind)
+number_of-bit : (set : KindSet) (kind : SyntaxKind) → bit_at (number_of set) (discriminant_of kind) ≡ as_bit (contains set kind)
+number_of-bit set kind = bit_at-number_of set (discriminant_of kind) kind (discriminant_in_range kind)
+    ∙ ap (λ k. as_bit (contains set k)) (kind_at_discriminant kind kind)
 
 -- the kinds of a set's number are those of the set
 pub kinds_of-number_of : (set : KindSet) → kinds_of (number_of set) ≡ set

@@ -15,7 +15,7 @@ use Rattle.std.proofs.lemmas.Nat.Bits.{bit_at-lt, bit_at_lowest, bit_at-suc, sam
 use Rattle.rnix_kinds.specs.declared.kinds.SyntaxKind.{SyntaxKind}
 use Rattle.rnix_kinds.specs.declared.kinds.SyntaxKind.TheVariants.{TOKEN_ADD}
 use Rattle.rnix_kinds.specs.declared.kinds.TheConstants.{ALL}
-use Rattle.rnix_kinds.specs.SyntaxKind.{kind_count, place_of}
+use Rattle.rnix_kinds.specs.SyntaxKind.{kind_count, discriminant_of}
 use Rattle.rnix_kinds.specs.TokenSet.{kind_cmp, KindSet, set_of}
 
 -- a bit that is set or not
@@ -24,7 +24,7 @@ as_bit b = if b then 1 else 0
 
 -- the kinds whose bits are set in a number
 pub kinds_of : ℕ → KindSet
-kinds_of number = set.retain (set_of ALL) (λ kind. bit_at number (place_of kind) == 1)
+kinds_of number = set.retain (set_of ALL) (λ kind. bit_at number (discriminant_of kind) == 1)
 
 -- the number with a bit for each kind of a list that passes, the first kind's bit the lowest
 abbrev number_from : (SyntaxKind → Bool) → List SyntaxKind → ℕ
@@ -46,20 +46,21 @@ same_number_laws = on_equiv number_of nat_eq_equiv
 -- the order of kinds is total
 pub kind_cmp_total : IsTotalOrder kind_cmp
 unfolding kind_cmp
-kind_cmp_total = on_total place_of nat_cmp_total
+kind_cmp_total = on_total discriminant_of nat_cmp_total
 
 -- kinds tie exactly if they have one place
-pub tied_in_place : (a b : SyntaxKind) → eq_by_cmp kind_cmp a b ≡ (place_of a == place_of b)
+pub tied_by_discriminant : (a b : SyntaxKind) → eq_by_cmp kind_cmp a b ≡ (discriminant_of a == discriminant_of b)
 unfolding kind_cmp
-tied_in_place a b = unsigned_tied (place_of a) (place_of b)
+tied_by_discriminant a b = unsigned_tied (discriminant_of a) (discriminant_of b)
 
 -- which kinds are in the set of some kinds
-pub contains-set_of : (kinds : List SyntaxKind) (kind : SyntaxKind) → set.contains (set_of kinds) kind ≡ list_any (λ k. place_of kind == place_of k) kinds
+pub contains-set_of : (kinds : List SyntaxKind) (kind : SyntaxKind) → set.contains (set_of kinds) kind
+    ≡ list_any (λ k. discriminant_of kind == discriminant_of k) kinds
 contains-set_of kinds kind = contains-from_list kind_cmp_total kinds kind ∙ same_any kinds
   where
-    same_any : (ks : List SyntaxKind) → list_any (eq_by_cmp kind_cmp kind) ks ≡ list_any (λ k. place_of kind == place_of k) ks
+    same_any : (ks : List SyntaxKind) → list_any (eq_by_cmp kind_cmp kind) ks ≡ list_any (λ k. discriminant_of kind == discriminant_of k) ks
     same_any [] = refl
-    same_any (k ∷ ks) = λ i. tied_in_place kind k i || same_any ks i
+    same_any (k ∷ ks) = λ i. tied_by_discriminant kind k i || same_any ks i
 
 as_bit_back : (n : ℕ) → n < 2 → as_bit (n == 1) ≡ n
 as_bit_back zero low = refl
@@ -91,14 +92,15 @@ number_from-lt passes (k ∷ ks) =
     omega (arith, power)
 
 -- the kinds of a list have the places from n on
-abbrev are_placed : ℕ → List SyntaxKind → Bool
-are_placed n [] = true
-are_placed n (k ∷ ks) = place_of k == n && are_placed (suc n) ks
+abbrev have_discriminants : ℕ → List SyntaxKind → Bool
+have_discriminants n [] = true
+have_discriminants n (k ∷ ks) = discriminant_of k == n && have_discriminants (suc n) ks
 
-place_at : (n i : ℕ) (kinds : List SyntaxKind) (d : SyntaxKind) → are_placed n kinds ≡ true → i < length kinds → place_of (get_or kinds i d) ≡ n + i
-place_at n i [] d h l = absurd (omega arith)
-place_at n zero (k ∷ ks) d h l = (Decides-eqb (place_of k) n).0 (and_parts (place_of k == n) _ h).0 ∙ (omega arith)
-place_at n (suc i) (k ∷ ks) d h l = place_at (suc n) i ks d (and_parts (place_of k == n) _ h).1 (omega arith) ∙ (omega arith)
+discriminant_at : (n i : ℕ) (kinds : List SyntaxKind) (d : SyntaxKind) → have_discriminants n kinds ≡ true → i < length kinds
+    → discriminant_of (get_or kinds i d) ≡ n + i
+discriminant_at n i [] d h l = absurd (omega arith)
+discriminant_at n zero (k ∷ ks) d h l = (Decides-eqb (discriminant_of k) n).0 (and_parts (discriminant_of k == n) _ h).0 ∙ (omega arith)
+discriminant_at n (suc i) (k ∷ ks) d h l = discriminant_at (suc n) i ks d (and_parts (discriminant_of k == n) _ h).1 (omega arith) ∙ (omega arith)
 
 all_at : (test : SyntaxKind → Bool) (kinds : List SyntaxKind) (i : ℕ) (d : SyntaxKind) → list_all test kinds ≡ true → i < length kinds
     → test (get_or kinds i d) ≡ true
@@ -107,14 +109,14 @@ all_at test (k ∷ ks) zero d h l = (and_parts (test k) (list_all test ks) h).0
 all_at test (k ∷ ks) (suc i) d h l = all_at test ks i d (and_parts (test k) (list_all test ks) h).1 (omega arith)
 
 -- kinds in one place pass alike
-same_bit : (n : ℕ) (a b : SyntaxKind) → kind_cmp a b ≡ Equal → (bit_at n (place_of b) == 1) ≡ (bit_at n (place_of a) == 1)
+same_bit : (n : ℕ) (a b : SyntaxKind) → kind_cmp a b ≡ Equal → (bit_at n (discriminant_of b) == 1) ≡ (bit_at n (discriminant_of a) == 1)
 unfolding kind_cmp
-same_bit n a b e = ap (λ p. bit_at n p == 1) (sym (nat_cmp-IsAntisymmetric (place_of a) (place_of b) e))
+same_bit n a b e = ap (λ p. bit_at n p == 1) (sym (nat_cmp-IsAntisymmetric (discriminant_of a) (discriminant_of b) e))
 
 -- the kinds of a number are those of all whose bits are set in it
-pub contains-kinds_of : (n : ℕ) (kind : SyntaxKind) → set.contains (kinds_of n) kind ≡ (set.contains (set_of ALL) kind && bit_at n (place_of kind) == 1)
+pub contains-kinds_of : (n : ℕ) (kind : SyntaxKind) → set.contains (kinds_of n) kind ≡ (set.contains (set_of ALL) kind && bit_at n (discriminant_of kind) == 1)
 unfolding kinds_of
-contains-kinds_of n kind = contains-retain (set_of ALL) (λ k. bit_at n (place_of k) == 1) kind (same_bit n kind)
+contains-kinds_of n kind = contains-retain (set_of ALL) (λ k. bit_at n (discriminant_of k) == 1) kind (same_bit n kind)
 
 -- the bits of a set's number are set for its kinds
 pub bit_at-number_of : (kinds : KindSet) (i : ℕ) (d : SyntaxKind) → i < kind_count → bit_at (number_of kinds) i ≡ as_bit (set.contains kinds (get_or ALL i d))
@@ -132,9 +134,9 @@ number_of-kinds_of n low = same_from_bits_below kind_count (number_of (kinds_of 
     bits : (i : ℕ) → i < kind_count → bit_at (number_of (kinds_of n)) i ≡ bit_at n i
     bits i l =
         let kind : SyntaxKind = get_or ALL i TOKEN_ADD in
-        let place : place_of kind ≡ i = place_at 0 i ALL TOKEN_ADD refl l ∙ (omega arith) in
+        let index_is : discriminant_of kind ≡ i = discriminant_at 0 i ALL TOKEN_ADD refl l ∙ (omega arith) in
         let all : set.contains (set_of ALL) kind ≡ true =
-        contains-set_of ALL kind ∙ all_at (λ k. list_any (λ a. place_of k == place_of a) ALL) ALL i TOKEN_ADD refl l in
+        contains-set_of ALL kind ∙ all_at (λ k. list_any (λ a. discriminant_of k == discriminant_of a) ALL) ALL i TOKEN_ADD refl l in
         bit_at-number_of (kinds_of n) i TOKEN_ADD l
-        ∙ ap as_bit (contains-kinds_of n kind ∙ ap (λ b. b && bit_at n (place_of kind) == 1) all ∙ ap (λ p. bit_at n p == 1) place)
+        ∙ ap as_bit (contains-kinds_of n kind ∙ ap (λ b. b && bit_at n (discriminant_of kind) == 1) all ∙ ap (λ p. bit_at n p == 1) index_is)
         ∙ as_bit_back (bit_at n i) (bit_at-lt n i)

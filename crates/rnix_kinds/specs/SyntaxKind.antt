@@ -108,12 +108,12 @@ abbrev pub kind_count : ℕ
 kind_count = length ALL
 
 -- a kind's place in the list
-abbrev pub place_of : SyntaxKind → ℕ
-place_of = tag_of the_type
+abbrev pub discriminant_of : SyntaxKind → ℕ
+discriminant_of = tag_of the_type
 
 -- the kinds of tokens come before those of nodes
 abbrev pub is_token : SyntaxKind → Bool
-is_token kind = nat_lt (place_of kind) (place_of NODE_APPLY)
+is_token kind = nat_lt (discriminant_of kind) (discriminant_of NODE_APPLY)
 
 -- a literal's only token
 abbrev pub is_literal : SyntaxKind → Bool

@@ -6,11 +6,11 @@ use Rattle.std.specs.Coded.{Coded}
 use Rattle.std.specs.FinSet as set
 use Rattle.rnix_kinds.specs.declared.kinds.SyntaxKind.{SyntaxKind}
 use Rattle.rnix_kinds.specs.contracts.kinds.SyntaxKind.{the_row}
-use Rattle.rnix_kinds.specs.SyntaxKind.{place_of}
+use Rattle.rnix_kinds.specs.SyntaxKind.{discriminant_of}
 
 -- kinds in the order of their places
 unfoldable pub kind_cmp : SyntaxKind → SyntaxKind → Ordering
-kind_cmp a b = nat_cmp (place_of a) (place_of b)
+kind_cmp a b = nat_cmp (discriminant_of a) (discriminant_of b)
 
 -- a set of kinds
 abbrev pub KindSet : Type 0

@@ -2,7 +2,7 @@
 use Rattle.std.proofs.Common.{◌≡◌, ◌≤◌, ◌+◌, ◌*◌, true, List, length, refl, subst, arith}
 use Rattle.{rnix_kinds.specs.{declared.kinds.SyntaxKind.TheVariants.NODE_ROOT, Lexical.Tokens.Lexeme}, rnix_green.specs.Tree.Tree}
 use Rattle.rnix_grammar.specs.{Fault.Fault, AnnotatedForest.{placed_from, forget}, Layout.items, Reading.IsReading}
-use Rattle.rnix_proof_lemmas.{specs.{Machine.{begins, with_leading}, Document.IsRead}, proofs.SpelledLemmas.AreRuled}
+use Rattle.rnix_proof_lemmas.{specs.{Machine.{initial_machine, with_leading}, Document.IsRead}, proofs.SpelledLemmas.AreRuled}
 use Rattle.rnix_proof_steps.{specs.StepCount.{steps_in, IsReadIn}, proofs.BudgetedRuns.{by_items, by_levels}}
 use Rattle.rnix_reader.{specs.Holds.IsThrough, proofs.EachText.each_through}
 use Rattle.rnix_parser.proofs.OneReading.{one_reading, read_parsed}
@@ -15,8 +15,8 @@ record IsReadFew (ls : List Lexeme) (tree : Tree) (faults : List Fault) : Type 0
 
 each_few : (ls : List Lexeme) → (tree : Tree) × ((faults : List Fault) × IsReadFew ls tree faults)
 each_few ls =
-    let t : IsThrough (begins (placed_from 0 ls)) = each_through (placed_from 0 ls) in
-    let tree : Tree = record { kind = NODE_ROOT; children = forget (with_leading true t.root.row t.last.left) } in (
+    let t : IsThrough (initial_machine (placed_from 0 ls)) = each_through (placed_from 0 ls) in
+    let tree : Tree = record { kind = NODE_ROOT; children = forget (with_leading true t.root.children t.last.remaining) } in (
       tree,
       (
         t.last.faults,

@@ -8,7 +8,7 @@ use Rattle.rnix_proof_lemmas.{specs.{WithoutTrivia.{without_trivia_frame, withou
 use Rattle.rnix_proof_lemmas.proofs.{SpelledLemmas.AreRuled, WithoutTriviaLemmas.{runs_without_trivia, with_leading_without_trivia}}
 use Rattle.rnix_proof_rows.proofs.WithAllTrivia.{with_all_trivia_tokens, with_trivia_same, read_with_trivia}
 use Rattle.{rnix_proof_existence.proofs.StepsReadRoot.steps_read_root, rnix_proof_uniqueness.proofs.AllReads.one_row, rnix_reader.specs.Placed.texts_in}
-use Rattle.{rnix_reader.proofs.{EachText.each_read, TextLeft.placed_text}, rnix_parser.proofs.ParsedLemmas.all_follows}
+use Rattle.{rnix_reader.proofs.{EachText.each_read, TextRemaining.placed_text}, rnix_parser.proofs.ParsedLemmas.all_follows}
 
 -- the items of a reading are those of the tokens
 pub reading_items : {ls : List Lexeme} {tree : Tree} {faults : List Fault} (r : IsReading ls tree faults) →
@@ -56,9 +56,9 @@ one_text s t tree ds es x y r q =
 read_reading : (ls : List Lexeme) (tree : Tree) (faults : List Fault) → IsRead ls tree faults → IsReading ls tree faults
 read_reading ls tree faults r =
     let ts : List Token = placed_from 0 ls in
-    let g : AnnotatedForest = with_leading true r.root.row r.last.left in
-    let bare : without_trivia g ≡ without_trivia r.root.row = with_leading_without_trivia r.root.row r.last.left in
-    let read : (items ts ≡ tokens_in (without_trivia r.root.row)) × ReadsRoot (without_trivia r.root.row) r.last.faults =
+    let g : AnnotatedForest = with_leading true r.root.children r.last.remaining in
+    let bare : without_trivia g ≡ without_trivia r.root.children = with_leading_without_trivia r.root.children r.last.remaining in
+    let read : (items ts ≡ tokens_in (without_trivia r.root.children)) × ReadsRoot (without_trivia r.root.children) r.last.faults =
     steps_read_root (items ts) (without_trivia_machine r.last) (without_trivia_frame r.root) (runs_without_trivia r.runs) (ap without_trivia_frames r.alone)
     r.head r.position r.nothing in
     let placed : g ≡ with_all_trivia (without_trivia g) ts = read_with_trivia ls tree faults r in
@@ -67,7 +67,7 @@ read_reading ls tree faults r =
       tree_is = r.tree_is;
       leaves = ap tokens_in placed ∙ with_all_trivia_tokens (without_trivia g) ts (read.0 ∙ ap tokens_in (sym bare));
       placed = placed;
-      reads = subst (λ (f : AnnotatedForest). ReadsRoot f faults) (sym bare) (subst (ReadsRoot (without_trivia r.root.row)) (sym r.faults_are) read.1);
+      reads = subst (λ (f : AnnotatedForest). ReadsRoot f faults) (sym bare) (subst (ReadsRoot (without_trivia r.root.children)) (sym r.faults_are) read.1);
     }
 
 -- the tokens of a text have a reading

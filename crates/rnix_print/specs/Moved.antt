@@ -4,4 +4,4 @@ use Rattle.std.specs.Io.KnownBytes.{Consumes}
 
 -- the bytes that the reader returned follow the old ones
 abbrev pub HasMoved : Option (List ℕ) → Option (List ℕ) → List ℕ → List ℕ → Type 0
-HasMoved left rest old new = (more : List ℕ) × Consumes left rest more × (new ≡ old ++ more)
+HasMoved remaining rest old new = (more : List ℕ) × Consumes remaining rest more × (new ≡ old ++ more)

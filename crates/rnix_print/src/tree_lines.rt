@@ -2,7 +2,7 @@
 
 ghost use Rattle.std.specs.Prelude.{OnOk};
 ghost use Rattle.std.specs.Io.KnownBytes.{Appends};
-ghost use Rattle.rnix_tree.specs.Spots.{place_of};
+ghost use Rattle.rnix_tree.specs.Spots.{located_of};
 ghost use Rattle.rnix_print.specs.OutputLines.{margin, element_line, tree_lines};
 
 use rnix_tree::{SyntaxElement, SyntaxNode, WalkEvent, write_element};
@@ -29,7 +29,7 @@ fn write_margin<W: Write>(depth: usize, out: &mut W) -> io::Result<()>
 
 // Prints the line of an element.
 fn write_line<W: Write>(element: &SyntaxElement<'_>, depth: usize, out: &mut W) -> io::Result<()>
-    ensures { OnOk result (Appends (W.contents out.old) (W.contents out.new) (element_line depth (place_of element.now))) }
+    ensures { OnOk result (Appends (W.contents out.old) (W.contents out.new) (element_line depth (located_of element.now))) }
 {
     write_margin(depth, out)?;
     write_element(element, out)

@@ -7,9 +7,9 @@ use Rattle.rnix_kinds.{specs.SyntaxKind.is_fn_arg, proofs.AllKinds.{all_kinds, i
 use Rattle.rnix_green.specs.{Equality.same_kind, Forest.{Forest, empty, leaf, node}}
 use Rattle.rnix_grammar.specs.declared.rules.Part.TheVariants.{Operand, Many, Argument}
 use Rattle.rnix_grammar.specs.AnnotatedForest.{Token, AnnotatedForest, blank, token, branch, ◌⊕◌, one_branch, tokens_in, head_kind}
-use Rattle.rnix_grammar.specs.{Begins.{first_kind, kind_if, second_kind}, Beginnings.{IsOperandOf, BeginsAs}, Yield.kind_of_token, Reports.repeats, Nest.{nest, counts_no_child}, Tables.depth_limit}
+use Rattle.rnix_grammar.specs.{OperandStarts.{first_kind, kind_if, second_kind}, FirstKinds.{IsOperandOf, BeginsAs}, Yield.kind_of_token, Reports.repeats, Nest.{nest, counts_no_child}, Tables.depth_limit}
 use Rattle.rnix_grammar.specs.{Levels.{binding_power, left_of}, TokenKinds.{is_dot, is_or, is_question}, Operands.{first_tree, follows, is_continued}}
-use Rattle.rnix_grammar.specs.{TreeLevels.{level_of, row_level, is_atom_row, is_or_row}, Rows.{is_atom, is_expression, is_infix, fits}}
+use Rattle.rnix_grammar.specs.{TreeLevels.{level_of, row_level, is_atom_row, is_or_row}, NodeClasses.{is_atom, is_expression, is_infix, fits}}
 use Rattle.rnix_grammar.specs.Rules.{Row, done, ◌·◌, only, after, IsExpected, is_first_expected, IsFollowed}
 use Rattle.rnix_proof_lemmas.proofs.{Basics.{true_is_not_false, not_if}, EveryKind.whenever_both, LevelLemmas.{at_most, at_most_true, atom_fits, binding_power_max, fits_looser}}
 use Rattle.rnix_proof_lemmas.proofs.{KindsOfNodes.{fits_expression, unreported}, PlainTables.{binds_at_most, below, is_bound}}

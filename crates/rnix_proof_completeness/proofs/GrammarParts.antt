@@ -10,9 +10,9 @@ use Rattle.rnix_grammar.specs.declared.rules.Part.TheVariants.{Attr, BoundAlread
 use Rattle.rnix_grammar.specs.Grammar as g
 use Rattle.rnix_grammar.specs.Reads as read
 use Rattle.rnix_grammar.specs.AnnotatedForest.{Token, AnnotatedForest, blank, token, branch, one_token, one_branch, tokens_in, head_kind, end_from, touches}
-use Rattle.rnix_grammar.specs.{Beginnings.IsOperandOf, Begins.{first_kind, first_kind_of_let, first_kind_of_name, second_kind}, Yield.kind_of_token, Tables.{is_or, is_cur_pos, is_among, depth_limit}}
+use Rattle.rnix_grammar.specs.{FirstKinds.IsOperandOf, OperandStarts.{first_kind, first_kind_of_let, first_kind_of_name, second_kind}, Yield.kind_of_token, Tables.{is_or, is_cur_pos, is_among, depth_limit}}
 use Rattle.rnix_grammar.specs.{TokenKinds.is_piece_start, Nest.nest, Reports.repeats, PathPieces.{is_path, is_joined, joins, joins_first, ArePaths}}
-use Rattle.rnix_grammar.specs.{Rows.{fits, is_attr, is_plain_literal}, TreeLevels.level_of}
+use Rattle.rnix_grammar.specs.{NodeClasses.{fits, is_attr, is_plain_literal}, TreeLevels.level_of}
 use Rattle.rnix_grammar.specs.Rules.{Row, done, ◌·◌, row, after, begins_attr, IsExpected, is_first_expected, IsFollowed}
 use Rattle.rnix_proof_lemmas.proofs.{Basics.{true_is_not_false, not_if}, KindsOfNodes.{is_error, keeps_kind}}
 use Rattle.rnix_proof_lemmas.proofs.PlainTables.{binds_at_most, is_no_at, is_no_dot}

@@ -10,9 +10,9 @@ use Rattle.rnix_grammar.specs.declared.rules.Part.TheVariants.{Attr, EndOr, Entr
 use Rattle.rnix_grammar.specs.Grammar as g
 use Rattle.rnix_grammar.specs.Reads as read
 use Rattle.rnix_grammar.specs.AnnotatedForest.{AnnotatedForest, blank, ◌⊕◌, one_token, one_branch, tokens_in, head_kind, end_from, touches}
-use Rattle.rnix_grammar.specs.{Begins.second_kind, Yield.kind_of_token, Tables.{is_or, depth_limit}}
+use Rattle.rnix_grammar.specs.{OperandStarts.second_kind, Yield.kind_of_token, Tables.{is_or, depth_limit}}
 use Rattle.rnix_grammar.specs.{TokenKinds.{is_path_piece, is_piece_start}, Nest.nest, PathPieces.{joins, joins_first, ArePaths}}
-use Rattle.rnix_grammar.specs.{Rows.{is_expression, is_plain_literal}, Reads.ReadsRoot}
+use Rattle.rnix_grammar.specs.{NodeClasses.{is_expression, is_plain_literal}, Reads.ReadsRoot}
 use Rattle.rnix_grammar.specs.Rules.{Row, done, ◌·◌, only, after, begins_attr}
 use Rattle.rnix_proof_lemmas.proofs.{Basics.{true_is_not_false, choice}, KindsOfNodes.{keeps_kind, fits_expression, unreported}}
 use Rattle.rnix_proof_lemmas.proofs.PlainTables.{binds_at_most, is_no_dot}

@@ -4,7 +4,7 @@ use Rattle.rnix_kinds.specs.declared.kinds.SyntaxKind.{SyntaxKind, TheVariants.{
 use Rattle.rnix_kinds.specs.declared.kinds.SyntaxKind.TheVariants.{TOKEN_INTERPOL_START, TOKEN_OR, TOKEN_QUESTION, TOKEN_R_BRACE, TOKEN_STRING_START, NODE_ATTR_SET, NODE_IDENT, NODE_PAT_ENTRY, NODE_PATTERN}
 use Rattle.rnix_green.specs.Forest.{Forest, empty, leaf}
 use Rattle.rnix_grammar.specs.AnnotatedForest.{Token, AnnotatedForest, branch, ◌⊕◌, one_token, one_branch, tokens_in, head_kind, extent_of}
-use Rattle.rnix_grammar.specs.{Begins.{is_pattern, second_kind, first_kind, first_kind_of_name}, Yield.kind_of_token, Tables.{is_or, is_among}, Fault.duplicated_args, Reports.{repeats, has_entry}}
+use Rattle.rnix_grammar.specs.{OperandStarts.{is_pattern, second_kind, first_kind, first_kind_of_name}, Yield.kind_of_token, Tables.{is_or, is_among}, Fault.duplicated_args, Reports.{repeats, has_entry}}
 use Rattle.rnix_grammar.specs.Grammar.{Entries, entries_end, inheriting, binding, bind, inherit_names, inherit_from, Attrpath, last_attr, attr_dot, Attr, named_attr, string_attr, dynamic_attr}
 use Rattle.rnix_grammar.specs.Grammar.{Parameter, parameter, pattern, bound_pattern, Formals, formals_end, ellipsis, last_entry, entry_comma, pattern_end, bound_behind, Formal, entry, default_entry}
 use Rattle.rnix_proof_lemmas.proofs.{Basics.{true_is_not_false, not_if}, EntryNames.has-⊕, PlainTables.binds_at_most}

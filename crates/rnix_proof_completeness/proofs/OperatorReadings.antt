@@ -5,8 +5,8 @@ use Rattle.rnix_kinds.specs.declared.kinds.SyntaxKind.TheVariants.{TOKEN_DOT, TO
 use Rattle.rnix_kinds.{specs.{declared.kinds.SyntaxKind.TheVariants.{NODE_IDENT, NODE_SELECT}, SyntaxKind.is_fn_arg}, proofs.AllKinds.{all_kinds, implied}}
 use Rattle.{rnix_green.specs.Forest.{Forest, empty, leaf, node}, rnix_grammar.specs.declared.rules.Part.TheVariants.{Argument, Attrpath, Binary, EndOr}}
 use Rattle.rnix_grammar.specs.{declared.rules.Part.TheVariants.{Operand, Suffix}, AnnotatedForest.{Token, AnnotatedForest, one_branch, tokens_in, head_kind}}
-use Rattle.rnix_grammar.specs.{AnnotatedForest.leaf_kind_as, Beginnings.IsOperandOf, Yield.kind_of_token, Grammar.name, Tables.is_or}
-use Rattle.rnix_grammar.specs.{TokenKinds.{is_or as is_or_token}, Operands.follows, Levels.{binding_power, max_bp_of, left_of, right_of}, Rows.{fits, is_infix}}
+use Rattle.rnix_grammar.specs.{AnnotatedForest.leaf_kind_as, FirstKinds.IsOperandOf, Yield.kind_of_token, Grammar.name, Tables.is_or}
+use Rattle.rnix_grammar.specs.{TokenKinds.{is_or as is_or_token}, Operands.follows, Levels.{binding_power, max_bp_of, left_of, right_of}, NodeClasses.{fits, is_infix}}
 use Rattle.rnix_grammar.specs.{TreeLevels.{calls_or, is_atom_row, level_of, row_level}, Rules.{Row, done, ◌·◌, only, may_end, IsExpected}}
 use Rattle.rnix_proof_lemmas.proofs.{Basics.{true_is_not_false, not_if, choice}, EveryKind.{at_most as most_of}, KindsOfNodes.{fits_expression, keeps_kind}}
 use Rattle.rnix_proof_lemmas.proofs.{KindsOfNodes.unreported, LevelLemmas.{operates, at_most, at_most_true, atom_fits, atom_simple, fits_looser}}

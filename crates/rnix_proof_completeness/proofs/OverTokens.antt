@@ -2,7 +2,7 @@
 use Rattle.std.{specs.List.list_all, proofs.Common.{◌≡◌, ℕ, Bool, true, false, List, [], ◌∷◌, ◌++◌, Some, refl, sym, subst, if◌then◌else◌, nat_eq}}
 use Rattle.{rnix_kinds.{specs.declared.kinds.SyntaxKind.SyntaxKind, proofs.AllKinds.{all_kinds, implied}}, rnix_green.specs.Forest.{Forest, empty, leaf, node}}
 use Rattle.rnix_grammar.specs.AnnotatedForest.{Token, AnnotatedForest, blank, token, branch, fault, ◌⊕◌, one_token, one_branch, tokens_in, forget, head_kind}
-use Rattle.rnix_grammar.specs.{AnnotatedForest.{end_from, leaf_kind}, Beginnings.IsOperandOf, Yield.kind_of_token, Reports.repeats, Rules.{Row, ◌·◌, ◌or◌, row}}
+use Rattle.rnix_grammar.specs.{AnnotatedForest.{end_from, leaf_kind}, FirstKinds.IsOperandOf, Yield.kind_of_token, Reports.repeats, Rules.{Row, ◌·◌, ◌or◌, row}}
 use Rattle.rnix_grammar.specs.{Rules.{after, expects, expects_item, IsExpected, is_first_expected, level_at, IsFollowed}, Reads.{Reads, IsRoom, IsOver, deeper}}
 use Rattle.rnix_proof_lemmas.{specs.LeafKinds.HaveTokenKinds, proofs.{Basics.not_if, TokenEnds.end_behind}}
 use Rattle.rnix_grammar.specs.declared.rules.Part.TheVariants as p

@@ -3,7 +3,7 @@ use Rattle.std.{specs.List.list_all, proofs.Common.{◌≡◌, ℕ, suc, Bool, t
 use Rattle.{std.proofs.Common.{◌≤◌, ◌+◌, max, if◌then◌else◌, nat_eq}, rnix_kinds.specs.declared.kinds.SyntaxKind.{SyntaxKind, TheVariants.NODE_PAT_ENTRY}}
 use Rattle.{rnix_kinds.proofs.AllKinds.{all_kinds, implied}, rnix_green.specs.Forest.{Forest, empty, leaf, node}, rnix_grammar.specs.AnnotatedForest.Token}
 use Rattle.rnix_grammar.specs.AnnotatedForest.{AnnotatedForest, blank, ◌⊕◌, one_token, one_branch, tokens_in, head_kind, end_from, leaf_kind_as}
-use Rattle.rnix_grammar.specs.{Beginnings.IsOperandOf, PathPieces.{is_path, is_joined, ArePaths}, Yield.kind_of_token, Reports.repeats, Nest.{nest, nests}}
+use Rattle.rnix_grammar.specs.{FirstKinds.IsOperandOf, PathPieces.{is_path, is_joined, ArePaths}, Yield.kind_of_token, Reports.repeats, Nest.{nest, nests}}
 use Rattle.rnix_grammar.specs.{Nest.counts_no_child, Tables.depth_limit, Rules.{Row, done, ◌·◌, row, after, may_end, IsExpected, is_first_expected, level_at}}
 use Rattle.{rnix_grammar.specs.{Rules.{counts, IsFollowed}, Reads.{IsRoom, deeper}}, rnix_proof_lemmas.proofs.Basics.{true_is_not_false, choice}}
 use Rattle.rnix_proof_completeness.proofs.OverTokens.{Over, over_nothing, over_leaf, over_node, IsRead, token_read, node_read, stands_so, expected_so, Opens}

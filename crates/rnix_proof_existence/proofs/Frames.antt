@@ -2,33 +2,33 @@
 use Rattle.std.proofs.{Common.{◌≡◌, ℕ, ◌≤◌, Bool, true, false, List, [], ◌∷◌, refl, sym, subst, if◌then◌else◌, ◌&&◌, nat_le}, lemmas.Bool.and_parts}
 use Rattle.{rnix_kinds.specs.declared.kinds.SyntaxKind.{SyntaxKind, TheVariants.NODE_BIN_OP}, rnix_green.specs.Equality.same_kind}
 use Rattle.rnix_grammar.specs.{declared.position.Position.Position, Tables.depth_limit, Rules.Row, Fault.Fault, Reports.{report, repeats}}
-use Rattle.{rnix_grammar.specs.AnnotatedForest.{DoubleBind, AnnotatedForest, blank, ◌⊕◌, one_branch, tokens_in}, rnix_proof_lemmas.specs.SlotRows.left_at}
+use Rattle.{rnix_grammar.specs.AnnotatedForest.{DoubleBind, AnnotatedForest, blank, ◌⊕◌, one_branch, tokens_in}, rnix_proof_lemmas.specs.SlotRows.remaining_at}
 use Rattle.rnix_proof_lemmas.specs.{SlotRows.kind_at, Machine.{Head, Node, SecondBind, Operand, Frame, put, opened, made, kind_of}}
 use Rattle.rnix_proof_lemmas.proofs.{Basics.true_is_not_false, AnnotatedForestLemmas.{⊕-assoc, ⊕-blank}, KindsOfNodes.is_error, FirstTrees.{IsSingle, a_node}}
-use Rattle.rnix_proof_lemmas.proofs.{OpenHeads.is_open, ActionTable.{is_waiting, is_in_row}, RowParts.is_left, RestAt.rest_at}
+use Rattle.rnix_proof_lemmas.proofs.{OpenHeads.is_open, ActionTable.{is_waiting, is_in_row}, RowParts.is_remaining, RestAt.rest_at}
 use Rattle.rnix_proof_existence.proofs.Growing.{MayGrow}
 use Rattle.rnix_grammar.specs.declared.position.Position.TheVariants as p
 
 -- a node of the kind may be open at the position; the level of a right operand is at most 16
 abbrev pub is_in_row_of : Position → SyntaxKind → Bool
-is_in_row_of (p.Left i) k = is_waiting (left_at i) && same_kind (kind_at i) k
+is_in_row_of (p.InRow i) k = is_waiting (remaining_at i) && same_kind (kind_at i) k
 is_in_row_of (p.AfterOperand min_bp max_bp) k = false
 is_in_row_of (p.Right level) k = nat_le level 16 && same_kind NODE_BIN_OP k
 
 -- such a position is in the row of a node
 pub in_row : (x : Position) (k : SyntaxKind) → is_in_row_of x k ≡ true → is_in_row x ≡ true
-in_row (p.Left i) k h = (and_parts (is_waiting (left_at i)) (same_kind (kind_at i) k) h).0
+in_row (p.InRow i) k h = (and_parts (is_waiting (remaining_at i)) (same_kind (kind_at i) k) h).0
 in_row (p.AfterOperand min_bp max_bp) k h = absurd (true_is_not_false (sym h))
 in_row (p.Right level) k h = refl
 
-waiting_left : (r : Row) → is_waiting r ≡ true → is_left r ≡ true
-waiting_left Row.never h = refl
-waiting_left _ h = h
+waiting_remaining : (r : Row) → is_waiting r ≡ true → is_remaining r ≡ true
+waiting_remaining Row.never h = refl
+waiting_remaining _ h = h
 
-row_left : (x : Position) → is_in_row x ≡ true → is_left (rest_at x) ≡ true
-row_left (p.Left i) h = waiting_left (left_at i) h
-row_left (p.AfterOperand min_bp max_bp) h = refl
-row_left (p.Right level) h = refl
+row_remaining : (x : Position) → is_in_row x ≡ true → is_remaining (rest_at x) ≡ true
+row_remaining (p.InRow i) h = waiting_remaining (remaining_at i) h
+row_remaining (p.AfterOperand min_bp max_bp) h = refl
+row_remaining (p.Right level) h = refl
 
 -- an open node whose leaves keep the kinds of their tokens, or a second name
 abbrev pub is_sound : Head → Bool
@@ -48,8 +48,8 @@ sound_open Operand e = e
 sound_open _ e = refl
 
 -- what is left of its row does not begin with a child that every such node has
-pub left_of : (f : Frame) → IsOpen f → is_left (rest_at f.position) ≡ true
-left_of f o = row_left f.position (in_row f.position (kind_of f.head) o.in_row_of)
+pub left_of : (f : Frame) → IsOpen f → is_remaining (rest_at f.position) ≡ true
+left_of f o = row_remaining f.position (in_row f.position (kind_of f.head) o.in_row_of)
 
 -- what some frames have above them: an open node with its row so far, or an operand or a second name
 pub data Above : Type 0 where
@@ -63,7 +63,7 @@ above h row = Other
 -- The frames below: open nodes, and operands of which an open node becomes the first tree, whatever it holds in the end.
 pub data Below : Above → List Frame → Type 0 where
   no_frame : {k : SyntaxKind} {row : AnnotatedForest} → Below (One k row) []
-  a_row : {w : Above} {f : Frame} {fs : List Frame} → IsOpen f → Below (above f.head f.row) fs → Below w (f ∷ fs)
+  a_row : {w : Above} {f : Frame} {fs : List Frame} → IsOpen f → Below (above f.head f.children) fs → Below w (f ∷ fs)
   an_operand : {k : SyntaxKind} {row : AnnotatedForest} {fs : List Frame} (min_bp max_bp d : ℕ) → d ≤ depth_limit
       → ((rest : AnnotatedForest) → MayGrow min_bp max_bp (one_branch k (row ⊕ rest))) → Below Other fs
       → Below (One k row) (opened Operand (p.AfterOperand min_bp max_bp) d blank ∷ fs)
@@ -71,7 +71,7 @@ pub data Below : Above → List Frame → Type 0 where
 -- the innermost frame is a node or a second name
 pub record AtOpen (f : Frame) (fs : List Frame) : Type 0 where
   pub is : IsOpen f
-  pub below : Below (above f.head f.row) fs
+  pub below : Below (above f.head f.children) fs
 
 -- the innermost frame is an operand that operators between two levels may continue, inside d counted positions
 pub record AtOperand (min_bp max_bp d : ℕ) (x : AnnotatedForest) (fs : List Frame) : Type 0 where
@@ -103,12 +103,12 @@ went f fs y row r h b = record { is = record { sound = r.is.sound; in_row_of = h
 
 -- with more trees
 pub grown : (f : Frame) (fs : List Frame) (y : Position) (x : AnnotatedForest) → AtOpen f fs → is_in_row_of y (kind_of f.head) ≡ true
-    → AtOpen (put y (f.row ⊕ x) f) fs
-grown f fs y x r h = went f fs y (f.row ⊕ x) r h (below_more f.head f.row x r.below)
+    → AtOpen (put y (f.children ⊕ x) f) fs
+grown f fs y x r h = went f fs y (f.children ⊕ x) r h (below_more f.head f.children x r.below)
 
 -- with the same trees
-pub stayed : (f : Frame) (fs : List Frame) (y : Position) → AtOpen f fs → is_in_row_of y (kind_of f.head) ≡ true → AtOpen (put y f.row f) fs
-stayed f fs y r h = went f fs y f.row r h r.below
+pub stayed : (f : Frame) (fs : List Frame) (y : Position) → AtOpen f fs → is_in_row_of y (kind_of f.head) ≡ true → AtOpen (put y f.children f) fs
+stayed f fs y r h = went f fs y f.children r h r.below
 
 -- an open frame is below what opens above it
 pub waits : {w : Above} (f : Frame) (fs : List Frame) → AtOpen f fs → Below w (f ∷ fs)
@@ -127,7 +127,7 @@ alone b = elim b [ ]
 
 -- a complete frame becomes a tree of the frame below
 pub landed : (h : Head) (row : AnnotatedForest) (g : Frame) (fs : List Frame) → Below (above h row) (g ∷ fs)
-    → Reading (put g.position (g.row ⊕ made h row) g ∷ fs)
+    → Reading (put g.position (g.children ⊕ made h row) g ∷ fs)
 landed (Node k) row _ fs (an_operand min_bp max_bp d l grows b) = operand (record {
   single = a_node;
   grows = subst (λ (z : AnnotatedForest). MayGrow min_bp max_bp (one_branch k z)) (⊕-blank row) (grows blank);

@@ -1,7 +1,7 @@
 -- Which trees may be operands, and how they may go on, by their kinds and levels.
 use Rattle.{std.proofs.Common.{◌≡◌, ℕ, ◌≤◌, Bool, true, false, refl, arith, ap, if◌then◌else◌}, rnix_kinds.specs.declared.kinds.SyntaxKind.SyntaxKind}
 use Rattle.{rnix_kinds.specs.declared.kinds.SyntaxKind.TheVariants.{NODE_APPLY, NODE_BIN_OP, NODE_IDENT, NODE_LITERAL}, rnix_grammar.specs.Levels.binding_power}
-use Rattle.rnix_grammar.specs.{Levels.max_bp_of, AnnotatedForest.{AnnotatedForest, branch, one_branch}, Rows.{is_atom, is_infix, fits}, TreeLevels.row_level}
+use Rattle.rnix_grammar.specs.{Levels.max_bp_of, AnnotatedForest.{AnnotatedForest, branch, one_branch}, NodeClasses.{is_atom, is_infix, fits}, TreeLevels.row_level}
 use Rattle.{rnix_grammar.specs.TreeLevels.{is_or_row, is_atom_row, calls_or}, rnix_proof_lemmas.proofs.{Basics.true_is_not_false, KindsOfNodes.is_error}}
 use Rattle.rnix_proof_lemmas.proofs.{LevelLemmas.{operates, atom_fits, simple_fits, fits_looser}, FollowLemmas.{FollowedTo, followed_atom, followed_selection}}
 use Rattle.rnix_proof_lemmas.proofs.FollowLemmas.{followed_call, followed_infix}

@@ -1,6 +1,6 @@
 pub mod Growing
 pub mod Frames
-pub mod BeginLevels
+pub mod OperandStartLevels
 pub mod OpenFrames
 pub mod ActionPositions
 pub mod OperandTrees

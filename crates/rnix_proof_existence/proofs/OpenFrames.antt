@@ -1,8 +1,8 @@
 -- What each open frame still contains, once the text is read to its end.
 use Rattle.std.proofs.Common.{◌≡◌, ◌⊎◌, inl, inr, ℕ, ◌≤◌, true, false, List, [], ◌∷◌, ◌++◌, refl, ap, sym, ◌∙◌, subst, append_assoc, append-nil}
 use Rattle.{rnix_kinds.specs.declared.kinds.SyntaxKind.{SyntaxKind, TheVariants.NODE_ROOT}, rnix_grammar.specs.declared.position.Position.Position}
-use Rattle.rnix_grammar.specs.{declared.{action.Action.Action, rules.Part.TheVariants.TextEnd}, Fault.Fault, Rows.fits, TreeLevels.{row_level, is_or_row}}
-use Rattle.rnix_grammar.specs.{Beginnings.BeginsAs, Operands.is_continued, AnnotatedForest.{Token, Stray, AnnotatedForest, blank, ◌⊕◌, one_token, one_branch}}
+use Rattle.rnix_grammar.specs.{declared.{action.Action.Action, rules.Part.TheVariants.TextEnd}, Fault.Fault, NodeClasses.fits, TreeLevels.{row_level, is_or_row}}
+use Rattle.rnix_grammar.specs.{FirstKinds.BeginsAs, Operands.is_continued, AnnotatedForest.{Token, Stray, AnnotatedForest, blank, ◌⊕◌, one_token, one_branch}}
 use Rattle.rnix_grammar.specs.{AnnotatedForest.{one_fault, row_of, tokens_in, leaf_kind, end_from}, Reports.report, Reads.{IsOver, Reads}, Rules.{Row, done}}
 use Rattle.{rnix_grammar.{specs.{Rules.{◌·◌, row as row_of_kind}}}, rnix_proof_lemmas.specs.Machine.{Machine, Head, Node, SecondBind, Operand, Frame, put}}
 use Rattle.rnix_proof_lemmas.{specs.Machine.{kind_of, made, min_bp_of, perform}, proofs.{Basics.true_is_not_false, AnnotatedForestLemmas.{⊕-assoc, tokens_two}}}
@@ -71,30 +71,30 @@ AfterFrame = Frame → List Token → ℕ → List Fault → Type 0
 
 -- the rest of a row is read: q is left of it, after the trees b and inside d counted positions
 pub record RowEnds (h : Head) (d : ℕ) (q : Row) (b : AnnotatedForest) (After : AfterRow) (ts : List Token) (n : ℕ) (gs : List Fault) : Type 0 where
-  pub left : List Token
+  pub remaining : List Token
   pub prev_end : ℕ
   pub row_state : Row
   pub rest : AnnotatedForest
   pub inside : List Fault
   pub opened : is_open h ≡ true
-  pub reads : Reads (kind_of h) d n q row_state b left rest inside
-  pub span : Spans ts n left prev_end rest
-  pub ends : After row_state left prev_end (b ⊕ rest) (gs ++ inside)
+  pub reads : Reads (kind_of h) d n q row_state b remaining rest inside
+  pub span : Spans ts n remaining prev_end rest
+  pub ends : After row_state remaining prev_end (b ⊕ rest) (gs ++ inside)
 
 -- an operand above a frame becomes a complete one, which is a tree of that frame
 pub record OperandEnds (f g : Frame) (After : AfterFrame) (ts : List Token) (n : ℕ) (gs : List Fault) : Type 0 where
-  pub left : List Token
+  pub remaining : List Token
   pub prev_end : ℕ
   pub tree : AnnotatedForest
   pub inside : List Fault
   pub is : f.head ≡ Operand
-  pub whole : IsCompleteOperand (min_bp_of f.position) tree left
-  pub grows : Grows (min_bp_of f.position) f.depth f.row ts n tree left prev_end inside
-  pub ends : After (put g.position (g.row ⊕ tree) g) left prev_end (gs ++ inside)
+  pub whole : IsCompleteOperand (min_bp_of f.position) tree remaining
+  pub grows : Grows (min_bp_of f.position) f.depth f.children ts n tree remaining prev_end inside
+  pub ends : After (put g.position (g.children ⊕ tree) g) remaining prev_end (gs ++ inside)
 
 -- a row is complete, and its frame becomes a tree of the frame below
 abbrev pub Closes : Head → Frame → AfterFrame → AfterRow
-Closes h g After s us m row gs = IsOver s m us × After (put g.position (g.row ⊕ made h row) g) us m (gs ++ closing h g.row row)
+Closes h g After s us m row gs = IsOver s m us × After (put g.position (g.children ⊕ made h row) g) us m (gs ++ closing h g.children row)
 
 -- Trees x are read in front of the rest of a row of kind k, inside d counted positions. Before them the last item ends at n, q is left of the row, and b is
 -- read of it. After them the items us are left, the last item ends at m, and r is left of the row. They have the errors ds.
@@ -108,17 +108,17 @@ pub row_fronted : {h : Head} {d n m : ℕ} {q r : Row} {b : AnnotatedForest} {Af
     → (x : AnnotatedForest) (ds : List Fault) → Spans ts n us m x → hs ≡ gs ++ ds → Fronts (kind_of h) d n q b x us m r ds → RowEnds h d r (b ⊕ x) After us m hs
     → RowEnds h d q b After ts n gs
 row_fronted {b = b} {After = After} {gs = gs} {hs = hs} x ds v h reads o = record {
-  left = o.left;
+  remaining = o.remaining;
   prev_end = o.prev_end;
   row_state = o.row_state;
   rest = x ⊕ o.rest;
   inside = ds ++ o.inside;
   opened = o.opened;
-  reads = reads o.left o.row_state o.rest o.inside o.span.items o.reads;
+  reads = reads o.remaining o.row_state o.rest o.inside o.span.items o.reads;
   span = spans_two x o.rest v o.span;
   ends =
-      subst (λ (z : List Fault). After o.row_state o.left o.prev_end (b ⊕ (x ⊕ o.rest)) z) (ap (λ z. z ++ o.inside) h ∙ append_assoc gs ds o.inside)
-      (subst (λ (z : AnnotatedForest). After o.row_state o.left o.prev_end z (hs ++ o.inside)) (⊕-assoc b x o.rest) o.ends);
+      subst (λ (z : List Fault). After o.row_state o.remaining o.prev_end (b ⊕ (x ⊕ o.rest)) z) (ap (λ z. z ++ o.inside) h ∙ append_assoc gs ds o.inside)
+      (subst (λ (z : AnnotatedForest). After o.row_state o.remaining o.prev_end z (hs ++ o.inside)) (⊕-assoc b x o.rest) o.ends);
 }
 
 -- the root's row and all errors, at the end of the text
@@ -132,8 +132,8 @@ module _ (whole : Outcome) where
 
   -- With these frames, items, end of the last item, and errors so far, the text is read to that outcome.
   abbrev pub EndsOn : List Frame → AfterFrame
-  EndsOn [] f ts n gs = RowEnds f.head f.depth (rest_at f.position) f.row (IsRoot f.head) ts n gs
-  EndsOn (g ∷ fs) f ts n gs = RowEnds f.head f.depth (rest_at f.position) f.row (Closes f.head g (EndsOn fs)) ts n gs ⊎ OperandEnds f g (EndsOn fs) ts n gs
+  EndsOn [] f ts n gs = RowEnds f.head f.depth (rest_at f.position) f.children (IsRoot f.head) ts n gs
+  EndsOn (g ∷ fs) f ts n gs = RowEnds f.head f.depth (rest_at f.position) f.children (Closes f.head g (EndsOn fs)) ts n gs ⊎ OperandEnds f g (EndsOn fs) ts n gs
 
   -- the same of all frames
   abbrev pub EndsAll : List Frame → List Token → ℕ → List Fault → Type 0
@@ -142,7 +142,7 @@ module _ (whole : Outcome) where
 
   -- A step keeps what is known of the frames, and if the outcome is reached after it, then also before it.
   abbrev pub IsPreserved : Machine → Frame → List Frame → List Token → ℕ → List Fault → Type 0
-  IsPreserved m f fs ts n gs = Reading m.frames × (EndsAll m.frames m.left m.prev_end m.faults → EndsOn fs f ts n gs)
+  IsPreserved m f fs ts n gs = Reading m.frames × (EndsAll m.frames m.remaining m.prev_end m.faults → EndsOn fs f ts n gs)
 
   -- so does the step of an action
   abbrev pub IsPreservedBy : Action → Frame → List Frame → List Token → ℕ → List Fault → Type 0
@@ -150,7 +150,7 @@ module _ (whole : Outcome) where
 
   -- an open frame above another becomes complete
   pub open_ends : (g : Frame) (fs : List Frame) (f : Frame) (ts : List Token) (n : ℕ) (gs : List Fault) → is_open f.head ≡ true → EndsOn (g ∷ fs) f ts n gs
-      → RowEnds f.head f.depth (rest_at f.position) f.row (Closes f.head g (EndsOn fs)) ts n gs
+      → RowEnds f.head f.depth (rest_at f.position) f.children (Closes f.head g (EndsOn fs)) ts n gs
   open_ends g fs f ts n gs o (inl e) = e
   open_ends g fs f ts n gs o (inr e) = absurd (true_is_not_false (sym o ∙ ap is_open e.is))
 
@@ -163,7 +163,7 @@ module _ (whole : Outcome) where
   -- the same of a frame, with trees in front of the rest of its row
   pub fronted : (fs : List Frame) (f : Frame) (y : Position) (x : AnnotatedForest) (ts us : List Token) (n m : ℕ) (gs ds hs : List Fault)
       → is_open f.head ≡ true
-      → Spans ts n us m x → hs ≡ gs ++ ds → Fronts (kind_of f.head) f.depth n (rest_at f.position) f.row x us m (rest_at y) ds
-      → EndsOn fs (put y (f.row ⊕ x) f) us m hs → EndsOn fs f ts n gs
+      → Spans ts n us m x → hs ≡ gs ++ ds → Fronts (kind_of f.head) f.depth n (rest_at f.position) f.children x us m (rest_at y) ds
+      → EndsOn fs (put y (f.children ⊕ x) f) us m hs → EndsOn fs f ts n gs
   fronted [] f y x ts us n m gs ds hs o v h reads ends = row_fronted x ds v h reads ends
-  fronted (g ∷ fs) f y x ts us n m gs ds hs o v h reads ends = inl (row_fronted x ds v h reads (open_ends g fs (put y (f.row ⊕ x) f) us m hs o ends))
+  fronted (g ∷ fs) f y x ts us n m gs ds hs o v h reads ends = inl (row_fronted x ds v h reads (open_ends g fs (put y (f.children ⊕ x) f) us m hs o ends))

@@ -2,20 +2,20 @@
 use Rattle.std.proofs.Common.{◌≡◌, ℕ, ◌≤◌, true, false, List, [], ◌∷◌, ◌++◌, Some, refl, ap, sym, ◌∙◌, subst, arith, append_assoc, append-nil}
 use Rattle.rnix_kinds.specs.declared.kinds.SyntaxKind.{SyntaxKind, TheVariants.{TOKEN_LET, TOKEN_L_BRACE, TOKEN_IDENT, TOKEN_AT, NODE_IDENT, NODE_IDENT_PARAM}}
 use Rattle.rnix_kinds.specs.declared.kinds.SyntaxKind.TheVariants.{NODE_LAMBDA, NODE_LEGACY_LET, NODE_PATTERN, NODE_PAT_BIND}
-use Rattle.rnix_grammar.specs.{declared.{begin.Begin.Begin, slot_table.TheConstants.{BOUND_PATTERN, LAMBDA, LEGACY_LET, PATTERN}}, Fault.Fault, Begins.{first_kind, begin_of}}
-use Rattle.rnix_grammar.specs.{Begins.second_kind, AnnotatedForest.{Token, Stray, AnnotatedForest, blank, token, ◌⊕◌, one_token, one_branch, one_fault}}
+use Rattle.rnix_grammar.specs.{declared.{operand_start.OperandStart.OperandStart, slot_table.TheConstants.{BOUND_PATTERN, LAMBDA, LEGACY_LET, PATTERN}}, Fault.Fault, OperandStarts.{first_kind, operand_start_of}}
+use Rattle.rnix_grammar.specs.{OperandStarts.second_kind, AnnotatedForest.{Token, Stray, AnnotatedForest, blank, token, ◌⊕◌, one_token, one_branch, one_fault}}
 use Rattle.rnix_grammar.specs.{AnnotatedForest.{leaf_kind, leaf_kind_as, head_kind}, Reports.{report, repeats}, Tables.depth_limit, Operands.first_tree}
-use Rattle.rnix_grammar.specs.{Beginnings.BeginsAs, Reads.{IsOver, Reads, end}, Rules.{Row, after, done, is_first_expected, row as row_of_kind}}
-use Rattle.rnix_proof_lemmas.specs.{Machine.{Machine, Node, Operand, Frame, put, opened, begun, machine, operand_on}, SlotRows.left_at}
+use Rattle.rnix_grammar.specs.{FirstKinds.BeginsAs, Reads.{IsOver, Reads, end}, Rules.{Row, after, done, is_first_expected, row as row_of_kind}}
+use Rattle.rnix_proof_lemmas.specs.{Machine.{Machine, Node, Operand, Frame, put, opened, begun, machine, operand_on}, SlotRows.remaining_at}
 use Rattle.rnix_proof_lemmas.proofs.{Basics.some_same, FollowLemmas.{atom_is_selection_level, followed_keyword}, FirstTrees.{IsSingle, a_node, an_error}}
 use Rattle.rnix_proof_lemmas.proofs.{EachBeginning.{kind_of, kind_of_begin}, RowParts.{IsFront, front}, ReadsFrom.{leaf_from, name_reads, plain_from, past_over}}
 use Rattle.rnix_proof_existence.proofs.{Growing.{MayGrow, atom_grows, grows_by}, Frames.{is_in_row_of, is_sound, AtOpen, an_operand, Reading, node, operand}}
-use Rattle.rnix_proof_existence.proofs.{Frames.{waits, opens_on}, BeginLevels.{BeginsTree, begun_front, own_first, leaf_no_or, begun_grows, begun_tree}}
+use Rattle.rnix_proof_existence.proofs.{Frames.{waits, opens_on}, OperandStartLevels.{BeginsTree, begun_front, own_first, leaf_no_or, begun_grows, begun_tree}}
 use Rattle.rnix_proof_existence.proofs.{OperandTrees.none_repeated, OpenFrames.{Outcome, Spans, spanned, spans_two, spans_made, item, a_node as lone_node}}
 use Rattle.rnix_proof_existence.proofs.OpenFrames.{an_error as lone_error, IsRead, IsCompleteOperand, RowEnds, Closes, Fronts, EndsOn, EndsAll, row_fronted}
 use Rattle.rnix_proof_existence.proofs.OpenFrames.{open_ends, operand_ends, OperandEnds}
 use Rattle.rnix_grammar.specs.declared.position.Position.TheVariants as p
-use Rattle.rnix_grammar.specs.declared.begin.Begin.TheVariants as b
+use Rattle.rnix_grammar.specs.declared.operand_start.OperandStart.TheVariants as b
 
 -- the row of a node begins with an item
 pub item_first : {d n : ℕ} {q : Row} (k : SyntaxKind) (t : Token) (us : List Token) → IsFront (row_of_kind k) → after (row_of_kind k) (leaf_kind k t) ≡ q
@@ -37,34 +37,34 @@ name_first k t us w e =
     (past_over t.end us)
 
 -- the first items of an operand determine the kind of its first tree
-begins_as : (level : ℕ) (t : Token) (us : List Token) (begin : Begin) (x : AnnotatedForest)
-    → begin_of level t.kind t.text (head_kind us) (second_kind us) ≡ begin
-    → kind_of begin ≡ first_tree x → BeginsAs level x (t ∷ us)
-begins_as level t us begin x e h =
+begins_as : (level : ℕ) (t : Token) (us : List Token) (how : OperandStart) (x : AnnotatedForest)
+    → operand_start_of level t.kind t.text (head_kind us) (second_kind us) ≡ how
+    → kind_of how ≡ first_tree x → BeginsAs level x (t ∷ us)
+begins_as level t us how x e h =
     sym (kind_of_begin (first_kind level t.kind t.text (head_kind us) (second_kind us)) t.kind) ∙ ap kind_of e ∙ h
 
 -- a complete operand of a level is read, goes into the row of the frame that waits for it, and what follows ends as it should
-pub record BeginEnds (whole : Outcome) (level d : ℕ) (g : Frame) (fs : List Frame) (ts : List Token) (n : ℕ) (gs : List Fault) : Type 0 where
-  pub left : List Token
+pub record OperandStartEnds (whole : Outcome) (level d : ℕ) (g : Frame) (fs : List Frame) (ts : List Token) (n : ℕ) (gs : List Fault) : Type 0 where
+  pub remaining : List Token
   pub prev_end : ℕ
   pub tree : AnnotatedForest
   pub inside : List Fault
-  pub is_complete_operand : IsCompleteOperand level tree left
-  pub read : IsRead level d n ts tree left prev_end inside
-  pub ends : EndsOn whole fs (put g.position (g.row ⊕ tree) g) left prev_end (gs ++ inside)
+  pub is_complete_operand : IsCompleteOperand level tree remaining
+  pub read : IsRead level d n ts tree remaining prev_end inside
+  pub ends : EndsOn whole fs (put g.position (g.children ⊕ tree) g) remaining prev_end (gs ++ inside)
 
 -- an operand of a level, inside d counted positions, above a frame that waits for it; the item before it ends at n, and gs are the errors before it
 module _ (whole : Outcome) (level d : ℕ) (g : Frame) (fs : List Frame) (n : ℕ) (gs : List Fault) (r : AtOpen g fs) (s : d ≤ depth_limit) (l : level ≤ 16) where
   -- a machine that has read the beginning
-  abbrev pub Begins : Machine → List Token → Type 0
-  Begins m ts = Reading m.frames × (EndsAll whole m.frames m.left m.prev_end m.faults → BeginEnds whole level d g fs ts n gs)
+  abbrev pub OperandStarts : Machine → List Token → Type 0
+  OperandStarts m ts = Reading m.frames × (EndsAll whole m.frames m.remaining m.prev_end m.faults → OperandStartEnds whole level d g fs ts n gs)
 
   -- the frame of an operand that operators up to a level may continue, and that of a function
   abbrev under : ℕ → AnnotatedForest → Frame
   under max_bp x = opened Operand (p.AfterOperand level max_bp) d x
 
   abbrev lambda : Frame
-  lambda = opened (Node NODE_LAMBDA) (p.Left LAMBDA) d blank
+  lambda = opened (Node NODE_LAMBDA) (p.InRow LAMBDA) d blank
 
   -- the frames below the first tree
   abbrev below : ℕ → List Frame
@@ -73,44 +73,46 @@ module _ (whole : Outcome) (level d : ℕ) (g : Frame) (fs : List Frame) (n : �
   -- it begins with a complete tree
   tree_begins : (max_bp : ℕ) (x : AnnotatedForest) (ts us : List Token) (m : ℕ) (cs hs : List Fault) → IsSingle x → MayGrow level max_bp x
       → IsRead level d n ts x us m cs → hs ≡ gs ++ cs
-      → Begins (machine (under max_bp x ∷ (g ∷ fs)) us m hs) ts
+      → OperandStarts (machine (under max_bp x ∷ (g ∷ fs)) us m hs) ts
   tree_begins max_bp x ts us m cs hs single grows read h = (
     operand (record { single = single; grows = grows; shallow = s; below = waits g fs r }),
     λ ends. by (operand_ends whole g fs (under max_bp x) us m hs refl ends),
   )
     where
-      by : OperandEnds (under max_bp x) g (EndsOn whole fs) us m hs → BeginEnds whole level d g fs ts n gs
+      by : OperandEnds (under max_bp x) g (EndsOn whole fs) us m hs → OperandStartEnds whole level d g fs ts n gs
       by o = record {
-        left = o.left;
+        remaining = o.remaining;
         prev_end = o.prev_end;
         tree = o.tree;
         inside = cs ++ o.inside;
         is_complete_operand = o.whole;
         read = o.grows n ts cs read;
-        ends = subst (EndsOn whole fs (put g.position (g.row ⊕ o.tree) g) o.left o.prev_end) (ap (λ z. z ++ o.inside) h ∙ append_assoc gs cs o.inside) o.ends;
+        ends = subst (EndsOn whole fs (put g.position (g.children ⊕ o.tree) g) o.remaining o.prev_end) (ap (λ z. z ++ o.inside) h
+            ∙ append_assoc gs cs o.inside) o.ends;
       }
 
   -- it begins with a node of which some trees are read
   node_begins : (max_bp : ℕ) (k : SyntaxKind) (z : ℕ) (x : AnnotatedForest) (ts us : List Token) (m : ℕ) (zs hs : List Fault) → is_sound (Node k) ≡ true
-      → is_in_row_of (p.Left z) k ≡ true
+      → is_in_row_of (p.InRow z) k ≡ true
       → ((rest : AnnotatedForest) → MayGrow level max_bp (one_branch k (x ⊕ rest))) → Spans ts n us m x
-      → Fronts k d n (row_of_kind k) blank x us m (left_at z) zs
+      → Fronts k d n (row_of_kind k) blank x us m (remaining_at z) zs
       → ((rest : AnnotatedForest) → BeginsAs level (one_branch k (x ⊕ rest)) ts) → hs ≡ gs ++ zs
-      → Begins (machine (opened (Node k) (p.Left z) d x ∷ below max_bp) us m hs) ts
+      → OperandStarts (machine (opened (Node k) (p.InRow z) d x ∷ below max_bp) us m hs) ts
   node_begins max_bp k z x ts us m zs hs sound in_row_of grows v reads first h = (
-    node (opens_on k (p.Left z) d x (below max_bp) sound in_row_of s (an_operand level max_bp d s grows (waits g fs r))),
-    λ ends. by (open_ends whole (under max_bp blank) (g ∷ fs) (opened (Node k) (p.Left z) d x) us m hs refl ends),
+    node (opens_on k (p.InRow z) d x (below max_bp) sound in_row_of s (an_operand level max_bp d s grows (waits g fs r))),
+    λ ends. by (open_ends whole (under max_bp blank) (g ∷ fs) (opened (Node k) (p.InRow z) d x) us m hs refl ends),
   )
     where
-      by : RowEnds (Node k) d (left_at z) x (Closes (Node k) (under max_bp blank) (EndsOn whole (g ∷ fs))) us m hs → BeginEnds whole level d g fs ts n gs
+      by : RowEnds (Node k) d (remaining_at z) x (Closes (Node k) (under max_bp blank) (EndsOn whole (g ∷ fs))) us m hs
+          → OperandStartEnds whole level d g fs ts n gs
       by o =
           let c : AnnotatedForest = x ⊕ o.rest in
-          let span : Spans ts n o.left o.prev_end c = spans_two x o.rest v o.span in
-          (tree_begins max_bp (one_branch k c) ts o.left o.prev_end (zs ++ o.inside) ((hs ++ o.inside) ++ repeats k blank c) a_node (grows o.rest)
+          let span : Spans ts n o.remaining o.prev_end c = spans_two x o.rest v o.span in
+          (tree_begins max_bp (one_branch k c) ts o.remaining o.prev_end (zs ++ o.inside) ((hs ++ o.inside) ++ repeats k blank c) a_node (grows o.rest)
           (record {
             span = spans_made (Node k) c span;
             begins = first o.rest;
-            operand_tree = lone_node (reads o.left o.row_state o.rest o.inside o.span.items o.reads) span.item_end o.ends.0;
+            operand_tree = lone_node (reads o.remaining o.row_state o.rest o.inside o.span.items o.reads) span.item_end o.ends.0;
           })
           (none_repeated level k blank c (hs ++ o.inside) (grows o.rest).fit ∙ ap (λ z. z ++ o.inside) h ∙ append_assoc gs zs o.inside)).1 o.ends.1
 
@@ -118,29 +120,29 @@ module _ (whole : Outcome) (level d : ℕ) (g : Frame) (fs : List Frame) (n : �
   lambda_grows c = atom_grows level (one_branch NODE_LAMBDA c) refl refl refl l
 
   -- it begins with a function whose pattern has some trees
-  pattern_begins : (z : ℕ) (x : AnnotatedForest) (ts us : List Token) (m : ℕ) → is_in_row_of (p.Left z) NODE_PATTERN ≡ true → Spans ts n us m x
-      → Fronts NODE_PATTERN d n (row_of_kind NODE_PATTERN) blank x us m (left_at z) []
+  pattern_begins : (z : ℕ) (x : AnnotatedForest) (ts us : List Token) (m : ℕ) → is_in_row_of (p.InRow z) NODE_PATTERN ≡ true → Spans ts n us m x
+      → Fronts NODE_PATTERN d n (row_of_kind NODE_PATTERN) blank x us m (remaining_at z) []
       → ((c rest : AnnotatedForest) → BeginsAs level (one_branch NODE_LAMBDA (one_branch NODE_PATTERN c ⊕ rest)) ts)
-      → Begins (machine (opened (Node NODE_PATTERN) (p.Left z) d x ∷ (lambda ∷ below 16)) us m gs) ts
+      → OperandStarts (machine (opened (Node NODE_PATTERN) (p.InRow z) d x ∷ (lambda ∷ below 16)) us m gs) ts
   pattern_begins z x ts us m in_row_of v reads first = (
-    node (opens_on NODE_PATTERN (p.Left z) d x (lambda ∷ below 16) refl in_row_of s
+    node (opens_on NODE_PATTERN (p.InRow z) d x (lambda ∷ below 16) refl in_row_of s
         (waits lambda (below 16)
-        (opens_on NODE_LAMBDA (p.Left LAMBDA) d blank (below 16) refl refl s (an_operand level 16 d s (λ rest. lambda_grows (blank ⊕ rest)) (waits g fs r))))),
+        (opens_on NODE_LAMBDA (p.InRow LAMBDA) d blank (below 16) refl refl s (an_operand level 16 d s (λ rest. lambda_grows (blank ⊕ rest)) (waits g fs r))))),
     λ ends. by (row_fronted x [] v (sym (append-nil gs)) reads
-        (open_ends whole lambda (below 16) (opened (Node NODE_PATTERN) (p.Left z) d x) us m gs refl ends)),
+        (open_ends whole lambda (below 16) (opened (Node NODE_PATTERN) (p.InRow z) d x) us m gs refl ends)),
   )
     where
       by : RowEnds (Node NODE_PATTERN) d (row_of_kind NODE_PATTERN) blank (Closes (Node NODE_PATTERN) lambda (EndsOn whole (below 16))) ts n gs
-          → BeginEnds whole level d g fs ts n gs
+          → OperandStartEnds whole level d g fs ts n gs
       by o =
-          (node_begins 16 NODE_LAMBDA LAMBDA (one_branch NODE_PATTERN o.rest) ts o.left o.prev_end (o.inside ++ []) ((gs ++ o.inside) ++ []) refl refl
+          (node_begins 16 NODE_LAMBDA LAMBDA (one_branch NODE_PATTERN o.rest) ts o.remaining o.prev_end (o.inside ++ []) ((gs ++ o.inside) ++ []) refl refl
           (λ rest. lambda_grows (one_branch NODE_PATTERN o.rest ⊕ rest)) (spans_made (Node NODE_PATTERN) o.rest o.span)
           (node_first NODE_LAMBDA NODE_PATTERN o.rest (front (row_of_kind NODE_LAMBDA) refl) o.span o.reads o.ends.0)
           (first o.rest) (append_assoc gs o.inside [])).1 o.ends.1
 
   -- it begins in one of the ways that the table of beginnings has
-  begun_begins : (begin : Begin) (t : Token) (us : List Token) → begin_of level t.kind t.text (head_kind us) (second_kind us) ≡ begin
-      → BeginsTree begin level t.kind (head_kind us) → Begins (begun false begin level d t g fs (t ∷ us) n gs) (t ∷ us)
+  begun_begins : (how : OperandStart) (t : Token) (us : List Token) → operand_start_of level t.kind t.text (head_kind us) (second_kind us) ≡ how
+      → BeginsTree how level t.kind (head_kind us) → OperandStarts (begun false how level d t g fs (t ∷ us) n gs) (t ∷ us)
   begun_begins (b.Leaf k) t us e h =
       let c : AnnotatedForest = item k t in
       tree_begins 16 (one_branch k c) (t ∷ us) us t.end [] gs a_node
@@ -163,10 +165,10 @@ module _ (whole : Outcome) (level d : ℕ) (g : Frame) (fs : List Frame) (n : �
       let y : AnnotatedForest → AnnotatedForest = λ rest. one_branch NODE_LEGACY_LET (x ⊕ rest) in
       node_begins 0 NODE_LEGACY_LET LEGACY_LET x (t ∷ (u ∷ us)) us u.end [] gs refl refl
       (λ rest. grows_by level 0 (y rest) refl (omega (arith, h.2)) (omega arith) (followed_keyword (y rest) refl refl) refl) spanned
-      (λ left s rest ds v z.
+      (λ remaining s rest ds v z.
       item_first NODE_LEGACY_LET t (u ∷ us) (front (row_of_kind NODE_LEGACY_LET) refl)
       (ap (λ k. after (row_of_kind NODE_LEGACY_LET) (leaf_kind_as NODE_LEGACY_LET k)) h.0)
-      left s (item NODE_LEGACY_LET u ⊕ rest) ds (ap (λ z. u ∷ z) v)
+      remaining s (item NODE_LEGACY_LET u ⊕ rest) ds (ap (λ z. u ∷ z) v)
       (leaf_from v tt tt (ap (λ k. after (after (row_of_kind NODE_LEGACY_LET) TOKEN_LET) (leaf_kind_as NODE_LEGACY_LET k)) (some_same u.kind TOKEN_L_BRACE h.1))
       z))
       (λ rest. begins_as level t (u ∷ us) b.LegacyLet (y rest) e refl) (sym (append-nil gs))
@@ -196,6 +198,7 @@ module _ (whole : Outcome) (level d : ℕ) (g : Frame) (fs : List Frame) (n : �
       (record { span = spanned; begins = begins_as level t us b.Stray x e refl; operand_tree = lone_error }) refl
 
   -- an operand of the level begins with an item
-  pub operand_begins : (t : Token) (us : List Token) → Begins (operand_on false level d g fs (t ∷ us) (t ∷ us) n gs) (t ∷ us)
+  pub operand_begins : (t : Token) (us : List Token) → OperandStarts (operand_on false level d g fs (t ∷ us) (t ∷ us) n gs) (t ∷ us)
   operand_begins t us =
-      begun_begins (begin_of level t.kind t.text (head_kind us) (second_kind us)) t us refl (begun_tree level t.kind t.text (head_kind us) (second_kind us) l)
+      begun_begins (operand_start_of level t.kind t.text (head_kind us) (second_kind us)) t us refl
+      (begun_tree level t.kind t.text (head_kind us) (second_kind us) l)

@@ -5,11 +5,11 @@ use Rattle.rnix_kinds.specs.declared.kinds.SyntaxKind.{SyntaxKind, TheVariants.{
 use Rattle.rnix_kinds.{specs.{declared.kinds.SyntaxKind.TheVariants.{NODE_BIN_OP, NODE_IDENT}, SyntaxKind.is_fn_arg}, proofs.AllKinds.implied}
 use Rattle.rnix_grammar.specs.declared.{position.Position.Position, action.Action.Action, slot_table.TheConstants.{APPLIED, HAS_ATTR, SELECT}}
 use Rattle.rnix_grammar.specs.{declared.rules.Part.TheVariants.{Argument, Binary, Suffix}, Fault.Fault, Levels.{binding_power, right_of, max_bp_of}}
-use Rattle.rnix_grammar.specs.{Actions.{continue_action, may_continue, more_action}, TokenKinds.is_or, Rows.{is_infix, fits}, AnnotatedForest.{Token, AnnotatedForest, blank}}
+use Rattle.rnix_grammar.specs.{Actions.{continue_action, may_continue, more_action}, TokenKinds.is_or, NodeClasses.{is_infix, fits}, AnnotatedForest.{Token, AnnotatedForest, blank}}
 use Rattle.rnix_grammar.specs.{AnnotatedForest.{◌⊕◌, one_branch, leaf_kind, leaf_kind_as, head_kind}, Reports.repeats, Operands.{first_tree, follows}}
-use Rattle.rnix_grammar.specs.{Operands.{is_continued}, TreeLevels.{row_level, operator_in, calls_or}, Reads.end, Beginnings.{BeginsAs, IsOperandOf}}
+use Rattle.rnix_grammar.specs.{Operands.{is_continued}, TreeLevels.{row_level, operator_in, calls_or}, Reads.end, FirstKinds.{BeginsAs, IsOperandOf}}
 use Rattle.{rnix_grammar.{specs.{Rules.{IsExpected, IsFollowed, Row, after, done, row as row_of_kind, ◌·◌, only}}}, rnix_proof_lemmas.specs.Machine.Node}
-use Rattle.rnix_proof_lemmas.{specs.{Machine.{Operand, Frame, put, opened}, SlotRows.left_at}, proofs.Basics.{true_is_not_false, not_if, some_same}}
+use Rattle.rnix_proof_lemmas.{specs.{Machine.{Operand, Frame, put, opened}, SlotRows.remaining_at}, proofs.Basics.{true_is_not_false, not_if, some_same}}
 use Rattle.rnix_proof_lemmas.proofs.{AnnotatedForestLemmas.⊕-assoc, LevelLemmas.{at_most, at_most_true, fits_looser, right_within, within}}
 use Rattle.rnix_proof_lemmas.proofs.{FollowLemmas.{FollowedTo, followed_selection, followed_question}, FirstTrees.{a_node, first_in, single_operator}}
 use Rattle.rnix_proof_lemmas.proofs.{FirstTrees.single_calls, RowParts.{IsFront, front}, ReadsFrom.{inner_from, leaf_from, name_reads, past_over}}
@@ -17,7 +17,7 @@ use Rattle.{rnix_proof_lemmas.proofs.RestAt.rest_at, rnix_proof_existence.proofs
 use Rattle.rnix_proof_existence.proofs.{OperandTrees.{argument_takes, first_placed, placed, none_repeated}, Frames.{is_in_row_of, is_sound, AtOperand, Below}}
 use Rattle.rnix_proof_existence.proofs.{Frames.{One, an_operand, node, operand, opens_on, landed, alone}, OpenFrames.{Outcome, Spans, spanned, spans_two}}
 use Rattle.rnix_proof_existence.proofs.OpenFrames.{spans_made, item, a_node as lone_node, IsRead, Grows, RowEnds, Closes, EndsOn, IsPreservedBy, row_fronted}
-use Rattle.rnix_proof_existence.proofs.{OpenFrames.{open_ends, operand_ends}, OperandFrames.{BeginEnds, operand_begins}}
+use Rattle.rnix_proof_existence.proofs.{OpenFrames.{open_ends, operand_ends}, OperandFrames.{OperandStartEnds, operand_begins}}
 use Rattle.rnix_grammar.specs.declared.position.Position.TheVariants as p
 use Rattle.rnix_grammar.specs.declared.action.Action.TheVariants as a
 
@@ -59,9 +59,9 @@ between min_bp max_bp k h =
 
 -- the action of a token that continues an operand
 data FollowsBy : SyntaxKind → Action → Type 0 where
-  by_dot : FollowsBy TOKEN_DOT (a.Wrap NODE_SELECT (p.Left SELECT) 15)
+  by_dot : FollowsBy TOKEN_DOT (a.Wrap NODE_SELECT (p.InRow SELECT) 15)
   by_or : FollowsBy TOKEN_OR a.ApplyOr
-  by_question : FollowsBy TOKEN_QUESTION (a.Wrap NODE_HAS_ATTR (p.Left HAS_ATTR) 13)
+  by_question : FollowsBy TOKEN_QUESTION (a.Wrap NODE_HAS_ATTR (p.InRow HAS_ATTR) 13)
   by_operator : {k : SyntaxKind} → is_infix k ≡ true → FollowsBy k (a.Wrap NODE_BIN_OP (p.Right (right_of k)) (max_bp_of k))
   by_argument : {k : SyntaxKind} → binding_power k ≡ 15 → FollowsBy k a.Apply
 
@@ -93,7 +93,7 @@ module _ (whole : Outcome) (min_bp max_bp d : ℕ) (x : AnnotatedForest) (n : �
   settles (g ∷ fs) r ts h = (
     landed Operand x g fs r.below,
     λ ends. inr (record {
-      left = ts;
+      remaining = ts;
       prev_end = n;
       tree = x;
       inside = [];
@@ -105,7 +105,7 @@ module _ (whole : Outcome) (min_bp max_bp d : ℕ) (x : AnnotatedForest) (n : �
         not_followed = not_followed_behind min_bp max_bp x ts h r.grows.follow;
       };
       grows = λ l all cs i. subst (IsRead min_bp d l all x ts n) (sym (append-nil cs)) i;
-      ends = subst (EndsOn whole fs (put g.position (g.row ⊕ x) g) ts n) (sym (append-nil gs)) ends;
+      ends = subst (EndsOn whole fs (put g.position (g.children ⊕ x) g) ts n) (sym (append-nil gs)) ends;
     }),
   )
 
@@ -120,27 +120,27 @@ module _ (whole : Outcome) (min_bp max_bp d : ℕ) (x : AnnotatedForest) (n : �
   wraps_on [] r other k q ts st g first fit o = absurd (alone r.below)
   wraps_on (j ∷ fs) r other k q ts st g first fit o =
       let hs : List Fault = (gs ++ o.inside) ++ repeats k blank c in
-      let e = operand_ends whole j fs (other_frame other (one_branch k c)) o.left o.prev_end hs refl o.ends.1 in
+      let e = operand_ends whole j fs (other_frame other (one_branch k c)) o.remaining o.prev_end hs refl o.ends.1 in
       inr (record {
-        left = e.left;
+        remaining = e.remaining;
         prev_end = e.prev_end;
         tree = e.tree;
         inside = o.inside ++ e.inside;
         is = refl;
         whole = e.whole;
-        grows = λ l all cs i. subst (IsRead min_bp d l all e.tree e.left e.prev_end) (append_assoc cs o.inside e.inside)
+        grows = λ l all cs i. subst (IsRead min_bp d l all e.tree e.remaining e.prev_end) (append_assoc cs o.inside e.inside)
             (e.grows l all (cs ++ o.inside) (wrapped l all cs i));
         ends =
-            subst (EndsOn whole fs (put j.position (j.row ⊕ e.tree) j) e.left e.prev_end)
+            subst (EndsOn whole fs (put j.position (j.children ⊕ e.tree) j) e.remaining e.prev_end)
             (ap (λ z. z ++ e.inside) (none_repeated min_bp k blank c (gs ++ o.inside) fit) ∙ append_assoc gs o.inside e.inside) e.ends;
       })
     where
       c : AnnotatedForest
       c = x ⊕ o.rest
 
-      wrapped : Grows min_bp d x ts n (one_branch k c) o.left o.prev_end o.inside
+      wrapped : Grows min_bp d x ts n (one_branch k c) o.remaining o.prev_end o.inside
       wrapped l all cs i =
-          let span : Spans all l o.left o.prev_end c = spans_two x o.rest i.span o.span in
+          let span : Spans all l o.remaining o.prev_end c = spans_two x o.rest i.span o.span in
           record {
             span = spans_made (Node k) c span;
             begins = begun_same min_bp x (one_branch k c) all (first c ∙ first_in x o.rest r.single) i.begins;
@@ -172,7 +172,7 @@ module _ (whole : Outcome) (min_bp max_bp d : ℕ) (x : AnnotatedForest) (n : �
         → IsPreservedBy whole a.Apply frame fs (t ∷ ts) n gs
     applies t ts g l nor arg fo =
         let below : Below (One NODE_APPLY x) (under ∷ fs) = an_operand min_bp 15 d r.shallow grows r.below in
-        let b = operand_begins whole 16 d (called x) (under ∷ fs) n gs (opens_on NODE_APPLY (p.Left APPLIED) d x (under ∷ fs) refl refl r.shallow below)
+        let b = operand_begins whole 16 d (called x) (under ∷ fs) n gs (opens_on NODE_APPLY (p.InRow APPLIED) d x (under ∷ fs) refl refl r.shallow below)
         r.shallow (omega arith) t ts in
         (b.0, λ ends. by (b.1 ends))
       where
@@ -180,7 +180,7 @@ module _ (whole : Outcome) (min_bp max_bp d : ℕ) (x : AnnotatedForest) (n : �
         under = other_frame 15 blank
 
         called : AnnotatedForest → Frame
-        called c = opened (Node NODE_APPLY) (p.Left APPLIED) d c
+        called c = opened (Node NODE_APPLY) (p.InRow APPLIED) d c
 
         grows : (rest : AnnotatedForest) → MayGrow min_bp 15 (one_branch NODE_APPLY (x ⊕ rest))
         grows rest = call_grows min_bp (x ⊕ rest) (elim (calls_or (x ⊕ rest)) as (λ w. min_bp ≤ (if w then 16 else 15)) [ true ↦ omega (arith, l) | false ↦ l ])
@@ -188,12 +188,12 @@ module _ (whole : Outcome) (min_bp max_bp d : ℕ) (x : AnnotatedForest) (n : �
         followed : IsFollowed (Argument · done) x (Some t.kind)
         followed = ap (λ w. (w || is_or t.kind) && follows t.kind x) arg ∙ fo
 
-        by : BeginEnds whole 16 d (called x) (under ∷ fs) (t ∷ ts) n gs → EndsOn whole fs frame (t ∷ ts) n gs
+        by : OperandStartEnds whole 16 d (called x) (under ∷ fs) (t ∷ ts) n gs → EndsOn whole fs frame (t ∷ ts) n gs
         by e =
             wraps_on fs r 15 NODE_APPLY (Argument · done) (t ∷ ts) (front (row_of_kind NODE_APPLY) refl) g (λ c. refl) (grows blank).fit
             (row_fronted e.tree e.inside e.read.span refl
             (λ vs s c es i z. placed argument_takes e.read e.is_complete_operand i nor (λ v. absurd (true_is_not_false (sym v))) followed z)
-            (open_ends whole under fs (called (x ⊕ e.tree)) e.left e.prev_end (gs ++ e.inside) refl e.ends))
+            (open_ends whole under fs (called (x ⊕ e.tree)) e.remaining e.prev_end (gs ++ e.inside) refl e.ends))
 
     -- the name `or` follows it as an argument
     applies_or : (t : Token) (ts : List Token) → after (row_of_kind NODE_APPLY) (seen_kind x) ≡ Argument · done → min_bp ≤ 16 → t.kind ≡ TOKEN_OR
@@ -202,7 +202,7 @@ module _ (whole : Outcome) (min_bp max_bp d : ℕ) (x : AnnotatedForest) (n : �
     applies_or t ts g l e fo = (
       operand (record { single = a_node; grows = grows; shallow = r.shallow; below = r.below }),
       λ ends. wraps_on fs r 15 NODE_APPLY (Argument · done) (t ∷ ts) (front (row_of_kind NODE_APPLY) refl) g (λ c. refl) grows.fit (record {
-        left = ts;
+        remaining = ts;
         prev_end = t.end;
         row_state = done;
         rest = name;
@@ -239,15 +239,16 @@ module _ (whole : Outcome) (min_bp max_bp d : ℕ) (x : AnnotatedForest) (n : �
         → IsPreservedBy whole action frame fs (t ∷ ts) n gs
     goes k action by_dot t ts e w =
         let node : AnnotatedForest → AnnotatedForest = λ rest. one_branch NODE_SELECT ((x ⊕ item NODE_SELECT t) ⊕ rest) in
-        let q : Row = Suffix TOKEN_DOT · left_at SELECT in
-        wraps t ts NODE_SELECT q (p.Left SELECT) 15 (front (row_of_kind NODE_SELECT) refl) (ap (λ w. only w q) (atom_seen x (follows_it k k refl w))) (λ us. tt)
+        let q : Row = Suffix TOKEN_DOT · remaining_at SELECT in
+        wraps t ts NODE_SELECT q (p.InRow SELECT) 15 (front (row_of_kind NODE_SELECT) refl) (ap (λ w. only w q) (atom_seen x (follows_it k k refl w)))
+        (λ us. tt)
         (follows_it k t.kind e w)
         (ap (λ j. after q (leaf_kind_as NODE_SELECT j)) e) (λ c. refl) refl refl
         (λ rest. grows_by min_bp 15 (node rest) refl w.1 (omega arith) (followed_selection (node rest) refl refl) refl)
     goes k action by_question t ts e w =
         let node : AnnotatedForest → AnnotatedForest = λ rest. one_branch NODE_HAS_ATTR ((x ⊕ item NODE_HAS_ATTR t) ⊕ rest) in
-        let q : Row = Suffix TOKEN_QUESTION · left_at HAS_ATTR in
-        wraps t ts NODE_HAS_ATTR q (p.Left HAS_ATTR) 13 (front (row_of_kind NODE_HAS_ATTR) refl)
+        let q : Row = Suffix TOKEN_QUESTION · remaining_at HAS_ATTR in
+        wraps t ts NODE_HAS_ATTR q (p.InRow HAS_ATTR) 13 (front (row_of_kind NODE_HAS_ATTR) refl)
         (ap (λ w. only w q) (fits_looser 13 max_bp (seen_kind x) w.2 r.grows.tight)) (λ us. tt)
         (follows_it k t.kind e w) (ap (λ j. after q (leaf_kind_as NODE_HAS_ATTR j)) e) (λ c. refl) refl refl
         (λ rest. grows_by min_bp 13 (node rest) refl w.1 (omega arith) (followed_question (node rest) refl refl) refl)

@@ -2,10 +2,10 @@
 use Rattle.std.proofs.Common.{◌≡◌, ℕ, Bool, true, false, List, [], ◌∷◌, ◌++◌, Option, Some, None, refl, ap, sym, ◌∙◌, subst, append-nil, if◌then◌else◌}
 use Rattle.{rnix_kinds.specs.declared.kinds.SyntaxKind.{SyntaxKind, TheVariants.NODE_LITERAL}, rnix_grammar.specs.declared.rules.Part.TheVariants.Argument}
 use Rattle.rnix_grammar.specs.{Fault.Fault, AnnotatedForest.{Token, Stray, AnnotatedForest, blank, ◌⊕◌, one_branch, one_fault, row_of, tokens_in, head_kind}}
-use Rattle.rnix_grammar.specs.{AnnotatedForest.end_from, Rows.fits, Reports.repeats, TreeLevels.is_or_row, Beginnings.{BeginsAs, IsOperandOf}, Reads.IsOver}
+use Rattle.rnix_grammar.specs.{AnnotatedForest.end_from, NodeClasses.fits, Reports.repeats, TreeLevels.is_or_row, FirstKinds.{BeginsAs, IsOperandOf}, Reads.IsOver}
 use Rattle.rnix_grammar.specs.{Reads.{IsRoom, Reads, deeper}, Rules.{IsExpected, IsFollowed, Row, after, done, ◌·◌, only, level_at, is_first_expected}}
-use Rattle.{rnix_grammar.specs.Rules.row as row_of_kind, rnix_proof_lemmas.proofs.{KindsOfNodes.{fits_expression, unreported}, RowParts.{IsFront, is_left, left_level}}}
-use Rattle.rnix_proof_lemmas.proofs.{RowParts.{left_first_expected, operand_goes, operand_not_expected}, ReadsFrom.{inner_from, plain_from, wrong_from}}
+use Rattle.{rnix_grammar.specs.Rules.row as row_of_kind, rnix_proof_lemmas.proofs.{KindsOfNodes.{fits_expression, unreported}, RowParts.{IsFront, is_remaining, left_level}}}
+use Rattle.rnix_proof_lemmas.proofs.{RowParts.{remaining_first_expected, operand_goes, operand_not_expected}, ReadsFrom.{inner_from, plain_from, wrong_from}}
 use Rattle.rnix_proof_existence.proofs.{Growing.seen_kind, OpenFrames.{OperandTree, a_node, an_error, IsRead, IsCompleteOperand}}
 
 -- the last item of a tree is the last of its row
@@ -40,10 +40,10 @@ pub record Takes (q : Row) (level : ℕ) (r : Row) : Type 0 where
   pub goes : (k : SyntaxKind) → fits level k ≡ true → after q k ≡ r
 
 -- so it is where what is left of a row asks for one
-pub left_takes : (q : Row) (level : ℕ) (r : Row) → is_left q ≡ true → level_at q blank ≡ Some level → after q NODE_LITERAL ≡ r → Takes q level r
+pub left_takes : (q : Row) (level : ℕ) (r : Row) → is_remaining q ≡ true → level_at q blank ≡ Some level → after q NODE_LITERAL ≡ r → Takes q level r
 left_takes q level r i l g = record {
   leveled = λ x h. left_level q i x ∙ l;
-  expected = λ k c h. left_first_expected q i k c ∙ operand_not_expected q level k i l;
+  expected = λ k c h. remaining_first_expected q i k c ∙ operand_not_expected q level k i l;
   goes = λ k h. operand_goes q level k i l h ∙ g;
 }
 

@@ -7,22 +7,22 @@ use Rattle.rnix_proof_layout.{specs.AlikeItems.AreSameFaults, proofs.{MovedItems
 use Rattle.rnix_proof_layout.proofs.{JoinedRows.row_joins, MovedReadings.{moves, IsMoved}}
 
 -- where some items stand
-abbrev places : List Token → List Extent
-places [] = []
-places (t ∷ ts) = record { start = t.start; end = t.end } ∷ places ts
+abbrev extents : List Token → List Extent
+extents [] = []
+extents (t ∷ ts) = record { start = t.start; end = t.end } ∷ extents ts
 
 -- items that are alike are the same but for their places
 token_is : (t u : Token) → t.kind ≡ u.kind → t.text ≡ u.text → at t (record { start = u.start; end = u.end } ∷ []) ≡ u
 token_is t u e h = λ i. record { kind = e i; text = h i; start = u.start; end = u.end }
 
-moved_is : (prev : Option SyntaxKind) (n m : ℕ) (xs ys : List Token) → AreAlike prev n m xs ys → moved xs (places ys) ≡ ys
+moved_is : (prev : Option SyntaxKind) (n m : ℕ) (xs ys : List Token) → AreAlike prev n m xs ys → moved xs (extents ys) ≡ ys
 moved_is prev n m [] [] h = refl
 moved_is prev n m (t ∷ ts) (u ∷ us) h =
-    ap (λ x. x ∷ moved ts (places us)) (token_is t u h.0 h.1) ∙ ap (λ xs. u ∷ xs) (moved_is (Some t.kind) t.end u.end ts us h.3)
+    ap (λ x. x ∷ moved ts (extents us)) (token_is t u h.0 h.1) ∙ ap (λ xs. u ∷ xs) (moved_is (Some t.kind) t.end u.end ts us h.3)
 moved_is prev n m [] (u ∷ us) h = absurd h
 moved_is prev n m (t ∷ ts) [] h = absurd h
 
-alike_touching : (prev : Option SyntaxKind) (n m : ℕ) (xs ys : List Token) → AreAlike prev n m xs ys → Touching prev n m xs (places ys)
+alike_touching : (prev : Option SyntaxKind) (n m : ℕ) (xs ys : List Token) → AreAlike prev n m xs ys → Touching prev n m xs (extents ys)
 alike_touching prev n m [] [] h = tt
 alike_touching prev n m (t ∷ ts) (u ∷ us) h = (h.2, alike_touching (Some t.kind) t.end u.end ts us h.3)
 alike_touching prev n m [] (u ∷ us) h = absurd h
@@ -39,7 +39,7 @@ pub alike_readings : (one : OneRow) (f g : AnnotatedForest) (ds es : List Fault)
 alike_readings one f g ds es r s alike =
     let xs : List Token = tokens_in f in
     let ys : List Token = tokens_in g in
-    let qs : List Extent = places ys in
+    let qs : List Extent = extents ys in
     let whole : xs ≡ xs ++ [] = sym (append-nil xs) in
     let other : moved xs qs ≡ ys = moved_is None 0 0 xs ys alike in
     let there : IsMoved xs qs qs NODE_ROOT 0 0 (row NODE_ROOT) (TextEnd · done) None blank [] f ds =

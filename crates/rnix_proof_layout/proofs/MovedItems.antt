@@ -1,13 +1,13 @@
 -- Items at other places: their kinds and texts stay.
 use Rattle.std.proofs.Common.{◌≡◌, suc, Bool, true, false, List, [], ◌∷◌, ◌++◌, length, refl, ap, sym, ◌∙◌, if◌then◌else◌}
 use Rattle.{rnix_kinds.specs.declared.kinds.SyntaxKind.TheVariants.NODE_ERROR, rnix_green.specs.{Range.Extent, Forest.{leaf, node}}}
-use Rattle.rnix_grammar.specs.{declared.expected_set.ExpectedSet.ExpectedSet, Tables.is_wanted, UnwantedRun.run_of, Begins.second_kind, AnnotatedForest.Token}
+use Rattle.rnix_grammar.specs.{declared.expected_set.ExpectedSet.ExpectedSet, Tables.is_wanted, UnwantedRun.run_of, OperandStarts.second_kind, AnnotatedForest.Token}
 use Rattle.rnix_grammar.specs.AnnotatedForest.{AnnotatedForest, blank, token, branch, fault, row_of, tokens_in, forget, is_some, head_kind}
 
 -- the first of some places, or another
-abbrev pub place_or : Extent → List Extent → Extent
-place_or x [] = x
-place_or x (p ∷ ps) = p
+abbrev pub extent_or : Extent → List Extent → Extent
+extent_or x [] = x
+extent_or x (p ∷ ps) = p
 
 -- the places after the first
 abbrev pub later : List Extent → List Extent
@@ -19,8 +19,8 @@ abbrev pub at : Token → List Extent → Token
 at t ps = record {
   kind = t.kind;
   text = t.text;
-  start = (place_or record { start = t.start; end = t.end } ps).start;
-  end = (place_or record { start = t.start; end = t.end } ps).end;
+  start = (extent_or record { start = t.start; end = t.end } ps).start;
+  end = (extent_or record { start = t.start; end = t.end } ps).end;
 }
 
 -- tokens at some places, one by one

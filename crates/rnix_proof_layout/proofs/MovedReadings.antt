@@ -3,7 +3,7 @@ use Rattle.std.proofs.Common.{◌≡◌, ℕ, true, false, List, [], ◌∷◌, 
 use Rattle.{rnix_kinds.specs.declared.kinds.SyntaxKind.{SyntaxKind, TheVariants.NODE_ERROR}, rnix_green.specs.Range.Extent, rnix_grammar.specs.Fault.Fault}
 use Rattle.rnix_grammar.specs.{Reports.{report, repeats}, AnnotatedForest.{Token, Note, DoubleBind, AnnotatedForest, blank, token, branch, fault, ◌⊕◌}}
 use Rattle.rnix_grammar.specs.{AnnotatedForest.{one_token, one_branch, one_fault, row_of, tokens_in, leaf_kind, head_kind, end_from}, Rules.{Row, done, row}}
-use Rattle.rnix_grammar.specs.{Rules.{second_name, after, IsExpected, is_first_expected, level_at, IsFollowed}, Beginnings.IsOperandOf, Reads.{Reads, IsOver}}
+use Rattle.rnix_grammar.specs.{Rules.{second_name, after, IsExpected, is_first_expected, level_at, IsFollowed}, FirstKinds.IsOperandOf, Reads.{Reads, IsOver}}
 use Rattle.rnix_grammar.specs.Reads.{IsWrong, deeper, end, leaf, inner, missing_part, wrong, second}
 use Rattle.rnix_proof_lemmas.proofs.{AnnotatedForestLemmas.tokens_in-row_of, ReachableRows.{IsKnown, known_row, known_second, known_after, known_missing}}
 use Rattle.{rnix_proof_lemmas.proofs.{ReachableRows.{known_past, known_wrong}, MissingFacts.missing_ended}, rnix_proof_layout.specs.AlikeItems.AreSameFaults}
@@ -26,8 +26,8 @@ unplaced_next : (b c x y : AnnotatedForest) → unplaced b ≡ unplaced c → un
 unplaced_next b c x y e h = unplaced-⊕ b x ∙ ap (λ z. z ⊕ unplaced x) e ∙ ap (λ z. unplaced c ⊕ z) h ∙ sym (unplaced-⊕ c y)
 
 -- the places of what follows some items
-places_after : (a xs : List Token) (ps qs : List Extent) → ps ≡ past a qs → past xs ps ≡ past (a ++ xs) qs
-places_after a xs ps qs e = ap (past xs) e ∙ sym (past_two a xs qs)
+extents_after : (a xs : List Token) (ps qs : List Extent) → ps ≡ past a qs → past xs ps ≡ past (a ++ xs) qs
+extents_after a xs ps qs e = ap (past xs) e ∙ sym (past_two a xs qs)
 
 -- an item
 moved_leaf : {p : SyntaxKind} {d m : ℕ} {q q' : Row} {c : AnnotatedForest} {us : List Token} {t : Token} {f : AnnotatedForest} {es : List Fault}
@@ -77,21 +77,21 @@ operand_moved q k c f us ps h =
     (operand_at q (one_branch k c) (tokens_in f ++ us) ps h)
 
 -- the rest of a row, seen from the row
-rest_places : {p : SyntaxKind} {d m : ℕ} {q q' : Row} {b g : AnnotatedForest} {es : List Fault} (us xs ys : List Token) (ps : List Extent)
+rest_extents : {p : SyntaxKind} {d m : ℕ} {q q' : Row} {b g : AnnotatedForest} {es : List Fault} (us xs ys : List Token) (ps : List Extent)
     → Reads p d m q q' b (moved us (past ys (past xs ps))) g es → Reads p d m q q' b (moved us (past (xs ++ ys) ps)) g es
-rest_places {p} {d} {m} {q} {q'} {b} {g} {es} us xs ys ps h = subst (λ z. Reads p d m q q' b (moved us z) g es) (sym (past_two xs ys ps)) h
+rest_extents {p} {d} {m} {q} {q'} {b} {g} {es} us xs ys ps h = subst (λ z. Reads p d m q q' b (moved us z) g es) (sym (past_two xs ys ps)) h
 
 rest_joins : (q : Row) (prev : Option SyntaxKind) (xs ys us : List Token) → Joins q (last_kind (last_kind prev xs) ys) us
     → Joins q (last_kind prev (xs ++ ys)) us
 rest_joins q prev xs ys us j = subst (λ z. Joins q z us) (sym (last_two prev xs ys)) j
 
 -- an error node over the items at the other places
-wrong_places : {p : SyntaxKind} {d m : ℕ} {q q' : Row} {b : AnnotatedForest} {es : List Fault} (note : Note) (ts : List Token) (f : AnnotatedForest)
+wrong_extents : {p : SyntaxKind} {d m : ℕ} {q q' : Row} {b : AnnotatedForest} {es : List Fault} (note : Note) (ts : List Token) (f : AnnotatedForest)
     (us : List Token) (ps : List Extent)
     → Reads p d m q q' b (moved us (past (tokens_in f) (past ts ps))) (fault note (row_of (moved ts ps)) (moved_trees f (past ts ps))) es
     → Reads p d m q q' b (moved us (past (tokens_in f) (past (tokens_in (row_of ts)) ps)))
     (fault note (moved_trees (row_of ts) ps) (moved_trees f (past (tokens_in (row_of ts)) ps))) es
-wrong_places {p} {d} {m} {q} {q'} {b} {es} note ts f us ps h =
+wrong_extents {p} {d} {m} {q} {q'} {b} {es} note ts f us ps h =
     subst (λ z. Reads p d m q q' b (moved us (past (tokens_in f) (past z ps))) (fault note (moved_trees (row_of ts) ps) (moved_trees f (past z ps))) es)
     (sym (tokens_in-row_of ts))
     (subst (λ z. Reads p d m q q' b (moved us (past (tokens_in f) (past ts ps))) (fault note z (moved_trees f (past ts ps))) es) (sym (row_moved ts ps)) h)
@@ -106,7 +106,7 @@ moves {p} {d} {n} {q} {q'} {b} {us} (leaf {t = t} {f = f} x w h) ws qs known pre
     moved_leaf ws qs ps prev n b e j touch x w
     (moves h ws qs (known_after (leaf_kind p t) known) (Some t.kind) (at t ps).end (b' ⊕ one_token (leaf_kind p t) (at t ps)) (a ++ (t ∷ [])) (later ps)
     (unplaced_next b b' (one_token (leaf_kind p t) t) (one_token (leaf_kind p t) (at t ps)) e refl) (ew ∙ sym (append_assoc a (t ∷ []) (tokens_in f ++ us)))
-    (places_after a (t ∷ []) ps qs eps) (leaf_joins known n t (tokens_in f ++ us) (tokens_in f ++ us) x) touch.1)
+    (extents_after a (t ∷ []) ps qs eps) (leaf_joins known n t (tokens_in f ++ us) (tokens_in f ++ us) x) touch.1)
 moves {p} {d} {n} {q} {q'} {b} {us} (inner {k = k} {s = s} {c = c} {f = f} {ds = ds} {es = es} room hr over x w op h) ws qs
     known prev m b' a ps e ew eps j touch =
     let rest : List Token = tokens_in f ++ us in
@@ -125,12 +125,12 @@ moves {p} {d} {n} {q} {q'} {b} {us} (inner {k = k} {s = s} {c = c} {f = f} {ds =
     (a ++ tokens_in c) (past (tokens_in c) ps)
     (unplaced_next b b' (one_branch k c) (one_branch k c') e (ap (λ z. branch k z blank) (sym (unplaced_moved c ps))))
     (ew' ∙ sym (append_assoc a (tokens_in c) rest))
-    (places_after a (tokens_in c) ps qs eps) (node_joins known hr over.0 prev) touch1 in
+    (extents_after a (tokens_in c) ps qs eps) (node_joins known hr over.0 prev) touch1 in
     let repeated : AreSameFaults ws (moved ws qs) (repeats k b c) (repeats k b' c') =
     subst (λ z. AreSameFaults ws (moved ws qs) (repeats k b c) (repeats k b' (moved_trees c z))) (sym eps) (repeats_same ws a rest qs k b b' c e ew') in
     record {
       faults = (below.faults ++ repeats k b' c') ++ next.faults;
-      reads = rest_places us (tokens_in c) (tokens_in f) ps
+      reads = rest_extents us (tokens_in c) (tokens_in f) ps
           (inner room
           (subst (λ z. Reads k (deeper q d) m (row k) s blank z c' below.faults) (tokens_after f us (past (tokens_in c) ps)) below.reads)
           (over_same s (last_kind prev (tokens_in c)) (end_from n (tokens_in c)) (end_from m (tokens_in c')) us f (past (tokens_in c) ps)
@@ -166,15 +166,15 @@ moves {p} {d} {n} {q} {q'} {b} {us} (wrong {r = r} {f = f} {es = es} note ts x w
     (a ++ ts) (past ts ps)
     (unplaced_next b b' (one_fault note (row_of ts)) (one_fault note (row_of (moved ts ps))) e
     (ap (λ z. fault note z blank) (sym (unplaced_moved (row_of ts) ps) ∙ ap unplaced (row_moved ts ps))))
-    (ew' ∙ sym (append_assoc a ts rest)) (places_after a ts ps qs eps) (wrong_joins q r note d ts rest known v (last_kind prev ts))
+    (ew' ∙ sym (append_assoc a ts rest)) (extents_after a ts ps qs eps) (wrong_joins q r note d ts rest known v (last_kind prev ts))
     (touching_after prev n m ts rest ps touch') in
     let ranges : IsSameFault ws (moved ws qs) (report note ts) (report note (moved ts ps)) =
     subst (λ z. IsSameFault ws (moved ws qs) (report note ts) (report note (moved ts z))) (sym eps)
     (report_same ws (moved ws qs) note ts (past a qs) (same_here ws a ts rest qs ew')) in
     record {
       faults = report note (moved ts ps) ∷ next.faults;
-      reads = rest_places us (tokens_in (row_of ts)) (tokens_in f) ps
-          (wrong_places note ts f us ps
+      reads = rest_extents us (tokens_in (row_of ts)) (tokens_in f) ps
+          (wrong_extents note ts f us ps
           (wrong note (moved ts ps)
           (subst (λ z. IsExpected q m z false) (moved_two ts rest ps ∙ ap (λ z. moved ts ps ++ z) (tokens_after f us (past ts ps)))
           (expected_same q prev n m (ts ++ rest) ps false j' touch' x))
@@ -201,14 +201,14 @@ moves {p = p} {d = d} {n = n} {q' = q'} {b = b} {us = us} (second {s = s} {c = c
     (a ++ tokens_in c) (past (tokens_in c) ps)
     (unplaced_next b b' (one_fault DoubleBind c) (one_fault DoubleBind c') e (ap (λ z. fault DoubleBind z blank) (sym (unplaced_moved c ps))))
     (ew' ∙ sym (append_assoc a (tokens_in c) rest))
-    (places_after a (tokens_in c) ps qs eps) (no_joins done (last_kind prev (tokens_in c)) rest refl) touch1 in
+    (extents_after a (tokens_in c) ps qs eps) (no_joins done (last_kind prev (tokens_in c)) rest refl) touch1 in
     let ranges : IsSameFault ws (moved ws qs) (report DoubleBind (tokens_in c)) (report DoubleBind (tokens_in c')) =
     subst (λ z. IsSameFault ws (moved ws qs) (report DoubleBind (tokens_in c)) (report DoubleBind z)) (sym (tokens_moved c ps))
     (subst (λ z. IsSameFault ws (moved ws qs) (report DoubleBind (tokens_in c)) (report DoubleBind (moved (tokens_in c) z))) (sym eps)
     (report_same ws (moved ws qs) DoubleBind (tokens_in c) (past a qs) (same_here ws a (tokens_in c) rest qs ew'))) in
     record {
       faults = (below.faults ++ report DoubleBind (tokens_in c') ∷ []) ++ next.faults;
-      reads = rest_places us (tokens_in c) (tokens_in f) ps
+      reads = rest_extents us (tokens_in c) (tokens_in f) ps
           (second
           (subst (λ z. Reads NODE_ERROR d m second_name s blank z c' below.faults) (tokens_after f us (past (tokens_in c) ps)) below.reads)
           (over_same s (last_kind prev (tokens_in c)) (end_from n (tokens_in c)) (end_from m (tokens_in c')) us f (past (tokens_in c) ps) below.joins touch1

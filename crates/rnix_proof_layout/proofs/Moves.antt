@@ -2,9 +2,9 @@
 use Rattle.std.proofs.Common.{◌≡◌, ℕ, ◌≤◌, Bool, true, List, [], ◌∷◌, ◌++◌, Option, Some, None, refl, ap, sym, ◌∙◌, subst, if◌then◌else◌, ◌&&◌, ◌||◌, nat_le}
 use Rattle.{std.specs.List.list_all, rnix_kinds.{specs.declared.kinds.SyntaxKind.{SyntaxKind, TheVariants.NODE_INTERPOL}, proofs.AllKinds.{all_kinds, every}}}
 use Rattle.{rnix_green.specs.{Range.Extent, Equality.same_kind}, rnix_grammar.specs.{UnwantedRun.run_of, AnnotatedForest.{Token, Note, Stray, Unwanted, Extra}}}
-use Rattle.rnix_grammar.specs.{AnnotatedForest.{DoubleBind, TooDeep, AnnotatedForest, blank, one_fault, row_of, tokens_in, head_kind}, Begins.first_kind}
-use Rattle.rnix_grammar.specs.{Beginnings.{BeginsAs, IsOperandOf}, Operands.{first_tree, follows, is_continued}, TreeLevels.row_level, Rules.{Row, after, level_at}}
-use Rattle.rnix_grammar.specs.{Begins.second_kind, Levels.binding_power, Reads.IsWrong, TokenKinds.is_path_piece}
+use Rattle.rnix_grammar.specs.{AnnotatedForest.{DoubleBind, TooDeep, AnnotatedForest, blank, one_fault, row_of, tokens_in, head_kind}, OperandStarts.first_kind}
+use Rattle.rnix_grammar.specs.{FirstKinds.{BeginsAs, IsOperandOf}, Operands.{first_tree, follows, is_continued}, TreeLevels.row_level, Rules.{Row, after, level_at}}
+use Rattle.rnix_grammar.specs.{OperandStarts.second_kind, Levels.binding_power, Reads.IsWrong, TokenKinds.is_path_piece}
 use Rattle.{rnix_proof_lemmas.proofs.ReachableRows.{IsKnown, every_known}, rnix_proof_layout.proofs.MovedItems.{moved, past, later, moved_trees, moved_two}}
 use Rattle.rnix_proof_layout.proofs.{MovedItems.{tokens_after, row_moved, head_moved, second_moved, length_moved, some_moved, run_moved}, Unplaced.unplaced}
 use Rattle.rnix_proof_layout.proofs.{Unplaced.{unplaced_moved, alike, row_level_same, first_same, follows_same, asked_same}, Touch.asks_touch}

@@ -3,10 +3,10 @@ use Rattle.std.proofs.Common.{◌≡◌, ℕ, Bool, true, false, [], Option, Som
 use Rattle.rnix_kinds.proofs.AllKinds.{all_kinds}
 use Rattle.rnix_kinds.specs.declared.kinds.SyntaxKind.{SyntaxKind, TheVariants.{NODE_IDENT, NODE_LITERAL, NODE_PAT_ENTRY, TOKEN_IDENT, TOKEN_AT}}
 use Rattle.rnix_grammar.specs.declared.{position.Position.Position, action.Action.Action, slot_table.TheConstants.SLOTS, rules.Part.TheVariants.{BoundAlready, TextEnd}}
-use Rattle.rnix_grammar.specs.{Fault.{Fault, unexpected_eof, unexpected_eof_wanted}, Tables.{is_wanted, wanted_kinds}, AnnotatedForest.{blank, leaf_kind_as}, Actions.{left_action, action_at}}
-use Rattle.rnix_proof_lemmas.specs.SlotRows.{left_at, left_in}
+use Rattle.rnix_grammar.specs.{Fault.{Fault, unexpected_eof, unexpected_eof_wanted}, Tables.{is_wanted, wanted_kinds}, AnnotatedForest.{blank, leaf_kind_as}, Actions.{action_at_slot, action_at}}
+use Rattle.rnix_proof_lemmas.specs.SlotRows.{remaining_at, remaining_in}
 use Rattle.rnix_grammar.specs.Rules.{Row, never, done, ◌·◌, row, only, after, may_end, missing, run_at, expects_item, expects_end, is_first_expected, level_at, counts}
-use Rattle.rnix_proof_lemmas.proofs.{EachKind.{Each, each_kind}, EachIndex.{EachSlot, from_index, each_split, each_index}, Basics.true_is_not_false, LevelLemmas.atom_fits, RowParts.{is_front, is_left, expects_next}, RestAt.rest_at}
+use Rattle.rnix_proof_lemmas.proofs.{EachKind.{Each, each_kind}, EachIndex.{EachSlot, from_index, each_split, each_index}, Basics.true_is_not_false, LevelLemmas.atom_fits, RowParts.{is_front, is_remaining, expects_next}, RestAt.rest_at}
 use Rattle.rnix_grammar.specs.declared.position.Position.TheVariants as p
 use Rattle.rnix_grammar.specs.declared.action.Action.TheVariants as a
 
@@ -35,29 +35,31 @@ IsActionAt r touch next a.CloseEntry = MayEnd r touch next
 IsActionAt r touch next a.CloseDoubleBind = MayEnd r touch next
 IsActionAt r touch next a.Finish = Unit {0}
 IsActionAt r touch (Some k) a.Extra = r ≡ TextEnd · done
-IsActionAt r touch (Some k) (a.Take y) = (expects_item r touch k ≡ true) × (after r k ≡ left_at y)
-IsActionAt r touch None (a.Miss y) = IsMissing r unexpected_eof (left_at y)
-IsActionAt r touch None (a.MissWanted until y) = IsMissing r (unexpected_eof_wanted (wanted_kinds until)) (left_at y)
-IsActionAt r touch (Some k) (a.Run until y) = (expects_item r touch k ≡ false) × (is_wanted until k ≡ false) × (run_at r ≡ Some (wanted_kinds until, left_at y))
+IsActionAt r touch (Some k) (a.Take y) = (expects_item r touch k ≡ true) × (after r k ≡ remaining_at y)
+IsActionAt r touch None (a.Miss y) = IsMissing r unexpected_eof (remaining_at y)
+IsActionAt r touch None (a.MissWanted until y) = IsMissing r (unexpected_eof_wanted (wanted_kinds until)) (remaining_at y)
+IsActionAt r touch (Some k) (a.Run until y) = (expects_item r touch k ≡ false) × (is_wanted until k ≡ false)
+    × (run_at r ≡ Some (wanted_kinds until, remaining_at y))
 IsActionAt r touch (Some j) (a.Leaf NODE_IDENT y) =
-    IsNodeHere r touch (Some j) NODE_IDENT (left_at y) × (after (row NODE_IDENT) (leaf_kind_as NODE_IDENT j) ≡ done)
+    IsNodeHere r touch (Some j) NODE_IDENT (remaining_at y) × (after (row NODE_IDENT) (leaf_kind_as NODE_IDENT j) ≡ done)
 IsActionAt r touch (Some j) (a.Open k z y) =
-    IsNodeHere r touch (Some j) k (left_at y) × (is_front (row k) ≡ true) × (after (row k) (leaf_kind_as k j) ≡ left_at z)
-IsActionAt r touch next (a.Begin k z y) = IsNodeHere r touch next k (left_at y) × (row k ≡ left_at z)
-IsActionAt r touch (Some j) (a.Entry y) = IsNodeHere r touch (Some j) NODE_PAT_ENTRY (left_at y) × (j ≡ TOKEN_IDENT)
-IsActionAt r touch (Some j) (a.DoubleBind y) = (r ≡ BoundAlready · done) × (j ≡ TOKEN_AT) × (left_at y ≡ done)
-IsActionAt r touch None (a.Read level counted y) = IsOperandHere r touch None level counted (left_at y) × (missing r ≡ Some (unexpected_eof, left_at y))
-IsActionAt r touch next (a.Read level counted y) = IsOperandHere r touch next level counted (left_at y)
+    IsNodeHere r touch (Some j) k (remaining_at y) × (is_front (row k) ≡ true) × (after (row k) (leaf_kind_as k j) ≡ remaining_at z)
+IsActionAt r touch next (a.OpenEmpty k z y) = IsNodeHere r touch next k (remaining_at y) × (row k ≡ remaining_at z)
+IsActionAt r touch (Some j) (a.Entry y) = IsNodeHere r touch (Some j) NODE_PAT_ENTRY (remaining_at y) × (j ≡ TOKEN_IDENT)
+IsActionAt r touch (Some j) (a.DoubleBind y) = (r ≡ BoundAlready · done) × (j ≡ TOKEN_AT) × (remaining_at y ≡ done)
+IsActionAt r touch None (a.Read level counted y) = IsOperandHere r touch None level counted (remaining_at y)
+    × (missing r ≡ Some (unexpected_eof, remaining_at y))
+IsActionAt r touch next (a.Read level counted y) = IsOperandHere r touch next level counted (remaining_at y)
 IsActionAt r touch next action = ⊥
 
 -- what is left at a position where a node is open
 abbrev pub is_waiting : Row → Bool
 is_waiting never = false
-is_waiting r = is_left r
+is_waiting r = is_remaining r
 
 -- a position of a row: not behind an operand
 abbrev pub is_in_row : Position → Bool
-is_in_row (p.Left i) = is_waiting (left_at i)
+is_in_row (p.InRow i) = is_waiting (remaining_at i)
 is_in_row (p.AfterOperand min_bp max_bp) = false
 is_in_row (p.Right level) = true
 
@@ -71,20 +73,21 @@ if_waiting true A e h = h
 if_waiting false A e h = absurd (true_is_not_false (sym e))
 
 -- nothing is open past the end of the table
-past_end : (A : ℕ → Type 0) (i : ℕ) → drop i SLOTS ≡ [] → IfWaiting (is_waiting (left_at i)) (A i)
-past_end A i d = subst (λ w. IfWaiting w (A i)) (sym (ap (λ ss. is_waiting (left_in ss)) d)) tt
+past_end : (A : ℕ → Type 0) (i : ℕ) → drop i SLOTS ≡ [] → IfWaiting (is_waiting (remaining_at i)) (A i)
+past_end A i d = subst (λ w. IfWaiting w (A i)) (sym (ap (λ ss. is_waiting (remaining_in ss)) d)) tt
 
 -- at the end of the text
 abbrev AtEnd : Bool → ℕ → Type 0
-AtEnd touch i = IfWaiting (is_waiting (left_at i)) (IsActionAt (left_at i) touch None (left_action i None touch))
+AtEnd touch i = IfWaiting (is_waiting (remaining_at i)) (IsActionAt (remaining_at i) touch None (action_at_slot i None touch))
 
 at_end : (touch : Bool) (i : ℕ) → AtEnd touch i
-at_end true = each_index (AtEnd true) (assumption) (λ i e d. past_end (λ i. IsActionAt (left_at i) true None (left_action i None true)) i d)
-at_end false = each_index (AtEnd false) (assumption) (λ i e d. past_end (λ i. IsActionAt (left_at i) false None (left_action i None false)) i d)
+at_end true = each_index (AtEnd true) (assumption) (λ i e d. past_end (λ i. IsActionAt (remaining_at i) true None (action_at_slot i None true)) i d)
+at_end false = each_index (AtEnd false) (assumption) (λ i e d. past_end (λ i. IsActionAt (remaining_at i) false None (action_at_slot i None false)) i d)
 
 -- and before an item
 abbrev BeforeItem : Bool → ℕ → Type 0
-BeforeItem touch i = IfWaiting (is_waiting (left_at i)) (Each (λ k. IsActionAt (left_at i) touch (Some k) (left_action i (Some k) touch)) all_kinds)
+BeforeItem touch i = IfWaiting (is_waiting (remaining_at i))
+    (Each (λ k. IsActionAt (remaining_at i) touch (Some k) (action_at_slot i (Some k) touch)) all_kinds)
 
 -- computed for some indices at a time
 before_0 : (touch : Bool) → EachSlot (BeforeItem touch) (take 15 SLOTS)
@@ -116,14 +119,16 @@ before_each touch =
 
 before_item : (touch : Bool) (i : ℕ) → BeforeItem touch i
 before_item touch = each_index (BeforeItem touch) (before_each touch)
-    (λ i e d. past_end (λ i. Each (λ k. IsActionAt (left_at i) touch (Some k) (left_action i (Some k) touch)) all_kinds) i d)
+    (λ i e d. past_end (λ i. Each (λ k. IsActionAt (remaining_at i) touch (Some k) (action_at_slot i (Some k) touch)) all_kinds) i d)
 
 -- so it is at each position of a row
 pub action_is_at : (x : Position) (touch : Bool) (next : Option SyntaxKind) → is_in_row x ≡ true → IsActionAt (rest_at x) touch next (action_at x next touch)
 action_is_at (p.AfterOperand min_bp max_bp) touch next h = absurd (cc)
 action_is_at (p.Right level) touch None h = ((refl, refl, refl, ap (λ w. only w done) (atom_fits level NODE_LITERAL refl)), refl)
 action_is_at (p.Right level) touch (Some k) h = (refl, refl, refl, ap (λ w. only w done) (atom_fits level NODE_LITERAL refl))
-action_is_at (p.Left i) touch None h = if_waiting (is_waiting (left_at i)) (IsActionAt (left_at i) touch None (left_action i None touch)) h (at_end touch i)
-action_is_at (p.Left i) touch (Some k) h =
-    each_kind (λ k. IsActionAt (left_at i) touch (Some k) (left_action i (Some k) touch))
-    (if_waiting (is_waiting (left_at i)) (Each (λ k. IsActionAt (left_at i) touch (Some k) (left_action i (Some k) touch)) all_kinds) h (before_item touch i)) k
+action_is_at (p.InRow i) touch None h = if_waiting (is_waiting (remaining_at i)) (IsActionAt (remaining_at i) touch None (action_at_slot i None touch)) h
+    (at_end touch i)
+action_is_at (p.InRow i) touch (Some k) h =
+    each_kind (λ k. IsActionAt (remaining_at i) touch (Some k) (action_at_slot i (Some k) touch))
+    (if_waiting (is_waiting (remaining_at i)) (Each (λ k. IsActionAt (remaining_at i) touch (Some k) (action_at_slot i (Some k) touch)) all_kinds) h
+    (before_item touch i)) k

@@ -24,9 +24,9 @@ pub not_nil : {A : Type 0} {x : A} {xs : List A} → x ∷ xs ≡ [] → ⊥
 not_nil h = cc
 
 -- of two lists that are empty together the first is
-pub none_left : {A : Type 0} (xs ys : List A) → xs ++ ys ≡ [] → xs ≡ []
-none_left [] ys h = refl
-none_left (x ∷ xs) ys h = absurd (not_nil h)
+pub none_remaining : {A : Type 0} (xs ys : List A) → xs ++ ys ≡ [] → xs ≡ []
+none_remaining [] ys h = refl
+none_remaining (x ∷ xs) ys h = absurd (not_nil h)
 
 -- and the second
 pub none_right : {A : Type 0} (xs ys : List A) → xs ++ ys ≡ [] → ys ≡ []

@@ -4,10 +4,10 @@ use Rattle.std.proofs.lemmas.Bool.Decides.{nat_tests}
 use Rattle.rnix_kinds.{specs.declared.kinds.SyntaxKind.{SyntaxKind}, proofs.AllKinds.{all_kinds}}
 use Rattle.rnix_kinds.specs.declared.kinds.SyntaxKind.TheVariants.{TOKEN_IDENT, TOKEN_COLON, TOKEN_AT, TOKEN_L_BRACE, TOKEN_LET, TOKEN_INVERT, TOKEN_SUB, TOKEN_REC}
 use Rattle.rnix_kinds.specs.declared.kinds.SyntaxKind.TheVariants.{NODE_IDENT_PARAM, NODE_PATTERN, NODE_CUR_POS, NODE_LEGACY_LET, NODE_ATTR_SET, NODE_UNARY_OP, NODE_ERROR}
-use Rattle.rnix_grammar.specs.{Tables.is_cur_pos, Begins.{is_pattern, first_kind_of_name, first_kind_of_let, kind_if, first_kind, begin_for}, Rows.is_keyword_expression}
+use Rattle.rnix_grammar.specs.{Tables.is_cur_pos, OperandStarts.{is_pattern, first_kind_of_name, first_kind_of_let, kind_if, first_kind, operand_start_for}, NodeClasses.is_keyword_expression}
 use Rattle.rnix_proof_lemmas.proofs.{Basics.{choice, Where}, EachKind.{Each, each_kind}, LevelLemmas.at_most}
-use Rattle.rnix_grammar.specs.declared.begin.Begin.{Begin}
-use Rattle.rnix_grammar.specs.declared.begin.Begin.TheVariants as b
+use Rattle.rnix_grammar.specs.declared.operand_start.OperandStart.{OperandStart}
+use Rattle.rnix_grammar.specs.declared.operand_start.OperandStart.TheVariants as b
 
 -- it holds of what a token begins by itself, and by the next items, where any expression may begin
 abbrev pub EachFirst : (SyntaxKind → Option SyntaxKind → SyntaxKind → Type 0) → Option SyntaxKind → Type 0
@@ -93,7 +93,7 @@ each_first_tree P h level i text second third =
     where_allowed (P i second) level i text second third (λ l. w.0) w.1
 
 -- the kind of the first tree, by how the reader begins it
-abbrev pub kind_of : Begin → SyntaxKind
+abbrev pub kind_of : OperandStart → SyntaxKind
 kind_of (b.Leaf k) = k
 kind_of (b.Node k slot max_bp) = k
 kind_of b.LegacyLet = NODE_LEGACY_LET
@@ -103,7 +103,7 @@ kind_of b.PatternLambda = NODE_PATTERN
 kind_of b.Stray = NODE_ERROR
 
 -- what begins a tree of a kind has that kind
-pub kind_of_begin : (k i : SyntaxKind) → kind_of (begin_for k i) ≡ k
+pub kind_of_begin : (k i : SyntaxKind) → kind_of (operand_start_for k i) ≡ k
 kind_of_begin NODE_ATTR_SET TOKEN_REC = refl
 kind_of_begin NODE_ATTR_SET _ = refl
 kind_of_begin NODE_UNARY_OP TOKEN_INVERT = refl

@@ -1,6 +1,6 @@
 -- What is shown for each listed kind holds of every kind.
 use Rattle.std.proofs.Common.{ℕ, zero, suc, List, [], ◌∷◌, Option, Some, None, get_or, subst}
-use Rattle.rnix_kinds.{specs.{declared.kinds.SyntaxKind.{SyntaxKind, TheVariants.TOKEN_ADD}, SyntaxKind.place_of}, proofs.AllKinds.{all_kinds, kind_at_place}}
+use Rattle.rnix_kinds.{specs.{declared.kinds.SyntaxKind.{SyntaxKind, TheVariants.TOKEN_ADD}, SyntaxKind.discriminant_of}, proofs.AllKinds.{all_kinds, kind_at_discriminant}}
 
 -- each of some kinds is so
 abbrev pub Each : (SyntaxKind → Type 0) → List SyntaxKind → Type 0
@@ -14,7 +14,7 @@ each_at P (k ∷ ks) (suc i) d h e = each_at P ks i d h.1 e
 
 -- so every kind is
 pub each_kind : (P : SyntaxKind → Type 0) → Each P all_kinds → (k : SyntaxKind) → P k
-each_kind P h k = subst P (kind_at_place k TOKEN_ADD) (each_at P all_kinds (place_of k) TOKEN_ADD h h.0)
+each_kind P h k = subst P (kind_at_discriminant k TOKEN_ADD) (each_at P all_kinds (discriminant_of k) TOKEN_ADD h h.0)
 
 -- and so where no kind may be next
 pub each_next : (P : Option SyntaxKind → Type 0) → P None → Each (λ k. P (Some k)) all_kinds → (next : Option SyntaxKind) → P next

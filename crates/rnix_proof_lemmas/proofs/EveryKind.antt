@@ -1,7 +1,7 @@
 -- What a test of all kinds says of each kind.
 use Rattle.std.{specs.List.list_all, proofs.Common.{◌≡◌, ◌≤◌, ℕ, Bool, true, false, ap, sym, ◌∙◌, arith, ◌&&◌, if◌then◌else◌, nat_eq, nat_le}}
 use Rattle.std.proofs.lemmas.Bool.Decides.{nat_tests}
-use Rattle.rnix_kinds.{specs.{SyntaxKind.{place_of}, declared.kinds.SyntaxKind.SyntaxKind}, proofs.AllKinds.{same_place, every, all_kinds, implied}}
+use Rattle.rnix_kinds.{specs.{SyntaxKind.{discriminant_of}, declared.kinds.SyntaxKind.SyntaxKind}, proofs.AllKinds.{same_discriminant, every, all_kinds, implied}}
 use Rattle.{rnix_proof_lemmas.proofs.Basics.{true_is_not_false}}
 
 -- two tests that are never passed together are not both passed
@@ -14,13 +14,13 @@ equal : (m n : ℕ) → nat_eq m n ≡ true → m ≡ n
 equal m n h = grind (arith, nat_tests, h)
 
 -- kinds at the same position of the list are the same
-pub same : (k w : SyntaxKind) → nat_eq (place_of k) (place_of w) ≡ true → k ≡ w
-same k w h = same_place k w (equal (place_of k) (place_of w) h)
+pub same : (k w : SyntaxKind) → nat_eq (discriminant_of k) (discriminant_of w) ≡ true → k ≡ w
+same k w h = same_discriminant k w (equal (discriminant_of k) (discriminant_of w) h)
 
 -- so one kind alone passes a test
-pub only : (a : SyntaxKind → Bool) (w : SyntaxKind) → list_all (λ k. if a k then nat_eq (place_of k) (place_of w) else true) all_kinds ≡ true
+pub only : (a : SyntaxKind → Bool) (w : SyntaxKind) → list_all (λ k. if a k then nat_eq (discriminant_of k) (discriminant_of w) else true) all_kinds ≡ true
     → (k : SyntaxKind) → a k ≡ true → k ≡ w
-only a w h k e = same k w (implied a (λ j. nat_eq (place_of j) (place_of w)) h k e)
+only a w h k e = same k w (implied a (λ j. nat_eq (discriminant_of j) (discriminant_of w)) h k e)
 
 -- so every kind that passes two tests passes a third
 pub whenever_both : (a b c : SyntaxKind → Bool) → list_all (λ k. if a k then (if b k then c k else true) else true) all_kinds ≡ true → (k : SyntaxKind)
@@ -31,9 +31,9 @@ whenever_both a b c h k e f =
 
 -- so one kind alone passes both
 pub only_both : (a b : SyntaxKind → Bool) (w : SyntaxKind) → list_all
-    (λ k. if a k then (if b k then nat_eq (place_of k) (place_of w) else true) else true) all_kinds ≡ true
+    (λ k. if a k then (if b k then nat_eq (discriminant_of k) (discriminant_of w) else true) else true) all_kinds ≡ true
     → (k : SyntaxKind) → a k ≡ true → b k ≡ true → k ≡ w
-only_both a b w h k e f = same k w (whenever_both a b (λ j. nat_eq (place_of j) (place_of w)) h k e f)
+only_both a b w h k e f = same k w (whenever_both a b (λ j. nat_eq (discriminant_of j) (discriminant_of w)) h k e f)
 
 -- so no kind passes both
 pub never : (a b : SyntaxKind → Bool) → list_all (λ k. if a k then (if b k then false else true) else true) all_kinds ≡ true → (k : SyntaxKind) → a k ≡ true

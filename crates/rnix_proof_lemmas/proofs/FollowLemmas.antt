@@ -3,7 +3,7 @@ use Rattle.std.{specs.List.list_all, proofs.{lemmas.Bool.and_from, Common.{◌�
 use Rattle.std.proofs.Common.{if◌then◌else◌, nat_eq, nat_le}
 use Rattle.rnix_kinds.{specs.{declared.kinds.SyntaxKind.{SyntaxKind, TheVariants.NODE_PAREN}, SyntaxKind.is_fn_arg}, proofs.AllKinds.{all_kinds, every}}
 use Rattle.{rnix_kinds.proofs.AllKinds.implied, rnix_grammar.specs.{Levels.{binding_power, left_of, max_bp_of}, TokenKinds.{is_or, is_question, is_dot}}}
-use Rattle.rnix_grammar.specs.{Rows.{is_atom, is_infix}, AnnotatedForest.{Token, AnnotatedForest, blank, token, branch, fault}, TreeLevels.row_level}
+use Rattle.rnix_grammar.specs.{NodeClasses.{is_atom, is_infix}, AnnotatedForest.{Token, AnnotatedForest, blank, token, branch, fault}, TreeLevels.row_level}
 use Rattle.{rnix_grammar.specs.{TreeLevels.{level_of, is_atom_row}, Operands.follows}, rnix_proof_lemmas.proofs.{EntryNames.if_not, Basics.true_is_not_false}}
 use Rattle.rnix_proof_lemmas.proofs.{Basics.not_if, LevelLemmas.{within, at_most, same_number, at_most_true}, TokenEnds.left_least}
 

@@ -1,7 +1,7 @@
 -- What kinds of nodes are: those whose leaves keep their kinds, expressions, attributes and entries.
 use Rattle.std.proofs.Common.{◌≡◌, ℕ, Bool, true, false, [], refl, sym, arith}
 use Rattle.rnix_kinds.{specs.declared.kinds.SyntaxKind.{SyntaxKind, TheVariants.{NODE_ERROR, NODE_IDENT, NODE_CUR_POS, NODE_PAT_ENTRY}}}
-use Rattle.rnix_grammar.specs.{AnnotatedForest.{AnnotatedForest, leaf_kind_as}, Reports.repeats, Rows.{fits, is_expression}}
+use Rattle.rnix_grammar.specs.{AnnotatedForest.{AnnotatedForest, leaf_kind_as}, Reports.repeats, NodeClasses.{fits, is_expression}}
 use Rattle.rnix_proof_lemmas.proofs.{Basics.true_is_not_false, LevelLemmas.fits_looser}
 
 -- error nodes, and nodes of one name, whose leaf may have another kind than its token

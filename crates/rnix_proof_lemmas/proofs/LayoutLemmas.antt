@@ -3,7 +3,7 @@ use Rattle.std.proofs.Common.{◌≡◌, Bool, true, false, List, [], ◌∷◌,
 use Rattle.rnix_kinds.specs.declared.kinds.SyntaxKind.{SyntaxKind, TheVariants.{TOKEN_IDENT, TOKEN_OR, NODE_IDENT, NODE_CUR_POS, NODE_ERROR}}
 use Rattle.{rnix_kinds.specs.SyntaxKind.is_trivia, rnix_grammar.specs.AnnotatedForest.{Token, AnnotatedForest, blank, token, branch, fault, ◌⊕◌, tokens_in}}
 use Rattle.rnix_grammar.specs.{AnnotatedForest.{without_trivia, token_if, leaf_kind_as, HaveLeafKinds}, Layout.{from_item_if, from_item, trivia_if}}
-use Rattle.rnix_grammar.specs.Layout.{trivia_before, item_if, items, tail_of, is_last, trivia_after, rest_after, left_after, with_trivia}
+use Rattle.rnix_grammar.specs.Layout.{trivia_before, item_if, items, tail_of, is_last, trivia_after, rest_after, remaining_after, with_trivia}
 use Rattle.rnix_proof_lemmas.proofs.{AnnotatedForestLemmas.tokens_two, Basics.true_is_not_false}
 
 -- no trivia stand before the first item
@@ -51,7 +51,7 @@ items-++ (x ∷ xs) ys =
 pub record IsFirst (t : Token) (us ts : List Token) : Type 0 where
   pub here : from_item ts ≡ t ∷ tail_of (from_item ts)
   pub item : is_trivia t.kind ≡ false
-  pub left : items (tail_of (from_item ts)) ≡ us
+  pub remaining : items (tail_of (from_item ts)) ≡ us
 
 -- the first of the items stands first from the first item on
 head_here : (xs : List Token) (t : Token) (us : List Token) → items_head xs ≡ t ∷ us → (xs ≡ t ∷ tail_of xs) × (items (tail_of xs) ≡ us)
@@ -75,7 +75,7 @@ from_item_item (x ∷ xs) t us e = advance (from_item_item xs t us) (is_trivia x
 pub first_item : (t : Token) (us ts : List Token) → items ts ≡ t ∷ us → IsFirst t us ts
 first_item t us ts e =
     let w = head_here (from_item ts) t us (sym (items-view ts) ∙ e) in
-    record { here = w.0; item = from_item_item ts t (tail_of (from_item ts)) w.0; left = w.1 }
+    record { here = w.0; item = from_item_item ts t (tail_of (from_item ts)) w.0; remaining = w.1 }
 
 -- trivia go, items stay
 pub without_trivia-⊕ : (f g : AnnotatedForest) → without_trivia (f ⊕ g) ≡ without_trivia f ⊕ without_trivia g
@@ -112,32 +112,32 @@ items-rest_after false ts = refl
 -- without its trivia a forest with trivia is the forest
 pub record IsBared (f : AnnotatedForest) (ts us : List Token) : Type 0 where
   pub same : without_trivia (with_trivia f ts) ≡ f
-  pub left : items (left_after f ts) ≡ us
+  pub remaining : items (remaining_after f ts) ≡ us
 
 -- a forest of the first items, with trivia and then without, is the forest, and behind it the other items are left
 pub bared : (f : AnnotatedForest) (ts us : List Token) → items ts ≡ tokens_in f ++ us → IsBared f ts us
-bared blank ts us e = record { same = refl; left = e }
+bared blank ts us e = record { same = refl; remaining = e }
 bared (token k t f) ts us e =
     let w : IsFirst t (tokens_in f ++ us) ts = first_item t (tokens_in f ++ us) ts e in
-    let ih = bared f (tail_of (from_item ts)) us w.left in
+    let ih = bared f (tail_of (from_item ts)) us w.remaining in
     record {
       same = without_trivia-behind ts (token k t (with_trivia f (tail_of (from_item ts))))
           ∙ ap (λ x. token_if x k t (without_trivia (with_trivia f (tail_of (from_item ts))))) w.item ∙ ap (token k t) ih.same;
-      left = ih.left;
+      remaining = ih.remaining;
     }
 bared (branch k c f) ts us e =
     let inside = bared c (from_item ts) (tokens_in f ++ us) (items-from_item ts ∙ e ∙ append_assoc (tokens_in c) (tokens_in f) us) in
-    let behind = bared f (left_after c (from_item ts)) us inside.left in
+    let behind = bared f (remaining_after c (from_item ts)) us inside.remaining in
     record {
       same =
-          without_trivia-behind ts (branch k (with_trivia c (from_item ts)) (with_trivia f (left_after c (from_item ts))))
-          ∙ ap (λ x. branch k x (without_trivia (with_trivia f (left_after c (from_item ts))))) inside.same ∙ ap (branch k c) behind.same;
-      left = behind.left;
+          without_trivia-behind ts (branch k (with_trivia c (from_item ts)) (with_trivia f (remaining_after c (from_item ts))))
+          ∙ ap (λ x. branch k x (without_trivia (with_trivia f (remaining_after c (from_item ts))))) inside.same ∙ ap (branch k c) behind.same;
+      remaining = behind.remaining;
     }
 bared (fault n c f) ts us e =
     let inside = bared c (from_item ts) (tokens_in f ++ us) (items-from_item ts ∙ e ∙ append_assoc (tokens_in c) (tokens_in f) us) in
-    let rest = left_after c (from_item ts) in
-    let behind = bared f (rest_after (is_last n) rest) us (items-rest_after (is_last n) rest ∙ inside.left) in
+    let rest = remaining_after c (from_item ts) in
+    let behind = bared f (rest_after (is_last n) rest) us (items-rest_after (is_last n) rest ∙ inside.remaining) in
     let later = with_trivia f (rest_after (is_last n) rest) in
     record {
       same =
@@ -145,7 +145,7 @@ bared (fault n c f) ts us e =
           ∙ ap (λ x. fault n x (without_trivia (trivia_after (is_last n) rest ⊕ later))) inside.same
           ∙ ap (fault n c) (without_trivia-⊕ (trivia_after (is_last n) rest) later
           ∙ ap (λ x. x ⊕ without_trivia later) (without_trivia-trivia_after (is_last n) rest) ∙ behind.same);
-      left = behind.left;
+      remaining = behind.remaining;
     }
 
 -- the tokens before the first item, and those from it on
@@ -165,30 +165,30 @@ behind_trivia : (ts us : List Token) (f : AnnotatedForest) → tokens_in f ++ us
 behind_trivia ts us f e = tokens_two (trivia_before ts) f us ∙ ap (λ x. tokens_in (trivia_before ts) ++ x) e ∙ trivia_tokens ts
 
 -- the leaves of a forest with trivia are the tokens
-pub with_trivia_tokens : (f : AnnotatedForest) (ts us : List Token) → items ts ≡ tokens_in f ++ us → tokens_in (with_trivia f ts) ++ left_after f ts ≡ ts
+pub with_trivia_tokens : (f : AnnotatedForest) (ts us : List Token) → items ts ≡ tokens_in f ++ us → tokens_in (with_trivia f ts) ++ remaining_after f ts ≡ ts
 with_trivia_tokens blank ts us e = refl
 with_trivia_tokens (token k t f) ts us e =
     let w : IsFirst t (tokens_in f ++ us) ts = first_item t (tokens_in f ++ us) ts e in
     let rest = tail_of (from_item ts) in
-    behind_trivia ts (left_after f rest) (token k t (with_trivia f rest)) (ap (λ x. t ∷ x) (with_trivia_tokens f rest us w.left) ∙ sym w.here)
+    behind_trivia ts (remaining_after f rest) (token k t (with_trivia f rest)) (ap (λ x. t ∷ x) (with_trivia_tokens f rest us w.remaining) ∙ sym w.here)
 with_trivia_tokens (branch k c f) ts us e =
     let all : items (from_item ts) ≡ tokens_in c ++ (tokens_in f ++ us) = items-from_item ts ∙ e ∙ append_assoc (tokens_in c) (tokens_in f) us in
     let inside = bared c (from_item ts) (tokens_in f ++ us) all in
-    let rest = left_after c (from_item ts) in
-    behind_trivia ts (left_after f rest) (branch k (with_trivia c (from_item ts)) (with_trivia f rest))
-    (append_assoc (tokens_in (with_trivia c (from_item ts))) (tokens_in (with_trivia f rest)) (left_after f rest)
-    ∙ ap (λ x. tokens_in (with_trivia c (from_item ts)) ++ x) (with_trivia_tokens f rest us inside.left)
+    let rest = remaining_after c (from_item ts) in
+    behind_trivia ts (remaining_after f rest) (branch k (with_trivia c (from_item ts)) (with_trivia f rest))
+    (append_assoc (tokens_in (with_trivia c (from_item ts))) (tokens_in (with_trivia f rest)) (remaining_after f rest)
+    ∙ ap (λ x. tokens_in (with_trivia c (from_item ts)) ++ x) (with_trivia_tokens f rest us inside.remaining)
     ∙ with_trivia_tokens c (from_item ts) (tokens_in f ++ us) all)
 with_trivia_tokens (fault n c f) ts us e =
     let all : items (from_item ts) ≡ tokens_in c ++ (tokens_in f ++ us) = items-from_item ts ∙ e ∙ append_assoc (tokens_in c) (tokens_in f) us in
     let inside = bared c (from_item ts) (tokens_in f ++ us) all in
-    let rest = left_after c (from_item ts) in
+    let rest = remaining_after c (from_item ts) in
     let later = rest_after (is_last n) rest in
-    behind_trivia ts (left_after f later) (fault n (with_trivia c (from_item ts)) (trivia_after (is_last n) rest ⊕ with_trivia f later))
-    (append_assoc (tokens_in (with_trivia c (from_item ts))) (tokens_in (trivia_after (is_last n) rest ⊕ with_trivia f later)) (left_after f later)
+    behind_trivia ts (remaining_after f later) (fault n (with_trivia c (from_item ts)) (trivia_after (is_last n) rest ⊕ with_trivia f later))
+    (append_assoc (tokens_in (with_trivia c (from_item ts))) (tokens_in (trivia_after (is_last n) rest ⊕ with_trivia f later)) (remaining_after f later)
     ∙ ap (λ x. tokens_in (with_trivia c (from_item ts)) ++ x)
-    (tokens_two (trivia_after (is_last n) rest) (with_trivia f later) (left_after f later)
-    ∙ ap (λ x. tokens_in (trivia_after (is_last n) rest) ++ x) (with_trivia_tokens f later us (items-rest_after (is_last n) rest ∙ inside.left))
+    (tokens_two (trivia_after (is_last n) rest) (with_trivia f later) (remaining_after f later)
+    ∙ ap (λ x. tokens_in (trivia_after (is_last n) rest) ++ x) (with_trivia_tokens f later us (items-rest_after (is_last n) rest ∙ inside.remaining))
     ∙ rest_tokens (is_last n) rest)
     ∙ with_trivia_tokens c (from_item ts) (tokens_in f ++ us) all)
 
@@ -203,14 +203,14 @@ trivia_name TOKEN_OR h = absurd (true_is_not_false (sym h))
 trivia_name _ h = cc
 
 -- below the current position too
-trivia_place : (k : SyntaxKind) → is_trivia k ≡ true → k ≡ leaf_kind_as NODE_CUR_POS k
-trivia_place TOKEN_IDENT h = absurd (true_is_not_false (sym h))
-trivia_place _ h = refl
+trivia_leaf_kind : (k : SyntaxKind) → is_trivia k ≡ true → k ≡ leaf_kind_as NODE_CUR_POS k
+trivia_leaf_kind TOKEN_IDENT h = absurd (true_is_not_false (sym h))
+trivia_leaf_kind _ h = refl
 
 -- below any parent
 pub trivia_keeps_kind : (p k : SyntaxKind) → is_trivia k ≡ true → k ≡ leaf_kind_as p k
 trivia_keeps_kind NODE_IDENT k h = trivia_name k h
-trivia_keeps_kind NODE_CUR_POS k h = trivia_place k h
+trivia_keeps_kind NODE_CUR_POS k h = trivia_leaf_kind k h
 trivia_keeps_kind _ k h = refl
 
 -- two rows whose leaves have the kinds of their tokens below their parents
@@ -241,10 +241,10 @@ with_trivia_leaf_kinds p (token k t f) ts h =
     leaf_kind-⊕ p (trivia_before ts) (token k t (with_trivia f (tail_of (from_item ts)))) (trivia_leaf_kinds p ts)
     (h.0, with_trivia_leaf_kinds p f (tail_of (from_item ts)) h.1)
 with_trivia_leaf_kinds p (branch k c f) ts h =
-    leaf_kind-⊕ p (trivia_before ts) (branch k (with_trivia c (from_item ts)) (with_trivia f (left_after c (from_item ts)))) (trivia_leaf_kinds p ts)
-    (with_trivia_leaf_kinds k c (from_item ts) h.0, with_trivia_leaf_kinds p f (left_after c (from_item ts)) h.1)
+    leaf_kind-⊕ p (trivia_before ts) (branch k (with_trivia c (from_item ts)) (with_trivia f (remaining_after c (from_item ts)))) (trivia_leaf_kinds p ts)
+    (with_trivia_leaf_kinds k c (from_item ts) h.0, with_trivia_leaf_kinds p f (remaining_after c (from_item ts)) h.1)
 with_trivia_leaf_kinds p (fault n c f) ts h =
-    let rest = left_after c (from_item ts) in
+    let rest = remaining_after c (from_item ts) in
     let later = with_trivia f (rest_after (is_last n) rest) in
     leaf_kind-⊕ p (trivia_before ts) (fault n (with_trivia c (from_item ts)) (trivia_after (is_last n) rest ⊕ later)) (trivia_leaf_kinds p ts) (
       with_trivia_leaf_kinds NODE_ERROR c (from_item ts) h.0,

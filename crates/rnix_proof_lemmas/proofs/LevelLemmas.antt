@@ -2,8 +2,8 @@
 use Rattle.std.{specs.List.list_all, proofs.{lemmas.Bool.{and_parts, cases_lt, agree_below_at, Decides.nat_tests}, Common.{◌≡◌, ◌⊎◌, inl, inr, ℕ}}}
 use Rattle.std.proofs.Common.{zero, suc, ◌+◌, ◌≤◌, ◌<◌, Bool, true, false, refl, ap, sym, ◌∙◌, arith, ◌&&◌, if◌then◌else◌, nat_eq, nat_le}
 use Rattle.rnix_kinds.{specs.declared.kinds.SyntaxKind.{SyntaxKind}, proofs.AllKinds.{all_kinds, every, implied}}
-use Rattle.rnix_grammar.specs.{Levels.{binding_power, right_of, max_bp_of}, Rows.{is_atom, is_simple, is_negated, is_questioned, is_operand}}
-use Rattle.{rnix_grammar.specs.Rows.{is_expression, fits, is_infix}}
+use Rattle.rnix_grammar.specs.{Levels.{binding_power, right_of, max_bp_of}, NodeClasses.{is_atom, is_simple, is_negated, is_questioned, is_operand}}
+use Rattle.{rnix_grammar.specs.NodeClasses.{is_expression, fits, is_infix}}
 
 -- each class is in the next
 pub atom_simple : (k : SyntaxKind) → is_atom k ≡ true → is_simple k ≡ true

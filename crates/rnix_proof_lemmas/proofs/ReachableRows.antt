@@ -13,7 +13,7 @@ use Rattle.rnix_grammar.specs.declared.rules.Part.TheVariants.{Child, Atom, Firs
 use Rattle.rnix_grammar.specs.declared.rules.Part.TheVariants.{MoreAttrs, Names, Pieces, PathPieces, Formals, FormalsAfterComma, Comma, Optional, EndOr}
 use Rattle.rnix_grammar.specs.declared.rules.Part.TheVariants.{BoundAlready, TextEnd}
 use Rattle.rnix_grammar.specs.Rules.{Row, never, done, ◌·◌, ◌or◌, row, second_name, after, may_end, missing, run_at}
-use Rattle.rnix_proof_lemmas.specs.SlotRows.{left_in, kind_in}
+use Rattle.rnix_proof_lemmas.specs.SlotRows.{remaining_in, kind_in}
 use Rattle.rnix_grammar.specs.AnnotatedForest.{Token, Note, Stray, Unwanted, Extra, DoubleBind, TooDeep}
 use Rattle.{rnix_grammar.specs.Reads.IsWrong, rnix_proof_lemmas.proofs.Basics.true_is_not_false}
 
@@ -107,7 +107,7 @@ row_is _ _ h = absurd (true_is_not_false (sym h))
 -- what is left of rows: at each index of the table, where a kind has several rows, and after an operator
 abbrev lefts : List Slot → List (SyntaxKind × Row) → List (SyntaxKind × Row)
 lefts [] rest = rest
-lefts (s ∷ ss) rest = (kind_in (s ∷ ss), left_in (s ∷ ss)) ∷ lefts ss rest
+lefts (s ∷ ss) rest = (kind_in (s ∷ ss), remaining_in (s ∷ ss)) ∷ lefts ss rest
 
 abbrev begun : List SyntaxKind → List (SyntaxKind × Row) → List (SyntaxKind × Row)
 begun [] rest = rest

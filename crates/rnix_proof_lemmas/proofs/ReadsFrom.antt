@@ -3,7 +3,7 @@ use Rattle.{std.proofs.Common.{◌≡◌, ℕ, true, false, List, [], ◌∷◌,
 use Rattle.rnix_kinds.specs.{declared.kinds.SyntaxKind.{SyntaxKind}, declared.kinds.SyntaxKind.TheVariants.{NODE_ERROR, NODE_IDENT}}
 use Rattle.rnix_grammar.specs.{declared.rules.Part.TheVariants.{BoundAlready}, AnnotatedForest.{Token, Note, DoubleBind, AnnotatedForest, blank, token, branch}}
 use Rattle.rnix_grammar.specs.AnnotatedForest.{fault, ◌⊕◌, one_token, one_branch, one_fault, row_of, tokens_in, leaf_kind, head_kind, end_from}
-use Rattle.rnix_grammar.specs.{Fault.{Fault}, Reports.{report, repeats}, Beginnings.{IsOperandOf}, Rules.{Row, done, ◌·◌, row, second_name, after}}
+use Rattle.rnix_grammar.specs.{Fault.{Fault}, Reports.{report, repeats}, FirstKinds.{IsOperandOf}, Rules.{Row, done, ◌·◌, row, second_name, after}}
 use Rattle.rnix_grammar.specs.{Rules.{IsExpected, is_first_expected, level_at, IsFollowed}, Reads.{Reads, leaf, inner, wrong, second, IsRoom, deeper, IsOver}}
 use Rattle.rnix_proof_lemmas.proofs.RowParts.{HasNoOperand}
 

@@ -1,11 +1,11 @@
 -- What is left of a row at a position.
 use Rattle.std.proofs.Common.{false}
 use Rattle.rnix_grammar.specs.{declared.position.Position.{Position}, Rules.{Row, never, done, ◌·◌}, declared.rules.Part.TheVariants.{Operand}}
-use Rattle.rnix_proof_lemmas.specs.SlotRows.{left_at}
+use Rattle.rnix_proof_lemmas.specs.SlotRows.{remaining_at}
 use Rattle.rnix_grammar.specs.declared.position.Position.TheVariants as p
 
 -- what is left of a row at a position; none is left after an operand
 abbrev pub rest_at : Position → Row
-rest_at (p.Left i) = left_at i
+rest_at (p.InRow i) = remaining_at i
 rest_at (p.AfterOperand min_bp max_bp) = never
 rest_at (p.Right n) = Operand n false · done

@@ -3,9 +3,9 @@ use Rattle.std.proofs.Common.{◌≡◌, ℕ, Bool, true, false, List, [], ◌�
 use Rattle.rnix_kinds.specs.{declared.kinds.SyntaxKind.{SyntaxKind}, declared.kinds.SyntaxKind.TheVariants.{NODE_LITERAL}, SyntaxKind.{is_token}}
 use Rattle.{rnix_kinds.proofs.AllKinds.{implied}, rnix_green.specs.Equality.{same_kind}}
 use Rattle.rnix_grammar.specs.{declared.rules.Part.TheVariants.{Child, Atom, First, Suffix, Binary, Argument, Operand, Many}, AnnotatedForest.{Token}}
-use Rattle.rnix_grammar.specs.{AnnotatedForest.{AnnotatedForest, blank, head_kind, touches}, Rows.{fits, is_expression}, Rules.{Row, ◌·◌, ◌or◌, only, after}}
+use Rattle.rnix_grammar.specs.{AnnotatedForest.{AnnotatedForest, blank, head_kind, touches}, NodeClasses.{fits, is_expression}, Rules.{Row, ◌·◌, ◌or◌, only, after}}
 use Rattle.rnix_grammar.specs.Rules.{expects, expects_item, expects_end, IsExpected, IsFollowed, level_at, counts, is_first_expected}
-use Rattle.rnix_grammar.specs.{Beginnings.{IsOperandOf}, Reads.{IsRoom, deeper}}
+use Rattle.rnix_grammar.specs.{FirstKinds.{IsOperandOf}, Reads.{IsRoom, deeper}}
 use Rattle.rnix_proof_lemmas.proofs.{Basics.{true_is_not_false, not_if, some_same}, EveryKind.{same}, LevelLemmas.{atom_fits}, KindsOfNodes.{fits_expression}}
 
 -- a row begins with a child that is there whenever the node is
@@ -43,38 +43,39 @@ front (r or s) h = record { expected = λ n ts own. tt; followed = λ x next. tt
 front _ h = absurd (cc)
 
 -- what is left of a row at a position: a part that may be missing, or that the reader waits at
-abbrev pub is_left : Row → Bool
-is_left (Child kind · r) = false
-is_left (Atom · r) = false
-is_left (First m · r) = false
-is_left (Suffix token · r) = false
-is_left (Binary · r) = false
-is_left (Argument · r) = false
-is_left (r or s) = false
-is_left (Many n closer · r) = is_token closer
-is_left r = true
+abbrev pub is_remaining : Row → Bool
+is_remaining (Child kind · r) = false
+is_remaining (Atom · r) = false
+is_remaining (First m · r) = false
+is_remaining (Suffix token · r) = false
+is_remaining (Binary · r) = false
+is_remaining (Argument · r) = false
+is_remaining (r or s) = false
+is_remaining (Many n closer · r) = is_token closer
+is_remaining r = true
 
 -- no tree before it goes on there
-pub left_followed : (r : Row) → is_left r ≡ true → (x : AnnotatedForest) (next : Option SyntaxKind) → IsFollowed r x next
-left_followed (Suffix token · r) h x next = absurd (cc)
-left_followed (Binary · r) h x next = absurd (cc)
-left_followed (Argument · r) h x next = absurd (cc)
-left_followed (_ · r) h x next = tt
-left_followed _ h x next = tt
+pub remaining_followed : (r : Row) → is_remaining r ≡ true → (x : AnnotatedForest) (next : Option SyntaxKind) → IsFollowed r x next
+remaining_followed (Suffix token · r) h x next = absurd (cc)
+remaining_followed (Binary · r) h x next = absurd (cc)
+remaining_followed (Argument · r) h x next = absurd (cc)
+remaining_followed (_ · r) h x next = tt
+remaining_followed _ h x next = tt
 
 -- the level is the same for each tree
-pub left_level : (r : Row) → is_left r ≡ true → (x : AnnotatedForest) → level_at r x ≡ level_at r blank
+pub left_level : (r : Row) → is_remaining r ≡ true → (x : AnnotatedForest) → level_at r x ≡ level_at r blank
 left_level (Argument · r) h x = absurd (cc)
 left_level _ h x = refl
 
 -- so no operand stands where there is none
-pub left_no_operand : (r : Row) → is_left r ≡ true → counts r ≡ false → level_at r blank ≡ None → HasNoOperand r
-left_no_operand r i c l = no_operand r (λ x. left_level r i x ∙ l) c
+pub remaining_no_operand : (r : Row) → is_remaining r ≡ true → counts r ≡ false → level_at r blank ≡ None → HasNoOperand r
+remaining_no_operand r i c l = no_operand r (λ x. left_level r i x ∙ l) c
 
 -- and so is what is expected
-pub left_first_expected : (r : Row) → is_left r ≡ true → (k : SyntaxKind) (c : AnnotatedForest) → is_first_expected r k c ≡ is_first_expected r k blank
-left_first_expected (Argument · r) h k c = absurd (cc)
-left_first_expected _ h k c = refl
+pub remaining_first_expected : (r : Row) → is_remaining r ≡ true → (k : SyntaxKind) (c : AnnotatedForest)
+    → is_first_expected r k c ≡ is_first_expected r k blank
+remaining_first_expected (Argument · r) h k c = absurd (cc)
+remaining_first_expected _ h k c = refl
 
 -- the next item, or the end of the text, is expected
 abbrev pub expects_next : Row → Bool → Option SyntaxKind → Bool
@@ -106,7 +107,7 @@ no_token closer k h e = by (same_kind closer k) refl
     by false i = i
 
 -- where operands of a level stand, the row goes on after each that fits it as after an error node
-pub operand_goes : (r : Row) (n : ℕ) (k : SyntaxKind) → is_left r ≡ true → level_at r blank ≡ Some n → fits n k ≡ true → after r k ≡ after r NODE_LITERAL
+pub operand_goes : (r : Row) (n : ℕ) (k : SyntaxKind) → is_remaining r ≡ true → level_at r blank ≡ Some n → fits n k ≡ true → after r k ≡ after r NODE_LITERAL
 operand_goes (Operand m counted · r) n k i e h =
     let j : m ≡ n = some_same m n e in ap (λ w. only w r) (ap (λ m. fits m k) j ∙ h ∙ sym (atom_fits m NODE_LITERAL refl))
 operand_goes (Many m closer · r) n k i e h =
@@ -119,7 +120,7 @@ operand_goes (Argument · r) n k i e h = absurd (cc)
 operand_goes _ n k i e h = absurd (cc)
 
 -- and operands are not expected
-pub operand_not_expected : (r : Row) (n : ℕ) (k : SyntaxKind) → is_left r ≡ true → level_at r blank ≡ Some n → is_first_expected r k blank ≡ false
+pub operand_not_expected : (r : Row) (n : ℕ) (k : SyntaxKind) → is_remaining r ≡ true → level_at r blank ≡ Some n → is_first_expected r k blank ≡ false
 operand_not_expected (Operand m counted · r) n k i e = refl
 operand_not_expected (Many m closer · r) n k i e = refl
 operand_not_expected (Argument · r) n k i e = absurd (cc)

@@ -2,29 +2,29 @@
 use Rattle.std.proofs.Common.{◌≡◌, ℕ, suc, Bool, true, false, List, [], ◌∷◌, Option, Some, None, refl, sym, ap, ◌∙◌, if◌then◌else◌, nat_le}
 use Rattle.rnix_kinds.specs.declared.kinds.SyntaxKind.{SyntaxKind}
 use Rattle.{rnix_kinds.specs.declared.kinds.SyntaxKind.TheVariants.{NODE_APPLY, NODE_ROOT}, rnix_grammar.specs.declared.position.Position.Position}
-use Rattle.rnix_grammar.specs.{declared.{slot_table.TheConstants.APPLIED, action.Action.Action, begin.Begin.Begin}, Fault.Fault, Tables.depth_limit, Actions.action_at}
-use Rattle.rnix_grammar.specs.{Begins.{begin_for, begin_of, second_kind}, AnnotatedForest.{Token, blank, head_kind, touches}}
+use Rattle.rnix_grammar.specs.{declared.{slot_table.TheConstants.APPLIED, action.Action.Action, operand_start.OperandStart.OperandStart}, Fault.Fault, Tables.depth_limit, Actions.action_at}
+use Rattle.rnix_grammar.specs.{OperandStarts.{operand_start_for, operand_start_of, second_kind}, AnnotatedForest.{Token, blank, head_kind, touches}}
 use Rattle.rnix_proof_lemmas.specs.Machine.{Head, Node, SecondBind, Operand, Frame, Machine, put, opened, with_leading, next_items, min_bp_of, closed, entry_closed, limited, begun}
 use Rattle.rnix_proof_lemmas.specs.FrameKinds.{FrameKind, Root, Entry, SecondBindFrame, OperandFrame, NodeFrame, frame_kind}
-use Rattle.rnix_proof_lemmas.specs.Machine.{operand_on, reading, perform, step_on, step, begins}
+use Rattle.rnix_proof_lemmas.specs.Machine.{operand_on, reading, perform, step_on, step, initial_machine}
 use Rattle.rnix_proof_lemmas.specs.Allowed.{Allowed, IsNext, is_there}
 use Rattle.rnix_proof_lemmas.specs.FrameKinds.{frame_kind_of_head, frame_kind_of_node, may_hold, is_open, IsStackedOn, AreStacked}
 use Rattle.rnix_proof_lemmas.proofs.{AllowedLemmas.allowed, Basics.true_is_not_false, EachBeginning.each_first_tree}
 use Rattle.rnix_grammar.specs.declared.position.Position.TheVariants as p
 use Rattle.rnix_grammar.specs.declared.action.Action.TheVariants as a
-use Rattle.rnix_grammar.specs.declared.begin.Begin.TheVariants as b
+use Rattle.rnix_grammar.specs.declared.operand_start.OperandStart.TheVariants as b
 
 -- a node that begins an operand is plain, and two items begin one only where a second is left
-abbrev pub BeginsInner : Option SyntaxKind → Begin → Type 0
-BeginsInner second (b.Node k left max_bp) = (frame_kind_of_node k ≡ NodeFrame) × (frame_kind (p.Left left) ≡ NodeFrame)
+abbrev pub BeginsInner : Option SyntaxKind → OperandStart → Type 0
+BeginsInner second (b.Node k remaining max_bp) = (frame_kind_of_node k ≡ NodeFrame) × (frame_kind (p.InRow remaining) ≡ NodeFrame)
 BeginsInner second b.LegacyLet = is_there second ≡ true
 BeginsInner second b.BoundLambda = is_there second ≡ true
-BeginsInner second begin = Unit {0}
+BeginsInner second how = Unit {0}
 
 -- what any token begins
-pub begin_inner : (level : ℕ) (kind : SyntaxKind) (text : List ℕ) (second third : Option SyntaxKind)
-    → BeginsInner second (begin_of level kind text second third)
-begin_inner = each_first_tree (λ kind second k. BeginsInner second (begin_for k kind)) (λ second. assumption)
+pub operand_start_inner : (level : ℕ) (kind : SyntaxKind) (text : List ℕ) (second third : Option SyntaxKind)
+    → BeginsInner second (operand_start_of level kind text second third)
+operand_start_inner = each_first_tree (λ kind second k. BeginsInner second (operand_start_for k kind)) (λ second. assumption)
 
 -- what is open may hold a plain node
 pub open_holds : (sort : FrameKind) → is_open sort ≡ true → may_hold sort NodeFrame ≡ true
@@ -55,7 +55,7 @@ root_lowest head position [] w e = w
 root_lowest head position (g ∷ fs) w e = absurd (cc)
 
 -- the position that comes next is of the same frame kind
-pub next_sort : (position : Position) (after : ℕ) (next : Option SyntaxKind) → IsNext position next after → frame_kind (p.Left after) ≡ frame_kind position
+pub next_sort : (position : Position) (after : ℕ) (next : Option SyntaxKind) → IsNext position next after → frame_kind (p.InRow after) ≡ frame_kind position
 next_sort position after None h = h.0
 next_sort position after (Some kind) h = h
 
@@ -88,13 +88,14 @@ entry_stacked trivia f [] ts n es w = w
 entry_stacked trivia f (g ∷ fs) ts n es w = w.2
 
 -- an operand begins where one may stand
-begun_stacked : (trivia : Bool) (second : Option SyntaxKind) (begin : Begin) (level d : ℕ) (t : Token) (f : Frame) (fs : List Frame) (ts : List Token) (n : ℕ)
+begun_stacked : (trivia : Bool) (second : Option SyntaxKind) (how : OperandStart) (level d : ℕ) (t : Token) (f : Frame) (fs : List Frame) (ts : List Token)
+    (n : ℕ)
     (es : List Fault)
-    → BeginsInner second begin → may_hold (frame_kind f.position) OperandFrame ≡ true → IsStackedOn f.head f.position fs
-    → AreStacked (begun trivia begin level d t f fs ts n es).frames
+    → BeginsInner second how → may_hold (frame_kind f.position) OperandFrame ≡ true → IsStackedOn f.head f.position fs
+    → AreStacked (begun trivia how level d t f fs ts n es).frames
 begun_stacked trivia second (b.Leaf k) level d t f fs ts n es i m w = (refl, m, w)
 begun_stacked trivia second (b.Node k position max_bp) level d t f fs ts n es i m w =
-    inside k (p.Left position) (opened Operand (p.AfterOperand level max_bp) d blank) (put f.position (with_leading trivia f.row ts) f ∷ fs) i.0 i.1 refl
+    inside k (p.InRow position) (opened Operand (p.AfterOperand level max_bp) d blank) (put f.position (with_leading trivia f.children ts) f ∷ fs) i.0 i.1 refl
     (refl, m, w)
 begun_stacked trivia second b.LegacyLet level d t f fs ts n es i m w = (refl, refl, (refl, m, w))
 begun_stacked trivia second b.NameLambda level d t f fs ts n es i m w = (refl, refl, (refl, m, w))
@@ -107,8 +108,8 @@ operand_stacked : (trivia : Bool) (level d : ℕ) (f : Frame) (fs : List Frame) 
     → may_hold (frame_kind f.position) OperandFrame ≡ true → IsStackedOn f.head f.position fs → AreStacked (operand_on trivia level d f fs ts xs n es).frames
 operand_stacked trivia level d f fs ts [] n es m w = w
 operand_stacked trivia level d f fs ts (t ∷ us) n es m w =
-    begun_stacked trivia (head_kind us) (begin_of level t.kind t.text (head_kind us) (second_kind us)) level d t f fs ts n es
-    (begin_inner level t.kind t.text (head_kind us) (second_kind us)) m w
+    begun_stacked trivia (head_kind us) (operand_start_of level t.kind t.text (head_kind us) (second_kind us)) level d t f fs ts n es
+    (operand_start_inner level t.kind t.text (head_kind us) (second_kind us)) m w
 
 -- counted or not
 reading_stacked : (trivia : Bool) (level : ℕ) (counted : Bool) (f : Frame) (fs : List Frame) (ts : List Token) (n : ℕ) (es : List Fault)
@@ -124,11 +125,11 @@ perform_stacked : (trivia : Bool) (action : Action) (f : Frame) (fs : List Frame
     → Allowed f.position (head_kind (next_items trivia ts)) action → IsStackedOn f.head f.position fs → AreStacked (perform trivia action f fs ts n es).frames
 perform_stacked trivia action f fs ts n es al w = by action al
   where
-    same : (after : ℕ) → IsNext f.position (head_kind (next_items trivia ts)) after → frame_kind (p.Left after) ≡ frame_kind f.position
+    same : (after : ℕ) → IsNext f.position (head_kind (next_items trivia ts)) after → frame_kind (p.InRow after) ≡ frame_kind f.position
     same after h = next_sort f.position after (head_kind (next_items trivia ts)) h
 
-    next : (after : ℕ) → IsNext f.position (head_kind (next_items trivia ts)) after → IsStackedOn f.head (p.Left after) fs
-    next after h = onward f.head f.position (p.Left after) fs (same after h) w
+    next : (after : ℕ) → IsNext f.position (head_kind (next_items trivia ts)) after → IsStackedOn f.head (p.InRow after) fs
+    next after h = onward f.head f.position (p.InRow after) fs (same after h) w
 
     by : (action : Action) → Allowed f.position (head_kind (next_items trivia ts)) action → AreStacked (perform trivia action f fs ts n es).frames
     by a.Close al = closed_stacked f fs ts n es w
@@ -143,20 +144,21 @@ perform_stacked trivia action f fs ts n es al w = by action al
     by (a.MissWanted until after) al = next after al.1
     by (a.Run until after) al = next after al.1
     by (a.Leaf k after) al = next after al.1
-    by (a.Open k left after) al =
-        inside k (p.Left left) (put (p.Left after) (with_leading trivia f.row ts) f) fs al.2 al.3 (ap is_open (same after al.1) ∙ al.4)
+    by (a.Open k remaining after) al =
+        inside k (p.InRow remaining) (put (p.InRow after) (with_leading trivia f.children ts) f) fs al.2 al.3 (ap is_open (same after al.1) ∙ al.4)
         (next after al.1)
-    by (a.Begin k left after) al = inside k (p.Left left) (put (p.Left after) (with_leading trivia f.row ts) f) fs al.1 al.2 (ap is_open al.0 ∙ al.3)
-        (onward f.head f.position (p.Left after) fs al.0 w)
+    by (a.OpenEmpty k remaining after) al = inside k (p.InRow remaining) (put (p.InRow after) (with_leading trivia f.children ts) f) fs al.1 al.2
+        (ap is_open al.0 ∙ al.3)
+        (onward f.head f.position (p.InRow after) fs al.0 w)
     by (a.Entry after) al = (refl, ap (λ x. may_hold x Entry) (same after al.1 ∙ al.2), next after al.1)
     by (a.DoubleBind after) al = (refl, ap (λ x. may_hold x SecondBindFrame) (same after al.1 ∙ al.2), next after al.1)
-    by (a.Read level counted after) al = reading_stacked trivia level counted (put (p.Left after) f.row f) fs ts n es
+    by (a.Read level counted after) al = reading_stacked trivia level counted (put (p.InRow after) f.children f) fs ts n es
         (ap (λ x. may_hold x OperandFrame) (same after al.0) ∙ al.1) (next after al.0)
     by (a.Wrap k position max_bp) al =
         inside k position (opened Operand (p.AfterOperand (min_bp_of f.position) max_bp) f.depth blank) fs al.2 al.3 refl
         (instead f.head f.position (min_bp_of f.position) max_bp fs al.1 w)
     by a.Apply al =
-        reading_stacked trivia 16 false (opened (Node NODE_APPLY) (p.Left APPLIED) f.depth f.row)
+        reading_stacked trivia 16 false (opened (Node NODE_APPLY) (p.InRow APPLIED) f.depth f.children)
         (opened Operand (p.AfterOperand (min_bp_of f.position) 15) f.depth blank ∷ fs) ts n es refl
         (refl, refl, instead f.head f.position (min_bp_of f.position) 15 fs al.1 w)
     by a.ApplyOr al = instead f.head f.position (min_bp_of f.position) 15 fs al.1 w
@@ -165,13 +167,13 @@ perform_stacked trivia action f fs ts n es al w = by action al
 pub step_stacked : (trivia : Bool) (m : Machine) → AreStacked m.frames → AreStacked (step trivia m).frames
 step_stacked trivia m w = by m.frames w
   where
-    by : (fs : List Frame) → AreStacked fs → AreStacked (step_on trivia fs m.left m.prev_end m.faults).frames
+    by : (fs : List Frame) → AreStacked fs → AreStacked (step_on trivia fs m.remaining m.prev_end m.faults).frames
     by [] w = absurd w
     by (f ∷ fs) w =
-        let next : Option SyntaxKind = head_kind (next_items trivia m.left) in
-        let near : Bool = touches m.prev_end (next_items trivia m.left) in
-        perform_stacked trivia (action_at f.position next near) f fs m.left m.prev_end m.faults (allowed f.position next near) w
+        let next : Option SyntaxKind = head_kind (next_items trivia m.remaining) in
+        let near : Bool = touches m.prev_end (next_items trivia m.remaining) in
+        perform_stacked trivia (action_at f.position next near) f fs m.remaining m.prev_end m.faults (allowed f.position next near) w
 
 -- and where the text is about to be read
-pub begins_stacked : (ts : List Token) → AreStacked (begins ts).frames
-begins_stacked ts = (refl, refl)
+pub initial_stacked : (ts : List Token) → AreStacked (initial_machine ts).frames
+initial_stacked ts = (refl, refl)

@@ -1,7 +1,7 @@
 -- Where two lists of tokens end, and how loose the left operand of an operator is.
 use Rattle.std.proofs.Common.{◌≡◌, ℕ, ◌≤◌, true, List, [], ◌∷◌, ◌++◌, refl}
 use Rattle.rnix_kinds.specs.declared.kinds.SyntaxKind.{SyntaxKind}
-use Rattle.rnix_grammar.specs.{AnnotatedForest.{Token, end_from}, Rows.is_infix, Levels.{binding_power, left_of}}
+use Rattle.rnix_grammar.specs.{AnnotatedForest.{Token, end_from}, NodeClasses.is_infix, Levels.{binding_power, left_of}}
 use Rattle.rnix_proof_lemmas.proofs.EveryKind.{at_most}
 
 -- where two lists of tokens end

@@ -30,6 +30,6 @@ dropped_all [] = refl
 dropped_all (t ∷ ts) = dropped_all ts
 
 -- some tokens with more behind them are some
-pub some_left : (ts us : List Token) → is_some ts ≡ true → is_some (ts ++ us) ≡ true
-some_left [] us h = absurd (true_is_not_false (sym h))
-some_left (t ∷ ts) us h = refl
+pub some_remaining : (ts us : List Token) → is_some ts ≡ true → is_some (ts ++ us) ≡ true
+some_remaining [] us h = absurd (true_is_not_false (sym h))
+some_remaining (t ∷ ts) us h = refl

@@ -3,11 +3,11 @@ use Rattle.std.proofs.Common.{◌≡◌, ℕ, suc, Bool, true, false, List, [], 
 use Rattle.rnix_kinds.specs.declared.kinds.SyntaxKind.{SyntaxKind, TheVariants.{NODE_IDENT, NODE_PAT_ENTRY, NODE_LAMBDA, NODE_IDENT_PARAM, NODE_PATTERN}}
 use Rattle.rnix_kinds.specs.declared.kinds.SyntaxKind.TheVariants.{NODE_PAT_BIND, NODE_LEGACY_LET, NODE_APPLY, NODE_ERROR}
 use Rattle.rnix_grammar.specs.declared.slot_table.TheConstants.{LEGACY_LET, LAMBDA, PATTERN, BOUND_PATTERN, PAT_ENTRY, SECOND_BIND, APPLIED}
-use Rattle.rnix_grammar.specs.{declared.{position.Position.Position, expected_set.ExpectedSet.ExpectedSet, action.Action.Action, begin.Begin.Begin}, Fault.Fault, Tables.is_wanted}
-use Rattle.rnix_grammar.specs.{Tables.depth_limit, Actions.action_at, Begins.{begin_of, second_kind}, AnnotatedForest.{Token, Stray, Unwanted, Extra, DoubleBind}}
+use Rattle.rnix_grammar.specs.{declared.{position.Position.Position, expected_set.ExpectedSet.ExpectedSet, action.Action.Action, operand_start.OperandStart.OperandStart}, Fault.Fault, Tables.is_wanted}
+use Rattle.rnix_grammar.specs.{Tables.depth_limit, Actions.action_at, OperandStarts.{operand_start_of, second_kind}, AnnotatedForest.{Token, Stray, Unwanted, Extra, DoubleBind}}
 use Rattle.rnix_grammar.specs.AnnotatedForest.{TooDeep, AnnotatedForest, blank, ◌⊕◌, one_branch, one_fault, row_of, tokens_in, without_trivia, token_if}
 use Rattle.rnix_grammar.specs.{AnnotatedForest.{leaf_kind, head_kind, touches}, Layout.{items, from_item, tail_of, trivia_before}, Reports.{report, repeated}}
-use Rattle.rnix_proof_lemmas.specs.Machine.{Head, Node, SecondBind, Operand, Frame, Machine, put, opened, with_leading, after_item, end_of, item_end, leaf_in, leaf, run_row, dropped}
+use Rattle.rnix_proof_lemmas.specs.Machine.{Head, Node, SecondBind, Operand, Frame, Machine, put, opened, with_leading, after_item, end_of, item_end, leaf_in, leaf, run_leaves, dropped}
 use Rattle.rnix_proof_lemmas.specs.Machine.{run_rest, kind_of, made, min_bp_of, machine, closed, entry_closed, limited, begun, operand_on, reading, perform, step_on}
 use Rattle.rnix_grammar.specs.UnwantedRun.{run_of}
 use Rattle.rnix_proof_lemmas.specs.Machine.{step, Runs, rest}
@@ -18,7 +18,7 @@ use Rattle.rnix_proof_lemmas.specs.WithoutTrivia.{without_trivia_machine}
 use Rattle.rnix_proof_lemmas.proofs.LayoutLemmas.{items_head, items-view, items-from_item, from_item_item, without_trivia-⊕, without_trivia-trivia, IsBared, bared}
 use Rattle.rnix_grammar.specs.declared.position.Position.TheVariants as p
 use Rattle.rnix_grammar.specs.declared.action.Action.TheVariants as a
-use Rattle.rnix_grammar.specs.declared.begin.Begin.TheVariants as b
+use Rattle.rnix_grammar.specs.declared.operand_start.OperandStart.TheVariants as b
 
 -- the items behind the first
 pub items_behind : (ts : List Token) → items (after_item true ts) ≡ tail_of (items ts)
@@ -101,14 +101,14 @@ closed_without_trivia : (f : Frame) (fs : List Frame) (ts : List Token) (n : ℕ
 closed_without_trivia f [] ts n es = refl
 closed_without_trivia f (g ∷ fs) ts n es =
     machine_same
-    (cons_same (row_same g.head g.position g.depth (without_trivia-⊕ g.row (made f.head f.row)
-    ∙ ap (λ x. without_trivia g.row ⊕ x) (made_without_trivia f.head f.row))) refl) refl refl
+    (cons_same (row_same g.head g.position g.depth (without_trivia-⊕ g.children (made f.head f.children)
+    ∙ ap (λ x. without_trivia g.children ⊕ x) (made_without_trivia f.head f.children))) refl) refl refl
 
 -- an entry of a pattern is complete
 entry_without_trivia : (f : Frame) (fs : List Frame) (ts : List Token) (n : ℕ) (es : List Fault)
     → without_trivia_machine (entry_closed true f fs ts n es) ≡ entry_closed false (without_trivia_frame f) (without_trivia_frames fs) (items ts) n es
 entry_without_trivia f [] ts n es = refl
-entry_without_trivia f (g ∷ fs) ts n es = closed_without_trivia f (g ∷ fs) ts n (es ++ repeated (without_trivia g.row) (without_trivia f.row))
+entry_without_trivia f (g ∷ fs) ts n es = closed_without_trivia f (g ∷ fs) ts n (es ++ repeated (without_trivia g.children) (without_trivia f.children))
 
 -- all that is left is too deep
 limited_without_trivia : (f : Frame) (fs : List Frame) (ts : List Token) (n : ℕ) (es : List Fault)
@@ -116,18 +116,18 @@ limited_without_trivia : (f : Frame) (fs : List Frame) (ts : List Token) (n : �
 limited_without_trivia f fs ts n es =
     let run : List Token = items ts in
     let w : IsBared (row_of run) (from_item ts) (dropped run run) = run_bared run ts (dropped run run) (all_prefix run) in
-    let left : List Token = run_rest true run ts in
+    let remaining : List Token = run_rest true run ts in
     machine_same
     (cons_same
     (row_same f.head f.position f.depth
-    (with_leading_without_trivia (with_leading true f.row ts ⊕ one_fault TooDeep (run_row true run ts)) left
-    ∙ added_without_trivia f.row ts (one_fault TooDeep (run_row true run ts)) (ap (one_fault TooDeep) w.same))) refl)
-    (items-from_item left ∙ w.left) refl
+    (with_leading_without_trivia (with_leading true f.children ts ⊕ one_fault TooDeep (run_leaves true run ts)) remaining
+    ∙ added_without_trivia f.children ts (one_fault TooDeep (run_leaves true run ts)) (ap (one_fault TooDeep) w.same))) refl)
+    (items-from_item remaining ∙ w.remaining) refl
 
 -- the frame that waits for an operand
 waiting_without_trivia : (f : Frame) (fs : List Frame) (ts : List Token)
-    → without_trivia_frames (put f.position (with_leading true f.row ts) f ∷ fs) ≡ put f.position (without_trivia f.row) f ∷ without_trivia_frames fs
-waiting_without_trivia f fs ts = cons_same (row_same f.head f.position f.depth (with_leading_without_trivia f.row ts)) refl
+    → without_trivia_frames (put f.position (with_leading true f.children ts) f ∷ fs) ≡ put f.position (without_trivia f.children) f ∷ without_trivia_frames fs
+waiting_without_trivia f fs ts = cons_same (row_same f.head f.position f.depth (with_leading_without_trivia f.children ts)) refl
 
 -- two items that touch nothing between them
 reach_two : (n : ℕ) (ts : List Token) → item_end true (item_end true n ts) (after_item true ts) ≡ item_end false (item_end false n (items ts))
@@ -144,38 +144,39 @@ leaf_behind : (k : SyntaxKind) (ts : List Token) → without_trivia (leaf true k
 leaf_behind k ts = leaf_without_trivia k (after_item true ts) ∙ ap (leaf_in k) (items_behind ts)
 
 -- an operand begins
-begun_without_trivia : (begin : Begin) (level d : ℕ) (t : Token) (f : Frame) (fs : List Frame) (ts : List Token) (n : ℕ) (es : List Fault)
-    → without_trivia_machine (begun true begin level d t f fs ts n es) ≡ begun false begin level d t (without_trivia_frame f) (without_trivia_frames fs)
+begun_without_trivia : (how : OperandStart) (level d : ℕ) (t : Token) (f : Frame) (fs : List Frame) (ts : List Token) (n : ℕ) (es : List Fault)
+    → without_trivia_machine (begun true how level d t f fs ts n es) ≡ begun false how level d t (without_trivia_frame f) (without_trivia_frames fs)
     (items ts) n es
 begun_without_trivia (b.Leaf k) level d t f fs ts n es =
     machine_same (cons_same (row_same Operand (p.AfterOperand level 16) d (ap (one_branch k) (leaf_without_trivia k ts))) (waiting_without_trivia f fs ts))
     (items_behind ts) (item_end_items n ts)
-begun_without_trivia (b.Node k left max_bp) level d t f fs ts n es =
-    machine_same (cons_same (row_same (Node k) (p.Left left) d (leaf_without_trivia k ts)) (cons_same refl (waiting_without_trivia f fs ts))) (items_behind ts)
+begun_without_trivia (b.Node k remaining max_bp) level d t f fs ts n es =
+    machine_same (cons_same (row_same (Node k) (p.InRow remaining) d (leaf_without_trivia k ts)) (cons_same refl (waiting_without_trivia f fs ts)))
+    (items_behind ts)
     (item_end_items n ts)
 begun_without_trivia b.LegacyLet level d t f fs ts n es =
     machine_same
     (cons_same
-    (row_same (Node NODE_LEGACY_LET) (p.Left LEGACY_LET) d
+    (row_same (Node NODE_LEGACY_LET) (p.InRow LEGACY_LET) d
     (added_without_trivia (leaf true NODE_LEGACY_LET ts) (after_item true ts) (leaf true NODE_LEGACY_LET (after_item true ts)) (leaf_behind NODE_LEGACY_LET ts)
     ∙ ap (λ x. x ⊕ leaf_in NODE_LEGACY_LET (tail_of (items ts))) (leaf_without_trivia NODE_LEGACY_LET ts))) (cons_same refl (waiting_without_trivia f fs ts)))
     (behind_two ts) (reach_two n ts)
 begun_without_trivia b.NameLambda level d t f fs ts n es =
     machine_same
-    (cons_same (row_same (Node NODE_LAMBDA) (p.Left LAMBDA) d (ap (λ x. one_branch NODE_IDENT_PARAM (one_branch NODE_IDENT x))
+    (cons_same (row_same (Node NODE_LAMBDA) (p.InRow LAMBDA) d (ap (λ x. one_branch NODE_IDENT_PARAM (one_branch NODE_IDENT x))
     (leaf_without_trivia NODE_IDENT ts)))
     (cons_same refl (waiting_without_trivia f fs ts))) (items_behind ts) (item_end_items n ts)
 begun_without_trivia b.BoundLambda level d t f fs ts n es =
     machine_same
     (cons_same
-    (row_same (Node NODE_PATTERN) (p.Left BOUND_PATTERN) d
+    (row_same (Node NODE_PATTERN) (p.InRow BOUND_PATTERN) d
     (ap (one_branch NODE_PAT_BIND)
     (added_without_trivia (one_branch NODE_IDENT (leaf true NODE_IDENT ts)) (after_item true ts) (leaf true NODE_PAT_BIND (after_item true ts))
     (leaf_behind NODE_PAT_BIND ts)
     ∙ ap (λ x. one_branch NODE_IDENT x ⊕ leaf_in NODE_PAT_BIND (tail_of (items ts))) (leaf_without_trivia NODE_IDENT ts))))
     (cons_same refl (cons_same refl (waiting_without_trivia f fs ts)))) (behind_two ts) (reach_two n ts)
 begun_without_trivia b.PatternLambda level d t f fs ts n es =
-    machine_same (cons_same (row_same (Node NODE_PATTERN) (p.Left PATTERN) d (leaf_without_trivia NODE_PATTERN ts))
+    machine_same (cons_same (row_same (Node NODE_PATTERN) (p.InRow PATTERN) d (leaf_without_trivia NODE_PATTERN ts))
     (cons_same refl (cons_same refl (waiting_without_trivia f fs ts))))
     (items_behind ts) (item_end_items n ts)
 begun_without_trivia b.Stray level d t f fs ts n es =
@@ -188,7 +189,7 @@ operand_without_trivia : (level d : ℕ) (f : Frame) (fs : List Frame) (ts xs : 
     (items ts) xs n es
 operand_without_trivia level d f fs ts [] n es = refl
 operand_without_trivia level d f fs ts (t ∷ us) n es =
-    begun_without_trivia (begin_of level t.kind t.text (head_kind us) (second_kind us)) level d t f fs ts n es
+    begun_without_trivia (operand_start_of level t.kind t.text (head_kind us) (second_kind us)) level d t f fs ts n es
 
 -- an operand of a level, counted or not
 reading_without_trivia : (level : ℕ) (counted : Bool) (f : Frame) (fs : List Frame) (ts : List Token) (n : ℕ) (es : List Fault)
@@ -206,49 +207,51 @@ perform_without_trivia : (action : Action) (f : Frame) (fs : List Frame) (ts : L
 perform_without_trivia a.Close f fs ts n es = closed_without_trivia f fs ts n es
 perform_without_trivia a.ClosePattern f fs ts n es = closed_without_trivia f fs ts n es
 perform_without_trivia a.CloseEntry f fs ts n es = entry_without_trivia f fs ts n es
-perform_without_trivia a.CloseDoubleBind f fs ts n es = closed_without_trivia f fs ts n (es ++ report DoubleBind (tokens_in (without_trivia f.row)) ∷ [])
+perform_without_trivia a.CloseDoubleBind f fs ts n es = closed_without_trivia f fs ts n (es ++ report DoubleBind (tokens_in (without_trivia f.children)) ∷ [])
 perform_without_trivia a.EndOperand f fs ts n es = closed_without_trivia f fs ts n es
 perform_without_trivia a.Extra f fs ts n es =
     let run : List Token = items ts in
     let w : IsBared (row_of run) (from_item ts) (dropped run run) = run_bared run ts (dropped run run) (all_prefix run) in
-    machine_same (cons_same (row_same f.head f.position f.depth (added_without_trivia f.row ts (one_fault Extra (run_row true run ts))
-    (ap (one_fault Extra) w.same))) refl) w.left refl
+    machine_same (cons_same (row_same f.head f.position f.depth (added_without_trivia f.children ts (one_fault Extra (run_leaves true run ts))
+    (ap (one_fault Extra) w.same))) refl) w.remaining refl
 perform_without_trivia (a.Take after) f fs ts n es =
-    machine_same (cons_same (row_same f.head (p.Left after) f.depth
-    (added_without_trivia f.row ts (leaf true (kind_of f.head) ts) (leaf_without_trivia (kind_of f.head) ts))) refl) (items_behind ts) (item_end_items n ts)
+    machine_same (cons_same (row_same f.head (p.InRow after) f.depth
+    (added_without_trivia f.children ts (leaf true (kind_of f.head) ts) (leaf_without_trivia (kind_of f.head) ts))) refl) (items_behind ts)
+    (item_end_items n ts)
 perform_without_trivia (a.Run until after) f fs ts n es =
     let run : List Token = run_of until (items ts) in
     let w : IsBared (row_of run) (from_item ts) (dropped run (items ts)) = run_bared run ts (dropped run (items ts)) (run_prefix until (items ts)) in
-    machine_same (cons_same (row_same f.head (p.Left after) f.depth
-    (added_without_trivia f.row ts (one_fault (Unwanted until) (run_row true run ts)) (ap (one_fault (Unwanted until)) w.same))) refl) w.left refl
+    machine_same (cons_same (row_same f.head (p.InRow after) f.depth
+    (added_without_trivia f.children ts (one_fault (Unwanted until) (run_leaves true run ts)) (ap (one_fault (Unwanted until)) w.same))) refl) w.remaining refl
 perform_without_trivia (a.Leaf k after) f fs ts n es =
-    machine_same (cons_same (row_same f.head (p.Left after) f.depth
-    (added_without_trivia f.row ts (one_branch k (leaf true k ts)) (ap (one_branch k) (leaf_without_trivia k ts)))) refl) (items_behind ts)
+    machine_same (cons_same (row_same f.head (p.InRow after) f.depth
+    (added_without_trivia f.children ts (one_branch k (leaf true k ts)) (ap (one_branch k) (leaf_without_trivia k ts)))) refl) (items_behind ts)
     (item_end_items n ts)
 perform_without_trivia (a.Open k inside after) f fs ts n es =
-    machine_same (cons_same (row_same (Node k) (p.Left inside) f.depth (leaf_without_trivia k ts)) (waiting_without_trivia (put (p.Left after) f.row f) fs ts))
+    machine_same
+    (cons_same (row_same (Node k) (p.InRow inside) f.depth (leaf_without_trivia k ts)) (waiting_without_trivia (put (p.InRow after) f.children f) fs ts))
     (items_behind ts) (item_end_items n ts)
-perform_without_trivia (a.Begin k inside after) f fs ts n es =
-    machine_same (cons_same refl (waiting_without_trivia (put (p.Left after) f.row f) fs ts)) (items-from_item ts) refl
+perform_without_trivia (a.OpenEmpty k inside after) f fs ts n es =
+    machine_same (cons_same refl (waiting_without_trivia (put (p.InRow after) f.children f) fs ts)) (items-from_item ts) refl
 perform_without_trivia (a.Entry after) f fs ts n es =
-    machine_same (cons_same (row_same (Node NODE_PAT_ENTRY) (p.Left PAT_ENTRY) f.depth (ap (one_branch NODE_IDENT) (leaf_without_trivia NODE_IDENT ts)))
-    (waiting_without_trivia (put (p.Left after) f.row f) fs ts))
+    machine_same (cons_same (row_same (Node NODE_PAT_ENTRY) (p.InRow PAT_ENTRY) f.depth (ap (one_branch NODE_IDENT) (leaf_without_trivia NODE_IDENT ts)))
+    (waiting_without_trivia (put (p.InRow after) f.children f) fs ts))
     (items_behind ts) (item_end_items n ts)
 perform_without_trivia (a.DoubleBind after) f fs ts n es =
-    machine_same (cons_same (row_same SecondBind (p.Left SECOND_BIND) f.depth (leaf_without_trivia NODE_ERROR ts))
-    (waiting_without_trivia (put (p.Left after) f.row f) fs ts)) (items_behind ts) (item_end_items n ts)
-perform_without_trivia (a.Read level counted after) f fs ts n es = reading_without_trivia level counted (put (p.Left after) f.row f) fs ts n es
+    machine_same (cons_same (row_same SecondBind (p.InRow SECOND_BIND) f.depth (leaf_without_trivia NODE_ERROR ts))
+    (waiting_without_trivia (put (p.InRow after) f.children f) fs ts)) (items_behind ts) (item_end_items n ts)
+perform_without_trivia (a.Read level counted after) f fs ts n es = reading_without_trivia level counted (put (p.InRow after) f.children f) fs ts n es
 perform_without_trivia (a.Wrap k inside max_bp) f fs ts n es =
-    machine_same (cons_same (row_same (Node k) inside f.depth (added_without_trivia f.row ts (leaf true k ts) (leaf_without_trivia k ts))) refl)
+    machine_same (cons_same (row_same (Node k) inside f.depth (added_without_trivia f.children ts (leaf true k ts) (leaf_without_trivia k ts))) refl)
     (items_behind ts) (item_end_items n ts)
 perform_without_trivia a.Apply f fs ts n es =
-    reading_without_trivia 16 false (opened (Node NODE_APPLY) (p.Left APPLIED) f.depth f.row)
+    reading_without_trivia 16 false (opened (Node NODE_APPLY) (p.InRow APPLIED) f.depth f.children)
     (opened Operand (p.AfterOperand (min_bp_of f.position) 15) f.depth blank ∷ fs) ts n es
 perform_without_trivia a.ApplyOr f fs ts n es =
     machine_same
     (cons_same
     (row_same Operand (p.AfterOperand (min_bp_of f.position) 15) f.depth
-    (ap (one_branch NODE_APPLY) (added_without_trivia f.row ts (one_branch NODE_IDENT (leaf true NODE_IDENT ts))
+    (ap (one_branch NODE_APPLY) (added_without_trivia f.children ts (one_branch NODE_IDENT (leaf true NODE_IDENT ts))
     (ap (one_branch NODE_IDENT) (leaf_without_trivia NODE_IDENT ts))))) refl)
     (items_behind ts) (item_end_items n ts)
 perform_without_trivia _ f fs ts n es = cc
@@ -257,11 +260,11 @@ perform_without_trivia _ f fs ts n es = cc
 pub step_without_trivia : (m : Machine) → without_trivia_machine (step true m) ≡ step false (without_trivia_machine m)
 step_without_trivia m = by_frames m.frames
   where
-    by_frames : (fs : List Frame) → without_trivia_machine (step_on true fs m.left m.prev_end m.faults) ≡ step_on false (without_trivia_frames fs)
-        (items m.left) m.prev_end m.faults
+    by_frames : (fs : List Frame) → without_trivia_machine (step_on true fs m.remaining m.prev_end m.faults) ≡ step_on false (without_trivia_frames fs)
+        (items m.remaining) m.prev_end m.faults
     by_frames [] = refl
-    by_frames (f ∷ fs) = perform_without_trivia (action_at f.position (head_kind (items m.left))
-        (touches m.prev_end (items m.left))) f fs m.left m.prev_end m.faults
+    by_frames (f ∷ fs) = perform_without_trivia (action_at f.position (head_kind (items m.remaining))
+        (touches m.prev_end (items m.remaining))) f fs m.remaining m.prev_end m.faults
 
 -- steps with trivia are steps without
 pub runs_without_trivia : {m n : Machine} → Runs true m n → Runs false (without_trivia_machine m) (without_trivia_machine n)

@@ -8,16 +8,16 @@ use Rattle.rnix_grammar.specs.declared.slot_table.TheConstants.{ROOT}
 use Rattle.rnix_grammar.specs.Fault.{Fault}
 use Rattle.rnix_grammar.specs.AnnotatedForest.{placed_from, forget}
 use Rattle.rnix_grammar.specs.Layout.{items}
-use Rattle.rnix_proof_lemmas.specs.Machine.{Node, Frame, Machine, begins, with_leading, Runs}
+use Rattle.rnix_proof_lemmas.specs.Machine.{Node, Frame, Machine, initial_machine, with_leading, Runs}
 
 -- the machine of steps reads these tokens to the end: its last frame is the root, and its row is the tree's
 pub record IsRead (lexemes : List Lexeme) (tree : Tree) (faults : List Fault) : Type 0 where
   pub root : Frame
   pub last : Machine
-  pub runs : Runs true (begins (placed_from 0 lexemes)) last
+  pub runs : Runs true (initial_machine (placed_from 0 lexemes)) last
   pub alone : last.frames ≡ root ∷ []
   pub head : root.head ≡ Node NODE_ROOT
-  pub position : root.position ≡ p.Left (ROOT + 1)
-  pub nothing : items last.left ≡ []
-  pub tree_is : tree ≡ record { kind = NODE_ROOT; children = forget (with_leading true root.row last.left) }
+  pub position : root.position ≡ p.InRow (ROOT + 1)
+  pub nothing : items last.remaining ≡ []
+  pub tree_is : tree ≡ record { kind = NODE_ROOT; children = forget (with_leading true root.children last.remaining) }
   pub faults_are : faults ≡ last.faults

@@ -60,7 +60,7 @@ frame_kind_in (s ∷ ss) = frame_kind_of_row (kind_in (s ∷ ss))
 
 -- the frame kind of a position
 abbrev pub frame_kind : Position → FrameKind
-frame_kind (p.Left left) = frame_kind_in (drop left SLOTS)
+frame_kind (p.InRow index) = frame_kind_in (drop index SLOTS)
 frame_kind (p.AfterOperand min_bp max_bp) = OperandFrame
 frame_kind (p.Right level) = NodeFrame
 

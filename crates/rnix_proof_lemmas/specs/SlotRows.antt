@@ -8,14 +8,14 @@ use Rattle.rnix_grammar.specs.declared.slot_table.TheConstants.{SLOTS}
 use Rattle.rnix_grammar.specs.Rules.{Row, never, done, ◌·◌}
 
 -- what is left of a row, by the slots from its index on
-abbrev pub left_in : List Slot → Row
-left_in [] = never
-left_in (Next p ∷ ss) = p · left_in ss
-left_in (End kind ∷ ss) = done
+abbrev pub remaining_in : List Slot → Row
+remaining_in [] = never
+remaining_in (Next p ∷ ss) = p · remaining_in ss
+remaining_in (End kind ∷ ss) = done
 
 -- what is left of a row at an index
-abbrev pub left_at : ℕ → Row
-left_at i = left_in (drop i SLOTS)
+abbrev pub remaining_at : ℕ → Row
+remaining_at i = remaining_in (drop i SLOTS)
 
 -- the kind of node whose row this is, by the slots from its index on
 abbrev pub kind_in : List Slot → SyntaxKind

@@ -6,7 +6,7 @@ use Rattle.rnix_proof_lemmas.specs.Machine.{Frame, Machine, put, machine}
 
 -- frames whose rows have no trivia
 abbrev pub without_trivia_frame : Frame → Frame
-without_trivia_frame f = put f.position (without_trivia f.row) f
+without_trivia_frame f = put f.position (without_trivia f.children) f
 
 -- and all frames
 abbrev pub without_trivia_frames : List Frame → List Frame
@@ -15,4 +15,4 @@ without_trivia_frames (f ∷ fs) = without_trivia_frame f ∷ without_trivia_fra
 
 -- a machine that has read the items alone
 abbrev pub without_trivia_machine : Machine → Machine
-without_trivia_machine m = machine (without_trivia_frames m.frames) (items m.left) m.prev_end m.faults
+without_trivia_machine m = machine (without_trivia_frames m.frames) (items m.remaining) m.prev_end m.faults

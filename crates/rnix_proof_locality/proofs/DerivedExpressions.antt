@@ -3,7 +3,7 @@ use Rattle.std.proofs.Common.{◌≡◌, ℕ, suc, ◌≤◌, max, Bool, true, f
 use Rattle.std.{proofs.{Common.{if◌then◌else◌, arith}, lemmas.List.{map-append, Elements.{All-nil, All-cons, All-append}}}, specs.List.All}
 use Rattle.{rnix_kinds.specs.declared.kinds.SyntaxKind.{SyntaxKind, TheVariants.{NODE_PAT_ENTRY, NODE_ROOT}}, rnix_green.specs.Forest.{Forest, empty, node}}
 use Rattle.rnix_grammar.specs.{AnnotatedForest.{Token, lexeme_of, AnnotatedForest, blank, token, branch, fault, tokens_in, forget}, Yield.yield}
-use Rattle.rnix_grammar.specs.{Derivation.{beyond, annotate, IsDerivation}, Nest.{nest, nests}, Rows.is_expression, Levels.expression_level, Tables.depth_limit}
+use Rattle.rnix_grammar.specs.{Derivation.{beyond, annotate, IsDerivation}, Nest.{nest, nests}, NodeClasses.is_expression, Levels.expression_level, Tables.depth_limit}
 use Rattle.{rnix_grammar.specs.PathPieces.{is_path, is_joined, ArePaths}, rnix_proof_lemmas.{specs.LeafKinds.HaveTokenKinds, proofs.Basics.true_is_not_false}}
 use Rattle.{rnix_proof_lemmas.proofs.AnnotateLemmas.annotate_root, rnix_proof_strict.proofs.GrammarLeaves.expression_fine}
 use Rattle.rnix_proof_locality.specs.{Expressions.{Expression, is_expression_node, expression_if, expressions}, ReadAlone.IsDerived}

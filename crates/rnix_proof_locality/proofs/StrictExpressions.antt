@@ -2,7 +2,7 @@
 use Rattle.std.proofs.Common.{◌≡◌, ℕ, suc, ◌≤◌, ◌+◌, Bool, true, false, List, refl, sym, ◌∙◌, subst, if◌then◌else◌, arith}
 use Rattle.rnix_kinds.specs.declared.kinds.SyntaxKind.{SyntaxKind, TheVariants.{TOKEN_IDENT, NODE_ATTRPATH, NODE_ATTRPATH_VALUE, NODE_IDENT, NODE_INHERIT}}
 use Rattle.rnix_kinds.specs.declared.kinds.SyntaxKind.TheVariants.{NODE_INTERPOL, NODE_LAMBDA, NODE_LIST, NODE_PAT_ENTRY, NODE_PATTERN, NODE_ROOT, NODE_STRING}
-use Rattle.{rnix_green.specs.Forest.{Forest, empty, leaf, node}, rnix_grammar.specs.{Levels.{expression_level, selection_level}, Rows.is_expression}}
+use Rattle.{rnix_green.specs.Forest.{Forest, empty, leaf, node}, rnix_grammar.specs.{Levels.{expression_level, selection_level}, NodeClasses.is_expression}}
 use Rattle.{rnix_grammar.specs.{Tables.{is_or, is_cur_pos, depth_limit}, PathPieces.is_path, Nest.nest}, rnix_proof_lemmas.proofs.Basics.true_is_not_false}
 use Rattle.{rnix_proof_completeness.proofs.PartReads.{depth_in, room}, rnix_proof_locality.specs.Expressions.is_expression_node}
 use Rattle.rnix_grammar.specs.Grammar as G

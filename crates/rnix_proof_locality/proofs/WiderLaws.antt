@@ -4,7 +4,7 @@ use Rattle.rnix_kinds.specs.Lexical.{Tokens.{tokens_of, normal_cut, cut_at, toke
 use Rattle.rnix_kinds.specs.declared.kinds.SyntaxKind.{SyntaxKind, TheVariants.{TOKEN_ASSIGN, TOKEN_IDENT, TOKEN_INTEGER, TOKEN_L_BRACE, TOKEN_L_PAREN}}
 use Rattle.rnix_kinds.specs.declared.kinds.SyntaxKind.TheVariants.{TOKEN_OR, TOKEN_R_BRACE, TOKEN_SEMICOLON, NODE_ATTR_SET, NODE_ATTRPATH, NODE_ATTRPATH_VALUE}
 use Rattle.{rnix_kinds.specs.declared.kinds.SyntaxKind.TheVariants.{NODE_IDENT, NODE_LITERAL, NODE_PAREN}, rnix_green.specs.Forest.{Forest, empty, leaf, node}}
-use Rattle.rnix_grammar.specs.{Fault.Fault, Derivation.{annotate, IsDerivation}, Rows.is_expression, Reads.ReadsRoot, Levels.expression_level}
+use Rattle.rnix_grammar.specs.{Fault.Fault, Derivation.{annotate, IsDerivation}, NodeClasses.is_expression, Reads.ReadsRoot, Levels.expression_level}
 use Rattle.rnix_grammar.specs.{Levels.selection_level, Tables.{is_or, depth_limit}, AnnotatedForest.{Token, AnnotatedForest, blank, token, branch, fault}}
 use Rattle.{rnix_grammar.specs.AnnotatedForest.without_trivia, rnix_proof_lemmas.proofs.Basics.true_is_not_false, rnix_proof_uniqueness.proofs.OnlyReading.Case}
 use Rattle.{rnix_proof_uniqueness.proofs.OnlyReading.{IsMade, holds, trees_in, items_of}, rnix_parser.proofs.OneReading.{has_reading, reading_items}}

@@ -4,7 +4,7 @@ use Rattle.rnix_kinds.specs.declared.kinds.SyntaxKind.{SyntaxKind}
 use Rattle.rnix_kinds.specs.declared.kinds.SyntaxKind.TheVariants.{NODE_IDENT}
 use Rattle.rnix_green.specs.Forest.{Forest, empty, leaf, node}
 use Rattle.rnix_grammar.specs.Tables.{is_or, is_cur_pos}
-use Rattle.rnix_grammar.specs.Rows.{is_expression}
+use Rattle.rnix_grammar.specs.NodeClasses.{is_expression}
 use Rattle.rnix_grammar.specs.AnnotatedForest.{Token, AnnotatedForest, blank, token, branch, fault, tokens_in, forget}
 
 -- an expression of a tree: the kind of its node, and its children with their items

@@ -4,7 +4,7 @@ use Rattle.{rnix_kinds.specs.Lexical.Tokens.tokens_of, rnix_proof_lemmas.proofs.
 use Rattle.rnix_grammar.specs.{AnnotatedForest.{Token, AnnotatedForest, tokens_in, without_trivia, placed_from, end_from}, Parsed.IsParsed}
 use Rattle.rnix_proof_prefix.proofs.Ordered.{AreOrdered, ordered_placed, ordered_items}
 use Rattle.rnix_parser.proofs.{ParsedLemmas.all_follows, OneReading.reading_items, SignificantTrees.significant_tree}
-use Rattle.rnix_proof_lookahead.specs.{Completed.completed, ErrorsBefore.errors_before, SameBeginnings.{BeginAlike, AreNext}, ReadAhead.{AreCompletedAlike, HaveSameErrors}}
+use Rattle.rnix_proof_lookahead.specs.{Completed.completed, ErrorsBefore.errors_before, AlikeStarts.{BeginAlike, AreNext}, ReadAhead.{AreCompletedAlike, HaveSameErrors}}
 use Rattle.rnix_proof_lookahead.proofs.SameTrees.{same_trees, same_errors}
 
 -- they complete the same trees

@@ -3,9 +3,9 @@ use Rattle.std.proofs.Common.{◌≡◌, ℕ, suc, ◌+◌, ◌≤◌, ◌<◌, 
 use Rattle.rnix_kinds.specs.declared.kinds.SyntaxKind.{SyntaxKind, TheVariants.{NODE_ERROR, NODE_APPLY, NODE_IDENT, NODE_IDENT_PARAM}}
 use Rattle.rnix_kinds.specs.declared.kinds.SyntaxKind.TheVariants.{NODE_LEGACY_LET, NODE_PAT_BIND, NODE_PATTERN}
 use Rattle.rnix_green.{specs.{Forest.{Forest, empty, node, join}, ForestCode.join_empty}, proofs.ForestLemmas.join_assoc}
-use Rattle.rnix_grammar.specs.declared.{slot_table.TheConstants.APPLIED, action.Action.Action, begin.Begin.Begin}
+use Rattle.rnix_grammar.specs.declared.{slot_table.TheConstants.APPLIED, action.Action.Action, operand_start.OperandStart.OperandStart}
 use Rattle.rnix_grammar.specs.declared.expected_set.ExpectedSet.{ExpectedSet}
-use Rattle.rnix_grammar.specs.{Fault.Fault, Tables.{depth_limit, is_wanted}, Actions.action_at, Begins.{begin_of, second_kind}, UnwantedRun.run_of, Layout.tail_of}
+use Rattle.rnix_grammar.specs.{Fault.Fault, Tables.{depth_limit, is_wanted}, Actions.action_at, OperandStarts.{operand_start_of, second_kind}, UnwantedRun.run_of, Layout.tail_of}
 use Rattle.rnix_grammar.specs.AnnotatedForest.{Token, Stray, Unwanted, Extra, TooDeep, AnnotatedForest, blank, ◌⊕◌, one_branch, one_fault, row_of, forget, head_kind, touches}
 use Rattle.rnix_proof_lemmas.specs.Machine.{Head, Node, SecondBind, Operand, Frame, Machine, put, opened, leaf, dropped, kind_of, made, min_bp_of, machine, closed}
 use Rattle.rnix_proof_lemmas.specs.Machine.{entry_closed, begun, limited, operand_on, reading, perform, step_on, step, Runs}
@@ -14,23 +14,23 @@ use Rattle.rnix_proof_lemmas.proofs.{AnnotatedForestLemmas.forget-⊕, Basics.ch
 use Rattle.rnix_proof_lookahead.{specs.Completed.{leaf_count, completed}, proofs.CompletedTrees.{leaf_count-join, node_count, completed_more, completed_node}}
 use Rattle.rnix_grammar.specs.declared.position.Position.TheVariants as p
 use Rattle.rnix_grammar.specs.declared.action.Action.TheVariants as a
-use Rattle.rnix_grammar.specs.declared.begin.Begin.TheVariants as b
+use Rattle.rnix_grammar.specs.declared.operand_start.OperandStart.TheVariants as b
 
 -- all trees that have been read, those of the outer frames first
 abbrev pub trees_in : List Frame → Forest
 trees_in [] = empty
-trees_in (f ∷ fs) = join (trees_in fs) (forget f.row)
+trees_in (f ∷ fs) = join (trees_in fs) (forget f.children)
 
 -- what a machine with these trees and items left becomes
 pub record IsKept (old : Forest) (ts : List Token) (next : Machine) : Type 0 where
   -- each item is a leaf or left
-  pub counts : leaf_count (trees_in next.frames) + length next.left ≡ leaf_count old + length ts
-  pub shorter : length next.left ≤ length ts
+  pub counts : leaf_count (trees_in next.frames) + length next.remaining ≡ leaf_count old + length ts
+  pub shorter : length next.remaining ≤ length ts
   -- the items that were read, without the last one or before another is read, have completed the same trees
   pub same : (k : ℕ) → k ≤ leaf_count old → k < leaf_count (trees_in next.frames) → completed k (trees_in next.frames) ≡ completed k old
 
 -- more trees are read
-kept_more : (old x : Forest) (ts : List Token) (next : Machine) → trees_in next.frames ≡ join old x → leaf_count x + length next.left ≡ length ts
+kept_more : (old x : Forest) (ts : List Token) (next : Machine) → trees_in next.frames ≡ join old x → leaf_count x + length next.remaining ≡ length ts
     → IsKept old ts next
 kept_more old x ts next e c =
     let count : leaf_count (trees_in next.frames) ≡ leaf_count old + leaf_count x = ap leaf_count e ∙ leaf_count-join old x in
@@ -42,7 +42,7 @@ kept_more old x ts next e c =
 
 -- the last trees with some more become a node
 kept_node : (p r x : Forest) (i : SyntaxKind) (ts : List Token) (next : Machine) → trees_in next.frames ≡ join p (node i (join r x) empty)
-    → leaf_count x + length next.left ≡ length ts → IsKept (join p r) ts next
+    → leaf_count x + length next.remaining ≡ length ts → IsKept (join p r) ts next
 kept_node p r x i ts next e c =
     let count : leaf_count (trees_in next.frames) ≡ leaf_count p + leaf_count (join r x) = ap leaf_count e ∙ node_count p (join r x) i in
     let inside : leaf_count (join r x) ≡ leaf_count r + leaf_count x = leaf_count-join r x in
@@ -56,9 +56,9 @@ kept_node p r x i ts next e c =
     }
 
 -- nothing is read
-kept_same : (old : Forest) (ts : List Token) (next : Machine) → trees_in next.frames ≡ old → next.left ≡ ts → IsKept old ts next
+kept_same : (old : Forest) (ts : List Token) (next : Machine) → trees_in next.frames ≡ old → next.remaining ≡ ts → IsKept old ts next
 kept_same old ts next e l =
-    let none : length next.left ≡ length ts = ap length l in
+    let none : length next.remaining ≡ length ts = ap length l in
     kept_more old empty ts next (e ∙ sym (join_empty old)) (omega (arith, none))
 
 -- a row of trees grows
@@ -97,27 +97,28 @@ run_taken until (t ∷ ts) =
 
 -- a frame is complete
 made_kept : (h : Head) (f g : Frame) (fs : List Frame) (ts : List Token) (n : ℕ) (es : List Fault)
-    → IsKept (trees_in (f ∷ (g ∷ fs))) ts (machine (put g.position (g.row ⊕ made h f.row) g ∷ fs) ts n es)
+    → IsKept (trees_in (f ∷ (g ∷ fs))) ts (machine (put g.position (g.children ⊕ made h f.children) g ∷ fs) ts n es)
 made_kept h f g fs ts n es = by h
   where
     outer : Forest
-    outer = join (trees_in fs) (forget g.row)
+    outer = join (trees_in fs) (forget g.children)
 
-    around : (i : SyntaxKind) → join outer (node i (forget f.row) empty) ≡ join outer (node i (join (forget f.row) empty) empty)
-    around i = ap (λ z. join outer (node i z empty)) (sym (join_empty (forget f.row)))
+    around : (i : SyntaxKind) → join outer (node i (forget f.children) empty) ≡ join outer (node i (join (forget f.children) empty) empty)
+    around i = ap (λ z. join outer (node i z empty)) (sym (join_empty (forget f.children)))
 
     none : leaf_count empty + length ts ≡ length ts
     none = omega arith
 
-    by : (h : Head) → IsKept (trees_in (f ∷ (g ∷ fs))) ts (machine (put g.position (g.row ⊕ made h f.row) g ∷ fs) ts n es)
+    by : (h : Head) → IsKept (trees_in (f ∷ (g ∷ fs))) ts (machine (put g.position (g.children ⊕ made h f.children) g ∷ fs) ts n es)
     by (Node i) =
-        kept_node outer (forget f.row) empty i ts (machine (put g.position (g.row ⊕ made (Node i) f.row) g ∷ fs) ts n es)
-        (grown (trees_in fs) g.row (made (Node i) f.row) ∙ around i) none
+        kept_node outer (forget f.children) empty i ts (machine (put g.position (g.children ⊕ made (Node i) f.children) g ∷ fs) ts n es)
+        (grown (trees_in fs) g.children (made (Node i) f.children) ∙ around i) none
     by SecondBind =
-        kept_node outer (forget f.row) empty NODE_ERROR ts (machine (put g.position (g.row ⊕ made SecondBind f.row) g ∷ fs) ts n es)
-        (grown (trees_in fs) g.row (made SecondBind f.row) ∙ around NODE_ERROR) none
+        kept_node outer (forget f.children) empty NODE_ERROR ts (machine (put g.position (g.children ⊕ made SecondBind f.children) g ∷ fs) ts n es)
+        (grown (trees_in fs) g.children (made SecondBind f.children) ∙ around NODE_ERROR) none
     by Operand =
-        kept_same (trees_in (f ∷ (g ∷ fs))) ts (machine (put g.position (g.row ⊕ made Operand f.row) g ∷ fs) ts n es) (grown (trees_in fs) g.row f.row) refl
+        kept_same (trees_in (f ∷ (g ∷ fs))) ts (machine (put g.position (g.children ⊕ made Operand f.children) g
+        ∷ fs) ts n es) (grown (trees_in fs) g.children f.children) refl
 
 closed_kept : (f : Frame) (fs : List Frame) (ts : List Token) (n : ℕ) (es : List Fault) → IsKept (trees_in (f ∷ fs)) ts (closed f fs ts n es)
 closed_kept f [] ts n es = kept_same (trees_in (f ∷ [])) ts (closed f [] ts n es) refl refl
@@ -129,9 +130,9 @@ entry_closed_kept f [] ts n es = kept_same (trees_in (f ∷ [])) ts (entry_close
 entry_closed_kept f (g ∷ fs) ts n es = made_kept f.head f g fs ts n _
 
 -- an operand begins
-pub begun_kept : (begin : Begin) (level d : ℕ) (t : Token) (f : Frame) (fs : List Frame) (ts : List Token) (n : ℕ) (es : List Fault)
-    → IsKept (trees_in (f ∷ fs)) ts (begun false begin level d t f fs ts n es)
-begun_kept begin level d t f fs ts n es = by begin
+pub begun_kept : (how : OperandStart) (level d : ℕ) (t : Token) (f : Frame) (fs : List Frame) (ts : List Token) (n : ℕ) (es : List Fault)
+    → IsKept (trees_in (f ∷ fs)) ts (begun false how level d t f fs ts n es)
+begun_kept how level d t f fs ts n es = by how
   where
     old : Forest
     old = trees_in (f ∷ fs)
@@ -143,11 +144,11 @@ begun_kept begin level d t f fs ts n es = by begin
     two : (x : Forest) → join (join (join old empty) empty) x ≡ join old x
     two x = ap (λ z. join z x) (join_empty (join old empty)) ∙ one x
 
-    by : (begin : Begin) → IsKept (trees_in (f ∷ fs)) ts (begun false begin level d t f fs ts n es)
+    by : (how : OperandStart) → IsKept (trees_in (f ∷ fs)) ts (begun false how level d t f fs ts n es)
     by (b.Leaf i) =
         kept_more old (forget (one_branch i (leaf false i ts))) ts (begun false (b.Leaf i) level d t f fs ts n es) refl (omega (arith, taken i ts))
-    by (b.Node i place high) =
-        kept_more old (forget (leaf false i ts)) ts (begun false (b.Node i place high) level d t f fs ts n es) (one (forget (leaf false i ts))) (taken i ts)
+    by (b.Node i index high) =
+        kept_more old (forget (leaf false i ts)) ts (begun false (b.Node i index high) level d t f fs ts n es) (one (forget (leaf false i ts))) (taken i ts)
     by b.LegacyLet =
         let x : Forest = forget (leaf false NODE_LEGACY_LET ts ⊕ leaf false NODE_LEGACY_LET (tail_of ts)) in
         kept_more old x ts (begun false b.LegacyLet level d t f fs ts n es) (one x) (two_taken NODE_LEGACY_LET NODE_LEGACY_LET ts)
@@ -169,13 +170,13 @@ begun_kept begin level d t f fs ts n es = by begin
 operand_kept : (level d : ℕ) (f : Frame) (fs : List Frame) (ts : List Token) (n : ℕ) (es : List Fault)
     → IsKept (trees_in (f ∷ fs)) ts (operand_on false level d f fs ts ts n es)
 operand_kept level d f fs [] n es = kept_same (trees_in (f ∷ fs)) [] (operand_on false level d f fs [] [] n es) refl refl
-operand_kept level d f fs (t ∷ us) n es = begun_kept (begin_of level t.kind t.text (head_kind us) (second_kind us)) level d t f fs (t ∷ us) n es
+operand_kept level d f fs (t ∷ us) n es = begun_kept (operand_start_of level t.kind t.text (head_kind us) (second_kind us)) level d t f fs (t ∷ us) n es
 
 -- all that is left is nested too deep
 pub limited_kept : (f : Frame) (fs : List Frame) (ts : List Token) (n : ℕ) (es : List Fault) → IsKept (trees_in (f ∷ fs)) ts (limited false f fs ts n es)
 limited_kept f fs ts n es =
     kept_more (trees_in (f ∷ fs)) (forget (one_fault TooDeep (row_of ts))) ts (limited false f fs ts n es)
-    (grown (trees_in fs) f.row (one_fault TooDeep (row_of ts)))
+    (grown (trees_in fs) f.children (one_fault TooDeep (row_of ts)))
     (omega (arith, row_count ts, all_taken ts))
 
 reading_kept : (level : ℕ) (counted : Bool) (f : Frame) (fs : List Frame) (ts : List Token) (n : ℕ) (es : List Fault)
@@ -193,9 +194,9 @@ perform_kept action f fs ts n es = by action
     old = trees_in (f ∷ fs)
 
     -- the frame's row grows
-    grows : (x : AnnotatedForest) (next : Machine) → trees_in next.frames ≡ join (trees_in fs) (forget (f.row ⊕ x))
-        → leaf_count (forget x) + length next.left ≡ length ts → IsKept old ts next
-    grows x next e c = kept_more old (forget x) ts next (e ∙ grown (trees_in fs) f.row x) c
+    grows : (x : AnnotatedForest) (next : Machine) → trees_in next.frames ≡ join (trees_in fs) (forget (f.children ⊕ x))
+        → leaf_count (forget x) + length next.remaining ≡ length ts → IsKept old ts next
+    grows x next e c = kept_more old (forget x) ts next (e ∙ grown (trees_in fs) f.children x) c
 
     by : (action : Action) → IsKept (trees_in (f ∷ fs)) ts (perform false action f fs ts n es)
     by a.Close = closed_kept f fs ts n es
@@ -210,39 +211,39 @@ perform_kept action f fs ts n es = by action
         (omega (arith, row_count (run_of until ts), run_taken until ts))
     by (a.Leaf i after) = grows (one_branch i (leaf false i ts)) (perform false (a.Leaf i after) f fs ts n es) refl (omega (arith, taken i ts))
     by (a.Open i inside after) = kept_more old (forget (leaf false i ts)) ts (perform false (a.Open i inside after) f fs ts n es) refl (taken i ts)
-    by (a.Begin i inside after) = kept_more old empty ts (perform false (a.Begin i inside after) f fs ts n es) refl (omega arith)
+    by (a.OpenEmpty i inside after) = kept_more old empty ts (perform false (a.OpenEmpty i inside after) f fs ts n es) refl (omega arith)
     by (a.Entry after) =
         kept_more old (forget (one_branch NODE_IDENT (leaf false NODE_IDENT ts))) ts (perform false (a.Entry after) f fs ts n es) refl
         (omega (arith, taken NODE_IDENT ts))
     by (a.DoubleBind after) =
         kept_more old (forget (leaf false NODE_ERROR ts)) ts (perform false (a.DoubleBind after) f fs ts n es) refl (taken NODE_ERROR ts)
-    by (a.Read level counted after) = reading_kept level counted (put (p.Left after) f.row f) fs ts n es
+    by (a.Read level counted after) = reading_kept level counted (put (p.InRow after) f.children f) fs ts n es
     by (a.Wrap i inside high) =
         grows (leaf false i ts) (perform false (a.Wrap i inside high) f fs ts n es)
-        (ap (λ z. join z (forget (f.row ⊕ leaf false i ts))) (join_empty (trees_in fs))) (taken i ts)
+        (ap (λ z. join z (forget (f.children ⊕ leaf false i ts))) (join_empty (trees_in fs))) (taken i ts)
     by a.Apply =
-        subst (λ z. IsKept (join z (forget f.row)) ts (perform false a.Apply f fs ts n es)) (join_empty (trees_in fs))
-        (reading_kept 16 false (opened (Node NODE_APPLY) (p.Left APPLIED) f.depth f.row)
+        subst (λ z. IsKept (join z (forget f.children)) ts (perform false a.Apply f fs ts n es)) (join_empty (trees_in fs))
+        (reading_kept 16 false (opened (Node NODE_APPLY) (p.InRow APPLIED) f.depth f.children)
         (opened Operand (p.AfterOperand (min_bp_of f.position) 15) f.depth blank ∷ fs) ts n es)
     by a.ApplyOr =
         let x : AnnotatedForest = one_branch NODE_IDENT (leaf false NODE_IDENT ts) in
-        kept_node (trees_in fs) (forget f.row) (forget x) NODE_APPLY ts (perform false a.ApplyOr f fs ts n es)
-        (ap (λ z. join (trees_in fs) (node NODE_APPLY z empty)) (forget-⊕ f.row x)) (omega (arith, taken NODE_IDENT ts))
+        kept_node (trees_in fs) (forget f.children) (forget x) NODE_APPLY ts (perform false a.ApplyOr f fs ts n es)
+        (ap (λ z. join (trees_in fs) (node NODE_APPLY z empty)) (forget-⊕ f.children x)) (omega (arith, taken NODE_IDENT ts))
     by action = kept_same old ts (perform false action f fs ts n es) refl refl
 
 -- each step
-pub step_kept : (now : Machine) → IsKept (trees_in now.frames) now.left (step false now)
+pub step_kept : (now : Machine) → IsKept (trees_in now.frames) now.remaining (step false now)
 step_kept now = by now.frames
   where
-    by : (fs : List Frame) → IsKept (trees_in fs) now.left (step_on false fs now.left now.prev_end now.faults)
-    by [] = kept_same empty now.left (step_on false [] now.left now.prev_end now.faults) refl refl
-    by (f ∷ fs) = perform_kept (action_at f.position (head_kind now.left) (touches now.prev_end now.left)) f fs now.left now.prev_end now.faults
+    by : (fs : List Frame) → IsKept (trees_in fs) now.remaining (step_on false fs now.remaining now.prev_end now.faults)
+    by [] = kept_same empty now.remaining (step_on false [] now.remaining now.prev_end now.faults) refl refl
+    by (f ∷ fs) = perform_kept (action_at f.position (head_kind now.remaining) (touches now.prev_end now.remaining)) f fs now.remaining now.prev_end now.faults
 
 -- some steps
 pub runs_kept : (k : ℕ) {now last : Machine} → Runs false now last → k < leaf_count (trees_in now.frames)
     → completed k (trees_in last.frames) ≡ completed k (trees_in now.frames)
 runs_kept k here l = refl
 runs_kept k (further {m = now} r) l =
-    let w : IsKept (trees_in now.frames) now.left (step false now) = step_kept now in
+    let w : IsKept (trees_in now.frames) now.remaining (step false now) = step_kept now in
     let longer : k < leaf_count (trees_in (step false now).frames) = omega (arith, l, w.counts, w.shorter) in
     runs_kept k r longer ∙ w.same k (omega (arith, l)) longer

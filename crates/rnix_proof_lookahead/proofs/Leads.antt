@@ -11,19 +11,19 @@ use Rattle.rnix_proof_lookahead.proofs.KeptSteps.{trees_in, IsKept, runs_kept, g
 
 -- what is read from here to the end of the text leaves these trees as those that the first k items complete
 abbrev pub Leads : ℕ → Forest → Machine → Type 0
-Leads k s now = (last : Machine) → Runs false now last → last.left ≡ [] → completed k (trees_in last.frames) ≡ s
+Leads k s now = (last : Machine) → Runs false now last → last.remaining ≡ [] → completed k (trees_in last.frames) ≡ s
 
 -- more items have been read
 pub past_leads : (k : ℕ) (s : Forest) (now : Machine) → k < leaf_count (trees_in now.frames) → completed k (trees_in now.frames) ≡ s → Leads k s now
 past_leads k s now l e last r over = runs_kept k r l ∙ e
 
 -- a step is made where items are left
-pub next_leads : (k : ℕ) (s : Forest) (now : Machine) (t : Token) (ts : List Token) → now.left ≡ t ∷ ts → Leads k s (step false now) → Leads k s now
+pub next_leads : (k : ℕ) (s : Forest) (now : Machine) (t : Token) (ts : List Token) → now.remaining ≡ t ∷ ts → Leads k s (step false now) → Leads k s now
 next_leads k s now t ts e a last here over = absurd (not_nil (sym e ∙ over))
 next_leads k s now t ts e a last (further r) over = a last r over
 
 -- the first k items have been read, and now one more
-pub taken_leads : (k : ℕ) (old : Forest) (ts : List Token) (next : Machine) → leaf_count old ≡ k → IsKept old ts next → length next.left < length ts
+pub taken_leads : (k : ℕ) (old : Forest) (ts : List Token) (next : Machine) → leaf_count old ≡ k → IsKept old ts next → length next.remaining < length ts
     → Leads k (completed k old) next
 taken_leads k old ts next c w l =
     let more : k < leaf_count (trees_in next.frames) = omega (arith, c, w.counts, l) in
@@ -57,14 +57,14 @@ row_two (t ∷ ts) us = ap (leaf t.kind t.text) (row_two ts us)
 
 -- as an error node
 pub faulted : (note : Note) (f : Frame) (fs : List Frame) (q us : List Token)
-    → join (trees_in fs) (forget (f.row ⊕ one_fault note (row_of (q ++ us))))
+    → join (trees_in fs) (forget (f.children ⊕ one_fault note (row_of (q ++ us))))
     ≡ join (trees_in (f ∷ fs)) (node NODE_ERROR (join (forget (row_of q)) (forget (row_of us))) empty)
 faulted note f fs q us =
-    grown (trees_in fs) f.row (one_fault note (row_of (q ++ us))) ∙ ap (λ z. join (trees_in (f ∷ fs)) (node NODE_ERROR z empty)) (row_two q us)
+    grown (trees_in fs) f.children (one_fault note (row_of (q ++ us))) ∙ ap (λ z. join (trees_in (f ∷ fs)) (node NODE_ERROR z empty)) (row_two q us)
 
 -- which holds the last of the first k items and more
 pub faulted_leads : (k : ℕ) (note : Note) (f : Frame) (fs : List Frame) (q us : List Token) (next : Machine)
-    → trees_in next.frames ≡ join (trees_in fs) (forget (f.row ⊕ one_fault note (row_of (q ++ us))))
+    → trees_in next.frames ≡ join (trees_in fs) (forget (f.children ⊕ one_fault note (row_of (q ++ us))))
     → leaf_count (trees_in (f ∷ fs)) + length q ≡ k → 1 ≤ length us
     → Leads k (completed k (join (trees_in (f ∷ fs)) (forget (row_of q)))) next
 faulted_leads k note f fs q us next e h l =

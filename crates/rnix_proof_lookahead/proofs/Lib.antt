@@ -7,7 +7,7 @@ pub mod LateErrors
 pub mod SpannedErrors
 pub mod PartedReadings
 pub mod AlikeSteps
-pub mod NextPlaces
+pub mod NextExtents
 pub mod SameTrees
 pub mod AheadTexts
 pub mod LookaheadExamples

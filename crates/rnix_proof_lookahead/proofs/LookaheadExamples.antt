@@ -3,7 +3,7 @@ use Rattle.std.proofs.Common.{◌≡◌, ℕ, Bool, true, false, List, [], ◌�
 use Rattle.rnix_kinds.specs.declared.kinds.SyntaxKind.TheVariants.{TOKEN_COLON, TOKEN_IDENT, TOKEN_INTERPOL_END, TOKEN_INTERPOL_START}
 use Rattle.rnix_kinds.specs.declared.kinds.SyntaxKind.TheVariants.{TOKEN_L_PAREN, TOKEN_PATH_REL, TOKEN_R_PAREN, NODE_APPLY, NODE_IDENT, NODE_IDENT_PARAM, NODE_PAREN}
 use Rattle.{rnix_green.specs.Forest.{Forest, empty, leaf, node}, rnix_grammar.specs.AnnotatedForest.{Token, lexeme_of}}
-use Rattle.rnix_proof_lemmas.specs.Machine.{Machine, begins, Runs}
+use Rattle.rnix_proof_lemmas.specs.Machine.{Machine, initial_machine, Runs}
 use Rattle.{rnix_grammar.specs.Fault.{extra, unwanted}, rnix_proof_lemmas.proofs.Basics.true_is_not_false}
 use Rattle.rnix_proof_prefix.proofs.PrefixExamples.{item, steps, run}
 use Rattle.rnix_proof_lookahead.{specs.{Completed.completed, ErrorsBefore.errors_before}, proofs.KeptSteps.trees_in}
@@ -50,14 +50,14 @@ is_parameter f = false
 abbrev DecidedByItems : Type 0
 DecidedByItems =
     (q : List Token) (x y : Token) (xs ys : List Token) (first second : Machine)
-    → Runs false (begins (q ++ x ∷ xs)) first → Runs false (begins (q ++ y ∷ ys)) second → first.left ≡ [] → second.left ≡ []
+    → Runs false (initial_machine (q ++ x ∷ xs)) first → Runs false (initial_machine (q ++ y ∷ ys)) second → first.remaining ≡ [] → second.remaining ≡ []
     → completed (length q) (trees_in first.frames) ≡ completed (length q) (trees_in second.frames)
 
 pub kind_decides : DecidedByItems → ⊥
 kind_decides claim =
     let colon : Token = item TOKEN_COLON (codes ":") 1 2 in
-    let applied : Machine = begins (first_name ∷ second_name ∷ []) in
-    let function : Machine = begins (first_name ∷ colon ∷ second_name ∷ []) in
+    let applied : Machine = initial_machine (first_name ∷ second_name ∷ []) in
+    let function : Machine = initial_machine (first_name ∷ colon ∷ second_name ∷ []) in
     let h = claim (first_name ∷ []) second_name colon [] (second_name ∷ []) (steps 40 applied) (steps 40 function) (run 40 applied) (run 40 function)
     refl refl in
     true_is_not_false (sym (ap is_parameter h))
@@ -79,12 +79,12 @@ is_leaf f = false
 abbrev DecidedByNext : Type 0
 DecidedByNext =
     (q : List Token) (x y : Token) (xs ys : List Token) (first second : Machine) → lexeme_of x ≡ lexeme_of y
-    → Runs false (begins (q ++ x ∷ xs)) first → Runs false (begins (q ++ y ∷ ys)) second → first.left ≡ [] → second.left ≡ []
+    → Runs false (initial_machine (q ++ x ∷ xs)) first → Runs false (initial_machine (q ++ y ∷ ys)) second → first.remaining ≡ [] → second.remaining ≡ []
     → completed (length q) (trees_in first.frames) ≡ completed (length q) (trees_in second.frames)
 
 pub touch_decides : DecidedByNext → ⊥
 touch_decides claim =
-    let joined : Machine = begins (path ++ piece 7 10 ∷ []) in
-    let apart : Machine = begins (path ++ piece 8 11 ∷ []) in
+    let joined : Machine = initial_machine (path ++ piece 7 10 ∷ []) in
+    let apart : Machine = initial_machine (path ++ piece 8 11 ∷ []) in
     let h = claim path (piece 7 10) (piece 8 11) [] [] (steps 40 joined) (steps 40 apart) refl (run 40 joined) (run 40 apart) refl refl in
     true_is_not_false (ap is_leaf h)

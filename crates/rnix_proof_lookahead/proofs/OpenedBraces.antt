@@ -22,12 +22,12 @@ module _ (k level d : ℕ) (t : Token) (f : Frame) (fs : List Frame) (us : List 
   begun_braces pattern v = begun false (braces pattern) level d t f fs (t ∷ (v ∷ us)) n es
 
   -- the next step reads an item
-  one_leads : (now : Machine) (v : Token) → now.left ≡ v ∷ us → trees_in now.frames ≡ with_brace → length (step false now).left ≤ length us
+  one_leads : (now : Machine) (v : Token) → now.remaining ≡ v ∷ us → trees_in now.frames ≡ with_brace → length (step false now).remaining ≤ length us
       → Leads k (completed k with_brace) now
   one_leads now v e h l =
       next_leads k (completed k with_brace) now v us e
       (subst (λ z. Leads k (completed k z) (step false now)) h
-      (taken_leads k (trees_in now.frames) now.left (step false now) (ap leaf_count h ∙ brace_count) (step_kept now) (omega (arith, ap length e, l))))
+      (taken_leads k (trees_in now.frames) now.remaining (step false now) (ap leaf_count h ∙ brace_count) (step_kept now) (omega (arith, ap length e, l))))
 
   pattern_trees : join (join (join (trees_in (f ∷ fs)) empty) empty) (leaf t.kind t.text empty) ≡ with_brace
   pattern_trees = ap (λ z. join z (leaf t.kind t.text empty)) (join_empty (join (trees_in (f ∷ fs)) empty) ∙ join_empty (trees_in (f ∷ fs)))

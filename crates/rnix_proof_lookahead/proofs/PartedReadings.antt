@@ -8,14 +8,14 @@ use Rattle.rnix_proof_lemmas.specs.Machine.{Frame, Machine, put, dropped, machin
 use Rattle.rnix_proof_prefix.proofs.{Late.{AreFrom, from_dropped}, Ordered.{AreOrdered, from_end}, SharedSteps.onto}
 use Rattle.rnix_proof_lookahead.{specs.{Completed.{leaf_count, completed}, ErrorsBefore.errors_before}, proofs.{KeptSteps.trees_in, Leads.{Leads, faulted_leads}}}
 use Rattle.rnix_proof_lookahead.proofs.{EndedRuns.{RunIn, run_in, dropped_more, dropped_own, run_ends}, SpannedErrors.{AreLateAlike, ordered_run, same_extra, same_unwanted}}
-use Rattle.rnix_proof_lookahead.proofs.SpannedErrors.{none_left_from, dropped_both}
+use Rattle.rnix_proof_lookahead.proofs.SpannedErrors.{none_remaining_from, dropped_both}
 use Rattle.rnix_grammar.specs.declared.position.Position.TheVariants as p
 use Rattle.rnix_grammar.specs.declared.action.Action.TheVariants as a
 
 -- a machine in which a run has been read
 abbrev ran : ExpectedSet → ℕ → Frame → List Frame → ℕ → List Fault → List Token → List Token → Machine
 ran until after f fs n es run ts =
-    machine (put (p.Left after) (f.row ⊕ one_fault (Unwanted until) (row_of run)) f ∷ fs) ts (end_from n run) (es ++ report (Unwanted until) run ∷ [])
+    machine (put (p.InRow after) (f.children ⊕ one_fault (Unwanted until) (row_of run)) f ∷ fs) ts (end_from n run) (es ++ report (Unwanted until) run ∷ [])
 
 module _ (k e : ℕ) (x y : Token) (xs ys : List Token) (kinds : x.kind ≡ y.kind) where
   -- both machines have come equally far, with the same items left before the others
@@ -23,7 +23,7 @@ module _ (k e : ℕ) (x y : Token) (xs ys : List Token) (kinds : x.kind ≡ y.ki
     pub at : Machine
     pub first : here ≡ onto (x ∷ xs) at
     pub second : there ≡ onto (y ∷ ys) at
-    pub ends : end_from at.prev_end at.left ≡ e
+    pub ends : end_from at.prev_end at.remaining ≡ e
 
   -- or what the first k items complete is known, and the same, and so are the errors before their end
   pub record IsParted (here there : Machine) : Type 0 where
@@ -36,12 +36,12 @@ module _ (k e : ℕ) (x y : Token) (xs ys : List Token) (kinds : x.kind ≡ y.ki
   Goes here there = IsShared here there ⊎ IsParted here there
 
   -- what one machine becomes over both lists
-  pub shared : (at : Machine) → end_from at.prev_end at.left ≡ e → Goes (onto (x ∷ xs) at) (onto (y ∷ ys) at)
+  pub shared : (at : Machine) → end_from at.prev_end at.remaining ≡ e → Goes (onto (x ∷ xs) at) (onto (y ∷ ys) at)
   shared at h = inl (record { at = at; first = refl; second = refl; ends = h })
 
   -- both have read more, with the same errors
   pub parted : (s : Forest) (here there : Machine) → Leads k s here → Leads k s there → here.faults ≡ there.faults
-      → (AreFrom e (x ∷ xs) → AreFrom e here.left) → (AreFrom e (y ∷ ys) → AreFrom e there.left) → Goes here there
+      → (AreFrom e (x ∷ xs) → AreFrom e here.remaining) → (AreFrom e (y ∷ ys) → AreFrom e there.remaining) → Goes here there
   parted s here there v w h f g = inr (record {
     trees = s;
     first = v;
@@ -58,8 +58,8 @@ module _ (k e : ℕ) (x y : Token) (xs ys : List Token) (kinds : x.kind ≡ y.ki
     second = faulted_leads k Extra f fs q (y ∷ ys) (perform false a.Extra f fs (q ++ y ∷ ys) n es) refl c (omega arith);
     errors = λ o w. record {
       faults = same_extra e n q x y xs ys es h o w;
-      first = none_left_from e (q ++ x ∷ xs);
-      second = none_left_from e (q ++ y ∷ ys);
+      first = none_remaining_from e (q ++ x ∷ xs);
+      second = none_remaining_from e (q ++ y ∷ ys);
     };
   })
 
@@ -69,7 +69,7 @@ module _ (k e : ℕ) (x y : Token) (xs ys : List Token) (kinds : x.kind ≡ y.ki
       parted (completed k (join (trees_in (f ∷ fs)) (forget (row_of q)))) (limited false f fs (q ++ x ∷ xs) n es) (limited false f fs (q ++ y ∷ ys) n es)
       (faulted_leads k TooDeep f fs q (x ∷ xs) (limited false f fs (q ++ x ∷ xs) n es) refl c (omega arith))
       (faulted_leads k TooDeep f fs q (y ∷ ys) (limited false f fs (q ++ y ∷ ys) n es) refl c (omega arith)) refl
-      (λ o. none_left_from e (q ++ x ∷ xs)) (λ o. none_left_from e (q ++ y ∷ ys))
+      (λ o. none_remaining_from e (q ++ x ∷ xs)) (λ o. none_remaining_from e (q ++ y ∷ ys))
 
   -- a run
   module _ (until : ExpectedSet) (after : ℕ) (f : Frame) (fs : List Frame) (q : List Token) (n : ℕ) (es : List Fault)
@@ -97,12 +97,12 @@ module _ (k e : ℕ) (x y : Token) (xs ys : List Token) (kinds : x.kind ≡ y.ki
         let more : run_of until (v ∷ us) ≡ v ∷ run_of until us = ap (λ z. if z then [] else v ∷ run_of until us) w in
         let some : 1 ≤ length (run_of until (v ∷ us)) = omega (arith, ap length more) in
         faulted_leads k (Unwanted until) f fs q (run_of until (v ∷ us)) (run_on (v ∷ us))
-        (ap (λ z. join (trees_in fs) (forget (f.row ⊕ one_fault (Unwanted until) (row_of z)))) same) c some
+        (ap (λ z. join (trees_in fs) (forget (f.children ⊕ one_fault (Unwanted until) (row_of z)))) same) c some
 
     -- the items that are left then
-    left_from : (v : Token) (us : List Token) → run_of until (q ++ v ∷ us) ≡ q ++ run_of until (v ∷ us) → AreOrdered e (v ∷ us)
+    remaining_from : (v : Token) (us : List Token) → run_of until (q ++ v ∷ us) ≡ q ++ run_of until (v ∷ us) → AreOrdered e (v ∷ us)
         → AreFrom e (dropped (run_of until (q ++ v ∷ us)) (q ++ v ∷ us))
-    left_from v us same o =
+    remaining_from v us same o =
         subst (AreFrom e) (sym (ap (λ z. dropped z (q ++ v ∷ us)) same ∙ dropped_both q (run_of until (v ∷ us)) (v ∷ us)))
         (from_dropped e (run_of until (v ∷ us)) (v ∷ us) (from_end e [] (v ∷ us) o))
 
@@ -130,8 +130,8 @@ module _ (k e : ℕ) (x y : Token) (xs ys : List Token) (kinds : x.kind ≡ y.ki
         faults = ap (λ d. errors_before e (es ++ d ∷ [])) (run_error x xs (same (x ∷ xs)) v)
             ∙ same_unwanted e n until q x y (run_of until xs) (run_of until ys) es h (run_ordered x xs v o) (run_ordered y ys w z)
             ∙ sym (ap (λ d. errors_before e (es ++ d ∷ [])) (run_error y ys (same (y ∷ ys)) w));
-        first = left_from x xs (same (x ∷ xs)) o;
-        second = left_from y ys (same (y ∷ ys)) z;
+        first = remaining_from x xs (same (x ∷ xs)) o;
+        second = remaining_from y ys (same (y ∷ ys)) z;
       };
     })
 

@@ -2,15 +2,15 @@
 use Rattle.std.proofs.Common.{◌≡◌, inl, inr, ℕ, zero, suc, ◌+◌, Bool, false, List, [], ◌∷◌, ◌++◌, length, take, drop, Some, None, refl, ap, sym, ◌∙◌, subst, arith}
 use Rattle.std.proofs.{Common.{nat_eq, length-append}, lemmas.List.take-append-drop}
 use Rattle.rnix_grammar.specs.{Fault.Fault, Actions.action_at, Reads.ReadsRoot, AnnotatedForest.{Token, AnnotatedForest, tokens_in, forget, end_from, touches}}
-use Rattle.rnix_proof_lemmas.specs.Machine.{Frame, Machine, machine, perform, step_on, step, begins, Runs}
+use Rattle.rnix_proof_lemmas.specs.Machine.{Frame, Machine, machine, perform, step_on, step, initial_machine, Runs}
 use Rattle.rnix_proof_lemmas.specs.Machine.{rest as here, then as further}
 use Rattle.{rnix_proof_lemmas.proofs.{AllowedLemmas.allowed, Basics.{not_nil, none_right}}, rnix_proof_uniqueness.proofs.AllReads.{ended_with, reads_runs, one_row}}
 use Rattle.rnix_proof_prefix.proofs.Ordered.{AreOrdered}
-use Rattle.rnix_proof_lookahead.specs.{Completed.{leaf_count, completed}, ErrorsBefore.errors_before, SameBeginnings.{AreNext, BeginAlike}}
+use Rattle.rnix_proof_lookahead.specs.{Completed.{leaf_count, completed}, ErrorsBefore.errors_before, AlikeStarts.{AreNext, BeginAlike}}
 use Rattle.rnix_proof_lookahead.proofs.{KeptSteps.{trees_in, IsKept, step_kept}, AlikeSteps.perform_goes}
 use Rattle.rnix_proof_lookahead.proofs.{PartedReadings.{IsShared, Goes}, LateErrors.runs_late, SpannedErrors.AreLateAlike}
 use Rattle.rnix_proof_layout.proofs.{MovedItems.moved, Touch.last_kind}
-use Rattle.{rnix_proof_prefix.proofs.NewPlaces.{behind, ReadsOn, reads_on}, rnix_proof_lookahead.proofs.NextPlaces.{parts, next_touches, next_on}}
+use Rattle.{rnix_proof_prefix.proofs.NewExtents.{behind, ReadsOn, reads_on}, rnix_proof_lookahead.proofs.NextExtents.{parts, next_touches, next_on}}
 
 module _ (k e : ℕ) (x y : Token) (xs ys : List Token) (kinds : x.kind ≡ y.kind) (touch : nat_eq x.start e ≡ nat_eq y.start e) where
   -- the same frames over both lists
@@ -36,16 +36,16 @@ module _ (k e : ℕ) (x y : Token) (xs ys : List Token) (kinds : x.kind ≡ y.ki
 
   -- each item is a leaf or left
   counted : (fs : List Frame) (q : List Token) (n : ℕ) (es : List Fault) (at : Machine) → leaf_count (trees_in fs) + length q ≡ k
-      → step false (machine fs (q ++ x ∷ xs) n es) ≡ machine at.frames (at.left ++ x ∷ xs) at.prev_end at.faults
-      → leaf_count (trees_in at.frames) + length at.left ≡ k
+      → step false (machine fs (q ++ x ∷ xs) n es) ≡ machine at.frames (at.remaining ++ x ∷ xs) at.prev_end at.faults
+      → leaf_count (trees_in at.frames) + length at.remaining ≡ k
   counted fs q n es at c h =
       let w : IsKept (trees_in fs) (q ++ x ∷ xs) (step false (machine fs (q ++ x ∷ xs) n es)) = step_kept (machine fs (q ++ x ∷ xs) n es) in
-      let now : leaf_count (trees_in (step false (machine fs (q ++ x ∷ xs) n es)).frames) + length (step false (machine fs (q ++ x ∷ xs) n es)).left
-      ≡ leaf_count (trees_in at.frames) + length (at.left ++ x ∷ xs) = ap (λ (z : Machine). leaf_count (trees_in z.frames) + length z.left) h in
-      omega (arith, w.counts, now, length-append q (x ∷ xs), length-append at.left (x ∷ xs), c)
+      let now : leaf_count (trees_in (step false (machine fs (q ++ x ∷ xs) n es)).frames) + length (step false (machine fs (q ++ x ∷ xs) n es)).remaining
+      ≡ leaf_count (trees_in at.frames) + length (at.remaining ++ x ∷ xs) = ap (λ (z : Machine). leaf_count (trees_in z.frames) + length z.remaining) h in
+      omega (arith, w.counts, now, length-append q (x ∷ xs), length-append at.remaining (x ∷ xs), c)
 
   -- both lists are read to their ends
-  module _ (first second : Machine) (over : first.left ≡ []) (done : second.left ≡ []) where
+  module _ (first second : Machine) (over : first.remaining ≡ []) (done : second.remaining ≡ []) where
     -- the same trees are complete, and if the items are in order, the errors before the last of the shared items ends are the same
     pub record AreSame : Type 0 where
       pub trees : completed k (trees_in first.frames) ≡ completed k (trees_in second.frames)
@@ -65,13 +65,13 @@ module _ (k e : ℕ) (x y : Token) (xs ys : List Token) (kinds : x.kind ≡ y.ki
     pub together : {now other : Machine} (fs : List Frame) (q : List Token) (n : ℕ) (es : List Fault) → Runs false now first → Runs false other second
         → now ≡ machine fs (q ++ x ∷ xs) n es → other ≡ machine fs (q ++ y ∷ ys) n es → leaf_count (trees_in fs) + length q ≡ k → end_from n q ≡ e
         → AreSame
-    together fs q n es here s h g c l = absurd (not_over q x xs (sym (ap (λ (z : Machine). z.left) h) ∙ over))
-    together fs q n es r here h g c l = absurd (not_over q y ys (sym (ap (λ (z : Machine). z.left) g) ∙ done))
+    together fs q n es here s h g c l = absurd (not_over q x xs (sym (ap (λ (z : Machine). z.remaining) h) ∙ over))
+    together fs q n es r here h g c l = absurd (not_over q y ys (sym (ap (λ (z : Machine). z.remaining) g) ∙ done))
     together {now} {other} fs q n es (further r) (further s) h g c l =
         let a : Machine = machine fs (q ++ x ∷ xs) n es in
         let b : Machine = machine fs (q ++ y ∷ ys) n es in
         after (step false a) (step false b) (subst (λ z. Runs false (step false z) first) h r) (subst (λ z. Runs false (step false z) second) g s)
-        (λ o. together o.at.frames o.at.left o.at.prev_end o.at.faults r s (ap (step false) h ∙ o.first) (ap (step false) g ∙ o.second)
+        (λ o. together o.at.frames o.at.remaining o.at.prev_end o.at.faults r s (ap (step false) h ∙ o.first) (ap (step false) g ∙ o.second)
         (counted fs q n es o.at c o.first) o.ends)
         (same_step fs q n es c l)
 
@@ -98,8 +98,8 @@ same_at k q f g ds es r s (x ∷ xs) (y ∷ ys) a b h c =
     let first : Machine = ended_with f (end_from 0 (tokens_in f)) ds in
     let second : Machine = ended_with g (end_from 0 (tokens_in g)) es in
     let count : length q ≡ k = c x xs refl in
-    let same = together k (end_from 0 q) x y xs ys h.0 h.1 first second refl refl (begins q).frames q 0 [] (reads_runs f ds r) (reads_runs g es s)
-    (ap begins a) (ap begins b) (omega (arith, count)) refl in
+    let same = together k (end_from 0 q) x y xs ys h.0 h.1 first second refl refl (initial_machine q).frames q 0 [] (reads_runs f ds r) (reads_runs g es s)
+    (ap initial_machine a) (ap initial_machine b) (omega (arith, count)) refl in
     (same.trees, same.errors)
 
 -- the trees are the same

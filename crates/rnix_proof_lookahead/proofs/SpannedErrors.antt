@@ -10,8 +10,8 @@ use Rattle.rnix_proof_lookahead.{specs.ErrorsBefore.{up_to, error_if, errors_bef
 -- two machines have the same errors before a byte, and the items that are left begin there or behind it
 pub record AreLateAlike (m : ℕ) (now there : Machine) : Type 0 where
   pub faults : errors_before m now.faults ≡ errors_before m there.faults
-  pub first : AreFrom m now.left
-  pub second : AreFrom m there.left
+  pub first : AreFrom m now.remaining
+  pub second : AreFrom m there.remaining
 
 -- items end behind where they begin
 end_late : (m : ℕ) (ts : List Token) → AreOrdered m ts → m ≤ end_from m ts
@@ -61,9 +61,9 @@ same_unwanted m n until (t ∷ q) x y xs ys es e o w =
     ∙ sym (errors_more m es (report (Unwanted until) (t ∷ (q ++ y ∷ ys)) ∷ []))
 
 -- items that are all read
-pub none_left_from : (m : ℕ) (ts : List Token) → AreFrom m (dropped ts ts)
-none_left_from m [] = tt
-none_left_from m (t ∷ ts) = none_left_from m ts
+pub none_remaining_from : (m : ℕ) (ts : List Token) → AreFrom m (dropped ts ts)
+none_remaining_from m [] = tt
+none_remaining_from m (t ∷ ts) = none_remaining_from m ts
 
 -- what is left of items behind others that are read
 pub dropped_both : (q run us : List Token) → dropped (q ++ run) (q ++ us) ≡ dropped run us

@@ -1,4 +1,4 @@
 pub mod Completed
-pub mod SameBeginnings
+pub mod AlikeStarts
 pub mod ErrorsBefore
 pub mod ReadAhead

@@ -9,7 +9,7 @@ use Rattle.rnix_parser.specs.Significant.{significant}
 use Rattle.rnix_parser.specs.ReadAlike.{items_of}
 use Rattle.rnix_proof_lookahead.specs.Completed.{completed}
 use Rattle.rnix_proof_lookahead.specs.ErrorsBefore.{errors_before}
-use Rattle.rnix_proof_lookahead.specs.SameBeginnings.{BeginAlike, AreNext}
+use Rattle.rnix_proof_lookahead.specs.AlikeStarts.{BeginAlike, AreNext}
 
 -- if the first k items of two texts are alike, and the next ones but for their texts, the first k items complete the same trees
 abbrev pub AreCompletedAlike : List ℕ → List ℕ → Type 0

@@ -1,21 +1,21 @@
 -- What follows `{` and a name or `}`, whether a pattern or a set has begun: no error at these items.
 use Rattle.std.proofs.Common.{◌≡◌, ℕ, Bool, true, false, List, [], ◌∷◌, refl, sym, ◌∙◌, subst, ◌⊎◌, inl, inr, if◌then◌else◌}
 use Rattle.rnix_kinds.specs.declared.kinds.SyntaxKind.{SyntaxKind, TheVariants.{TOKEN_IDENT, TOKEN_L_BRACE, TOKEN_R_BRACE, TOKEN_ELLIPSIS, NODE_ATTR_SET, NODE_PATTERN}}
-use Rattle.rnix_grammar.specs.{declared.begin.Begin.Begin, Fault.Fault, AnnotatedForest.Token}
+use Rattle.rnix_grammar.specs.{declared.operand_start.OperandStart.OperandStart, Fault.Fault, AnnotatedForest.Token}
 use Rattle.rnix_proof_lemmas.{specs.{FrameKinds.AreStacked, Machine.{Frame, Machine, begun, step, Runs, rest as here, then as further}}, proofs.Basics.not_nil}
 use Rattle.{rnix_proof_lemmas.proofs.StackedFrames.step_stacked, rnix_proof_prefix.{specs.Prefix.BeginAllFrom, proofs.Late.{AreFrom, AreLate, HasLate}}}
 use Rattle.rnix_proof_prefix.proofs.LateSteps.{late_runs}
-use Rattle.rnix_grammar.specs.Begins.{begin_for}
+use Rattle.rnix_grammar.specs.OperandStarts.{operand_start_for}
 
 -- all errors of what is read from here to the end of the text begin at a byte or behind it
 abbrev pub IsApart : ℕ → Machine → Type 0
-IsApart m now = AreStacked now.frames → (first : Machine) → Runs false now first → first.left ≡ [] → BeginAllFrom m first.faults
+IsApart m now = AreStacked now.frames → (first : Machine) → Runs false now first → first.remaining ≡ [] → BeginAllFrom m first.faults
 
 pub late_apart : (m : ℕ) (now : Machine) → HasLate m now → IsApart m now
 late_apart m now w k first r over = (late_runs m r k w).faults
 
 -- a step is made where items are left
-next_apart : (m : ℕ) (now : Machine) (t : Token) (ts : List Token) → now.left ≡ t ∷ ts → IsApart m (step false now) → IsApart m now
+next_apart : (m : ℕ) (now : Machine) (t : Token) (ts : List Token) → now.remaining ≡ t ∷ ts → IsApart m (step false now) → IsApart m now
 next_apart m now t ts e a k first here over = absurd (not_nil (sym e ∙ over))
 next_apart m now t ts e a k first (further r) over = a (step_stacked false now k) first r over
 
@@ -27,8 +27,8 @@ pub item_is : (kind : SyntaxKind) (u : Token) → u.kind ≡ kind → item kind 
 item_is kind u e = λ i. record { kind = sym e i; text = u.text; start = u.start; end = u.end }
 
 -- a pattern or a set
-abbrev pub braces : Bool → Begin
-braces w = begin_for (if w then NODE_PATTERN else NODE_ATTR_SET) TOKEN_L_BRACE
+abbrev pub braces : Bool → OperandStart
+braces w = operand_start_for (if w then NODE_PATTERN else NODE_ATTR_SET) TOKEN_L_BRACE
 
 -- the kinds before which the third item decides which
 abbrev pub IsBeforeThird : SyntaxKind → Type 0
@@ -44,23 +44,23 @@ module _ (m : ℕ) (xs : List Token) (late : AreFrom m xs) (level d : ℕ) (t : 
   name_apart true u =
       let name : Token = item TOKEN_IDENT u in
       next_apart m (opened true name) name xs refl
-      (late_apart m (step false (opened true name)) (record { left = late; frames = ((name, refl, tt), (tt, (tt, (tt, w)))); faults = g }))
+      (late_apart m (step false (opened true name)) (record { remaining = late; frames = ((name, refl, tt), (tt, (tt, (tt, w)))); faults = g }))
   name_apart false u =
       let name : Token = item TOKEN_IDENT u in
       let first : Machine = step false (opened false name) in
       let second : Machine = step false first in
       next_apart m (opened false name) name xs refl (next_apart m first name xs refl (next_apart m second name xs refl
-      (late_apart m (step false second) (record { left = late; frames = (tt, (tt, (tt, (tt, w)))); faults = g }))))
+      (late_apart m (step false second) (record { remaining = late; frames = (tt, (tt, (tt, (tt, w)))); faults = g }))))
 
   brace_apart : (pattern : Bool) (u : Token) → IsApart m (opened pattern (item TOKEN_R_BRACE u))
   brace_apart true u =
       let brace : Token = item TOKEN_R_BRACE u in
       next_apart m (opened true brace) brace xs refl
-      (late_apart m (step false (opened true brace)) (record { left = late; frames = (tt, (tt, (tt, w))); faults = g }))
+      (late_apart m (step false (opened true brace)) (record { remaining = late; frames = (tt, (tt, (tt, w))); faults = g }))
   brace_apart false u =
       let brace : Token = item TOKEN_R_BRACE u in
       next_apart m (opened false brace) brace xs refl
-      (late_apart m (step false (opened false brace)) (record { left = late; frames = (tt, (tt, w)); faults = g }))
+      (late_apart m (step false (opened false brace)) (record { remaining = late; frames = (tt, (tt, w)); faults = g }))
 
   -- before such an item
   pub opened_apart : (pattern : Bool) (u : Token) → (u.kind ≡ TOKEN_IDENT) ⊎ (u.kind ≡ TOKEN_R_BRACE) → IsApart m (opened pattern u)

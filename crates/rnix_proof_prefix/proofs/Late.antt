@@ -54,7 +54,7 @@ more_from m (d ∷ ds) es h g = (h.0, more_from m ds es h.1 g)
 -- the row of the frame below
 abbrev pub row_below : List Frame → AnnotatedForest
 row_below [] = blank
-row_below (g ∷ fs) = g.row
+row_below (g ∷ fs) = g.children
 
 -- what an open frame has to report begins at a byte or behind it: an entry of a pattern if it repeats a name, a second name in any case
 abbrev pub IsLate : ℕ → Head → AnnotatedForest → AnnotatedForest → Type 0
@@ -66,11 +66,11 @@ IsLate m Operand row below = Unit {0}
 -- so it is with all frames
 abbrev pub AreLate : ℕ → List Frame → Type 0
 AreLate m [] = Unit {0}
-AreLate m (f ∷ fs) = IsLate m f.head f.row (row_below fs) × AreLate m fs
+AreLate m (f ∷ fs) = IsLate m f.head f.children (row_below fs) × AreLate m fs
 
 -- so it is with all that is left, all that is open, and all errors so far
 pub record HasLate (m : ℕ) (now : Machine) : Type 0 where
-  pub left : AreFrom m now.left
+  pub remaining : AreFrom m now.remaining
   pub frames : AreLate m now.frames
   pub faults : BeginAllFrom m now.faults
 
@@ -102,9 +102,10 @@ second_late m k [] h = absurd h
 second_late m k (t ∷ ts) h = h
 
 -- heads by the frame kinds of their positions
-pub head_frame : (head : Head) (place : Position) (fs : List Frame) → IsStackedOn head place fs → frame_kind_of_head head ≡ frame_kind place
-head_frame head place [] w = w.0
-head_frame head place (f ∷ fs) w = w.0
+pub head_frame : (head : Head) (next_position : Position) (fs : List Frame) → IsStackedOn head next_position fs
+    → frame_kind_of_head head ≡ frame_kind next_position
+head_frame head next_position [] w = w.0
+head_frame head next_position (f ∷ fs) w = w.0
 
 abbrev is_second : FrameKind → Bool
 is_second SecondBindFrame = true

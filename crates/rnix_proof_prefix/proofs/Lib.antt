@@ -5,6 +5,6 @@ pub mod BraceSteps
 pub mod SharedSteps
 pub mod SharedRuns
 pub mod Ordered
-pub mod NewPlaces
+pub mod NewExtents
 pub mod PrefixReadings
 pub mod PrefixExamples

@@ -2,7 +2,7 @@
 use Rattle.std.{proofs.Common.{◌≡◌, ℕ, zero, suc, ◌≤◌, false, List, [], ◌∷◌, ◌++◌, refl, arith}, specs.Prelude.{codes, map, ◌+◌}}
 use Rattle.rnix_kinds.specs.declared.kinds.SyntaxKind.{SyntaxKind, TheVariants.{TOKEN_L_BRACE, TOKEN_ELLIPSIS, TOKEN_R_BRACE, TOKEN_COLON, TOKEN_IDENT}}
 use Rattle.rnix_kinds.specs.declared.kinds.SyntaxKind.TheVariants.{TOKEN_PATH_REL, TOKEN_INTERPOL_START, TOKEN_INTERPOL_END}
-use Rattle.{rnix_grammar.specs.AnnotatedForest.{Token, lexeme_of, end_from}, rnix_proof_lemmas.{specs.{Machine.{Machine, begins, step, Runs, rest as here}}}}
+use Rattle.{rnix_grammar.specs.AnnotatedForest.{Token, lexeme_of, end_from}, rnix_proof_lemmas.{specs.{Machine.{Machine, initial_machine, step, Runs, rest as here}}}}
 use Rattle.{rnix_proof_lemmas.{specs.{Machine.{then as further}}}, rnix_proof_prefix.{specs.Prefix.BeginAllFrom, proofs.{Late.AreFrom, CleanSteps.HasNone}}}
 
 -- an item at a place
@@ -33,13 +33,14 @@ run (suc n) now = further (run n (step false now))
 abbrev AreDecided : Type 0
 AreDecided =
     (m : ℕ) (q xs zs : List Token) (first second : Machine) → AreFrom m xs
-    → Runs false (begins (q ++ xs)) first → Runs false (begins (q ++ zs)) second → first.left ≡ [] → second.left ≡ [] → HasNone second
+    → Runs false (initial_machine (q ++ xs)) first → Runs false (initial_machine (q ++ zs)) second → first.remaining ≡ [] → second.remaining ≡ []
+    → HasNone second
     → BeginAllFrom m first.faults
 
 pub undecided : AreDecided → ⊥
 undecided claim =
-    let broken : Machine = begins (brace ∷ dots ∷ []) in
-    let whole : Machine = begins (brace ∷ dots ∷ others) in
+    let broken : Machine = initial_machine (brace ∷ dots ∷ []) in
+    let whole : Machine = initial_machine (brace ∷ dots ∷ others) in
     let h = claim 5 (brace ∷ dots ∷ []) [] others (steps 40 broken) (steps 40 whole) tt (run 40 broken) (run 40 whole) refl refl ((tt, tt), refl) in
     let l : 5 ≤ 2 = h.0 in
     omega (arith, l)
@@ -54,13 +55,14 @@ path n =
 -- so it is not: items with the same kinds and texts as others that are read without errors have no error
 abbrev DecidedByTexts : Type 0
 DecidedByTexts =
-    (xs ys : List Token) (first second : Machine) → map lexeme_of xs ≡ map lexeme_of ys → Runs false (begins xs) first → Runs false (begins ys) second
-    → first.left ≡ [] → second.left ≡ [] → HasNone second → BeginAllFrom (end_from 0 xs) first.faults
+    (xs ys : List Token) (first second : Machine) → map lexeme_of xs ≡ map lexeme_of ys → Runs false (initial_machine xs) first
+    → Runs false (initial_machine ys) second
+    → first.remaining ≡ [] → second.remaining ≡ [] → HasNone second → BeginAllFrom (end_from 0 xs) first.faults
 
-pub places_decide : DecidedByTexts → ⊥
-places_decide claim =
-    let apart : Machine = begins (path 8) in
-    let joined : Machine = begins (path 7) in
+pub extents_decide : DecidedByTexts → ⊥
+extents_decide claim =
+    let apart : Machine = initial_machine (path 8) in
+    let joined : Machine = initial_machine (path 7) in
     let h = claim (path 8) (path 7) (steps 40 apart) (steps 40 joined) refl (run 40 apart) (run 40 joined) refl refl ((tt, tt), refl) in
     let l : 12 ≤ 8 = h.0 in
     omega (arith, l)

@@ -1,16 +1,16 @@
 -- The errors of a reading whose items begin like those of a reading without errors.
 use Rattle.std.proofs.{Common.{◌≡◌, ℕ, Bool, false, List, [], ◌++◌, take, drop, None, refl, sym, subst}, lemmas.List.take-append-drop}
 use Rattle.rnix_grammar.specs.{Fault.Fault, AnnotatedForest.{Token, AnnotatedForest, tokens_in, end_from, touches}, Reads.ReadsRoot}
-use Rattle.rnix_proof_lemmas.specs.Machine.{Machine, begins, Runs}
+use Rattle.rnix_proof_lemmas.specs.Machine.{Machine, initial_machine, Runs}
 use Rattle.rnix_proof_layout.proofs.{MovedItems.moved, Touch.last_kind}
 use Rattle.{rnix_proof_layout.specs.AlikeItems.AreAlike, rnix_proof_prefix.specs.Prefix.{BeginAllFrom, end_undecided}}
-use Rattle.rnix_proof_prefix.proofs.{CleanSteps.AreClean, SharedRuns.late_errors, Ordered.{AreOrdered, from_end}, NewPlaces.{behind, own_touch, ReadsOn, reads_on}}
+use Rattle.rnix_proof_prefix.proofs.{CleanSteps.AreClean, SharedRuns.late_errors, Ordered.{AreOrdered, from_end}, NewExtents.{behind, own_touch, ReadsOn, reads_on}}
 
 -- the steps read all items, with these errors
 pub record RunsTo (ts : List Token) (ds : List Fault) : Type 0 where
   pub last : Machine
-  pub runs : Runs false (begins ts) last
-  pub over : last.left ≡ []
+  pub runs : Runs false (initial_machine ts) last
+  pub over : last.remaining ≡ []
   pub clean : AreClean last.frames
   pub faults : last.faults ≡ ds
 

@@ -2,23 +2,23 @@
 use Rattle.std.proofs.Common.{◌≡◌, ◌⊎◌, inl, inr, ℕ, suc, Bool, true, false, List, [], ◌∷◌, ◌++◌, Option, Some, refl, ap, sym, ◌∙◌, subst, if◌then◌else◌}
 use Rattle.{std.proofs.Common.nat_le, rnix_kinds.specs.declared.kinds.SyntaxKind.{SyntaxKind, TheVariants.TOKEN_IDENT}}
 use Rattle.rnix_kinds.specs.declared.kinds.SyntaxKind.TheVariants.{TOKEN_L_BRACE, TOKEN_R_BRACE, TOKEN_ELLIPSIS, TOKEN_LET, NODE_APPLY}
-use Rattle.rnix_grammar.specs.{declared.{slot_table.TheConstants.APPLIED, action.Action.Action, begin.Begin.Begin}, Fault.{Fault, too_deep}}
-use Rattle.rnix_grammar.specs.{Tables.depth_limit, Begins.{is_pattern, kind_if, first_kind, begin_for, begin_of, second_kind}, AnnotatedForest.{Token, Stray, Unwanted}}
+use Rattle.rnix_grammar.specs.{declared.{slot_table.TheConstants.APPLIED, action.Action.Action, operand_start.OperandStart.OperandStart}, Fault.{Fault, too_deep}}
+use Rattle.rnix_grammar.specs.{Tables.depth_limit, OperandStarts.{is_pattern, kind_if, first_kind, operand_start_for, operand_start_of, second_kind}, AnnotatedForest.{Token, Stray, Unwanted}}
 use Rattle.rnix_grammar.specs.{AnnotatedForest.{Extra, blank, head_kind}, Reports.report, UnwantedRun.run_of, Layout.tail_of}
 use Rattle.rnix_proof_lemmas.specs.Machine.{Node, Operand, Frame, Machine, put, opened, min_bp_of, machine, begun, limited, operand_on}
 use Rattle.rnix_proof_lemmas.{specs.Machine.{reading, perform}, proofs.{Basics.{choice, true_is_not_false, not_nil, none_right}, StackedFrames.BeginsInner}}
-use Rattle.{rnix_proof_lemmas.proofs.StackedFrames.begin_inner, rnix_proof_prefix.specs.Prefix.{BeginAllFrom, are_undecided, end_undecided}}
+use Rattle.{rnix_proof_lemmas.proofs.StackedFrames.operand_start_inner, rnix_proof_prefix.specs.Prefix.{BeginAllFrom, are_undecided, end_undecided}}
 use Rattle.rnix_proof_prefix.proofs.{Late.{AreFrom, AreLate}, LateSteps.begun_late, BraceSteps.{IsApart, late_apart, braces, IsBeforeThird, opened_apart}}
 use Rattle.rnix_proof_lemmas.proofs.EachBeginning.{highest, kind_up_to, first_up_to, each_first}
 use Rattle.std.proofs.Common.{None}
 use Rattle.rnix_kinds.specs.declared.kinds.SyntaxKind.TheVariants.{NODE_LET_IN, NODE_LEGACY_LET}
 use Rattle.rnix_grammar.specs.declared.position.Position.TheVariants as p
 use Rattle.rnix_grammar.specs.declared.action.Action.TheVariants as a
-use Rattle.rnix_grammar.specs.declared.begin.Begin.TheVariants as b
+use Rattle.rnix_grammar.specs.declared.operand_start.OperandStart.TheVariants as b
 
 -- a machine with more items behind those that are left
 abbrev pub onto : List Token → Machine → Machine
-onto ts now = machine now.frames (now.left ++ ts) now.prev_end now.faults
+onto ts now = machine now.frames (now.remaining ++ ts) now.prev_end now.faults
 
 -- what is so of two pairs is so of a choice in both
 pub choices : {A : Type 0} (P : A → A → Type 0) (b : Bool) {x y u v : A} → P x u → P y v → P (if b then x else y) (if b then u else v)
@@ -26,32 +26,33 @@ choices P true h k = h
 choices P false h k = k
 
 -- the item begins no operand
-abbrev is_stray : Begin → Bool
+abbrev is_stray : OperandStart → Bool
 is_stray b.Stray = true
-is_stray begin = false
+is_stray how = false
 
 -- that depends on the item alone
 abbrev strays : ℕ → SyntaxKind → SyntaxKind → Bool
-strays level kind k = is_stray (begin_for (kind_up_to (highest kind) level k) kind)
+strays level kind k = is_stray (operand_start_for (kind_up_to (highest kind) level k) kind)
 
 -- an old `let` begins an operand where one with bindings does
-old_let_strays : (w : Bool) → is_stray (begin_for (kind_if w NODE_LEGACY_LET) TOKEN_LET) ≡ is_stray (begin_for (kind_if w NODE_LET_IN) TOKEN_LET)
+old_let_strays : (w : Bool) → is_stray (operand_start_for (kind_if w NODE_LEGACY_LET) TOKEN_LET)
+    ≡ is_stray (operand_start_for (kind_if w NODE_LET_IN) TOKEN_LET)
 old_let_strays true = refl
 old_let_strays false = refl
 
 stray_alone : (level : ℕ) (kind : SyntaxKind) (text : List ℕ) (second third : Option SyntaxKind)
-    → is_stray (begin_of level kind text second third) ≡ strays level kind (first_kind 0 kind [] None None)
-stray_alone level kind text second third = ap (λ k. is_stray (begin_for k kind)) (first_up_to level kind text second third)
+    → is_stray (operand_start_of level kind text second third) ≡ strays level kind (first_kind 0 kind [] None None)
+stray_alone level kind text second third = ap (λ k. is_stray (operand_start_for k kind)) (first_up_to level kind text second third)
     ∙ each_first (λ kind next k. strays level kind k ≡ strays level kind (first_kind 0 kind [] None None))
     (λ next. assumption (old_let_strays (nat_le level 0))) kind text second third
 
 stray_same : (level : ℕ) (kind : SyntaxKind) (text : List ℕ) (second third next after : Option SyntaxKind)
-    → is_stray (begin_of level kind text second third) ≡ is_stray (begin_of level kind text next after)
+    → is_stray (operand_start_of level kind text second third) ≡ is_stray (operand_start_of level kind text next after)
 stray_same level kind text second third next after = stray_alone level kind text second third ∙ sym (stray_alone level kind text next after)
 
 -- the third item says how an operand begins only after `{`
 pub third_counts : (level : ℕ) (kind : SyntaxKind) (text : List ℕ) (second third other : Option SyntaxKind)
-    → (kind ≡ TOKEN_L_BRACE) ⊎ (begin_of level kind text second third ≡ begin_of level kind text second other)
+    → (kind ≡ TOKEN_L_BRACE) ⊎ (operand_start_of level kind text second third ≡ operand_start_of level kind text second other)
 third_counts level TOKEN_L_BRACE text second third other = inl refl
 third_counts level _ text second third other = inr refl
 
@@ -76,7 +77,7 @@ module _ (m : ℕ) (xs zs : List Token) (late : AreFrom m xs) where
     pub at : Machine
     pub first : here ≡ onto xs at
     pub second : there ≡ onto zs at
-    pub decided : end_undecided at.left ≡ false
+    pub decided : end_undecided at.remaining ≡ false
 
   -- or errors begin behind the shared items in the first, or the second has an error
   abbrev pub Goes : Machine → Machine → Type 0
@@ -87,32 +88,32 @@ module _ (m : ℕ) (xs zs : List Token) (late : AreFrom m xs) where
   wrong here there es e h = inr (inr (λ none. not_nil (none_right es (e ∷ []) (sym h ∙ none))))
 
   -- what one machine becomes over both lists
-  shared : (at : Machine) → end_undecided at.left ≡ false → Goes (onto xs at) (onto zs at)
+  shared : (at : Machine) → end_undecided at.remaining ≡ false → Goes (onto xs at) (onto zs at)
   shared at h = inl (record { at = at; first = refl; second = refl; decided = h })
 
   -- an operand begins alike
-  begun_shared : (begin : Begin) (level d : ℕ) (t u : Token) (f : Frame) (fs : List Frame) (q : List Token) (n : ℕ) (es : List Fault)
+  begun_shared : (how : OperandStart) (level d : ℕ) (t u : Token) (f : Frame) (fs : List Frame) (q : List Token) (n : ℕ) (es : List Fault)
       → end_undecided (u ∷ q) ≡ false
-      → Goes (begun false begin level d t f fs (t ∷ (u ∷ (q ++ xs))) n es) (begun false begin level d t f fs (t ∷ (u ∷ (q ++ zs))) n es)
+      → Goes (begun false how level d t f fs (t ∷ (u ∷ (q ++ xs))) n es) (begun false how level d t f fs (t ∷ (u ∷ (q ++ zs))) n es)
   begun_shared b.LegacyLet level d t u f fs q n es h = shared (begun false b.LegacyLet level d t f fs (t ∷ (u ∷ q)) n es) (tail_decided (u ∷ q) h)
   begun_shared b.BoundLambda level d t u f fs q n es h = shared (begun false b.BoundLambda level d t f fs (t ∷ (u ∷ q)) n es) (tail_decided (u ∷ q) h)
-  begun_shared begin level d t u f fs q n es h = shared (begun false begin level d t f fs (t ∷ (u ∷ q)) n es) h
+  begun_shared how level d t u f fs q n es h = shared (begun false how level d t f fs (t ∷ (u ∷ q)) n es) h
 
   -- with the last of the shared items an operand begins in one way or another, or in neither list
-  begun_last : (begin other : Begin) → is_stray begin ≡ is_stray other → (second : Option SyntaxKind) → BeginsInner second begin
+  begun_last : (how other : OperandStart) → is_stray how ≡ is_stray other → (second : Option SyntaxKind) → BeginsInner second how
       → (level d : ℕ) (t : Token) (f : Frame) (fs : List Frame) (us : List Token) (n : ℕ) (es : List Fault)
       → AreLate m (f ∷ fs) → BeginAllFrom m es
-      → Goes (begun false begin level d t f fs (t ∷ xs) n es) (begun false other level d t f fs us n es)
+      → Goes (begun false how level d t f fs (t ∷ xs) n es) (begun false other level d t f fs us n es)
   begun_last b.Stray b.Stray e second i level d t f fs us n es w g = wrong _ _ es (report Stray (t ∷ [])) refl
   begun_last b.Stray _ e second i level d t f fs us n es w g = absurd (true_is_not_false e)
-  begun_last begin other e second i level d t f fs us n es w g =
-      inr (inl (late_apart m _ (begun_late m second begin level d t f fs xs n es i tt late w g)))
+  begun_last how other e second i level d t f fs us n es w g =
+      inr (inl (late_apart m _ (begun_late m second how level d t f fs xs n es i tt late w g)))
 
   -- the next item and the last of the shared items behind it begin an operand
   module _ (level d : ℕ) (f : Frame) (fs : List Frame) (t u : Token) (n : ℕ) (es : List Fault) (w : AreLate m (f ∷ fs)) (g : BeginAllFrom m es)
       (h : end_undecided (t ∷ (u ∷ [])) ≡ false) where
-    abbrev Begun : Begin → Begin → Type 0
-    Begun begin other = Goes (begun false begin level d t f fs (t ∷ (u ∷ xs)) n es) (begun false other level d t f fs (t ∷ (u ∷ zs)) n es)
+    abbrev Begun : OperandStart → OperandStart → Type 0
+    Begun how other = Goes (begun false how level d t f fs (t ∷ (u ∷ xs)) n es) (begun false other level d t f fs (t ∷ (u ∷ zs)) n es)
 
     brace_pair : t.kind ≡ TOKEN_L_BRACE → (third other : Option SyntaxKind)
         → IsBeforeThird u.kind ⊎ (is_pattern (Some u.kind) third ≡ is_pattern (Some u.kind) other)
@@ -127,28 +128,28 @@ module _ (m : ℕ) (xs zs : List Token) (late : AreFrom m xs) where
         (begun_shared (braces (is_pattern (Some u.kind) third)) level d t u f fs [] n es refl)
 
     pair_shared : (third other : Option SyntaxKind)
-        → (t.kind ≡ TOKEN_L_BRACE) ⊎ (begin_of level t.kind t.text (Some u.kind) third ≡ begin_of level t.kind t.text (Some u.kind) other)
-        → Begun (begin_of level t.kind t.text (Some u.kind) third) (begin_of level t.kind t.text (Some u.kind) other)
+        → (t.kind ≡ TOKEN_L_BRACE) ⊎ (operand_start_of level t.kind t.text (Some u.kind) third ≡ operand_start_of level t.kind t.text (Some u.kind) other)
+        → Begun (operand_start_of level t.kind t.text (Some u.kind) third) (operand_start_of level t.kind t.text (Some u.kind) other)
     pair_shared third other (inl e) =
-        subst (λ k. Begun (begin_of level k t.text (Some u.kind) third) (begin_of level k t.text (Some u.kind) other)) (sym e)
+        subst (λ k. Begun (operand_start_of level k t.text (Some u.kind) third) (operand_start_of level k t.text (Some u.kind) other)) (sym e)
         (brace_pair e third other (pattern_counts u.kind third other))
     pair_shared third other (inr same) =
-        subst (λ z. Begun (begin_of level t.kind t.text (Some u.kind) third) z) same
-        (begun_shared (begin_of level t.kind t.text (Some u.kind) third) level d t u f fs [] n es refl)
+        subst (λ z. Begun (operand_start_of level t.kind t.text (Some u.kind) third) z) same
+        (begun_shared (operand_start_of level t.kind t.text (Some u.kind) third) level d t u f fs [] n es refl)
 
   -- an operand of a level
   operand_shared : (level d : ℕ) (f : Frame) (fs : List Frame) (t : Token) (q : List Token) (n : ℕ) (es : List Fault)
       → AreLate m (f ∷ fs) → BeginAllFrom m es → end_undecided (t ∷ q) ≡ false
       → Goes (operand_on false level d f fs (t ∷ (q ++ xs)) (t ∷ (q ++ xs)) n es) (operand_on false level d f fs (t ∷ (q ++ zs)) (t ∷ (q ++ zs)) n es)
   operand_shared level d f fs t [] n es w g h =
-      let begin : Begin = begin_of level t.kind t.text (head_kind xs) (second_kind xs) in
-      let other : Begin = begin_of level t.kind t.text (head_kind zs) (second_kind zs) in
-      begun_last begin other (stray_same level t.kind t.text (head_kind xs) (second_kind xs) (head_kind zs) (second_kind zs)) (head_kind xs)
-      (begin_inner level t.kind t.text (head_kind xs) (second_kind xs)) level d t f fs (t ∷ zs) n es w g
+      let how : OperandStart = operand_start_of level t.kind t.text (head_kind xs) (second_kind xs) in
+      let other : OperandStart = operand_start_of level t.kind t.text (head_kind zs) (second_kind zs) in
+      begun_last how other (stray_same level t.kind t.text (head_kind xs) (second_kind xs) (head_kind zs) (second_kind zs)) (head_kind xs)
+      (operand_start_inner level t.kind t.text (head_kind xs) (second_kind xs)) level d t f fs (t ∷ zs) n es w g
   operand_shared level d f fs t (u ∷ []) n es w g h =
       pair_shared level d f fs t u n es w g h (head_kind xs) (head_kind zs) (third_counts level t.kind t.text (Some u.kind) (head_kind xs) (head_kind zs))
   operand_shared level d f fs t (u ∷ (v ∷ q)) n es w g h =
-      begun_shared (begin_of level t.kind t.text (Some u.kind) (Some v.kind)) level d t u f fs (v ∷ q) n es h
+      begun_shared (operand_start_of level t.kind t.text (Some u.kind) (Some v.kind)) level d t u f fs (v ∷ q) n es h
 
   -- counted or not
   reading_shared : (level : ℕ) (counted : Bool) (f : Frame) (fs : List Frame) (t : Token) (q : List Token) (n : ℕ) (es : List Fault)
@@ -173,9 +174,9 @@ module _ (m : ℕ) (xs zs : List Token) (late : AreFrom m xs) where
           → Goes (perform false action f fs (t ∷ (q ++ xs)) n es) (perform false action f fs (t ∷ (q ++ zs)) n es)
       by a.Extra fs w = wrong _ _ es (report Extra (t ∷ (q ++ zs))) refl
       by (a.Run until after) fs w = wrong _ _ es (report (Unwanted until) (run_of until (t ∷ (q ++ zs)))) refl
-      by (a.Read level counted after) fs w = reading_shared level counted (put (p.Left after) f.row f) fs t q n es w g h
+      by (a.Read level counted after) fs w = reading_shared level counted (put (p.InRow after) f.children f) fs t q n es w g h
       by a.Apply fs w =
-          reading_shared 16 false (opened (Node NODE_APPLY) (p.Left APPLIED) f.depth f.row)
+          reading_shared 16 false (opened (Node NODE_APPLY) (p.InRow APPLIED) f.depth f.children)
           (opened Operand (p.AfterOperand (min_bp_of f.position) 15) f.depth blank ∷ fs) t q n es (tt, (tt, w.1)) g h
       by action [] w = shared (perform false action f [] (t ∷ q) n es) (assumption (h, one))
       by action (g ∷ fs) w = shared (perform false action f (g ∷ fs) (t ∷ q) n es) (assumption (h, one))

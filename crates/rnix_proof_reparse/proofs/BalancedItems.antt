@@ -17,7 +17,7 @@ use Rattle.rnix_grammar.specs.Fault.{Fault}
 use Rattle.rnix_grammar.specs.Reads.{Reads, end, leaf, inner, missing_part, wrong, second}
 use Rattle.rnix_grammar.specs.Reports.{repeats}
 use Rattle.rnix_grammar.specs.Rules.{Row, never, done, ◌·◌, ◌or◌, row, after, may_end}
-use Rattle.rnix_proof_lemmas.proofs.Basics.{true_is_not_false, not_nil, none_left, none_right}
+use Rattle.rnix_proof_lemmas.proofs.Basics.{true_is_not_false, not_nil, none_remaining, none_right}
 use Rattle.rnix_proof_lemmas.proofs.RowKinds.{has_row}
 use Rattle.rnix_proof_lemmas.proofs.ReachableRows.{IsKnown, is_viable, every_known, known_row, known_after}
 use Rattle.rnix_proof_lemmas.proofs.ViableRows.{reads_viable, end_viable, reads_row, past_ends}
@@ -145,8 +145,8 @@ balanced_row {p} {q = q} (leaf {t = t} {f = f} x o h) z known v m ls =
     leaf_levels p t (open_in q) (open_in (after q k)) m (map lexeme_of (tokens_in f) ++ ls) (kept_levels q k known (reads_viable h v))
     ∙ balanced_row h z (known_after k known) v m ls
 balanced_row {q = q} {b = b} (inner {k = k} {s = s} {c = x} {f = f} {ds = ds} {es = es} room hr over i o op h) z known v m ls =
-    let none : ds ++ repeats k b x ≡ [] = none_left (ds ++ repeats k b x) es z in
-    let first : ds ≡ [] = none_left ds (repeats k b x) none in
+    let none : ds ++ repeats k b x ≡ [] = none_remaining (ds ++ repeats k b x) es z in
+    let first : ds ≡ [] = none_remaining ds (repeats k b x) none in
     let more : List Lexeme = map lexeme_of (tokens_in f) ++ ls in
     let inside : are_balanced (map lexeme_of (tokens_in x) ++ more) (open_in (row k) + (open_in q + m)) ≡ are_balanced more (open_in s + (open_in q + m)) =
     balanced_row hr first (known_row k) (end_viable s over.0) (open_in q + m) more in
@@ -260,8 +260,8 @@ balanced_inside (token i t x) r u {p} {q = q} (leaf a o h) z known v w m ls =
     let s : Stays p q k = stays_parts p q k (within_stays q k known w (reads_viable h v)) (not_over x r u h v) in
     neutral_item p t m (map lexeme_of (tokens_in x) ++ ls) s.opens s.closes ∙ balanced_inside x r u h z (known_after k known) v s.within m ls
 balanced_inside (branch k y x) r u {p} {q = q} {b = b} (inner {s = t} {ds = ds} {es = es} room hr over i o op h) z known v w m ls =
-    let none : ds ++ repeats k b y ≡ [] = none_left (ds ++ repeats k b y) es z in
-    let first : ds ≡ [] = none_left ds (repeats k b y) none in
+    let none : ds ++ repeats k b y ≡ [] = none_remaining (ds ++ repeats k b y) es z in
+    let first : ds ≡ [] = none_remaining ds (repeats k b y) none in
     let s : Stays p q k = stays_parts p q k (within_stays q k known w (reads_viable h v)) (not_over x r u h v) in
     let more : List Lexeme = map lexeme_of (tokens_in x) ++ ls in
     ap (λ l. are_balanced l m) (lexemes_two (tokens_in y) (tokens_in x) ls)

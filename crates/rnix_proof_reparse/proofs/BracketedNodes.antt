@@ -3,8 +3,7 @@ use Rattle.std.proofs.Common.{◌≡◌, ℕ, ◌+◌, ◌≤◌, Bool, true, fa
 use Rattle.rnix_kinds.specs.declared.kinds.SyntaxKind.{SyntaxKind}
 use Rattle.rnix_kinds.specs.declared.kinds.SyntaxKind.TheVariants.{NODE_ATTR_SET, NODE_LIST, NODE_PAREN, NODE_STRING}
 use Rattle.rnix_grammar.specs.AnnotatedForest.{Token, AnnotatedForest, blank, token, ◌⊕◌, one_token, tokens_in, leaf_kind, head_kind, end_from}
-use Rattle.rnix_grammar.specs.Begins.{is_pattern, second_kind}
-use Rattle.rnix_grammar.specs.Beginnings.{first_kind}
+use Rattle.rnix_grammar.specs.OperandStarts.{is_pattern, first_kind, second_kind}
 use Rattle.rnix_grammar.specs.Fault.{Fault}
 use Rattle.rnix_grammar.specs.Nesting.{depth_of}
 use Rattle.rnix_grammar.specs.Reads.{Reads, leaf, missing_part, IsOver}

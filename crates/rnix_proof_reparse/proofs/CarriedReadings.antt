@@ -8,12 +8,12 @@ use Rattle.rnix_grammar.specs.Fault.{Fault}
 use Rattle.rnix_grammar.specs.Nesting.{depth_of}
 use Rattle.rnix_grammar.specs.Reads.{Reads, end, leaf, inner, missing_part, wrong, second, IsRoom, IsOver, deeper}
 use Rattle.rnix_grammar.specs.Reports.{report, repeats, repeated_if, entry_name}
-use Rattle.rnix_grammar.specs.Beginnings.{IsOperandOf}
+use Rattle.rnix_grammar.specs.FirstKinds.{IsOperandOf}
 use Rattle.rnix_grammar.specs.declared.rules.Part.TheVariants.{Suffix, Binary, Argument}
 use Rattle.rnix_grammar.specs.Rules.{Row, ◌·◌, row, after, counts, IsExpected, IsFollowed, is_first_expected, level_at}
 use Rattle.rnix_grammar.specs.Tables.{depth_limit}
 use Rattle.rnix_proof_lemmas.proofs.AnnotatedForestLemmas.{tokens_two}
-use Rattle.rnix_proof_lemmas.proofs.Basics.{true_is_not_false, not_nil, none_left, none_right}
+use Rattle.rnix_proof_lemmas.proofs.Basics.{true_is_not_false, not_nil, none_remaining, none_right}
 use Rattle.rnix_proof_lemmas.proofs.EachKind.{each_kind}
 use Rattle.rnix_proof_lemmas.proofs.ReachableRows.{IsKnown, known_after}
 use Rattle.rnix_proof_reparse.specs.Bracketed.{IsBracketed}
@@ -28,7 +28,7 @@ pub data Kept (k : SyntaxKind) (c e : AnnotatedForest) : AnnotatedForest → Ann
 
 -- an error node leaves an error
 pub no_second : {A : Type 0} (ds : List Fault) (ts : List Token) (es : List Fault) → (ds ++ report DoubleBind ts ∷ []) ++ es ≡ [] → A
-no_second ds ts es z = absurd (not_nil (none_right ds (report DoubleBind ts ∷ []) (none_left (ds ++ report DoubleBind ts ∷ []) es z)))
+no_second ds ts es z = absurd (not_nil (none_right ds (report DoubleBind ts ∷ []) (none_remaining (ds ++ report DoubleBind ts ∷ []) es z)))
 
 -- a node that is read without errors
 pub clean_node : {p j : SyntaxKind} {d n : ℕ} {q q' s : Row} {b x f : AnnotatedForest} {us : List Token} → IsRoom q d
@@ -66,17 +66,17 @@ deeper_room q d room l = by (counts q) room
     by false h = l
 
 -- what is read without errors nests no deeper than may be
-pub room_left : {p : SyntaxKind} {d n : ℕ} {q q' : Row} {b : AnnotatedForest} {us : List Token} {f : AnnotatedForest} {es : List Fault}
+pub room_remaining : {p : SyntaxKind} {d n : ℕ} {q q' : Row} {b : AnnotatedForest} {us : List Token} {f : AnnotatedForest} {es : List Fault}
     → Reads p d n q q' b us f es → es ≡ [] → d ≤ depth_limit → d + depth_of q f ≤ depth_limit
-room_left end z l = omega (arith, l)
-room_left (leaf x o h) z l = room_left h z l
-room_left (missing_part u t m o h) z l = absurd (not_nil z)
-room_left (wrong note ts x o v h) z l = absurd (not_nil z)
-room_left (second {c = x} {ds = ds} {es = es} hr over h) z l = no_second ds (tokens_in x) es z
-room_left {d = d} {q = q} {b = b} (inner {k = j} {c = x} {f = f} {ds = ds} {es = es} room hr over i o op h) z l =
-    let none : ds ++ repeats j b x ≡ [] = none_left (ds ++ repeats j b x) es z in
+room_remaining end z l = omega (arith, l)
+room_remaining (leaf x o h) z l = room_remaining h z l
+room_remaining (missing_part u t m o h) z l = absurd (not_nil z)
+room_remaining (wrong note ts x o v h) z l = absurd (not_nil z)
+room_remaining (second {c = x} {ds = ds} {es = es} hr over h) z l = no_second ds (tokens_in x) es z
+room_remaining {d = d} {q = q} {b = b} (inner {k = j} {c = x} {f = f} {ds = ds} {es = es} room hr over i o op h) z l =
+    let none : ds ++ repeats j b x ≡ [] = none_remaining (ds ++ repeats j b x) es z in
     both_by (counts q) d (depth_of (row j) x) (depth_of (after q j) f)
-    (room_left hr (none_left ds (repeats j b x) none) (deeper_room q d room l)) (room_left h (none_right (ds ++ repeats j b x) es z) l)
+    (room_remaining hr (none_remaining ds (repeats j b x) none) (deeper_room q d room l)) (room_remaining h (none_right (ds ++ repeats j b x) es z) l)
 
 -- what is left of the row is known
 pub known_end : {p : SyntaxKind} {d n : ℕ} {q q' : Row} {b : AnnotatedForest} {us : List Token} {f : AnnotatedForest} {es : List Fault}
@@ -150,11 +150,11 @@ module _ {k l r : SyntaxKind} (w : IsBracketed k l r) {c e : AnnotatedForest} wh
   carry (wrong note ts x o v h) z m fit kept vs sees = absurd (not_nil z)
   carry (second {c = x} {ds = ds} {es = es} hr over h) z m fit kept vs sees = no_second ds (tokens_in x) es z
   carry {n = n} {q = q} {b = b} {us = us} (inner {k = j} {s = s} {c = x} {f = f} {ds = ds} {es = es} room hr over i o op h) z m fit kept vs sees =
-      let none : ds ++ repeats j b x ≡ [] = none_left (ds ++ repeats j b x) es z in
+      let none : ds ++ repeats j b x ≡ [] = none_remaining (ds ++ repeats j b x) es z in
       let deep : IsRoomy q m (depth_of (row j) x) (depth_of (after q j) f) = roomy q m (depth_of (row j) x) (depth_of (after q j) f) fit in
       let rest : Sees (tokens_in f ++ us) (tokens_in f ++ vs) = sees_more (tokens_in f) us vs sees in
       carried us f deep.here rest
-      (carry hr (none_left ds (repeats j b x) none) (deeper q m) deep.inside same (tokens_in f ++ vs) rest) over i o op kept
+      (carry hr (none_remaining ds (repeats j b x) none) (deeper q m) deep.inside same (tokens_in f ++ vs) rest) over i o op kept
       (none_right ds (repeats j b x) none)
       (carry h (none_right (ds ++ repeats j b x) es z) m deep.behind (kept_first (one_branch j x) kept) vs sees)
 
@@ -199,12 +199,12 @@ module _ {k l r : SyntaxKind} (w : IsBracketed k l r) {c e : AnnotatedForest} wh
   close (fault i y x) j u (wrong note ts o f v h) e m fit kept z vs sees = absurd (not_nil e)
   close (fault i y x) j u (second {ds = ds} {es = es} hr over h) e m fit kept z vs sees = no_second ds (tokens_in y) es e
   close (branch i y x) j u {p} {n = n} {q = q} {b = b} {us = us} (inner {s = s} {ds = ds} {es = es} room hr over o f op h) clean m fit kept z vs sees =
-      let none : ds ++ repeats i b y ≡ [] = none_left (ds ++ repeats i b y) es clean in
+      let none : ds ++ repeats i b y ≡ [] = none_remaining (ds ++ repeats i b y) es clean in
       let deep : IsRoomy q m (depth_of (row i) y) (depth_of (after q i) (x ⊕ one_token j u)) =
       roomy q m (depth_of (row i) y) (depth_of (after q i) (x ⊕ one_token j u)) fit in
       let rest : Sees (tokens_in (x ⊕ one_token j u) ++ us) (tokens_in (x ⊕ one_token j (ending u z)) ++ vs) = sees_closed x j u us z vs sees in
       carried w us (x ⊕ one_token j u) deep.here rest
-      (carry w {c = c} {e = e} hr (none_left ds (repeats i b y) none) (deeper q m) deep.inside same (tokens_in (x ⊕ one_token j (ending u z)) ++ vs) rest)
+      (carry w {c = c} {e = e} hr (none_remaining ds (repeats i b y) none) (deeper q m) deep.inside same (tokens_in (x ⊕ one_token j (ending u z)) ++ vs) rest)
       over o f op kept
       (none_right ds (repeats i b y) none)
       (close x j u h (none_right (ds ++ repeats i b y) es clean) m deep.behind (kept_first w (one_branch i y) kept) z vs sees)

@@ -5,7 +5,7 @@ use Rattle.rnix_kinds.specs.Lexical.Tokens.{Lexeme}
 use Rattle.rnix_green.specs.Forest.{Forest}
 use Rattle.rnix_green.specs.Tree.{Tree}
 use Rattle.rnix_grammar.specs.AnnotatedForest.{Token, AnnotatedForest, tokens_in, forget, without_trivia, placed_from, HaveLeafKinds}
-use Rattle.rnix_grammar.specs.Layout.{trivia_before, left_after, with_trivia}
+use Rattle.rnix_grammar.specs.Layout.{trivia_before, remaining_after, with_trivia}
 use Rattle.rnix_grammar.specs.Reading.{IsReading}
 use Rattle.rnix_grammar.specs.Reads.{ReadsRoot}
 use Rattle.rnix_proof_rows.proofs.ReadsShapes.{AreErrorFreeRows, root_rows}
@@ -29,8 +29,8 @@ clean_tree ls f r =
     let ts : List Token = placed_from 0 ls in
     let rows : AreErrorFreeRows bare = ((root_rows r.reads).0 refl).nodes in
     let edged : AreEdged a = subst AreEdged (sym r.placed)
-    (edged-⊕ (with_trivia bare ts) (trivia_before (left_after bare ts))
-    (with_trivia_edged bare ts [] (all_items bare ts (without_trivia_items a ts r.leaves)) rows) (edged_trivia (left_after bare ts))) in
+    (edged-⊕ (with_trivia bare ts) (trivia_before (remaining_after bare ts))
+    (with_trivia_edged bare ts [] (all_items bare ts (without_trivia_items a ts r.leaves)) rows) (edged_trivia (remaining_after bare ts))) in
     record {
       annotated = a;
       forest = sym (ap (λ (t : Tree). t.children) r.tree_is);

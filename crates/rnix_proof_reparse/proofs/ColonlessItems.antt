@@ -11,8 +11,8 @@ use Rattle.rnix_kinds.specs.declared.kinds.SyntaxKind.TheVariants.{TOKEN_AT, TOK
 use Rattle.rnix_kinds.specs.SyntaxKind.{is_fn_arg}
 use Rattle.rnix_kinds.proofs.AllKinds.{all_kinds, every, implied}
 use Rattle.rnix_grammar.specs.AnnotatedForest.{Token, AnnotatedForest, blank, token, branch, one_branch, tokens_in, leaf_kind, leaf_kind_as, head_kind}
-use Rattle.rnix_grammar.specs.Begins.{is_pattern, second_kind}
-use Rattle.rnix_grammar.specs.Beginnings.{first_kind, BeginsAs, IsOperandOf}
+use Rattle.rnix_grammar.specs.OperandStarts.{is_pattern, first_kind, second_kind}
+use Rattle.rnix_grammar.specs.FirstKinds.{BeginsAs, IsOperandOf}
 use Rattle.rnix_grammar.specs.Fault.{Fault}
 use Rattle.rnix_grammar.specs.Operands.{first_tree, follows}
 use Rattle.rnix_grammar.specs.Reads.{Reads, end, leaf, inner, missing_part, wrong, second}
@@ -20,7 +20,7 @@ use Rattle.rnix_grammar.specs.Reports.{repeats}
 use Rattle.rnix_grammar.specs.declared.rules.Part.TheVariants.{Argument, Many, Names}
 use Rattle.rnix_grammar.specs.Rules.{Row, ◌·◌, row, after, may_end, begins_attr, expects_item, expects, IsExpected, is_first_expected, level_at, IsFollowed}
 use Rattle.rnix_grammar.specs.TokenKinds.{is_or}
-use Rattle.rnix_proof_lemmas.proofs.Basics.{true_is_not_false, not_if, not_nil, none_left, none_right}
+use Rattle.rnix_proof_lemmas.proofs.Basics.{true_is_not_false, not_if, not_nil, none_remaining, none_right}
 use Rattle.rnix_proof_lemmas.proofs.EveryKind.{only}
 use Rattle.rnix_proof_lemmas.proofs.RowKinds.{has_row}
 use Rattle.rnix_proof_lemmas.proofs.ReachableRows.{IsKnown, is_viable, every_known, known_row, known_after}
@@ -141,7 +141,7 @@ some_read (second {c = x} {ds = ds} {es = es} hr over h) z e w = no_second ds (t
 some_read (leaf x o h) z e w = tt
 some_read {b = b} (inner {k = j} {c = x} {f = f} {ds = ds} {es = es} room hr over i o op h) z e w =
     some_first (tokens_in x) (tokens_in f)
-    (some_read hr (none_left ds (repeats j b x) (none_left (ds ++ repeats j b x) es z)) over.0 (row_some j))
+    (some_read hr (none_remaining ds (repeats j b x) (none_remaining (ds ++ repeats j b x) es z)) over.0 (row_some j))
 
 -- none begins with `:`, and what begins with `@` is known by its first tree
 abbrev IsNamedHead : SyntaxKind → AnnotatedForest → List Token → Type 0
@@ -190,7 +190,7 @@ named_head {k} {q = q} {s = s} (leaf {t = t} {f = f} x o h) z e w r =
       λ a g. bind_named k (bind_alone k (ap (λ j. is_viable (after (row k) j)) (sym (ap (leaf_kind_as k) a ∙ leaf_at k)) ∙ v)) (token (leaf_kind k t) t f) g,
     )
 named_head {k} {b = b} (inner {k = j} {s = t} {c = y} {f = g} {ds = ds} {es = es} room hr over i o op h) z e w r =
-    let none : ds ≡ [] = none_left ds (repeats j b y) (none_left (ds ++ repeats j b y) es z) in
+    let none : ds ≡ [] = none_remaining ds (repeats j b y) (none_remaining (ds ++ repeats j b y) es z) in
     let own : has_row j ≡ true = reads_row hr over.0 in
     head_more k j y g (tokens_in y) (tokens_in g) r own (some_read hr none over.0 (row_some j)) (named_head hr none refl over.0 own)
 
@@ -252,7 +252,7 @@ next_colonless {p} {r = r} {q' = q'} {us = us} (leaf {t = t} {f = f} x o h) z g 
     (λ k. true_is_not_false (sym v ∙ ap (λ j. is_viable (after r j)) (ap (leaf_kind_as p) k ∙ leaf_colon p) ∙ g.colon))
     (λ k. true_is_not_false (sym v ∙ ap (λ j. is_viable (after r j)) (ap (leaf_kind_as p) k ∙ leaf_at p) ∙ g.at))
 next_colonless {n = n} {r = r} {q' = q'} {b = b} {us = us} (inner {k = j} {c = x} {f = f} {ds = ds} {es = es} room hr over i o op h) z g e c =
-    let none : ds ≡ [] = none_left ds (repeats j b x) (none_left (ds ++ repeats j b x) es z) in
+    let none : ds ≡ [] = none_remaining ds (repeats j b x) (none_remaining (ds ++ repeats j b x) es z) in
     let own : has_row j ≡ true = reads_row hr over.0 in
     subst IsColonless (sym (append_assoc (tokens_in x) (tokens_in f) us))
     (node_colonless r b j x n (tokens_in f ++ us) g.nodes own (reads_viable h (end_viable q' e)) i o op (some_read hr none over.0 (row_some j))
@@ -270,7 +270,7 @@ colonless_after w {p = p} (leaf {t = t} x o h) z known v colonless (past_token s
 colonless_after {k} w {q = q} {q' = q'} {b = b} (inner {c = x} {ds = ds} {es = es} room hr over i o op h) z known v colonless here =
     next_colonless h (none_right (ds ++ repeats k b x) es z) (colonless_behind q k known (bracketed_end w) (reads_viable h (end_viable q' v))) v colonless
 colonless_after w {q = q} {q' = q'} {b = b} (inner {k = j} {c = x} {ds = ds} {es = es} room hr over i o op h) z known v colonless (inside s) =
-    colonless_after w hr (none_left ds (repeats j b x) (none_left (ds ++ repeats j b x) es z)) (known_row j) over.0
+    colonless_after w hr (none_remaining ds (repeats j b x) (none_remaining (ds ++ repeats j b x) es z)) (known_row j) over.0
     (λ may. next_colonless h (none_right (ds ++ repeats j b x) es z) (colonless_behind q j known may (reads_viable h (end_viable q' v))) v colonless) s
 colonless_after w {b = b} (inner {k = j} {c = x} {ds = ds} {es = es} room hr over i o op h) z known v colonless (past_branch s) =
     colonless_after w h (none_right (ds ++ repeats j b x) es z) (known_after j known) v colonless s

@@ -14,7 +14,7 @@ use Rattle.rnix_grammar.specs.Nesting.{depth_of}
 use Rattle.rnix_grammar.specs.Reads.{Reads, end, leaf as item, inner, missing_part, wrong, second}
 use Rattle.rnix_grammar.specs.Reports.{repeats}
 use Rattle.rnix_grammar.specs.Rules.{Row, row, after, counts}
-use Rattle.rnix_proof_lemmas.proofs.Basics.{true_is_not_false, not_nil, none_left, none_right, choice}
+use Rattle.rnix_proof_lemmas.proofs.Basics.{true_is_not_false, not_nil, none_remaining, none_right, choice}
 use Rattle.rnix_proof_lemmas.proofs.EveryKind.{only}
 use Rattle.rnix_proof_lemmas.proofs.RowKinds.{has_row}
 use Rattle.rnix_proof_lemmas.proofs.ReachableRows.{IsKnown, is_viable, every_known, known_row, known_after}
@@ -86,8 +86,8 @@ row_bounded {p} (item {t = t} x o h) z known v =
     let w = row_bounded h z (known_after (leaf_kind p t) known) v in
     record { whole = w.whole; head = tt; name = w.name }
 row_bounded {p} {q = q} {b = b} (inner {k = k} {s = s} {c = x} {f = f} {ds = ds} {es = es} room hr over i o op h) z known v =
-    let none : ds ++ repeats k b x ≡ [] = none_left (ds ++ repeats k b x) es z in
-    let inside : IsBounded k (row k) x = row_bounded hr (none_left ds (repeats k b x) none) (known_row k) (end_viable s over.0) in
+    let none : ds ++ repeats k b x ≡ [] = none_remaining (ds ++ repeats k b x) es z in
+    let inside : IsBounded k (row k) x = row_bounded hr (none_remaining ds (repeats k b x) none) (known_row k) (end_viable s over.0) in
     let behind : IsBounded p (after q k) f = row_bounded h (none_right (ds ++ repeats k b x) es z) (known_after k known) v in
     let own : has_row k ≡ true = reads_row hr over.0 in
     let more : is_viable (after q k) ≡ true = reads_viable h v in

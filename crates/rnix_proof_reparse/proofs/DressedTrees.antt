@@ -4,7 +4,7 @@ use Rattle.rnix_kinds.specs.SyntaxKind.{is_trivia}
 use Rattle.rnix_kinds.specs.Lexical.Tokens.{Lexeme}
 use Rattle.rnix_green.specs.Forest.{Forest, empty, leaf, node, join}
 use Rattle.rnix_grammar.specs.AnnotatedForest.{Token, lexeme_of, AnnotatedForest, blank, token, branch, fault, ◌⊕◌, forget}
-use Rattle.rnix_grammar.specs.Layout.{from_item, from_item_if, trivia_before, trivia_if, tail_of, left_after, with_trivia, with_all_trivia}
+use Rattle.rnix_grammar.specs.Layout.{from_item, from_item_if, trivia_before, trivia_if, tail_of, remaining_after, with_trivia, with_all_trivia}
 use Rattle.rnix_proof_lemmas.proofs.AnnotatedForestLemmas.{forget-⊕}
 use Rattle.rnix_proof_rows.proofs.ReadsShapes.{AreErrorFreeRows}
 
@@ -54,13 +54,14 @@ later_same (t ∷ ts) = refl
 behind_first : (ts : List Token) → map lexeme_of (tail_of (from_item ts)) ≡ later_lexemes (item_lexemes (map lexeme_of ts))
 behind_first ts = later_same (from_item ts) ∙ ap later_lexemes (from_lexemes ts)
 
-left_lexemes : (f : AnnotatedForest) → AreErrorFreeRows f → (ts : List Token) → map lexeme_of (left_after f ts) ≡ lexemes_after (forget f) (map lexeme_of ts)
-left_lexemes blank h ts = refl
-left_lexemes (token k t f) h ts = left_lexemes f h (tail_of (from_item ts)) ∙ ap (lexemes_after (forget f)) (behind_first ts)
-left_lexemes (branch k c f) h ts =
-    left_lexemes f h.3 (left_after c (from_item ts))
-    ∙ ap (lexemes_after (forget f)) (left_lexemes c h.2 (from_item ts) ∙ ap (lexemes_after (forget c)) (from_lexemes ts))
-left_lexemes (fault n c f) h ts = absurd h
+remaining_lexemes : (f : AnnotatedForest) → AreErrorFreeRows f → (ts : List Token)
+    → map lexeme_of (remaining_after f ts) ≡ lexemes_after (forget f) (map lexeme_of ts)
+remaining_lexemes blank h ts = refl
+remaining_lexemes (token k t f) h ts = remaining_lexemes f h (tail_of (from_item ts)) ∙ ap (lexemes_after (forget f)) (behind_first ts)
+remaining_lexemes (branch k c f) h ts =
+    remaining_lexemes f h.3 (remaining_after c (from_item ts))
+    ∙ ap (lexemes_after (forget f)) (remaining_lexemes c h.2 (from_item ts) ∙ ap (lexemes_after (forget c)) (from_lexemes ts))
+remaining_lexemes (fault n c f) h ts = absurd h
 
 with_lexemes : (f : AnnotatedForest) → AreErrorFreeRows f → (ts : List Token) → forget (with_trivia f ts) ≡ dressed (forget f) (map lexeme_of ts)
 with_lexemes blank h ts = refl
@@ -72,22 +73,22 @@ with_lexemes (token k t f) h ts =
 with_lexemes (branch k c f) h ts =
     let inside : forget (with_trivia c (from_item ts)) ≡ dressed (forget c) (item_lexemes (map lexeme_of ts)) =
     with_lexemes c h.2 (from_item ts) ∙ ap (dressed (forget c)) (from_lexemes ts) in
-    let left : map lexeme_of (left_after c (from_item ts)) ≡ lexemes_after (forget c) (item_lexemes (map lexeme_of ts)) =
-    left_lexemes c h.2 (from_item ts) ∙ ap (lexemes_after (forget c)) (from_lexemes ts) in
-    let behind : forget (with_trivia f (left_after c (from_item ts))) ≡ dressed (forget f) (lexemes_after (forget c) (item_lexemes (map lexeme_of ts))) =
-    with_lexemes f h.3 (left_after c (from_item ts)) ∙ ap (dressed (forget f)) left in
-    forget-⊕ (trivia_before ts) (branch k (with_trivia c (from_item ts)) (with_trivia f (left_after c (from_item ts))))
-    ∙ ap (λ z. join z (node k (forget (with_trivia c (from_item ts))) (forget (with_trivia f (left_after c (from_item ts)))))) (before_lexemes ts)
-    ∙ ap (λ z. join (trivia_leaves (map lexeme_of ts)) (node k z (forget (with_trivia f (left_after c (from_item ts)))))) inside
+    let remaining : map lexeme_of (remaining_after c (from_item ts)) ≡ lexemes_after (forget c) (item_lexemes (map lexeme_of ts)) =
+    remaining_lexemes c h.2 (from_item ts) ∙ ap (lexemes_after (forget c)) (from_lexemes ts) in
+    let behind : forget (with_trivia f (remaining_after c (from_item ts))) ≡ dressed (forget f) (lexemes_after (forget c) (item_lexemes (map lexeme_of ts))) =
+    with_lexemes f h.3 (remaining_after c (from_item ts)) ∙ ap (dressed (forget f)) remaining in
+    forget-⊕ (trivia_before ts) (branch k (with_trivia c (from_item ts)) (with_trivia f (remaining_after c (from_item ts))))
+    ∙ ap (λ z. join z (node k (forget (with_trivia c (from_item ts))) (forget (with_trivia f (remaining_after c (from_item ts)))))) (before_lexemes ts)
+    ∙ ap (λ z. join (trivia_leaves (map lexeme_of ts)) (node k z (forget (with_trivia f (remaining_after c (from_item ts)))))) inside
     ∙ ap (λ z. join (trivia_leaves (map lexeme_of ts)) (node k (dressed (forget c) (item_lexemes (map lexeme_of ts))) z)) behind
 with_lexemes (fault n c f) h ts = absurd h
 
 all_lexemes : (f : AnnotatedForest) → AreErrorFreeRows f → (ts : List Token)
     → forget (with_all_trivia f ts) ≡ join (dressed (forget f) (map lexeme_of ts)) (trivia_leaves (lexemes_after (forget f) (map lexeme_of ts)))
 all_lexemes f h ts =
-    forget-⊕ (with_trivia f ts) (trivia_before (left_after f ts))
-    ∙ ap (λ z. join z (forget (trivia_before (left_after f ts)))) (with_lexemes f h ts)
-    ∙ ap (join (dressed (forget f) (map lexeme_of ts))) (before_lexemes (left_after f ts) ∙ ap trivia_leaves (left_lexemes f h ts))
+    forget-⊕ (with_trivia f ts) (trivia_before (remaining_after f ts))
+    ∙ ap (λ z. join z (forget (trivia_before (remaining_after f ts)))) (with_lexemes f h ts)
+    ∙ ap (join (dressed (forget f) (map lexeme_of ts))) (before_lexemes (remaining_after f ts) ∙ ap trivia_leaves (remaining_lexemes f h ts))
 
 -- so the same trees with the trivia of the same lexemes are the same
 pub dressed_same : (f g : AnnotatedForest) → AreErrorFreeRows f → AreErrorFreeRows g → (ts us : List Token) → forget f ≡ forget g

@@ -4,7 +4,7 @@ use Rattle.rnix_kinds.specs.declared.kinds.SyntaxKind.{SyntaxKind}
 use Rattle.rnix_kinds.specs.SyntaxKind.{is_trivia}
 use Rattle.rnix_kinds.proofs.AllKinds.{implied}
 use Rattle.rnix_grammar.specs.AnnotatedForest.{Token, lexeme_of, AnnotatedForest, blank, branch, token, ◌⊕◌, one_token, one_branch, tokens_in}
-use Rattle.rnix_grammar.specs.Beginnings.{BeginsAs, IsOperandOf}
+use Rattle.rnix_grammar.specs.FirstKinds.{BeginsAs, IsOperandOf}
 use Rattle.rnix_grammar.specs.Fault.{Fault}
 use Rattle.rnix_grammar.specs.Layout.{items, item_if}
 use Rattle.rnix_grammar.specs.Operands.{first_tree}
@@ -12,7 +12,7 @@ use Rattle.rnix_grammar.specs.Reads.{Reads, ReadsRoot, deeper, end, leaf, inner,
 use Rattle.rnix_grammar.specs.Reports.{repeats}
 use Rattle.rnix_grammar.specs.Rules.{Row, row, after, may_end, level_at}
 use Rattle.rnix_proof_lemmas.proofs.AnnotatedForestLemmas.{tokens_two}
-use Rattle.rnix_proof_lemmas.proofs.Basics.{not_nil, not_if, none_left, none_right}
+use Rattle.rnix_proof_lemmas.proofs.Basics.{not_nil, not_if, none_remaining, none_right}
 use Rattle.rnix_proof_lemmas.proofs.ReachableRows.{known_row, known_after}
 use Rattle.rnix_proof_lemmas.proofs.ViableRows.{end_viable}
 use Rattle.rnix_proof_replacement.specs.Replaced.{opens_level, closes_level, one_less, are_balanced}
@@ -46,11 +46,11 @@ node_at {k} {c} {d = d} {n = n} {q = q} {b = b} {us = us} (inner {s = t} {f = f}
       rest = t;
       next = tokens_in f ++ us;
       reads = subst (λ (v : List Fault). Reads k (deeper q d) n (row k) t blank (tokens_in f ++ us) c v)
-          (none_left ds (repeats k b c) (none_left (ds ++ repeats k b c) es z)) hr;
+          (none_remaining ds (repeats k b c) (none_remaining (ds ++ repeats k b c) es z)) hr;
       ended = over.0;
     }
 node_at {b = b} (inner {k = j} {c = x} {ds = ds} {es = es} room hr over i o op h) z (inside s) =
-    node_at hr (none_left ds (repeats j b x) (none_left (ds ++ repeats j b x) es z)) s
+    node_at hr (none_remaining ds (repeats j b x) (none_remaining (ds ++ repeats j b x) es z)) s
 node_at {b = b} (inner {k = j} {c = x} {ds = ds} {es = es} room hr over i o op h) z (past_branch s) = node_at h (none_right (ds ++ repeats j b x) es z) s
 
 -- a text of one node
@@ -73,7 +73,8 @@ only_node : {p k : SyntaxKind} {d n : ℕ} {q q' : Row} {b x : AnnotatedForest} 
 only_node (missing_part u t o y h) z = absurd (not_nil z)
 only_node {k = k} {d = d} {n = n} {q = q} {b = b} {x = x} {us = us} (inner {s = t} {ds = ds} {es = es} room hr over i o op h) z = record {
   rest = t;
-  reads = subst (λ (v : List Fault). Reads k (deeper q d) n (row k) t blank us x v) (none_left ds (repeats k b x) (none_left (ds ++ repeats k b x) es z)) hr;
+  reads = subst (λ (v : List Fault). Reads k (deeper q d) n (row k) t blank us x v) (none_remaining ds (repeats k b x) (none_remaining (ds
+      ++ repeats k b x) es z)) hr;
   ended = over.0;
   operand = op;
 }

@@ -5,7 +5,7 @@ use Rattle.rnix_kinds.specs.SyntaxKind.{is_trivia}
 use Rattle.rnix_grammar.specs.AnnotatedForest.{Token, AnnotatedForest, blank, token, branch, fault, ◌⊕◌, tokens_in, leaf_kind, HaveLeafKinds}
 use Rattle.rnix_grammar.specs.AnnotatedForest.{without_trivia, token_if}
 use Rattle.rnix_grammar.specs.Layout.{from_item, from_item_if, trivia_before, trivia_if, tail_of, items, item_if, is_last, trivia_after, rest_after}
-use Rattle.rnix_grammar.specs.Layout.{left_after, with_trivia, with_all_trivia}
+use Rattle.rnix_grammar.specs.Layout.{remaining_after, with_trivia, with_all_trivia}
 use Rattle.rnix_proof_lemmas.proofs.Basics.{true_is_not_false, not_nil}
 use Rattle.rnix_proof_lemmas.proofs.LayoutLemmas.{trivia_keeps_kind}
 use Rattle.rnix_proof_lemmas.proofs.ReportLemmas.{without_trivia_tokens}
@@ -68,27 +68,27 @@ IsSome blank = ⊥
 IsSome f = Unit {0}
 
 behind_trivia : (g : AnnotatedForest) → IsSome g → (t : Token) (ts : List Token) → is_trivia t.kind ≡ true
-    → (with_trivia g (t ∷ ts) ≡ token t.kind t (with_trivia g ts)) × (left_after g (t ∷ ts) ≡ left_after g ts)
+    → (with_trivia g (t ∷ ts) ≡ token t.kind t (with_trivia g ts)) × (remaining_after g (t ∷ ts) ≡ remaining_after g ts)
 behind_trivia blank s t ts e = absurd s
 behind_trivia (token k x f) s t ts e =
     let w = trivia_first t ts e in (
       ap (λ z. z ⊕ token k x (with_trivia f (tail_of (from_item (t ∷ ts))))) w.0
           ∙ ap (λ z. token t.kind t (trivia_before ts ⊕ token k x (with_trivia f (tail_of z)))) w.1,
-      ap (λ z. left_after f (tail_of z)) w.1,
+      ap (λ z. remaining_after f (tail_of z)) w.1,
     )
 behind_trivia (branch k c f) s t ts e =
     let w = trivia_first t ts e in (
-      ap (λ z. z ⊕ branch k (with_trivia c (from_item (t ∷ ts))) (with_trivia f (left_after c (from_item (t ∷ ts))))) w.0
-          ∙ ap (λ z. token t.kind t (trivia_before ts ⊕ branch k (with_trivia c z) (with_trivia f (left_after c z)))) w.1,
-      ap (λ z. left_after f (left_after c z)) w.1,
+      ap (λ z. z ⊕ branch k (with_trivia c (from_item (t ∷ ts))) (with_trivia f (remaining_after c (from_item (t ∷ ts))))) w.0
+          ∙ ap (λ z. token t.kind t (trivia_before ts ⊕ branch k (with_trivia c z) (with_trivia f (remaining_after c z)))) w.1,
+      ap (λ z. remaining_after f (remaining_after c z)) w.1,
     )
 behind_trivia (fault n c f) s t ts e =
     let w = trivia_first t ts e in (
-      ap (λ z. z ⊕ fault n (with_trivia c (from_item (t ∷ ts))) (trivia_after (is_last n) (left_after c (from_item (t ∷ ts)))
-          ⊕ with_trivia f (rest_after (is_last n) (left_after c (from_item (t ∷ ts)))))) w.0
-          ∙ ap (λ z. token t.kind t (trivia_before ts ⊕ fault n (with_trivia c z) (trivia_after (is_last n) (left_after c z)
-          ⊕ with_trivia f (rest_after (is_last n) (left_after c z))))) w.1,
-      ap (λ z. left_after f (rest_after (is_last n) (left_after c z))) w.1,
+      ap (λ z. z ⊕ fault n (with_trivia c (from_item (t ∷ ts))) (trivia_after (is_last n) (remaining_after c (from_item (t ∷ ts)))
+          ⊕ with_trivia f (rest_after (is_last n) (remaining_after c (from_item (t ∷ ts)))))) w.0
+          ∙ ap (λ z. token t.kind t (trivia_before ts ⊕ fault n (with_trivia c z) (trivia_after (is_last n) (remaining_after c z)
+          ⊕ with_trivia f (rest_after (is_last n) (remaining_after c z))))) w.1,
+      ap (λ z. remaining_after f (rest_after (is_last n) (remaining_after c z))) w.1,
     )
 
 all_behind_trivia : (g : AnnotatedForest) (t : Token) (ts : List Token) → is_trivia t.kind ≡ true
@@ -96,38 +96,38 @@ all_behind_trivia : (g : AnnotatedForest) (t : Token) (ts : List Token) → is_t
 all_behind_trivia blank t ts e = (trivia_first t ts e).0
 all_behind_trivia (token k x f) t ts e =
     let w = behind_trivia (token k x f) tt t ts e in
-    ap (λ z. z ⊕ trivia_before (left_after (token k x f) (t ∷ ts))) w.0
+    ap (λ z. z ⊕ trivia_before (remaining_after (token k x f) (t ∷ ts))) w.0
     ∙ ap (λ z. token t.kind t (with_trivia (token k x f) ts) ⊕ trivia_before z) w.1
 all_behind_trivia (branch k c f) t ts e =
     let w = behind_trivia (branch k c f) tt t ts e in
-    ap (λ z. z ⊕ trivia_before (left_after (branch k c f) (t ∷ ts))) w.0
+    ap (λ z. z ⊕ trivia_before (remaining_after (branch k c f) (t ∷ ts))) w.0
     ∙ ap (λ z. token t.kind t (with_trivia (branch k c f) ts) ⊕ trivia_before z) w.1
 all_behind_trivia (fault n c f) t ts e =
     let w = behind_trivia (fault n c f) tt t ts e in
-    ap (λ z. z ⊕ trivia_before (left_after (fault n c f) (t ∷ ts))) w.0
+    ap (λ z. z ⊕ trivia_before (remaining_after (fault n c f) (t ∷ ts))) w.0
     ∙ ap (λ z. token t.kind t (with_trivia (fault n c f) ts) ⊕ trivia_before z) w.1
 
 -- an item, and a node that begins with one, before others
 item_placed : (k : SyntaxKind) (t : Token) (g : AnnotatedForest) (ts : List Token) → is_trivia t.kind ≡ false
-    → (with_trivia (token k t g) (t ∷ ts) ≡ token k t (with_trivia g ts)) × (left_after (token k t g) (t ∷ ts) ≡ left_after g ts)
+    → (with_trivia (token k t g) (t ∷ ts) ≡ token k t (with_trivia g ts)) × (remaining_after (token k t g) (t ∷ ts) ≡ remaining_after g ts)
 item_placed k t g ts e =
     let w = item_first t ts e in (
       ap (λ z. z ⊕ token k t (with_trivia g (tail_of (from_item (t ∷ ts))))) w.0 ∙ ap (λ z. token k t (with_trivia g (tail_of z))) w.1,
-      ap (λ z. left_after g (tail_of z)) w.1,
+      ap (λ z. remaining_after g (tail_of z)) w.1,
     )
 
 node_placed : (k : SyntaxKind) (c f : AnnotatedForest) (ts : List Token) → (trivia_before ts ≡ blank) × (from_item ts ≡ ts)
-    → (with_trivia (branch k c f) ts ≡ branch k (with_trivia c ts) (with_trivia f (left_after c ts))) ×
-    (left_after (branch k c f) ts ≡ left_after f (left_after c ts))
+    → (with_trivia (branch k c f) ts ≡ branch k (with_trivia c ts) (with_trivia f (remaining_after c ts))) ×
+    (remaining_after (branch k c f) ts ≡ remaining_after f (remaining_after c ts))
 node_placed k c f ts w = (
-  ap (λ z. z ⊕ branch k (with_trivia c (from_item ts)) (with_trivia f (left_after c (from_item ts)))) w.0
-      ∙ ap (λ z. branch k (with_trivia c z) (with_trivia f (left_after c z))) w.1,
-  ap (λ z. left_after f (left_after c z)) w.1,
+  ap (λ z. z ⊕ branch k (with_trivia c (from_item ts)) (with_trivia f (remaining_after c (from_item ts)))) w.0
+      ∙ ap (λ z. branch k (with_trivia c z) (with_trivia f (remaining_after c z))) w.1,
+  ap (λ z. remaining_after f (remaining_after c z)) w.1,
 )
 
 -- a row before others, which ends with an item
 abbrev IsPlaced : AnnotatedForest → AnnotatedForest → List Token → List Token → Type 0
-IsPlaced f g ts us = (with_trivia g ts ≡ f) × (left_after g ts ≡ us)
+IsPlaced f g ts us = (with_trivia g ts ≡ f) × (remaining_after g ts ≡ us)
 
 row_placed : (p : SyntaxKind) (f : AnnotatedForest) (us : List Token) → HaveLeafKinds p f → HaveItemEdges f → StopsWithItem (tokens_in f)
     → IsPlaced f (without_trivia f) (tokens_in f ++ us) us
@@ -159,9 +159,9 @@ row_placed p (branch k c f) us l e h =
     let w = node_placed k (without_trivia c) (without_trivia f) ts (starts_first (tokens_in c) (tokens_in f ++ us) e.0) in
     subst (λ (z : List Token). IsPlaced (branch k c f) (branch k (without_trivia c) (without_trivia f)) z us)
     (sym (append_assoc (tokens_in c) (tokens_in f) us)) (
-      w.0 ∙ ap (λ x. branch k x (with_trivia (without_trivia f) (left_after (without_trivia c) ts))) inside.0
+      w.0 ∙ ap (λ x. branch k x (with_trivia (without_trivia f) (remaining_after (without_trivia c) ts))) inside.0
           ∙ ap (λ z. branch k c (with_trivia (without_trivia f) z)) inside.1 ∙ ap (branch k c) behind.0,
-      w.1 ∙ ap (left_after (without_trivia f)) inside.1 ∙ behind.1,
+      w.1 ∙ ap (remaining_after (without_trivia f)) inside.1 ∙ behind.1,
     )
 
 -- a whole row
@@ -178,15 +178,15 @@ placed_again p (token k t f) l e = by (is_trivia t.kind) refl (placed_again p f 
     by false i ih =
         let w = item_placed k t (without_trivia f) (tokens_in f) i in
         ap (λ b. with_all_trivia (token_if b k t (without_trivia f)) (t ∷ tokens_in f)) i
-        ∙ ap (λ z. z ⊕ trivia_before (left_after (token k t (without_trivia f)) (t ∷ tokens_in f))) w.0
+        ∙ ap (λ z. z ⊕ trivia_before (remaining_after (token k t (without_trivia f)) (t ∷ tokens_in f))) w.0
         ∙ ap (λ z. token k t (with_trivia (without_trivia f) (tokens_in f)) ⊕ trivia_before z) w.1 ∙ ap (token k t) ih
 placed_again p (branch k c f) l e =
     let ts : List Token = tokens_in c ++ tokens_in f in
     let inside = row_placed k c (tokens_in f) l.0 e.2 e.1 in
     let w = node_placed k (without_trivia c) (without_trivia f) ts (starts_first (tokens_in c) (tokens_in f) e.0) in
-    ap (λ z. z ⊕ trivia_before (left_after (branch k (without_trivia c) (without_trivia f)) ts)) w.0
-    ∙ ap (λ z. branch k (with_trivia (without_trivia c) ts) (with_trivia (without_trivia f) (left_after (without_trivia c) ts)) ⊕ trivia_before z) w.1
-    ∙ ap (λ x. branch k x (with_trivia (without_trivia f) (left_after (without_trivia c) ts)
-    ⊕ trivia_before (left_after (without_trivia f) (left_after (without_trivia c) ts)))) inside.0
-    ∙ ap (λ z. branch k c (with_trivia (without_trivia f) z ⊕ trivia_before (left_after (without_trivia f) z))) inside.1
+    ap (λ z. z ⊕ trivia_before (remaining_after (branch k (without_trivia c) (without_trivia f)) ts)) w.0
+    ∙ ap (λ z. branch k (with_trivia (without_trivia c) ts) (with_trivia (without_trivia f) (remaining_after (without_trivia c) ts)) ⊕ trivia_before z) w.1
+    ∙ ap (λ x. branch k x (with_trivia (without_trivia f) (remaining_after (without_trivia c) ts)
+    ⊕ trivia_before (remaining_after (without_trivia f) (remaining_after (without_trivia c) ts)))) inside.0
+    ∙ ap (λ z. branch k c (with_trivia (without_trivia f) z ⊕ trivia_before (remaining_after (without_trivia f) z))) inside.1
     ∙ ap (branch k c) (placed_again p f l.1 e.3)

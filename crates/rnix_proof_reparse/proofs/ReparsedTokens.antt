@@ -46,7 +46,7 @@ are_brackets : {k l r : SyntaxKind} (w : IsBracketed k l r) {before part after :
     → AreBrackets before part after (lexeme_of t) (lexeme_of u) (map lexeme_of inner) (map lexeme_of first) (map lexeme_of last)
 are_brackets w {before} {part} {after} {t} {u} {inner} {first} {last} h = record {
   whole = sym (lexemes_placed 0 (tokens_of (before ++ (part ++ after)))) ∙ ap (map lexeme_of) h.whole ∙ four_lexemes first inner last t u;
-  place = texts_lexemes first ∙ h.place;
+  before_is = texts_lexemes first ∙ h.place;
   extent = ap (λ z. t.text ++ texts z) (sym (map-append lexeme_of inner (u ∷ []))) ∙ texts_lexemes (t ∷ (inner ++ (u ∷ []))) ∙ h.extent;
   opening = ap is_opening h.opening ∙ (bracket_opens w).0;
   closing = ap is_closing h.closing ∙ (bracket_opens w).1;
@@ -59,9 +59,9 @@ pub new_lexemes : {k l r : SyntaxKind} (w : IsBracketed k l r) {before old after
     → HasNode l r [] new [] a b others [] [] → t.text ≡ a.text → u.text ≡ b.text
     → tokens_of (before ++ (new ++ after)) ≡ map lexeme_of first ++ (lexeme_of a ∷ (map lexeme_of others ++ (lexeme_of b ∷ map lexeme_of last)))
 new_lexemes w {before} {old} {after} {new} {t} {u} {inner} {first} {last} {a} {b} {others} may was now e h =
-    let left : lexeme_of t ≡ lexeme_of a = lexeme_same t a (was.opening ∙ sym now.opening) e in
+    let remaining : lexeme_of t ≡ lexeme_of a = lexeme_same t a (was.opening ∙ sym now.opening) e in
     let right : lexeme_of u ≡ lexeme_of b = lexeme_same u b (was.closing ∙ sym now.closing) h in
     (may (lexeme_of a) (lexeme_of b) (map lexeme_of inner) (map lexeme_of first) (map lexeme_of last) (map lexeme_of others) [] []
-    (subst (λ z. AreBrackets before old after z (lexeme_of b) (map lexeme_of inner) (map lexeme_of first) (map lexeme_of last)) left
+    (subst (λ z. AreBrackets before old after z (lexeme_of b) (map lexeme_of inner) (map lexeme_of first) (map lexeme_of last)) remaining
     (subst (λ z. AreBrackets before old after (lexeme_of t) z (map lexeme_of inner) (map lexeme_of first) (map lexeme_of last)) right (are_brackets w was)))
     (are_brackets w now)).whole

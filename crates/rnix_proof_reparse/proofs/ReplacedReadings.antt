@@ -8,15 +8,15 @@ use Rattle.rnix_kinds.specs.declared.kinds.SyntaxKind.TheVariants.{TOKEN_R_BRACE
 use Rattle.rnix_kinds.proofs.AllKinds.{all_kinds, implied}
 use Rattle.rnix_grammar.specs.AnnotatedForest.{Token, AnnotatedForest, blank, branch, ◌⊕◌, one_branch, tokens_in, leaf_kind}
 use Rattle.rnix_grammar.specs.AnnotatedForest.{head_kind, end_from}
-use Rattle.rnix_grammar.specs.Begins.{is_pattern}
-use Rattle.rnix_grammar.specs.Beginnings.{IsOperandOf}
+use Rattle.rnix_grammar.specs.OperandStarts.{is_pattern}
+use Rattle.rnix_grammar.specs.FirstKinds.{IsOperandOf}
 use Rattle.rnix_grammar.specs.Fault.{Fault}
 use Rattle.rnix_grammar.specs.Nest.{nests}
 use Rattle.rnix_grammar.specs.Reads.{Reads, end, leaf, inner, missing_part, wrong, second, IsRoom, IsOver, deeper}
 use Rattle.rnix_grammar.specs.Reports.{repeats}
 use Rattle.rnix_grammar.specs.Rules.{Row, row, after, counts, IsExpected, IsFollowed, is_first_expected, level_at}
 use Rattle.rnix_grammar.specs.Tables.{depth_limit}
-use Rattle.rnix_proof_lemmas.proofs.Basics.{true_is_not_false, not_nil, none_left, none_right}
+use Rattle.rnix_proof_lemmas.proofs.Basics.{true_is_not_false, not_nil, none_remaining, none_right}
 use Rattle.rnix_proof_lemmas.proofs.ReachableRows.{IsKnown, is_viable, every_known, known_row, known_after}
 use Rattle.rnix_proof_lemmas.proofs.RowKinds.{has_row}
 use Rattle.rnix_proof_lemmas.proofs.ViableRows.{reads_viable, end_viable, reads_row}
@@ -24,7 +24,7 @@ use Rattle.rnix_proof_reparse.specs.Bracketed.{IsBracketed}
 use Rattle.rnix_proof_reparse.proofs.SwappedNodes.{Swapped, here, past_token, past_branch, past_fault, inside, row_level_swapped, first_swapped}
 use Rattle.rnix_proof_reparse.proofs.SwappedNodes.{follows_swapped, first_expected_swapped, asked_swapped, repeats_here, repeats_inside, swapped_behind}
 use Rattle.rnix_proof_reparse.proofs.SeenItems.{Sees, sees_self, sees_cons, sees_more, sees_node, head_seen, expected_seen, AreSeenAlike, operand_seen}
-use Rattle.rnix_proof_reparse.proofs.CarriedReadings.{same, swapped, clean_node, carried, carry, no_second, room_left, deeper_room}
+use Rattle.rnix_proof_reparse.proofs.CarriedReadings.{same, swapped, clean_node, carried, carry, no_second, room_remaining, deeper_room}
 
 -- what follows begins with neither `:` nor `@`, which would make a function after `}`
 abbrev pub IsColonless : List Token → Type 0
@@ -141,7 +141,7 @@ module _ {k l r : SyntaxKind} (w : IsBracketed k l r) {c e : AnnotatedForest} {m
       (operand_seen (level_at q (one_branch j x)) (one_branch j x) (one_branch j y) (seen_swapped s) rest rest (sees_self rest)
       (sees_node j x y rest rest all) op)) none
       (subst (λ u. Reads p d u (after q j) q' (b ⊕ one_branch j y) us f []) ends
-      (carry w h z d (room_left h z limit) (swapped (swapped_behind b s)) us (sees_self us)))
+      (carry w h z d (room_remaining h z limit) (swapped (swapped_behind b s)) us (sees_self us)))
 
   pub replaces : {p : SyntaxKind} {d n : ℕ} {q q' : Row} {b f g : AnnotatedForest} {us : List Token} {es : List Fault} → Reads p d n q q' b us f es → es ≡ []
       → IsKnown p q → is_viable q' ≡ true → d ≤ depth_limit → (s : Swapped k c e f g) → IsColonlessAfter s us → d + (levels p s + m) ≤ depth_limit
@@ -155,28 +155,29 @@ module _ {k l r : SyntaxKind} (w : IsBracketed k l r) {c e : AnnotatedForest} {m
       (sees_cons t (tokens_in f ++ us) (tokens_in g ++ us) (sees_swapped s us colonless)) x) o
       (replaces h z (known_after (leaf_kind p t) known) v limit s colonless fit)
   replaces {p} {d} {n} {q} {b = b} {us = us} (inner {f = f} {ds = ds} {es = es} room hr over i o op h) z known v limit here colonless fit =
-      let none : ds ++ repeats k b c ≡ [] = none_left (ds ++ repeats k b c) es z in
+      let none : ds ++ repeats k b c ≡ [] = none_remaining (ds ++ repeats k b c) es z in
       let counted = nesting q k known (reads_row hr over.0) (reads_viable h v) in
       node_replaced c e here (new.sees (tokens_in f ++ us) colonless) (new.ends n) room
       (new.reads (deeper q d) n (tokens_in f ++ us) colonless (one_more (counts q) (nests p k) d m counted fit)) i o op
       (sym (repeats_here w b c e) ∙ none_right ds (repeats k b c) none) limit h (none_right (ds ++ repeats k b c) es z)
   replaces {p} {d} {n} {q} {b = b} {us = us} (inner {k = j} {s = t} {c = x} {f = f} {ds = ds} {es = es} room hr over i o op h) z known v limit
       (inside {h = y} s) colonless fit =
-      let none : ds ++ repeats j b x ≡ [] = none_left (ds ++ repeats j b x) es z in
+      let none : ds ++ repeats j b x ≡ [] = none_remaining (ds ++ repeats j b x) es z in
       let counted = nesting q j known (reads_row hr over.0) (reads_viable h v) in
       let ends : end_from n (tokens_in x) ≡ end_from n (tokens_in y) = ends_swapped s n in
       let below : Reads j (deeper q d) n (row j) t blank (tokens_in f ++ us) y [] =
-      replaces hr (none_left ds (repeats j b x) none) (known_row j) (end_viable t over.0) (deeper_room q d room limit) s colonless
+      replaces hr (none_remaining ds (repeats j b x) none) (known_row j) (end_viable t over.0) (deeper_room q d room limit) s colonless
       (some_more (counts q) (nests p j) d (levels j s) m counted fit) in
       node_replaced x y (inside s) (sees_swapped s (tokens_in f ++ us) colonless) ends room
       (record { rest = t; reads = below; over = subst (λ u. IsOver t u (tokens_in f ++ us)) ends over }) i o op
       (sym (repeats_inside w j b s) ∙ none_right ds (repeats j b x) none) limit h (none_right (ds ++ repeats j b x) es z)
   replaces {p} {d} {n} {q} {b = b} {us = us} (inner {k = j} {c = x} {f = f} {ds = ds} {es = es} room hr over i o op h) z known v limit
       (past_branch {g = g} s) colonless fit =
-      let none : ds ++ repeats j b x ≡ [] = none_left (ds ++ repeats j b x) es z in
+      let none : ds ++ repeats j b x ≡ [] = none_remaining (ds ++ repeats j b x) es z in
       let rest : Sees (tokens_in f ++ us) (tokens_in g ++ us) = sees_swapped s us colonless in
       carried w {c = c} {e = e} us f room rest
-      (carry w {c = c} {e = e} hr (none_left ds (repeats j b x) none) (deeper q d) (room_left hr (none_left ds (repeats j b x) none) (deeper_room q d room
+      (carry w {c = c} {e = e} hr (none_remaining ds (repeats j b x) none) (deeper q d)
+      (room_remaining hr (none_remaining ds (repeats j b x) none) (deeper_room q d room
       limit)) same
       (tokens_in g ++ us) rest) over i o op same (none_right ds (repeats j b x) none)
       (replaces h (none_right (ds ++ repeats j b x) es z) (known_after j known) v limit s colonless fit)

@@ -4,8 +4,8 @@ use Rattle.std.proofs.Common.{append-nil}
 use Rattle.rnix_kinds.specs.declared.kinds.SyntaxKind.{SyntaxKind}
 use Rattle.rnix_kinds.specs.declared.kinds.SyntaxKind.TheVariants.{TOKEN_L_BRACE, NODE_ATTR_SET, NODE_ERROR, NODE_PATTERN}
 use Rattle.rnix_grammar.specs.AnnotatedForest.{Token, AnnotatedForest, one_branch, tokens_in, head_kind}
-use Rattle.rnix_grammar.specs.Begins.{is_pattern, second_kind}
-use Rattle.rnix_grammar.specs.Beginnings.{first_kind, BeginsAs, IsOperandOf}
+use Rattle.rnix_grammar.specs.OperandStarts.{is_pattern, first_kind, second_kind}
+use Rattle.rnix_grammar.specs.FirstKinds.{BeginsAs, IsOperandOf}
 use Rattle.rnix_grammar.specs.Levels.{binding_power}
 use Rattle.rnix_grammar.specs.Operands.{first_tree, follows, is_continued}
 use Rattle.rnix_grammar.specs.TreeLevels.{row_level}
@@ -121,6 +121,6 @@ operand_seen (Some level) x y a ts us h g o = (
 pub sees_node : (j : SyntaxKind) (x y : AnnotatedForest) (ts us : List Token) → Sees (tokens_in x ++ ts) (tokens_in y ++ us)
     → Sees (tokens_in (one_branch j x) ++ ts) (tokens_in (one_branch j y) ++ us)
 sees_node j x y ts us h =
-    let left : tokens_in x ≡ tokens_in (one_branch j x) = sym (append-nil (tokens_in x)) in
+    let remaining : tokens_in x ≡ tokens_in (one_branch j x) = sym (append-nil (tokens_in x)) in
     let right : tokens_in y ≡ tokens_in (one_branch j y) = sym (append-nil (tokens_in y)) in
-    subst (λ z. Sees (tokens_in (one_branch j x) ++ ts) (z ++ us)) right (subst (λ z. Sees (z ++ ts) (tokens_in y ++ us)) left h)
+    subst (λ z. Sees (tokens_in (one_branch j x) ++ ts) (z ++ us)) right (subst (λ z. Sees (z ++ ts) (tokens_in y ++ us)) remaining h)

@@ -9,15 +9,14 @@ use Rattle.rnix_kinds.specs.declared.kinds.SyntaxKind.TheVariants.{TOKEN_INTERPO
 use Rattle.rnix_kinds.proofs.AllKinds.{implied}
 use Rattle.rnix_green.specs.Equality.{same_kind}
 use Rattle.rnix_grammar.specs.AnnotatedForest.{Token, AnnotatedForest, blank, token, branch, fault, ◌⊕◌, one_token, tokens_in, leaf_kind, head_kind}
-use Rattle.rnix_grammar.specs.Begins.{is_pattern, second_kind}
-use Rattle.rnix_grammar.specs.Beginnings.{first_kind}
+use Rattle.rnix_grammar.specs.OperandStarts.{is_pattern, first_kind, second_kind}
 use Rattle.rnix_grammar.specs.Fault.{Fault}
 use Rattle.rnix_grammar.specs.Reads.{Reads, end, leaf, inner, missing_part, wrong, second}
 use Rattle.rnix_grammar.specs.Reports.{repeats}
-use Rattle.rnix_grammar.specs.Rows.{is_attr, is_entry}
+use Rattle.rnix_grammar.specs.NodeClasses.{is_attr, is_entry}
 use Rattle.rnix_grammar.specs.Rules.{Row, row, after, may_end, begins_attr, IsExpected}
 use Rattle.rnix_grammar.specs.TokenKinds.{is_inherit_token}
-use Rattle.rnix_proof_lemmas.proofs.Basics.{true_is_not_false, not_nil, none_left, none_right}
+use Rattle.rnix_proof_lemmas.proofs.Basics.{true_is_not_false, not_nil, none_remaining, none_right}
 use Rattle.rnix_proof_lemmas.proofs.EachKind.{each_kind}
 use Rattle.rnix_proof_lemmas.proofs.EveryKind.{only}
 use Rattle.rnix_proof_lemmas.proofs.RowKinds.{has_row}
@@ -73,11 +72,11 @@ record IsFirstNode (p : SyntaxKind) (q q' : Row) (f : AnnotatedForest) : Type 0 
   kind : SyntaxKind
   children : AnnotatedForest
   rest : AnnotatedForest
-  left : Row
+  remaining : Row
   is : f ≡ branch kind children rest
   viable : is_viable (after q kind) ≡ true
-  inside : IsRead kind (row kind) left children
-  ended : may_end left ≡ true
+  inside : IsRead kind (row kind) remaining children
+  ended : may_end remaining ≡ true
   reads : IsRead p (after q kind) q' rest
 
 first_node : {p : SyntaxKind} {d n : ℕ} {q q' : Row} {b f : AnnotatedForest} {us : List Token} {es : List Fault} → Reads p d n q q' b us f es
@@ -93,10 +92,10 @@ first_node {q' = q'} {b = b} (inner {k = k} {s = s} {c = x} {f = f} {ds = ds} {e
   kind = k;
   children = x;
   rest = f;
-  left = s;
+  remaining = s;
   is = refl;
   viable = reads_viable h (end_viable q' e);
-  inside = clean hr (none_left ds (repeats k b x) (none_left (ds ++ repeats k b x) es z));
+  inside = clean hr (none_remaining ds (repeats k b x) (none_remaining (ds ++ repeats k b x) es z));
   ended = over.0;
   reads = clean h (none_right (ds ++ repeats k b x) es z);
 }
@@ -214,7 +213,7 @@ binding_none : {d n : ℕ} {s : Row} {b f : AnnotatedForest} {us : List Token} �
 binding_none {s = s} h e =
     let w = first_node h refl e refl (λ n t ts x v. true_is_not_false (sym x)) in
     let same : w.kind ≡ NODE_ATTRPATH = only (λ k. is_viable (after (row NODE_ATTRPATH_VALUE) k)) NODE_ATTRPATH refl w.kind w.viable in
-    let inside = subst (λ k. IsRead k (row k) w.left w.children) same w.inside in
+    let inside = subst (λ k. IsRead k (row k) w.remaining w.children) same w.inside in
     let rest = subst (λ k. IsRead NODE_ATTRPATH_VALUE (after (row NODE_ATTRPATH_VALUE) k) s w.rest) same w.reads in
     let equals = first_leaf TOKEN_ASSIGN rest.reads refl e refl refl
     (only (λ k. is_viable (after (after (row NODE_ATTRPATH_VALUE) NODE_ATTRPATH) k)) TOKEN_ASSIGN refl) in
@@ -260,7 +259,7 @@ inside_none (branch j y x) r u {q' = q'} {b = b} q same (inner {ds = ds} {es = e
     let kind : is_entry j ≡ true = implied (λ j. has_row j && is_viable (after entries j)) is_entry refl j
     (and_from (has_row j) (is_viable (after entries j)) (reads_row hr over.0) v) in
     none_more (tokens_in y) (tokens_in x)
-    (entry_none j y (clean hr (none_left ds (repeats j b y) (none_left (ds ++ repeats j b y) es z))) over.0 (entry_is j kind)) (u ∷ [])
+    (entry_none j y (clean hr (none_remaining ds (repeats j b y) (none_remaining (ds ++ repeats j b y) es z))) over.0 (entry_is j kind)) (u ∷ [])
 
 -- the items of a bracketed node begin it
 pub begins_itself : {k l r : SyntaxKind} (w : IsBracketed k l r) (t u : Token) (x : AnnotatedForest) {d n : ℕ} {s : Row} {us : List Token}

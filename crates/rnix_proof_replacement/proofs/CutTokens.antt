@@ -81,14 +81,14 @@ first_cut modes t rest token tokens is utf8 e =
     )
 
 -- the tokens with which a text begins, and what is left
-pub record Begins (rest : List ℕ) (modes : List Mode) (tokens behind : List Lexeme) : Type 0 where
+pub record OperandStarts (rest : List ℕ) (modes : List Mode) (tokens behind : List Lexeme) : Type 0 where
   pub after : List Mode
   pub cuts : AreCut rest modes tokens after
   pub more : tokens_under after rest ≡ behind
   pub utf8 : IsUtf8 rest
 
 pub tokens_cut : (rest : List ℕ) (modes : List Mode) (tokens behind : List Lexeme) → IsUtf8 (texts tokens ++ rest)
-    → tokens_under modes (texts tokens ++ rest) ≡ tokens ++ behind → Begins rest modes tokens behind
+    → tokens_under modes (texts tokens ++ rest) ≡ tokens ++ behind → OperandStarts rest modes tokens behind
 tokens_cut rest modes [] behind utf8 e = record { after = modes; cuts = none modes; more = e; utf8 = utf8 }
 tokens_cut rest modes (token ∷ tokens) behind utf8 e =
     let split = append_assoc token.1 (texts tokens) rest in

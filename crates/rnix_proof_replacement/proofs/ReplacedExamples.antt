@@ -11,20 +11,20 @@ use lib.Utf8.{encode}
 pub lists : AreBrackets (codes "f ") (codes "[a]") [] (TOKEN_L_BRACK, codes "[") (TOKEN_R_BRACK, codes "]") ((TOKEN_IDENT, codes "a") ∷ [])
     ((TOKEN_IDENT, codes "f") ∷ (TOKEN_WHITESPACE, codes " ") ∷ []) []
 unfolding tokens_behind cut_at normal_cut space_len chars begins_space content_from encode
-lists = record { whole = refl; place = refl; extent = refl; opening = refl; closing = refl; balanced = refl }
+lists = record { whole = refl; before_is = refl; extent = refl; opening = refl; closing = refl; balanced = refl }
 
 -- `${b}` in `''a${b}''`
 pub interpolations : AreBrackets (codes "''a") (codes "${b}") (codes "''") (TOKEN_INTERPOL_START, codes "${") (TOKEN_INTERPOL_END, codes "}")
     ((TOKEN_IDENT, codes "b") ∷ []) ((TOKEN_STRING_START, codes "''") ∷ (TOKEN_STRING_CONTENT, codes "a") ∷ []) ((TOKEN_STRING_END, codes "''") ∷ [])
 unfolding tokens_behind cut_at normal_cut space_len chars begins_space content_from encode
-interpolations = record { whole = refl; place = refl; extent = refl; opening = refl; closing = refl; balanced = refl }
+interpolations = record { whole = refl; before_is = refl; extent = refl; opening = refl; closing = refl; balanced = refl }
 
 -- `{a="";}`
 pub sets : AreBrackets [] (codes "{a=\"\";}") [] (TOKEN_L_BRACE, codes "{") (TOKEN_R_BRACE, codes "}")
     ((TOKEN_IDENT, codes "a") ∷ (TOKEN_ASSIGN, codes "=") ∷ (TOKEN_STRING_START, codes "\"") ∷ (TOKEN_STRING_END, codes "\"")
     ∷ (TOKEN_SEMICOLON, codes ";") ∷ []) [] []
 unfolding tokens_behind cut_at normal_cut space_len chars begins_space content_from encode
-sets = record { whole = refl; place = refl; extent = refl; opening = refl; closing = refl; balanced = refl }
+sets = record { whole = refl; before_is = refl; extent = refl; opening = refl; closing = refl; balanced = refl }
 
 -- `(a#)` ends with a comment, not with a bracket
 pub comments : tokens_of (codes "(a#)") ≡ (TOKEN_L_PAREN, codes "(") ∷ (TOKEN_IDENT, codes "a") ∷ (TOKEN_COMMENT, codes "#)") ∷ []
@@ -52,7 +52,7 @@ unlimited claim =
     let old : AreBrackets (codes "\"${") (codes "[]") (codes "}\"") (TOKEN_L_BRACK, codes "[") (TOKEN_R_BRACK, codes "]") []
     ((TOKEN_STRING_START, codes "\"") ∷ (TOKEN_INTERPOL_START, codes "${") ∷ [])
     ((TOKEN_INTERPOL_END, codes "}") ∷ (TOKEN_STRING_END, codes "\"") ∷ []) =
-    record { whole = refl; place = refl; extent = refl; opening = refl; closing = refl; balanced = refl } in
+    record { whole = refl; before_is = refl; extent = refl; opening = refl; closing = refl; balanced = refl } in
     eqb-false (length (tokens_of (codes "\"${[}]}\""))) 7 refl
     (ap length (claim (codes "\"${") (codes "[]") (codes "[}]") (codes "}\"") (TOKEN_L_BRACK, codes "[") (TOKEN_R_BRACK, codes "]") []
     ((TOKEN_R_BRACE, codes "}") ∷ []) ((TOKEN_STRING_START, codes "\"") ∷ (TOKEN_INTERPOL_START, codes "${") ∷ [])

@@ -156,8 +156,8 @@ texts_bracketed left right inner = ap (λ x. left.1 ++ x) (flat_map-append text_
 text_is : (before part after : List ℕ) (left right : Lexeme) (inner first : List Lexeme) → texts first ≡ before
     → texts (left ∷ (inner ++ (right ∷ []))) ≡ part
     → before ++ (part ++ after) ≡ texts first ++ (left.1 ++ (texts inner ++ (right.1 ++ after)))
-text_is before part after left right inner first place extent =
-    ap (λ x. x ++ (part ++ after)) (sym place)
+text_is before part after left right inner first before_is extent =
+    ap (λ x. x ++ (part ++ after)) (sym before_is)
     ∙ ap (λ x. texts first ++ x) (ap (λ x. x ++ after) (sym extent ∙ texts_bracketed left right inner) ∙ bracket_text left.1 (texts inner) right.1 after)
 
 whole_utf8 : (before part after : List ℕ) → IsUtf8 before → IsUtf8 part → IsUtf8 after → IsUtf8 (before ++ (part ++ after))
@@ -167,14 +167,14 @@ whole_utf8 before part after first middle last = IsUtf8-append before (part ++ a
 pub may_replace : (before old after start new end : List ℕ) → IsUtf8 (before ++ (old ++ after)) → IsUtf8 (start ++ (new ++ end))
     → MayReplace before old after start new end
 may_replace before old after start new end old_utf8 new_utf8 left right inner first last others front back was now =
-    let old_text = text_is before old after left right inner first was.place was.extent in
-    let source = text_is start new end left right others front now.place now.extent in
-    let new_text = text_is before new after left right others first was.place now.extent in
+    let old_text = text_is before old after left right inner first was.before_is was.extent in
+    let source = text_is start new end left right others front now.before_is now.extent in
+    let new_text = text_is before new after left right others first was.before_is now.extent in
     record {
       whole = ap tokens_of new_text
           ∙ replaced_tokens left right was.opening was.closing inner first last others front back after end was.balanced now.balanced
           (subst IsUtf8 old_text old_utf8) (ap tokens_of (sym old_text) ∙ was.whole) (subst IsUtf8 source new_utf8) (ap tokens_of (sym source) ∙ now.whole);
-      place = was.place;
+      before_is = was.before_is;
       extent = now.extent;
       opening = was.opening;
       closing = was.closing;

@@ -53,7 +53,7 @@ texts = flat_map text_of
 -- a part of a text is brackets with balanced tokens between them, and other tokens are before and after it
 pub record AreBrackets (before part after : List ℕ) (left right : Lexeme) (inner first last : List Lexeme) : Type 0 where
   pub whole : tokens_of (before ++ (part ++ after)) ≡ first ++ (left ∷ (inner ++ (right ∷ last)))
-  pub place : texts first ≡ before
+  pub before_is : texts first ≡ before
   pub extent : texts (left ∷ (inner ++ (right ∷ []))) ≡ part
   pub opening : is_opening left.0 ≡ true
   pub closing : is_closing right.0 ≡ true

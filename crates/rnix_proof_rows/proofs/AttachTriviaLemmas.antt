@@ -2,33 +2,33 @@
 use Rattle.{std.proofs.Common.{◌≡◌, true, false, List, [], ◌∷◌, ◌++◌, refl, ap, sym, ◌∙◌, subst}, rnix_kinds.specs.declared.kinds.SyntaxKind.SyntaxKind}
 use Rattle.{rnix_kinds.specs.SyntaxKind.is_trivia, rnix_grammar.specs.AnnotatedForest.{Token, Note, TooDeep, AnnotatedForest, blank, token, branch, fault, ◌⊕◌}}
 use Rattle.rnix_grammar.specs.{AnnotatedForest.{one_branch, one_fault, without_trivia, token_if, leaf_kind, head_kind}, Layout.{from_item, from_item_if}}
-use Rattle.rnix_grammar.specs.Layout.{trivia_if, trivia_before, items, tail_of, is_last, trivia_after, rest_after, left_after, with_trivia}
-use Rattle.rnix_proof_lemmas.{specs.{Allowed.is_there, Machine.{with_leading, after_item, leaf_in, leaf, run_row, run_rest}}, proofs.Basics.true_is_not_false}
+use Rattle.rnix_grammar.specs.Layout.{trivia_if, trivia_before, items, tail_of, is_last, trivia_after, rest_after, remaining_after, with_trivia}
+use Rattle.rnix_proof_lemmas.{specs.{Allowed.is_there, Machine.{with_leading, after_item, leaf_in, leaf, run_leaves, run_rest}}, proofs.Basics.true_is_not_false}
 use Rattle.rnix_proof_lemmas.proofs.{AnnotatedForestLemmas.{⊕-assoc, ⊕-blank}, LayoutLemmas.{trivia-from_item, from_item-from_item, items_head, items-view}}
 use Rattle.rnix_proof_lemmas.proofs.{LayoutLemmas.from_item_item, WithoutTriviaLemmas.{with_leading_without_trivia, added_without_trivia, run_bared}}
 
 -- what is left behind two rows
-pub left_after-⊕ : (f g : AnnotatedForest) (ts : List Token) → left_after (f ⊕ g) ts ≡ left_after g (left_after f ts)
-left_after-⊕ blank g ts = refl
-left_after-⊕ (token k t f) g ts = left_after-⊕ f g (tail_of (from_item ts))
-left_after-⊕ (branch k c f) g ts = left_after-⊕ f g (left_after c (from_item ts))
-left_after-⊕ (fault n c f) g ts = left_after-⊕ f g (rest_after (is_last n) (left_after c (from_item ts)))
+pub remaining_after-⊕ : (f g : AnnotatedForest) (ts : List Token) → remaining_after (f ⊕ g) ts ≡ remaining_after g (remaining_after f ts)
+remaining_after-⊕ blank g ts = refl
+remaining_after-⊕ (token k t f) g ts = remaining_after-⊕ f g (tail_of (from_item ts))
+remaining_after-⊕ (branch k c f) g ts = remaining_after-⊕ f g (remaining_after c (from_item ts))
+remaining_after-⊕ (fault n c f) g ts = remaining_after-⊕ f g (rest_after (is_last n) (remaining_after c (from_item ts)))
 
 -- two rows with their trivia, the second from where the first ends
-pub with_trivia-⊕ : (f g : AnnotatedForest) (ts : List Token) → with_trivia (f ⊕ g) ts ≡ with_trivia f ts ⊕ with_trivia g (left_after f ts)
+pub with_trivia-⊕ : (f g : AnnotatedForest) (ts : List Token) → with_trivia (f ⊕ g) ts ≡ with_trivia f ts ⊕ with_trivia g (remaining_after f ts)
 with_trivia-⊕ blank g ts = refl
 with_trivia-⊕ (token k t f) g ts =
     let rest = tail_of (from_item ts) in rw (with_trivia-⊕ f g rest)
-    (sym (⊕-assoc (trivia_before ts) (token k t (with_trivia f rest)) (with_trivia g (left_after f rest))))
+    (sym (⊕-assoc (trivia_before ts) (token k t (with_trivia f rest)) (with_trivia g (remaining_after f rest))))
 with_trivia-⊕ (branch k c f) g ts =
-    let rest = left_after c (from_item ts) in
+    let rest = remaining_after c (from_item ts) in
     rw (with_trivia-⊕ f g rest) (sym (⊕-assoc (trivia_before ts) (branch k (with_trivia c (from_item ts)) (with_trivia f rest))
-    (with_trivia g (left_after f rest))))
+    (with_trivia g (remaining_after f rest))))
 with_trivia-⊕ (fault n c f) g ts =
-    let later = rest_after (is_last n) (left_after c (from_item ts)) in
-    let own = trivia_after (is_last n) (left_after c (from_item ts)) in
-    rw (with_trivia-⊕ f g later, sym (⊕-assoc own (with_trivia f later) (with_trivia g (left_after f later))))
-    (sym (⊕-assoc (trivia_before ts) (fault n (with_trivia c (from_item ts)) (own ⊕ with_trivia f later)) (with_trivia g (left_after f later))))
+    let later = rest_after (is_last n) (remaining_after c (from_item ts)) in
+    let own = trivia_after (is_last n) (remaining_after c (from_item ts)) in
+    rw (with_trivia-⊕ f g later, sym (⊕-assoc own (with_trivia f later) (with_trivia g (remaining_after f later))))
+    (sym (⊕-assoc (trivia_before ts) (fault n (with_trivia c (from_item ts)) (own ⊕ with_trivia f later)) (with_trivia g (remaining_after f later))))
 
 -- some tree stands in a row
 abbrev pub HasTree : AnnotatedForest → Type 0
@@ -59,23 +59,23 @@ no_leading_trivia ts h = ap trivia_before (sym h) ∙ trivia-from_item ts
 -- a row is what its items and the tokens make of it, and these tokens are left behind it
 pub record HasTrivia (row : AnnotatedForest) (ts us : List Token) : Type 0 where
   pub same : with_trivia (without_trivia row) ts ≡ row
-  pub left : left_after (without_trivia row) ts ≡ us
+  pub remaining : remaining_after (without_trivia row) ts ≡ us
 
 -- nothing is read yet
 pub with_trivia_blank : (ts : List Token) → HasTrivia blank ts ts
-with_trivia_blank ts = record { same = refl; left = refl }
+with_trivia_blank ts = record { same = refl; remaining = refl }
 
 -- what some items make of the tokens, by what they make of those from the first item on
 record IsAhead (c : AnnotatedForest) (ts : List Token) : Type 0 where
   pub same : with_trivia c ts ≡ trivia_before ts ⊕ with_trivia c (from_item ts)
-  pub left : left_after c ts ≡ left_after c (from_item ts)
+  pub remaining : remaining_after c ts ≡ remaining_after c (from_item ts)
 
 -- trivia come before the first tree
 ahead : (c : AnnotatedForest) (ts : List Token) → HasTree c → IsAhead c ts
 ahead blank ts h = absurd h
-ahead (token k t f) ts h = record { same = rw (from_item-from_item ts, trivia-from_item ts) refl; left = rw (from_item-from_item ts) refl }
-ahead (branch k c f) ts h = record { same = rw (from_item-from_item ts, trivia-from_item ts) refl; left = rw (from_item-from_item ts) refl }
-ahead (fault n c f) ts h = record { same = rw (from_item-from_item ts, trivia-from_item ts) refl; left = rw (from_item-from_item ts) refl }
+ahead (token k t f) ts h = record { same = rw (from_item-from_item ts, trivia-from_item ts) refl; remaining = rw (from_item-from_item ts) refl }
+ahead (branch k c f) ts h = record { same = rw (from_item-from_item ts, trivia-from_item ts) refl; remaining = rw (from_item-from_item ts) refl }
+ahead (fault n c f) ts h = record { same = rw (from_item-from_item ts, trivia-from_item ts) refl; remaining = rw (from_item-from_item ts) refl }
 
 -- a row with trivia and trees behind it
 pub with_trivia_added : (row g : AnnotatedForest) (ts us vs : List Token) → HasTrivia row ts us → HasTrivia g (from_item us) vs → HasTree (without_trivia g)
@@ -84,8 +84,8 @@ with_trivia_added row g ts us vs h j t =
     let parts : without_trivia (with_leading true row us ⊕ g) ≡ without_trivia row ⊕ without_trivia g = added_without_trivia row us g refl in
     let a : IsAhead (without_trivia g) us = ahead (without_trivia g) us t in
     record {
-      same = rw (parts, with_trivia-⊕ (without_trivia row) (without_trivia g) ts, h.same, h.left, a.same, j.same) (sym (⊕-assoc row (trivia_before us) g));
-      left = rw (parts, left_after-⊕ (without_trivia row) (without_trivia g) ts, h.left, a.left) j.left;
+      same = rw (parts, with_trivia-⊕ (without_trivia row) (without_trivia g) ts, h.same, h.remaining, a.same, j.same) (sym (⊕-assoc row (trivia_before us) g));
+      remaining = rw (parts, remaining_after-⊕ (without_trivia row) (without_trivia g) ts, h.remaining, a.remaining) j.remaining;
     }
 
 -- a tree is in a row with trivia and trees behind it
@@ -96,12 +96,16 @@ tree_added row us g h = subst HasTree (sym (added_without_trivia row us g refl))
 -- a node over a row
 pub with_trivia_branch : (k : SyntaxKind) (row : AnnotatedForest) (ts us : List Token) → HasNoLeadingTrivia ts → HasTrivia row ts us
     → HasTrivia (one_branch k row) ts us
-with_trivia_branch k row ts us b h = record { same = rw (no_leading_trivia ts b, b, h.same) refl; left = ap (left_after (without_trivia row)) b ∙ h.left }
+with_trivia_branch k row ts us b h = record {
+  same = rw (no_leading_trivia ts b, b, h.same) refl;
+  remaining = ap (remaining_after (without_trivia row)) b
+      ∙ h.remaining;
+}
 
 -- an error node over a row, behind which trivia need not stand
 pub with_trivia_fault : (n : Note) (row : AnnotatedForest) (ts us : List Token) → is_last n ≡ false → HasNoLeadingTrivia ts → HasTrivia row ts us
     → HasTrivia (one_fault n row) ts us
-with_trivia_fault n row ts us e b h = record { same = rw (no_leading_trivia ts b, b, e, h.same) refl; left = rw (b, e) h.left }
+with_trivia_fault n row ts us e b h = record { same = rw (no_leading_trivia ts b, b, e, h.same) refl; remaining = rw (b, e) h.remaining }
 
 -- the node of what is too deep, with the trivia behind it
 pub with_trivia_last : (row : AnnotatedForest) (ts us : List Token) → HasNoLeadingTrivia ts → HasTrivia row ts us
@@ -110,8 +114,8 @@ with_trivia_last row ts us b h =
     let bare : without_trivia (with_leading true (one_fault TooDeep row) us) ≡ one_fault TooDeep (without_trivia row) =
     with_leading_without_trivia (one_fault TooDeep row) us in
     record {
-      same = ap (λ x. with_trivia x ts) bare ∙ rw (no_leading_trivia ts b, b, h.same, h.left) (ap (fault TooDeep row) (⊕-blank (trivia_before us)));
-      left = ap (λ x. left_after x ts) bare ∙ ap (λ x. from_item (left_after (without_trivia row) x)) b ∙ ap from_item h.left;
+      same = ap (λ x. with_trivia x ts) bare ∙ rw (no_leading_trivia ts b, b, h.same, h.remaining) (ap (fault TooDeep row) (⊕-blank (trivia_before us)));
+      remaining = ap (λ x. remaining_after x ts) bare ∙ ap (λ x. from_item (remaining_after (without_trivia row) x)) b ∙ ap from_item h.remaining;
     }
 
 -- the next item as a leaf
@@ -125,7 +129,7 @@ with_trivia_leaf k ts = by_head (from_item ts) refl
         record {
           same =
               ap (λ y. with_trivia y (x ∷ xs)) bare ∙ ap (λ y. trivia_if y x (trivia_before xs) ⊕ token (leaf_kind k x) x blank) e;
-          left = ap (λ y. left_after y (x ∷ xs)) bare ∙ ap tail_of here;
+          remaining = ap (λ y. remaining_after y (x ∷ xs)) bare ∙ ap tail_of here;
         }
 
     by_head : (xs : List Token) → from_item ts ≡ xs → HasTrivia (leaf_in k xs) xs (tail_of xs)
@@ -141,7 +145,7 @@ tree_leaf k ts h = by_head (from_item ts) refl (subst (λ (x : List Token). is_t
     by_head (x ∷ xs) e h = rw (from_item_item ts x xs e) tt
 
 -- the first items as leaves
-pub with_trivia_run : (run ts us : List Token) → items ts ≡ run ++ us → HasTrivia (run_row true run ts) (from_item ts) (run_rest true run ts)
+pub with_trivia_run : (run ts us : List Token) → items ts ≡ run ++ us → HasTrivia (run_leaves true run ts) (from_item ts) (run_rest true run ts)
 with_trivia_run run ts us e =
     let w = run_bared run ts us e in
-    record { same = ap (λ x. with_trivia x (from_item ts)) w.same; left = ap (λ x. left_after x (from_item ts)) w.same }
+    record { same = ap (λ x. with_trivia x (from_item ts)) w.same; remaining = ap (λ x. remaining_after x (from_item ts)) w.same }

@@ -8,7 +8,7 @@ use Rattle.rnix_grammar.specs.{Rules.is_one_of, Tables.{operand_kinds, wanted_ki
 use Rattle.rnix_proof_rows.proofs.ErrorForms.{AreOthers, IsFormed, AreFormed}
 use Rattle.{rnix_green.specs.{Forest.{text_of, node, element_count}, Tree.{Tree, Item, item, extent_of}}, rnix_grammar.specs.{Fault.{Fault, unwanted}, AnnotatedForest.{Note, Stray}}}
 use Rattle.rnix_grammar.specs.AnnotatedForest.{Unwanted, Extra, DoubleBind, TooDeep, AnnotatedForest, token, fault, tokens_in, forget, is_some, HaveLeafKinds}
-use Rattle.rnix_grammar.specs.{AnnotatedForest.{extent_of as place_of, Token, blank, branch, without_trivia, token_if}, Reports.{first_kind, report}}
+use Rattle.rnix_grammar.specs.{AnnotatedForest.{extent_of as extent_in, Token, blank, branch, without_trivia, token_if}, Reports.{first_kind, report}}
 use Rattle.rnix_grammar.specs.{Reports.{only_token, entry_name}, Named.begins_with_token, Trim.{AreNamesSingleTokens, is_single_token, begins_with_node}, Ranges.BeginsWith}
 use Rattle.{rnix_grammar.specs.Ranges.{IsErrorOf, AreErrorsOf, IsEntryName}, rnix_proof_lemmas.proofs.Basics.{true_is_not_false, some_same}}
 use Rattle.rnix_proof_rows.proofs.{ReadsFilled.{HasTokens, HaveFaultTokens}, PlacedTokens.{ArePlaced, between, row_extent, placed_first}, RowsIn.{IsRowIn, row_first}}
@@ -100,12 +100,12 @@ report_error t q p m s n c f some form under first h w = by n some form
     begins_some (token k x f) h = refl
     begins_some _ h = absurd (true_is_not_false (sym h))
 
-    position : is_some (tokens_in c) ≡ true → place_of (tokens_in c) ≡ extent_of record { tree = t; number = m }
+    position : is_some (tokens_in c) ≡ true → extent_in (tokens_in c) ≡ extent_of record { tree = t; number = m }
     position some = row_extent s c some w.placed
         ∙ same (item t m).start (item t m).end s (s + length (text_of (forget c))) (ap (λ (i : Item). i.start) first) (ap (λ (i : Item). i.end) first)
 
     unwanted_error : (kinds : List SyntaxKind) → begins_with_token c ≡ true → AreOthers kinds c → (kinds ≡ operand_kinds → length (tokens_in c) ≡ 1)
-        → IsOfErrorNode t (unwanted (first_kind (tokens_in c)) (place_of (tokens_in c)) kinds) m
+        → IsOfErrorNode t (unwanted (first_kind (tokens_in c)) (extent_in (tokens_in c)) kinds) m
     unwanted_error kinds some form one = record {
       kind_is = kind;
       range_is = position (begins_some c some);
@@ -148,7 +148,7 @@ single_token_name _ x b h = absurd (true_is_not_false (sym b))
 -- a name at the head of an entry
 name_here : (t : Tree) (e s : ℕ) (x : Token) (d f : AnnotatedForest) → (item t e).kind ≡ NODE_PAT_ENTRY
     → IsRowIn t (e + 1) s (Some e) (forget (branch NODE_IDENT d f)) → ArePlaced s (tokens_in d)
-    → IsName x d → IsEntryName t e (place_of (x ∷ [])) x.text
+    → IsName x d → IsEntryName t e (extent_in (x ∷ [])) x.text
 name_here t e s x _ f k h a (name j) =
     let n : ℕ = e + 1 in
     let first : item t n ≡ _ = row_first t n s (Some e) (forget (branch NODE_IDENT (token j x blank) f)) h (omega arith) in
@@ -167,7 +167,7 @@ name_here t e s x _ f k h a (name j) =
 -- the name that the row of an entry begins with
 pub row_name : (t : Tree) (e s : ℕ) (c : AnnotatedForest) (x : Token) → (item t e).kind ≡ NODE_PAT_ENTRY → IsRowIn t (e + 1) s (Some e) (forget c)
     → ArePlaced s (tokens_in c)
-    → AreNamesSingleTokens c → begins_with_node c ≡ true → entry_name (without_trivia c) ≡ Some x → IsEntryName t e (place_of (x ∷ [])) x.text
+    → AreNamesSingleTokens c → begins_with_node c ≡ true → entry_name (without_trivia c) ≡ Some x → IsEntryName t e (extent_in (x ∷ [])) x.text
 row_name t e s (branch j d f) x k h a r b g =
     let w = name_node j (without_trivia d) (without_trivia f) x g in
     name_here t e s x d f k (subst (λ z. IsRowIn t (e + 1) s (Some e) (node z (forget d) (forget f))) w.0 h) (placed_first s (tokens_in d) (tokens_in f) a)

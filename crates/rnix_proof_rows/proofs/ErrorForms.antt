@@ -8,7 +8,7 @@ use Rattle.rnix_kinds.proofs.AllKinds.{all_kinds, every, implied}
 use Rattle.rnix_grammar.specs.{declared.{rules.Part.TheVariants.{Atom, First, Argument}, expected_set.ExpectedSet.ExpectedSet}, Fault.Fault}
 use Rattle.rnix_grammar.specs.AnnotatedForest.{Token, Note, Stray, Unwanted, Extra, DoubleBind, TooDeep, AnnotatedForest, blank, token, branch, fault, one_branch}
 use Rattle.rnix_grammar.specs.AnnotatedForest.{one_fault, row_of, tokens_in, leaf_kind, head_kind}
-use Rattle.rnix_grammar.specs.{Begins.{first_kind, second_kind}, Beginnings.{BeginsAs, IsOperandOf}, ErrorNodes.AreUnwanted}
+use Rattle.rnix_grammar.specs.{OperandStarts.{first_kind, second_kind}, FirstKinds.{BeginsAs, IsOperandOf}, ErrorNodes.AreUnwanted}
 use Rattle.rnix_grammar.specs.{Operands.first_tree, Tables.{operand_kinds, wanted_kinds}, TreeLevels.is_or_row, Ranges.is_error_node}
 use Rattle.rnix_grammar.specs.{Levels.selection_level, Rules.{Row, ◌·◌, row, after, missing, run_at, level_at, is_one_of}}
 use Rattle.rnix_grammar.specs.Reads.{Reads, ReadsRoot, end, leaf, missing_part, wrong, second, inner, IsWrong}

@@ -3,7 +3,7 @@ use Rattle.std.proofs.Common.{◌≡◌, ℕ, ◌+◌, Bool, true, false, List, 
 use Rattle.std.proofs.lemmas.List.{map-append}
 use Rattle.rnix_green.specs.{Forest.{Forest, empty, leaf, node, element_count}, Tree.{Tree, Item, item}, Walk.{Step, Event, event_at, steps_from}}
 use Rattle.rnix_grammar.specs.{Fault.{Fault, unexpected_eof, unexpected_eof_wanted, duplicated_args}, Repaired.others, Shape.{name_if, with_name}, Ranges.{of_nodes, is_error_node}}
-use Rattle.{rnix_grammar.specs.Ranges.{leaves_error, errors_left, is_among_if, at_fault_from, AreErrorsOf}, rnix_proof_rows.proofs.RowsIn.{IsRowIn, row_first}}
+use Rattle.{rnix_grammar.specs.Ranges.{leaves_error, errors_remaining, is_among_if, at_fault_from, AreErrorsOf}, rnix_proof_rows.proofs.RowsIn.{IsRowIn, row_first}}
 use Rattle.rnix_proof_rows.proofs.RowsIn.{row_inside, row_behind_leaf, row_behind_node}
 
 -- those of some elements that are error nodes
@@ -32,24 +32,25 @@ node_errors t (_ ∷ es) (m ∷ ms) h = rw h.0.kind_is (h.0, node_errors t es ms
 
 -- the error nodes that are left by some steps
 abbrev errors_at : Tree → List Step → List ℕ
-errors_at t xs = errors_left (map (event_at t) xs)
+errors_at t xs = errors_remaining (map (event_at t) xs)
 
-errors_left-++ : (xs ys : List Event) → errors_left (xs ++ ys) ≡ errors_left xs ++ errors_left ys
-errors_left-++ [] ys = refl
-errors_left-++ (x ∷ xs) ys =
+errors_remaining-++ : (xs ys : List Event) → errors_remaining (xs ++ ys) ≡ errors_remaining xs ++ errors_remaining ys
+errors_remaining-++ [] ys = refl
+errors_remaining-++ (x ∷ xs) ys =
     elim (leaves_error x) as
-    (λ b. (if b then x.1.1.number ∷ errors_left (xs ++ ys) else errors_left (xs ++ ys)) ≡ (if b then x.1.1.number ∷ errors_left xs else errors_left xs)
-    ++ errors_left ys)
-    [ true ↦ ap (λ z. x.1.1.number ∷ z) (errors_left-++ xs ys) | false ↦ errors_left-++ xs ys ]
+    (λ b. (if b then x.1.1.number ∷ errors_remaining (xs ++ ys) else errors_remaining (xs ++ ys))
+    ≡ (if b then x.1.1.number ∷ errors_remaining xs else errors_remaining xs)
+    ++ errors_remaining ys)
+    [ true ↦ ap (λ z. x.1.1.number ∷ z) (errors_remaining-++ xs ys) | false ↦ errors_remaining-++ xs ys ]
 
 -- those of steps behind others
 errors_at-++ : (t : Tree) (xs ys : List Step) → errors_at t (xs ++ ys) ≡ errors_at t xs ++ errors_at t ys
-errors_at-++ t xs ys = ap errors_left (map-append (event_at t) xs ys) ∙ errors_left-++ (map (event_at t) xs) (map (event_at t) ys)
+errors_at-++ t xs ys = ap errors_remaining (map-append (event_at t) xs ys) ∙ errors_remaining-++ (map (event_at t) xs) (map (event_at t) ys)
 
 -- an element that is left
-left_at : (t : Tree) (n : ℕ) (v w : Bool) (xs : List Step) → (item t n).is_node ≡ v → is_error_node (item t n).kind ≡ w
+remaining_at : (t : Tree) (n : ℕ) (v w : Bool) (xs : List Step) → (item t n).is_node ≡ v → is_error_node (item t n).kind ≡ w
     → errors_at t ((false, n) ∷ xs) ≡ (if (if v then w else false) then n ∷ errors_at t xs else errors_at t xs)
-left_at t n v w xs e f =
+remaining_at t n v w xs e f =
     ap (λ b. if (if b then is_error_node (item t n).kind else false) then n ∷ errors_at t xs else errors_at t xs) e
     ∙ ap (λ z. if (if v then z else false) then n ∷ errors_at t xs else errors_at t xs) f
 
@@ -66,7 +67,7 @@ pub walk_errors : (t : Tree) (n s : ℕ) (p : Option ℕ) (names : List (List �
 walk_errors t n s p names empty h = refl
 walk_errors t n s p names (leaf k x f) h =
     let first : item t n ≡ _ = row_first t n s p (leaf k x f) h (omega arith) in
-    left_at t n false (is_error_node (item t n).kind) (steps_from (n + 1) f) (ap (λ (i : Item). i.is_node) first) refl
+    remaining_at t n false (is_error_node (item t n).kind) (steps_from (n + 1) f) (ap (λ (i : Item). i.is_node) first) refl
     ∙ walk_errors t (n + 1) _ p names f (row_behind_leaf t n s p k x f h)
 walk_errors t n s p names (node k c f) h =
     let first : item t n ≡ _ = row_first t n s p (node k c f) h (omega arith) in
@@ -82,7 +83,7 @@ walk_errors t n s p names (node k c f) h =
           ((if is_error_node k || is_among_if (name_if k c) names then n ∷ [] else []) ++ behind),
     )
     (ap (λ z. errors_among t below ++ z)
-    (left_at t n true (is_error_node k) outer (ap (λ (i : Item). i.is_node) first) error
+    (remaining_at t n true (is_error_node k) outer (ap (λ (i : Item). i.is_node) first) error
     ∙ ap (λ z. if is_error_node k then n ∷ z else z) (walk_errors t (n + 1 + element_count c) _ p (with_name (name_if k c) names) f
     (row_behind_node t n s p k c f h))
     ∙ sym (own_error t n (is_error_node k) (is_among_if (name_if k c) names) behind error)))

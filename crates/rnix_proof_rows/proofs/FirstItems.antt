@@ -7,8 +7,8 @@ use Rattle.rnix_kinds.specs.declared.kinds.SyntaxKind.TheVariants.{NODE_IDENT_PA
 use Rattle.rnix_kinds.specs.SyntaxKind.{is_token}
 use Rattle.{rnix_kinds.proofs.AllKinds.{all_kinds, implied}, rnix_green.specs.Equality.same_kind, rnix_grammar.specs.declared.rules.Part.TheVariants.Child}
 use Rattle.rnix_grammar.specs.{declared.rules.Part.TheVariants.{Atom, First, Suffix, Binary, Argument, Optional}, AnnotatedForest.{Token, AnnotatedForest}}
-use Rattle.rnix_grammar.specs.{AnnotatedForest.{blank, branch, one_branch, tokens_in, head_kind}, Begins.{first_kind_of_name, first_kind_of_let, first_kind, second_kind, is_pattern}}
-use Rattle.rnix_grammar.specs.Beginnings.{BeginsAs, IsOperandOf}
+use Rattle.rnix_grammar.specs.{AnnotatedForest.{blank, branch, one_branch, tokens_in, head_kind}, OperandStarts.{first_kind_of_name, first_kind_of_let, first_kind, second_kind, is_pattern}}
+use Rattle.rnix_grammar.specs.FirstKinds.{BeginsAs, IsOperandOf}
 use Rattle.rnix_grammar.specs.{Levels.selection_level, AllowedNames.{is_position, is_name_at, is_named_by}}
 use Rattle.rnix_grammar.specs.{Operands.first_tree, Tables.is_cur_pos, TokenKinds.is_or, TreeLevels.is_or_row, Rules.{Row, never, done, ◌·◌, ◌or◌, row, after}}
 use Rattle.{rnix_grammar.specs.Rules.{expects_item, IsExpected, is_first_expected, level_at}, rnix_proof_lemmas.proofs.Basics.{true_is_not_false, not_if}}
@@ -40,28 +40,29 @@ MayBegin k [] = Unit {0}
 MayBegin k (t ∷ ts) = may_begin k t.kind t.text ≡ true
 
 -- what begins so may begin with its item
-abbrev Begins : SyntaxKind → List ℕ → SyntaxKind → Type 0
-Begins kind text k = may_begin k kind text ≡ true
+abbrev OperandStarts : SyntaxKind → List ℕ → SyntaxKind → Type 0
+OperandStarts kind text k = may_begin k kind text ≡ true
 
-plain_begins : (text : List ℕ) (w : Bool) → is_cur_pos text ≡ w → Begins TOKEN_IDENT text (if w then NODE_CUR_POS else NODE_IDENT)
+plain_begins : (text : List ℕ) (w : Bool) → is_cur_pos text ≡ w → OperandStarts TOKEN_IDENT text (if w then NODE_CUR_POS else NODE_IDENT)
 plain_begins text true e = e
 plain_begins text false e = ap (λ w. if w then false else true) e
 
-name_begins : (text : List ℕ) (second : Option SyntaxKind) → Begins TOKEN_IDENT text (first_kind_of_name text second)
+name_begins : (text : List ℕ) (second : Option SyntaxKind) → OperandStarts TOKEN_IDENT text (first_kind_of_name text second)
 name_begins text (Some TOKEN_COLON) = refl
 name_begins text (Some TOKEN_AT) = refl
 name_begins text second = plain_begins text (is_cur_pos text) refl
 
-let_begins : (text : List ℕ) (second : Option SyntaxKind) → Begins TOKEN_LET text (first_kind_of_let second)
+let_begins : (text : List ℕ) (second : Option SyntaxKind) → OperandStarts TOKEN_LET text (first_kind_of_let second)
 let_begins text (Some TOKEN_L_BRACE) = refl
 let_begins text second = refl
 
-begins : (level : ℕ) (kind : SyntaxKind) (text : List ℕ) (second third : Option SyntaxKind) → Begins kind text (first_kind level kind text second third)
-begins level kind text second third = where_allowed (Begins kind text) level kind text second third (λ l. by kind) (where_any (is_some (highest kind)) refl)
+begins : (level : ℕ) (kind : SyntaxKind) (text : List ℕ) (second third : Option SyntaxKind) → OperandStarts kind text (first_kind level kind text second third)
+begins level kind text second third = where_allowed (OperandStarts kind text) level kind text second third (λ l. by kind)
+    (where_any (is_some (highest kind)) refl)
   where
-    by : (kind : SyntaxKind) → Begins kind text (first_kind 0 kind text second third)
+    by : (kind : SyntaxKind) → OperandStarts kind text (first_kind 0 kind text second third)
     by TOKEN_IDENT = name_begins text second
-    by TOKEN_L_BRACE = choice (Begins TOKEN_L_BRACE text) (is_pattern second third) refl refl
+    by TOKEN_L_BRACE = choice (OperandStarts TOKEN_L_BRACE text) (is_pattern second third) refl refl
     by TOKEN_LET = let_begins text second
     by kind = refl
 

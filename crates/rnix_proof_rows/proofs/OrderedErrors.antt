@@ -3,7 +3,7 @@ use Rattle.std.proofs.Common.{◌≡◌, ℕ, ◌+◌, Bool, true, false, List, 
 use Rattle.{std.proofs.Common.{bytes_eq, ◌||◌}, rnix_kinds.specs.declared.kinds.SyntaxKind.{SyntaxKind, TheVariants.{NODE_ERROR, NODE_PAT_ENTRY}}}
 use Rattle.{rnix_kinds.specs.SyntaxKind.is_trivia, rnix_green.specs.{Forest.{text_of, element_count}, Tree.{Tree, Item, item}}}
 use Rattle.rnix_grammar.specs.{Fault.duplicated_args, AnnotatedForest.{Token, Note, AnnotatedForest, blank, token, branch, fault, ◌⊕◌, one_token, one_branch}}
-use Rattle.rnix_grammar.specs.AnnotatedForest.{one_fault, tokens_in, forget, without_trivia, token_if, HaveLeafKinds, extent_of as place_of}
+use Rattle.rnix_grammar.specs.AnnotatedForest.{one_fault, tokens_in, forget, without_trivia, token_if, HaveLeafKinds, extent_of as extent_in}
 use Rattle.rnix_grammar.specs.{Reports.{entry_name, is_same_name, has_entry, repeated_if, repeats}, Shape.{reports_within, name_if, with_name}, Tables.is_among}
 use Rattle.rnix_grammar.specs.Ranges.{is_error_node, IsEntryName, is_among_if, is_at_fault, at_fault_from, AreErrorsOf}
 use Rattle.rnix_proof_lemmas.proofs.{LayoutLemmas.without_trivia-⊕, EntryNames.{name_of_items, has_branch, has-⊕, if_not}}
@@ -58,12 +58,12 @@ named_entry _ c x h = none_some x h
 
 -- an entry is reported exactly if its name is one of those before it
 entry_error : (t : Tree) (n : ℕ) (names : List (List ℕ)) (b : AnnotatedForest) (o : Option Token) → Lists names b
-    → ((x : Token) → o ≡ Some x → IsEntryName t n (place_of (x ∷ [])) x.text)
+    → ((x : Token) → o ≡ Some x → IsEntryName t n (extent_in (x ∷ [])) x.text)
     → AreErrorsOf t (repeated_if o b) (if is_among_if (name_of o) names then n ∷ [] else [])
 entry_error t n names b None l h = tt
 entry_error t n names b (Some x) l h =
-    subst (λ z. AreErrorsOf t (if has_entry x.text b then duplicated_args (place_of (x ∷ [])) x.text ∷ [] else []) (if z then n ∷ [] else [])) (l x.text)
-    (elim (has_entry x.text b) as (λ z. AreErrorsOf t (if z then duplicated_args (place_of (x ∷ [])) x.text ∷ [] else []) (if z then n ∷ [] else [])) [
+    subst (λ z. AreErrorsOf t (if has_entry x.text b then duplicated_args (extent_in (x ∷ [])) x.text ∷ [] else []) (if z then n ∷ [] else [])) (l x.text)
+    (elim (has_entry x.text b) as (λ z. AreErrorsOf t (if z then duplicated_args (extent_in (x ∷ [])) x.text ∷ [] else []) (if z then n ∷ [] else [])) [
       | true ↦
           (h x refl, tt)
       | false ↦ tt
@@ -72,7 +72,7 @@ entry_error t n names b (Some x) l h =
 -- so is a node
 node_error : (t : Tree) (n : ℕ) (names : List (List ℕ)) (b : AnnotatedForest) (k : SyntaxKind) (c : AnnotatedForest) → is_error_node k ≡ false
     → HaveLeafKinds k c → Lists names b
-    → ((x : Token) → k ≡ NODE_PAT_ENTRY → entry_name (without_trivia c) ≡ Some x → IsEntryName t n (place_of (x ∷ [])) x.text)
+    → ((x : Token) → k ≡ NODE_PAT_ENTRY → entry_name (without_trivia c) ≡ Some x → IsEntryName t n (extent_in (x ∷ [])) x.text)
     → AreErrorsOf t (repeats k b (without_trivia c)) (if is_at_fault k (forget c) names then n ∷ [] else [])
 node_error t n names b k c e o l h =
     let same : is_among_if (name_of (name_of_items k (without_trivia c))) names ≡ is_at_fault k (forget c) names =

@@ -4,7 +4,7 @@ use Rattle.{rnix_kinds.specs.declared.kinds.SyntaxKind.SyntaxKind, rnix_green.sp
 use Rattle.rnix_grammar.specs.AnnotatedForest.{Token, Note, Stray, TooDeep, AnnotatedForest, blank, token, branch, fault, row_of, tokens_in, is_some, leaf_kind}
 use Rattle.rnix_grammar.specs.{Rules.{Row, row, after, may_end}, CompleteRows.{after_all, IsBeginning}, Reads.{Reads, end, leaf, missing_part, wrong, second}}
 use Rattle.rnix_grammar.specs.{Reads.{inner, IsWrong}, Repaired.{repair, repaired_nonempty, kinds_of, AreBegun}}
-use Rattle.rnix_proof_lemmas.proofs.{AnnotatedForestLemmas.tokens_in-row_of, Basics.{not_nil, none_left, none_right}, ReachableRows.{IsKnown, is_viable}}
+use Rattle.rnix_proof_lemmas.proofs.{AnnotatedForestLemmas.tokens_in-row_of, Basics.{not_nil, none_remaining, none_right}, ReachableRows.{IsKnown, is_viable}}
 use Rattle.rnix_proof_lemmas.proofs.{ReachableRows.{known_row, known_after, known_missing, known_past, known_wrong}, ViableRows.{end_viable, reads_viable}}
 use Rattle.rnix_proof_rows.proofs.{RowsWithoutAttrpath.{missing_no_attrpath, HasNoNode, no_attrpath_row, wrong_empty}, RepairedRows.{IsCompletable, completed}}
 use Rattle.rnix_proof_rows.proofs.RepairedRows.{Simulates, simulates_self, simulates_same, simulates_both, simulates_completable, second_simulates}
@@ -16,7 +16,7 @@ nonempty_none blank h n = refl
 nonempty_none (token k t f) h n = absurd (not_nil n)
 nonempty_none (branch k c f) h n = absurd h
 nonempty_none (fault note c f) h n =
-    ap (λ o. if is_some o then repair note (repaired_nonempty f) else repaired_nonempty f) (none_left (tokens_in c) (tokens_in f) n)
+    ap (λ o. if is_some o then repair note (repaired_nonempty f) else repaired_nonempty f) (none_remaining (tokens_in c) (tokens_in f) n)
     ∙ nonempty_none f h (none_right (tokens_in c) (tokens_in f) n)
 
 -- a row that can be completed, of nodes that are begun
@@ -59,7 +59,7 @@ reads_begun {p} {d} {q = q} {us = us} q0 (wrong {r = r} {f = f} n ts x o v h) w 
         → IsBegun q0 (repaired_nonempty (fault n (row_of ts) f))
     by_tokens [] e here more =
         let empty = wrong_empty n d q r (tokens_in f ++ us) i (subst (λ z. IsWrong n d q r z (tokens_in f ++ us)) e v) in
-        let last : tokens_in f ≡ [] = none_left (tokens_in f) us empty.2 in
+        let last : tokens_in f ≡ [] = none_remaining (tokens_in f) us empty.2 in
         none_begun q0 (repaired_nonempty (fault n (row_of ts) f)) (ap (λ o. if is_some o then repair n (repaired_nonempty f) else repaired_nonempty f)
         (tokens_in-row_of ts ∙ e)
         ∙ nonempty_none f (no_attrpath_row h (known_wrong n _ _ _ v i) (end_viable _ w) empty.1 (none_right (tokens_in f) us empty.2) last) last) here

@@ -6,7 +6,7 @@ use Rattle.rnix_grammar.specs.{AnnotatedForest.{blank, branch, fault, ◌⊕◌,
 use Rattle.rnix_grammar.specs.{Reports.{repeated_if, entry_name, has_entry, repeats}, Rules.Row, Reads.{Reads, end, leaf, missing_part, wrong, second, inner}}
 use Rattle.rnix_grammar.specs.{Reads.IsWrong, Repaired.{is_ended, others, is_misplaced, NoneMisplaced, NoErrorAfterEnd, IsNamedList, AreNamedLists}}
 use Rattle.rnix_proof_lemmas.{specs.RowReports.reports_behind, proofs.{AnnotatedForestLemmas.tokens_in-row_of, MissingFacts.missing_ended}}
-use Rattle.rnix_proof_lemmas.proofs.{Basics.{true_is_not_false, not_nil, none_right, none_left}, ReachableRows.{IsKnown, known_row, known_second, known_after}}
+use Rattle.rnix_proof_lemmas.proofs.{Basics.{true_is_not_false, not_nil, none_right, none_remaining}, ReachableRows.{IsKnown, known_row, known_second, known_after}}
 use Rattle.rnix_proof_lemmas.proofs.ReachableRows.{known_missing, known_past, known_wrong}
 
 -- the others of two lists
@@ -124,7 +124,7 @@ joined : (c f g : AnnotatedForest) (us vs : List Token) (ds os es ps rs : List F
 joined c f g us vs ds os es ps rs t v h o w = record {
   reports = rw (others-++ (ds ++ os) es, others-++ ds os, h.reports, o.reports, w.reports) (append_assoc ps os rs);
   named = named-++ (ds ++ os) es (named-++ ds os h.named o.named) w.named;
-  none = λ n. none-++ (ds ++ os) es (none-++ ds os (h.none (none_left (tokens_in c) (tokens_in f) (sym t ∙ n))) o.none)
+  none = λ n. none-++ (ds ++ os) es (none-++ ds os (h.none (none_remaining (tokens_in c) (tokens_in f) (sym t ∙ n))) o.none)
       (w.none (none_right (tokens_in c) (tokens_in f) (sym t ∙ n)));
   last = λ m.
       elim (has-++ (ds ++ os) es m) [
@@ -132,7 +132,7 @@ joined c f g us vs ds os es ps rs t v h o w = record {
         | inr x ↦ w.last x
       ];
   settled = settled-++ (ds ++ os) es (settled-++ ds os h.settled o.settled (λ e. o.none)) w.settled
-      (λ m. elim (has-++ ds os m) [ inl e ↦ w.none (none_left (tokens_in f) us (sym v ∙ h.last e)) | inr e ↦ absurd (o.ended e) ]);
+      (λ m. elim (has-++ ds os m) [ inl e ↦ w.none (none_remaining (tokens_in f) us (sym v ∙ h.last e)) | inr e ↦ absurd (o.ended e) ]);
 }
 
 -- so it is with each row
@@ -162,7 +162,7 @@ reads_errors {d = d} {q = q} {b = b} {us = us} (wrong {r = r} {f = f} {es = es} 
           ∙ ap (λ x. x ++ (report n (tokens_in c) ∷ reports_behind (b ⊕ one_fault n c) f)) (sym (reports-row_of blank ts));
       named = (named_report n ts, w.named);
       none = λ o.
-          (let none : ts ≡ [] = sym same ∙ none_left (tokens_in c) (tokens_in f) o in (
+          (let none : ts ≡ [] = sym same ∙ none_remaining (tokens_in c) (tokens_in f) o in (
             ap (λ x. is_misplaced (report n x)) none
                 ∙ empty_report n d q r (tokens_in f ++ us) (subst (λ (x : List Token). IsWrong n d q r x (tokens_in f ++ us)) none v),
             w.none (none_right (tokens_in c) (tokens_in f) o),

@@ -5,7 +5,7 @@ use Rattle.{rnix_kinds.{specs.declared.kinds.SyntaxKind.TheVariants.NODE_PATTERN
 use Rattle.rnix_grammar.specs.{Fault.Fault, ErrorNodes.AreErrorNodes, AnnotatedForest.{Token, Note, Stray, DoubleBind, AnnotatedForest, tokens_in, row_of}}
 use Rattle.rnix_grammar.specs.{AnnotatedForest.leaf_kind, Reports.{report, repeats}, Rules.{Row, row, after, may_end, missing, counts}, CompleteRows.after_all}
 use Rattle.rnix_grammar.specs.{Reads.{Reads, end, leaf, missing_part, wrong, second, inner, IsWrong}, Repaired.{repair, repaired, kinds_of, incomplete}}
-use Rattle.{rnix_grammar.specs.Repaired.{is_ended, ended_count}, rnix_proof_lemmas.proofs.Basics.{true_is_not_false, not_if, not_nil, none_left, none_right}}
+use Rattle.{rnix_grammar.specs.Repaired.{is_ended, ended_count}, rnix_proof_lemmas.proofs.Basics.{true_is_not_false, not_if, not_nil, none_remaining, none_right}}
 use Rattle.rnix_proof_lemmas.proofs.{AnnotatedForestLemmas.tokens_in-row_of, MissingFacts.missing_ended, ReachableRows.{IsKnown, is_viable, every_known}}
 use Rattle.rnix_proof_lemmas.proofs.{ReachableRows.{known_row, known_second, known_after, known_missing, known_past, known_wrong}, ViableRows.end_viable}
 use Rattle.{rnix_proof_lemmas.proofs.{ViableRows.{reads_viable, reads_row}, RowKinds.has_row}, rnix_proof_rows.proofs.RowsWithoutAttrpath.is_bound}
@@ -68,7 +68,7 @@ final_rest end i l m n = refl
 final_rest (leaf x w h) i l m n = absurd (not_nil n)
 final_rest (missing_part u t z w h) i l m n = absurd (true_is_not_false (sym (ap is_lost z) ∙ m.lost))
 final_rest {d = d} {q = q} {us = us} (wrong {r = r} {f = f} note ts x w v h) i l m n =
-    let none : ts ≡ [] = sym (tokens_in-row_of ts) ∙ none_left (tokens_in (row_of ts)) (tokens_in f) n in
+    let none : ts ≡ [] = sym (tokens_in-row_of ts) ∙ none_remaining (tokens_in (row_of ts)) (tokens_in f) n in
     let counted = (wrong_empty note d q r (tokens_in f ++ us) i (subst (λ z. IsWrong note d q r z (tokens_in f ++ us)) none v)).0 in
     absurd (true_is_not_false (sym counted ∙ m.counts))
 final_rest (second s y h) i l m n = absurd (true_is_not_false m.bound)
@@ -187,7 +187,7 @@ reads_counts {q = q} {b = b} {us = us} q0 (inner {k = k} {c = c} {f = f} {ds = d
     let owed : needs_token (after q0 k) ≡ true =
     ap needs_token (on ∙ ap (after q) o.0) ∙ pattern_owes q i (ap (λ j. is_viable (after q j)) (sym o.0) ∙ lives) in
     ap half (needs_token_half (after_all (after q0 k) (kinds_of (repaired f)))
-    (needs_token_rest h (none_left (tokens_in f) us o.1) (after q0 k) (known_after k k0) owed)) in
+    (needs_token_rest h (none_remaining (tokens_in f) us o.1) (after q0 k) (known_after k k0) owed)) in
     same_counts refl (sym sum) (record {
       few = omega (arith, a1, a2);
       none = λ h.

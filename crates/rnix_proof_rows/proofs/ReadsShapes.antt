@@ -7,7 +7,7 @@ use Rattle.rnix_grammar.specs.{AnnotatedForest.{AnnotatedForest, blank, token, b
 use Rattle.rnix_grammar.specs.{Rules.{after, may_end}, CompleteRows.{after_all, is_row}, Reads.{Reads, ReadsRoot, end, leaf, missing_part, wrong, second}}
 use Rattle.rnix_grammar.specs.{Reads.inner, Named.{AreNamed, begins_with_token, is_bind_at, is_name_allowed}, ErrorNodes.AreErrorNodes, Reports.report}
 use Rattle.rnix_grammar.specs.{Reports.repeats, Repaired.{repaired, kinds_of, incomplete, is_ended, ended_count, others}}
-use Rattle.rnix_proof_lemmas.{specs.RowReports.{reports_behind, reports}, proofs.Basics.{true_is_not_false, not_nil, none_left, none_right, Where, where_one}}
+use Rattle.rnix_proof_lemmas.{specs.RowReports.{reports_behind, reports}, proofs.Basics.{true_is_not_false, not_nil, none_remaining, none_right, Where, where_one}}
 use Rattle.rnix_proof_lemmas.proofs.{EachKind.each_kind, EntryNames.both_true, ReachableRows.{IsKnown, is_viable, every_known, known_row, known_after}}
 use Rattle.{rnix_proof_lemmas.proofs.ViableRows.{end_viable, reads_viable}, rnix_proof_rows.proofs.NamedRows.{are_named, is_end_or}}
 use Rattle.rnix_proof_rows.proofs.{ErrorNodeRows.root_error_nodes, ReadsFaults.reads_errors, ReadsRows.{half, reads_counts}, RepairedRows.simulates_self}
@@ -85,9 +85,9 @@ reads_rows {p} {q = q} first (leaf {t = t} x o s) n l i names m =
 reads_rows first (missing_part u t z o s) n l i names m = absurd (not_nil n)
 reads_rows first (wrong note ts x o v s) n l i names m = absurd (not_nil n)
 reads_rows first (second {c = c} {ds = ds} {es = es} s y x) n l i names m =
-    absurd (not_nil (none_right ds (report DoubleBind (tokens_in c) ∷ []) (none_left (ds ++ report DoubleBind (tokens_in c) ∷ []) es n)))
+    absurd (not_nil (none_right ds (report DoubleBind (tokens_in c) ∷ []) (none_remaining (ds ++ report DoubleBind (tokens_in c) ∷ []) es n)))
 reads_rows {q = q} {b = b} first (inner {k = k} {c = c} {f = f} {ds = ds} {es = es} o s y x j z t) n l i names m =
-    let none : ds ≡ [] = none_left ds (repeats k b c) (none_left (ds ++ repeats k b c) es n) in
+    let none : ds ≡ [] = none_remaining ds (repeats k b c) (none_remaining (ds ++ repeats k b c) es n) in
     let below = reads_rows true s none (end_viable _ y.0) (known_row k) names.1 (agrees_start k) in
     let w = reads_rows false t (none_right (ds ++ repeats k b c) es n) l (known_after k i) names.2 (agrees_later q k i) in
     record {

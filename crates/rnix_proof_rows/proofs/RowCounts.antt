@@ -2,7 +2,7 @@
 use Rattle.std.{specs.List.{filter, find, list_all}, proofs.Common.{◌≡◌, ℕ, zero, suc, ◌≤◌, Bool, true, false, cond, List, [], ◌∷◌, length, Some}}
 use Rattle.std.proofs.{Common.{refl, ap, sym, ◌∙◌, arith, ◌&&◌, if◌then◌else◌, is_some, slice_get}, lemmas.Bool.and_parts}
 use Rattle.rnix_kinds.{specs.declared.kinds.SyntaxKind.{SyntaxKind, TheVariants.NODE_ATTRPATH}, proofs.AllKinds.{all_kinds, every, implied}}
-use Rattle.{rnix_green.specs.Equality.same_kind, rnix_grammar.specs.{declared.rules.Part.Part, Rows.{is_atom, is_simple, is_entry, fits}}}
+use Rattle.{rnix_green.specs.Equality.same_kind, rnix_grammar.specs.{declared.rules.Part.Part, NodeClasses.{is_atom, is_simple, is_entry, fits}}}
 use Rattle.rnix_grammar.specs.declared.rules.Part.TheVariants.{Child, Atom, First, Suffix, Binary, Argument, Operand, Many, Entries, Wanted, Attrpath}
 use Rattle.rnix_grammar.specs.{Rules.{Row, never, done, ◌·◌, ◌or◌, row, only, after, may_end}, CompleteRows.{after_all, is_row}}
 use Rattle.rnix_proof_lemmas.proofs.{Basics.true_is_not_false, ReachableRows.is_viable, ViableRows.{nowhere, later_viable}}
@@ -130,10 +130,10 @@ stepped : (test : Test) (n m : ℕ) (q : Row) (ks : List SyntaxKind) → each_st
     → suc n ≤ length (filter test ks)
 stepped test n m q [] h e w ih = absurd (true_is_not_false (sym w ∙ e))
 stepped test n m q (k ∷ ks) h e w ih =
-    let left : ℕ = if test k then n else suc n in
+    let remaining : ℕ = if test k then n else suc n in
     counted test (test k) n k ks (λ e. e)
-    (ih left (after q k) ks
-    (sym (ap (λ v. if v then has test left m (after q k) else true) (later_viable (after q k) ks w))
+    (ih remaining (after q k) ks
+    (sym (ap (λ v. if v then has test remaining m (after q k) else true) (later_viable (after q k) ks w))
     ∙ every (λ k. if is_viable (after q k) then has test (if test k then n else suc n) m (after q k) else true) h k) w)
 
 -- what is computed is so

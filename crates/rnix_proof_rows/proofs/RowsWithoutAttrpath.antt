@@ -5,9 +5,9 @@ use Rattle.{std.proofs.{Common.{if◌then◌else◌, ◌&&◌}, lemmas.Bool.and_
 use Rattle.{rnix_kinds.proofs.AllKinds.{all_kinds, implied}, rnix_grammar.specs.{Fault.Fault, declared.rules.Part.TheVariants.{Child, Atom, First, Suffix}}}
 use Rattle.rnix_grammar.specs.{declared.rules.Part.TheVariants.{Binary, Argument, Attrpath, BoundAlready}, AnnotatedForest.{Token, Note, Stray, Unwanted}}
 use Rattle.rnix_grammar.specs.AnnotatedForest.{Extra, DoubleBind, TooDeep, AnnotatedForest, blank, token, branch, fault, one_branch, is_some, row_of, tokens_in}
-use Rattle.rnix_grammar.specs.{Beginnings.{BeginsAs, IsOperandOf}, Reads.{Reads, end, leaf, missing_part, wrong, second, inner, IsWrong}, Rules.{Row, never}}
+use Rattle.rnix_grammar.specs.{FirstKinds.{BeginsAs, IsOperandOf}, Reads.{Reads, end, leaf, missing_part, wrong, second, inner, IsWrong}, Rules.{Row, never}}
 use Rattle.rnix_grammar.specs.Rules.{done, ◌·◌, ◌or◌, row, after, may_end, missing, expects_end, IsExpected, is_first_expected, level_at, counts}
-use Rattle.rnix_proof_lemmas.proofs.{Basics.{true_is_not_false, not_nil, none_left, none_right}, AnnotatedForestLemmas.tokens_in-row_of, UnwantedRuns.some_left}
+use Rattle.rnix_proof_lemmas.proofs.{Basics.{true_is_not_false, not_nil, none_remaining, none_right}, AnnotatedForestLemmas.tokens_in-row_of, UnwantedRuns.some_remaining}
 use Rattle.rnix_proof_lemmas.proofs.{ReachableRows.{IsKnown, is_viable, every_known, known_row, known_missing, known_past, known_wrong}, ViableRows.end_viable}
 use Rattle.rnix_proof_lemmas.proofs.ViableRows.{reads_viable}
 
@@ -67,10 +67,10 @@ row_some {q = q} end i h w = absurd (true_is_not_false (sym w ∙ child_not_ende
 row_some (leaf x o s) i h w = refl
 row_some {q = q} (missing_part {r = r} {e = e} u l m o s) i h w = absurd (child_lost q r e h m)
 row_some {d = d} {q = q} {us = us} (wrong {r = r} {f = f} note ts x o v s) i h w =
-    some_left (tokens_in (row_of ts)) (tokens_in f) (ap is_some (tokens_in-row_of ts) ∙ wrong_some note d q r ts (tokens_in f ++ us) h v)
+    some_remaining (tokens_in (row_of ts)) (tokens_in f) (ap is_some (tokens_in-row_of ts) ∙ wrong_some note d q r ts (tokens_in f ++ us) h v)
 row_some (second s y o) i h w = absurd (true_is_not_false (sym h))
 row_some {q = q} (inner {k = k} {c = c} {f = f} o s y x j z t) i h w =
-    some_left (tokens_in c) (tokens_in f) (row_some s (known_row k) (child_node q k i h (reads_viable t (end_viable _ w))) y.0)
+    some_remaining (tokens_in c) (tokens_in f) (row_some s (known_row k) (child_node q k i h (reads_viable t (end_viable _ w))) y.0)
 
 -- the end of a pattern that has a name before it
 abbrev pub is_bound : Row → Bool
@@ -181,12 +181,12 @@ no_attrpath_row end i l h u e = tt
 no_attrpath_row (leaf x o s) i l h u e = absurd (not_nil e)
 no_attrpath_row (missing_part w t m o s) i l h u e = no_attrpath_row s (known_missing m i) l (missing_no_attrpath i m) u e
 no_attrpath_row {d = d} {q = q} {us = us} (wrong {r = r} {f = f} note ts x o v s) i l h u e =
-    let none : ts ≡ [] = sym (tokens_in-row_of ts) ∙ none_left (tokens_in (row_of ts)) (tokens_in f) e in
+    let none : ts ≡ [] = sym (tokens_in-row_of ts) ∙ none_remaining (tokens_in (row_of ts)) (tokens_in f) e in
     let empty = wrong_empty note d q r (tokens_in f ++ us) i (subst (λ ts. IsWrong note d q r ts (tokens_in f ++ us)) none v) in
     no_attrpath_row s (known_wrong note _ _ _ v i) l empty.1 u (none_right (tokens_in (row_of ts)) (tokens_in f) e)
 no_attrpath_row (second {c = c} {f = f} s y o) i l h u e = no_attrpath_row o (known_past i) l refl u (none_right (tokens_in c) (tokens_in f) e)
 no_attrpath_row {n = n} {q = q} {us = us} (inner {k = k} {c = c} {f = f} o s y x j z t) i l h u e =
-    let none : tokens_in c ≡ [] = none_left (tokens_in c) (tokens_in f) e in
+    let none : tokens_in c ≡ [] = none_remaining (tokens_in c) (tokens_in f) e in
     let last : tokens_in f ++ us ≡ [] = ap (λ ts. ts ++ us) (none_right (tokens_in c) (tokens_in f) e) ∙ u in
     let own : IsExpected q n [] (is_first_expected q k c) =
     subst (λ ts. IsExpected q n ts (is_first_expected q k c)) (ap (λ ts. ts ++ (tokens_in f ++ us)) none ∙ last) x in

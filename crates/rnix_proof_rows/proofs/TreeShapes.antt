@@ -8,7 +8,7 @@ use Rattle.rnix_grammar.specs.{Reports.{is_same_name, has_entry, repeats}, Rules
 use Rattle.rnix_grammar.specs.{Repaired.kinds_of, Trim.{AreNodesTrimmed, AreFaultsTrimmed}, Shape.{item_kinds, begins_with_leaf, is_bind_formed}}
 use Rattle.rnix_grammar.specs.Shape.{are_binds_formed, AreRows, IsShaped, leaf_text, text_if, name_in, name_if, with_name, entry_names, AreNew, AreUnrepeated}
 use Rattle.{rnix_grammar.specs.{Shape.{IsUnrepeated, reports_within}, Tables.is_among}, rnix_proof_lemmas.proofs.{ViableRows.nowhere, Basics.true_is_not_false}}
-use Rattle.rnix_proof_lemmas.proofs.{Basics.{none_left, none_right}, EntryNames.{name_of_items, has_branch, either_assoc, has-⊕, if_not}}
+use Rattle.rnix_proof_lemmas.proofs.{Basics.{none_remaining, none_right}, EntryNames.{name_of_items, has_branch, either_assoc, has-⊕, if_not}}
 use Rattle.rnix_proof_lemmas.proofs.{AnnotatedForestLemmas.⊕-blank, LayoutLemmas.without_trivia-⊕, ReportLemmas.{without_trivia_tokens, same_report}}
 use Rattle.{rnix_proof_lemmas.specs.RowReports.reports_behind, rnix_proof_rows.proofs.{WithTriviaEdges.remapped_is_trivia, ReadsShapes.is_item_bind_formed}}
 use Rattle.rnix_proof_rows.proofs.ReadsShapes.{are_item_binds_formed, AreErrorFreeRows, IsErrorFree, root_rows}
@@ -174,7 +174,7 @@ new_repeated names b (Some t) h = subst (λ x. ((if x then duplicated_args (exte
 
 -- two lists are empty together if each is
 none_all : (es fs : List Fault) → (es ++ fs ≡ []) ↔ ((es ≡ []) × (fs ≡ []))
-none_all es fs = (λ h. (none_left es fs h, none_right es fs h), λ h. ap (λ x. x ++ fs) h.0 ∙ h.1)
+none_all es fs = (λ h. (none_remaining es fs h, none_right es fs h), λ h. ap (λ x. x ++ fs) h.0 ∙ h.1)
 
 -- the names of a row's entries are none of those before it, and no name is repeated in it
 abbrev IsNewRow : List (List ℕ) → Forest → Type 0

@@ -2,22 +2,22 @@
 use Rattle.std.proofs.Common.{◌≡◌, ℕ, suc, Bool, true, false, List, [], ◌∷◌, ◌++◌, Option, refl, sym, ap, ◌∙◌, subst, if◌then◌else◌, nat_le}
 use Rattle.rnix_kinds.specs.declared.kinds.SyntaxKind.{SyntaxKind, TheVariants.{NODE_ERROR, NODE_IDENT, NODE_IDENT_PARAM, NODE_APPLY, NODE_LEGACY_LET}}
 use Rattle.{rnix_kinds.specs.declared.kinds.SyntaxKind.TheVariants.{NODE_PATTERN, NODE_PAT_BIND}, rnix_grammar.specs.declared.position.Position.Position}
-use Rattle.rnix_grammar.specs.declared.{slot_table.TheConstants.APPLIED, expected_set.ExpectedSet.ExpectedSet, action.Action.Action, begin.Begin.Begin}
-use Rattle.rnix_grammar.specs.{Fault.Fault, Tables.depth_limit, Actions.action_at, Begins.{begin_of, second_kind}, AnnotatedForest.{Token, Stray, Unwanted}}
+use Rattle.rnix_grammar.specs.declared.{slot_table.TheConstants.APPLIED, expected_set.ExpectedSet.ExpectedSet, action.Action.Action, operand_start.OperandStart.OperandStart}
+use Rattle.rnix_grammar.specs.{Fault.Fault, Tables.depth_limit, Actions.action_at, OperandStarts.{operand_start_of, second_kind}, AnnotatedForest.{Token, Stray, Unwanted}}
 use Rattle.rnix_grammar.specs.AnnotatedForest.{Extra, DoubleBind, TooDeep, AnnotatedForest, blank, ◌⊕◌, one_branch, one_fault, without_trivia, head_kind}
-use Rattle.rnix_grammar.specs.{AnnotatedForest.touches, Layout.{from_item, tail_of, trivia_before, items, left_after, with_all_trivia}, Reports.repeated}
+use Rattle.rnix_grammar.specs.{AnnotatedForest.touches, Layout.{from_item, tail_of, trivia_before, items, remaining_after, with_all_trivia}, Reports.repeated}
 use Rattle.{rnix_grammar.specs.UnwantedRun.run_of, rnix_proof_lemmas.specs.Machine.{Head, Node, SecondBind, Operand, Frame, Machine, put, opened, with_leading}}
-use Rattle.rnix_proof_lemmas.specs.Machine.{after_item, leaf, run_row, dropped, run_rest, made, kind_of, min_bp_of, closed, entry_closed, limited, begun}
-use Rattle.rnix_proof_lemmas.specs.{Machine.{operand_on, reading, perform, step_on, step, begins, Runs, rest, then as further}, FrameKinds.OperandFrame}
+use Rattle.rnix_proof_lemmas.specs.Machine.{after_item, leaf, run_leaves, dropped, run_rest, made, kind_of, min_bp_of, closed, entry_closed, limited, begun}
+use Rattle.rnix_proof_lemmas.specs.{Machine.{operand_on, reading, perform, step_on, step, initial_machine, Runs, rest, then as further}, FrameKinds.OperandFrame}
 use Rattle.rnix_proof_lemmas.{specs.{FrameKinds.{frame_kind, IsStackedOn, AreStacked}, Allowed.{Allowed, is_there}}, proofs.AnnotatedForestLemmas.⊕-assoc}
 use Rattle.rnix_proof_lemmas.proofs.{LayoutLemmas.without_trivia-⊕, WithoutTriviaLemmas.{items_behind, with_leading_without_trivia, run_prefix, all_prefix}}
-use Rattle.rnix_proof_lemmas.proofs.{AllowedLemmas.allowed, StackedFrames.{BeginsInner, begin_inner, step_stacked, begins_stacked}}
+use Rattle.rnix_proof_lemmas.proofs.{AllowedLemmas.allowed, StackedFrames.{BeginsInner, operand_start_inner, step_stacked, initial_stacked}}
 use Rattle.rnix_proof_rows.proofs.AttachTriviaLemmas.{HasTree, tree_behind, HasNoLeadingTrivia, from_no_leading_trivia, no_leading_trivia, HasTrivia}
 use Rattle.rnix_proof_rows.proofs.AttachTriviaLemmas.{with_trivia_blank, with_trivia_added, tree_added, with_trivia_branch, with_trivia_fault, with_trivia_last}
 use Rattle.rnix_proof_rows.proofs.AttachTriviaLemmas.{with_trivia_leaf, tree_leaf, with_trivia_run}
 use Rattle.rnix_grammar.specs.declared.position.Position.TheVariants as p
 use Rattle.rnix_grammar.specs.declared.action.Action.TheVariants as a
-use Rattle.rnix_grammar.specs.declared.begin.Begin.TheVariants as b
+use Rattle.rnix_grammar.specs.declared.operand_start.OperandStart.TheVariants as b
 
 -- a row that waits for a tree: it has the trivia before the tree, which begins with the tokens vs
 pub record IsAwaiting (row : AnnotatedForest) (ts vs : List Token) : Type 0 where
@@ -30,7 +30,7 @@ pub record IsAwaiting (row : AnnotatedForest) (ts vs : List Token) : Type 0 wher
 -- the rows that wait, one above another: each begins where the tree begins for which the one below waits, and the lowest with all tokens
 abbrev pub AreAwaiting : List Token → List Frame → List Token → Type 0
 AreAwaiting all [] vs = vs ≡ all
-AreAwaiting all (g ∷ gs) vs = (ts : List Token) × (IsAwaiting g.row ts vs × AreAwaiting all gs ts)
+AreAwaiting all (g ∷ gs) vs = (ts : List Token) × (IsAwaiting g.children ts vs × AreAwaiting all gs ts)
 
 -- a tree stands in the row of an operand
 abbrev pub HasOperand : Head → AnnotatedForest → Type 0
@@ -40,11 +40,11 @@ HasOperand head row = Unit {0}
 -- all rows, of which the innermost goes on with the tokens us
 abbrev pub HaveTrivia : List Token → List Frame → List Token → Type 0
 HaveTrivia all [] us = Unit {0}
-HaveTrivia all (f ∷ fs) us = (ts : List Token) × (HasTrivia f.row ts us × (HasOperand f.head f.row × AreAwaiting all fs ts))
+HaveTrivia all (f ∷ fs) us = (ts : List Token) × (HasTrivia f.children ts us × (HasOperand f.head f.children × AreAwaiting all fs ts))
 
 -- the rows of a machine
 abbrev pub AttachesTrivia : List Token → Machine → Type 0
-AttachesTrivia all m = HaveTrivia all m.frames m.left
+AttachesTrivia all m = HaveTrivia all m.frames m.remaining
 
 -- a row begins to wait
 awaits : (row : AnnotatedForest) (ts us : List Token) → HasTrivia row ts us → IsAwaiting (with_leading true row us) ts (from_item us)
@@ -85,12 +85,12 @@ on_some : (all : List Token) (head : Head) (position : Position) (fs : List Fram
     → IsStackedOn head position fs
     → AreAwaiting all fs ts → HasNoLeadingTrivia ts
 on_some all head position [] ts e w h = absurd (cc)
-on_some all head position (f ∷ fs) ts e w h = awaited_no_leading_trivia f.row h.0 ts h.1.0
+on_some all head position (f ∷ fs) ts e w h = awaited_no_leading_trivia f.children h.0 ts h.1.0
 
 -- a frame that waits for what begins with the next item
 waiting : (all : List Token) (f : Frame) (fs : List Frame) (ts : List Token) → HaveTrivia all (f ∷ fs) ts
-    → AreAwaiting all (put f.position (with_leading true f.row ts) f ∷ fs) (from_item ts)
-waiting all f fs ts h = (h.0, (awaits f.row h.0 ts h.1.0, h.1.1.1))
+    → AreAwaiting all (put f.position (with_leading true f.children ts) f ∷ fs) (from_item ts)
+waiting all f fs ts h = (h.0, (awaits f.children h.0 ts h.1.0, h.1.1.1))
 
 -- a frame is complete
 closed_with_trivia : (all : List Token) (f : Frame) (fs : List Frame) (ts : List Token) (n : ℕ) (es : List Fault) → HaveTrivia all (f ∷ fs) ts
@@ -98,15 +98,15 @@ closed_with_trivia : (all : List Token) (f : Frame) (fs : List Frame) (ts : List
 closed_with_trivia all f [] ts n es h = h
 closed_with_trivia all f (g ∷ fs) ts n es h =
     let below = h.1.1.1 in
-    let tree : HasTree (without_trivia (made f.head f.row)) = made_tree f.head f.row h.1.1.0 in
-    let row : AnnotatedForest = g.row ⊕ made f.head f.row in (
+    let tree : HasTree (without_trivia (made f.head f.children)) = made_tree f.head f.children h.1.1.0 in
+    let row : AnnotatedForest = g.children ⊕ made f.head f.children in (
       below.0,
       (
-        came g.row (made f.head f.row) below.0 h.0 ts below.1.0 (made_with_trivia f.head f.row h.0 ts
-            (awaited_no_leading_trivia g.row below.0 h.0 below.1.0) h.1.0) tree,
+        came g.children (made f.head f.children) below.0 h.0 ts below.1.0 (made_with_trivia f.head f.children h.0 ts
+            (awaited_no_leading_trivia g.children below.0 h.0 below.1.0) h.1.0) tree,
         (
-          operand_tree g.head row (subst HasTree (sym (without_trivia-⊕ g.row (made f.head f.row)))
-              (tree_behind (without_trivia g.row) (without_trivia (made f.head f.row)) tree)),
+          operand_tree g.head row (subst HasTree (sym (without_trivia-⊕ g.children (made f.head f.children)))
+              (tree_behind (without_trivia g.children) (without_trivia (made f.head f.children)) tree)),
           below.1.1,
         ),
       ),
@@ -116,7 +116,7 @@ closed_with_trivia all f (g ∷ fs) ts n es h =
 entry_with_trivia : (all : List Token) (f : Frame) (fs : List Frame) (ts : List Token) (n : ℕ) (es : List Fault) → HaveTrivia all (f ∷ fs) ts
     → AttachesTrivia all (entry_closed true f fs ts n es)
 entry_with_trivia all f [] ts n es h = h
-entry_with_trivia all f (g ∷ fs) ts n es h = closed_with_trivia all f (g ∷ fs) ts n (es ++ repeated (without_trivia g.row) (without_trivia f.row)) h
+entry_with_trivia all f (g ∷ fs) ts n es h = closed_with_trivia all f (g ∷ fs) ts n (es ++ repeated (without_trivia g.children) (without_trivia f.children)) h
 
 -- a second item as a leaf behind a row that begins with the first
 two_with_trivia : (j : SyntaxKind) (row : AnnotatedForest) (ts : List Token) (x : Token) (us : List Token) → items ts ≡ x ∷ us → is_there (head_kind us) ≡ true
@@ -133,10 +133,11 @@ one_with_trivia : (j : SyntaxKind) (ts : List Token) → HasTrivia (one_branch j
 one_with_trivia j ts = with_trivia_branch j (leaf true j ts) (from_item ts) (after_item true ts) (from_no_leading_trivia ts) (with_trivia_leaf j ts)
 
 -- an operand begins, where f waits for it
-begun_with_trivia : (all : List Token) (begin : Begin) (level d : ℕ) (t x : Token) (us : List Token) (f : Frame) (fs : List Frame) (ts : List Token) (n : ℕ)
+begun_with_trivia : (all : List Token) (how : OperandStart) (level d : ℕ) (t x : Token) (us : List Token) (f : Frame) (fs : List Frame) (ts : List Token)
+    (n : ℕ)
     (es : List Fault)
-    → items ts ≡ x ∷ us → BeginsInner (head_kind us) begin → AreAwaiting all (put f.position (with_leading true f.row ts) f ∷ fs) (from_item ts)
-    → AttachesTrivia all (begun true begin level d t f fs ts n es)
+    → items ts ≡ x ∷ us → BeginsInner (head_kind us) how → AreAwaiting all (put f.position (with_leading true f.children ts) f ∷ fs) (from_item ts)
+    → AttachesTrivia all (begun true how level d t f fs ts n es)
 begun_with_trivia all (b.Leaf j) level d t x us f fs ts n es i s w = (from_item ts, (one_with_trivia j ts, (tt, w)))
 begun_with_trivia all (b.Node j position max_bp) level d t x us f fs ts n es i s w =
     (from_item ts, (with_trivia_leaf j ts, (tt, (from_item ts, (awaits_blank (from_item ts) (from_no_leading_trivia ts), w)))))
@@ -183,28 +184,30 @@ operand_with_trivia : (all : List Token) (level d : ℕ) (f : Frame) (fs : List 
     → items ts ≡ xs → HaveTrivia all (f ∷ fs) ts → AttachesTrivia all (operand_on true level d f fs ts xs n es)
 operand_with_trivia all level d f fs ts [] n es i h = h
 operand_with_trivia all level d f fs ts (t ∷ us) n es i h =
-    begun_with_trivia all (begin_of level t.kind t.text (head_kind us) (second_kind us)) level d t t us f fs ts n es i
-    (begin_inner level t.kind t.text (head_kind us) (second_kind us)) (waiting all f fs ts h)
+    begun_with_trivia all (operand_start_of level t.kind t.text (head_kind us) (second_kind us)) level d t t us f fs ts n es i
+    (operand_start_inner level t.kind t.text (head_kind us) (second_kind us)) (waiting all f fs ts h)
 
 -- all that is left is too deep
 limited_with_trivia : (all : List Token) (f : Frame) (fs : List Frame) (ts : List Token) (n : ℕ) (es : List Fault) → HaveTrivia all (f ∷ fs) ts
     → AttachesTrivia all (limited true f fs ts n es)
 limited_with_trivia all f fs ts n es h =
     let run : List Token = items ts in
-    let node : AnnotatedForest = one_fault TooDeep (run_row true run ts) in
-    let left : List Token = run_rest true run ts in
-    let last : HasTrivia (with_leading true node left) (from_item ts) (from_item left) =
-    with_trivia_last (run_row true run ts) (from_item ts) left (from_no_leading_trivia ts) (with_trivia_run run ts (dropped run run) (all_prefix run)) in
-    let two : HasTrivia (with_leading true f.row ts ⊕ with_leading true node left) h.0 (from_item left) =
-    with_trivia_added f.row (with_leading true node left) h.0 ts (from_item left) h.1.0 last tt in
-    let same : with_leading true (with_leading true f.row ts ⊕ node) left ≡ with_leading true f.row ts ⊕ with_leading true node left =
-    ⊕-assoc (with_leading true f.row ts) node (trivia_before left) in
-    let tree : HasTree (without_trivia (with_leading true f.row ts ⊕ with_leading true node left)) = tree_added f.row ts (with_leading true node left) tt in (
+    let node : AnnotatedForest = one_fault TooDeep (run_leaves true run ts) in
+    let remaining : List Token = run_rest true run ts in
+    let last : HasTrivia (with_leading true node remaining) (from_item ts) (from_item remaining) =
+    with_trivia_last (run_leaves true run ts) (from_item ts) remaining (from_no_leading_trivia ts) (with_trivia_run run ts (dropped run run) (all_prefix run))
+    in
+    let two : HasTrivia (with_leading true f.children ts ⊕ with_leading true node remaining) h.0 (from_item remaining) =
+    with_trivia_added f.children (with_leading true node remaining) h.0 ts (from_item remaining) h.1.0 last tt in
+    let same : with_leading true (with_leading true f.children ts ⊕ node) remaining ≡ with_leading true f.children ts ⊕ with_leading true node remaining =
+    ⊕-assoc (with_leading true f.children ts) node (trivia_before remaining) in
+    let tree : HasTree (without_trivia (with_leading true f.children ts ⊕ with_leading true node remaining)) =
+    tree_added f.children ts (with_leading true node remaining) tt in (
       h.0,
       (
-        subst (λ (x : AnnotatedForest). HasTrivia x h.0 (from_item left)) (sym same) two,
+        subst (λ (x : AnnotatedForest). HasTrivia x h.0 (from_item remaining)) (sym same) two,
         (
-          operand_tree f.head (with_leading true (with_leading true f.row ts ⊕ node) left)
+          operand_tree f.head (with_leading true (with_leading true f.children ts ⊕ node) remaining)
               (subst (λ (x : AnnotatedForest). HasTree (without_trivia x)) (sym same) tree),
           h.1.1.1,
         ),
@@ -222,12 +225,12 @@ reading_with_trivia all level false f fs ts n es h = operand_with_trivia all lev
 
 -- a run of items in an error node, behind a row
 run_with_trivia : (until : ExpectedSet) (row : AnnotatedForest) (vs ts : List Token) → HasTrivia row vs ts
-    → HasTrivia (with_leading true row ts ⊕ one_fault (Unwanted until) (run_row true (run_of until (items ts)) ts)) vs
+    → HasTrivia (with_leading true row ts ⊕ one_fault (Unwanted until) (run_leaves true (run_of until (items ts)) ts)) vs
     (run_rest true (run_of until (items ts)) ts)
 run_with_trivia until row vs ts h =
     let run : List Token = run_of until (items ts) in
-    with_trivia_added row (one_fault (Unwanted until) (run_row true run ts)) vs ts (run_rest true run ts) h
-    (with_trivia_fault (Unwanted until) (run_row true run ts) (from_item ts) (run_rest true run ts) refl (from_no_leading_trivia ts)
+    with_trivia_added row (one_fault (Unwanted until) (run_leaves true run ts)) vs ts (run_rest true run ts) h
+    (with_trivia_fault (Unwanted until) (run_leaves true run ts) (from_item ts) (run_rest true run ts) refl (from_no_leading_trivia ts)
     (with_trivia_run run ts (dropped run (items ts)) (run_prefix until (items ts)))) tt
 
 -- a leaf in a node, behind a row
@@ -242,9 +245,9 @@ next_with_trivia k row vs ts f h = with_trivia_added row (leaf true k ts) vs ts 
 
 -- a tree comes behind a row
 grown : (all : List Token) (f : Frame) (fs : List Frame) (ts us : List Token) (g : AnnotatedForest) → HasTree (without_trivia g)
-    → ((vs : List Token) → HasTrivia f.row vs ts → HasTrivia (with_leading true f.row ts ⊕ g) vs us)
-    → HaveTrivia all (f ∷ fs) ts → HaveTrivia all (put f.position (with_leading true f.row ts ⊕ g) f ∷ fs) us
-grown all f fs ts us g t d h = (h.0, (d h.0 h.1.0, (operand_tree f.head (with_leading true f.row ts ⊕ g) (tree_added f.row ts g t), h.1.1.1)))
+    → ((vs : List Token) → HasTrivia f.children vs ts → HasTrivia (with_leading true f.children ts ⊕ g) vs us)
+    → HaveTrivia all (f ∷ fs) ts → HaveTrivia all (put f.position (with_leading true f.children ts ⊕ g) f ∷ fs) us
+grown all f fs ts us g t d h = (h.0, (d h.0 h.1.0, (operand_tree f.head (with_leading true f.children ts ⊕ g) (tree_added f.children ts g t), h.1.1.1)))
 
 -- what is done by a frame
 perform_with_trivia : (all : List Token) (action : Action) (f : Frame) (fs : List Frame) (ts : List Token) (n : ℕ) (es : List Fault)
@@ -258,38 +261,38 @@ perform_with_trivia all a.Finish f fs ts n es al w h = h
 perform_with_trivia all a.EndOperand f fs ts n es al w h = closed_with_trivia all f fs ts n es h
 perform_with_trivia all a.Extra f fs ts n es al w h =
     let run : List Token = items ts in
-    let node = with_trivia_fault Extra (run_row true run ts) (from_item ts) (run_rest true run ts) refl (from_no_leading_trivia ts)
+    let node = with_trivia_fault Extra (run_leaves true run ts) (from_item ts) (run_rest true run ts) refl (from_no_leading_trivia ts)
     (with_trivia_run run ts (dropped run run) (all_prefix run)) in
-    grown all f fs ts (run_rest true run ts) (one_fault Extra (run_row true run ts)) tt
-    (λ vs d. with_trivia_added f.row (one_fault Extra (run_row true run ts)) vs ts (run_rest true run ts) d node tt) h
+    grown all f fs ts (run_rest true run ts) (one_fault Extra (run_leaves true run ts)) tt
+    (λ vs d. with_trivia_added f.children (one_fault Extra (run_leaves true run ts)) vs ts (run_rest true run ts) d node tt) h
 perform_with_trivia all (a.Take after) f fs ts n es al w h =
     grown all f fs ts (after_item true ts) (leaf true (kind_of f.head) ts) (tree_leaf (kind_of f.head) ts al.0)
-    (λ vs d. next_with_trivia (kind_of f.head) f.row vs ts al.0 d) h
+    (λ vs d. next_with_trivia (kind_of f.head) f.children vs ts al.0 d) h
 perform_with_trivia all (a.Miss after) f fs ts n es al w h = h
 perform_with_trivia all (a.MissWanted until after) f fs ts n es al w h = h
 perform_with_trivia all (a.Run until after) f fs ts n es al w h =
-    grown all f fs ts (run_rest true (run_of until (items ts)) ts) (one_fault (Unwanted until) (run_row true (run_of until (items ts)) ts)) tt
-    (λ vs d. run_with_trivia until f.row vs ts d) h
+    grown all f fs ts (run_rest true (run_of until (items ts)) ts) (one_fault (Unwanted until) (run_leaves true (run_of until (items ts)) ts)) tt
+    (λ vs d. run_with_trivia until f.children vs ts d) h
 perform_with_trivia all (a.Leaf j after) f fs ts n es al w h =
-    grown all f fs ts (after_item true ts) (one_branch j (leaf true j ts)) tt (λ vs d. name_with_trivia j f.row vs ts d) h
+    grown all f fs ts (after_item true ts) (one_branch j (leaf true j ts)) tt (λ vs d. name_with_trivia j f.children vs ts d) h
 perform_with_trivia all (a.Open j inside after) f fs ts n es al w h = (from_item ts, (with_trivia_leaf j ts, (tt, waiting all f fs ts h)))
-perform_with_trivia all (a.Begin j inside after) f fs ts n es al w h = (from_item ts, (with_trivia_blank (from_item ts), (tt, waiting all f fs ts h)))
+perform_with_trivia all (a.OpenEmpty j inside after) f fs ts n es al w h = (from_item ts, (with_trivia_blank (from_item ts), (tt, waiting all f fs ts h)))
 perform_with_trivia all (a.Entry after) f fs ts n es al w h = (from_item ts, (one_with_trivia NODE_IDENT ts, (tt, waiting all f fs ts h)))
 perform_with_trivia all (a.DoubleBind after) f fs ts n es al w h = (from_item ts, (with_trivia_leaf NODE_ERROR ts, (tt, waiting all f fs ts h)))
-perform_with_trivia all (a.Read level counted after) f fs ts n es al w h = reading_with_trivia all level counted (put (p.Left after) f.row f) fs ts n es h
+perform_with_trivia all (a.Read level counted after) f fs ts n es al w h = reading_with_trivia all level counted (put (p.InRow after) f.children f) fs ts n es h
 perform_with_trivia all (a.Wrap j inside max_bp) f fs ts n es al w h =
     let free : IsAwaiting blank h.0 h.0 = awaits_blank h.0 (on_some all f.head f.position fs h.0 al.1 w h.1.1.1) in
-    (h.0, (next_with_trivia j f.row h.0 ts al.0 h.1.0, (tt, (h.0, (free, h.1.1.1)))))
+    (h.0, (next_with_trivia j f.children h.0 ts al.0 h.1.0, (tt, (h.0, (free, h.1.1.1)))))
 perform_with_trivia all a.Apply f fs ts n es al w h =
     let free : IsAwaiting blank h.0 h.0 = awaits_blank h.0 (on_some all f.head f.position fs h.0 al.1 w h.1.1.1) in
-    reading_with_trivia all 16 false (opened (Node NODE_APPLY) (p.Left APPLIED) f.depth f.row)
+    reading_with_trivia all 16 false (opened (Node NODE_APPLY) (p.InRow APPLIED) f.depth f.children)
     (opened Operand (p.AfterOperand (min_bp_of f.position) 15) f.depth blank ∷ fs) ts n es (h.0, (h.1.0, (tt, (h.0, (free, h.1.1.1)))))
 perform_with_trivia all a.ApplyOr f fs ts n es al w h =
-    let inside : AnnotatedForest = with_leading true f.row ts ⊕ one_branch NODE_IDENT (leaf true NODE_IDENT ts) in (
+    let inside : AnnotatedForest = with_leading true f.children ts ⊕ one_branch NODE_IDENT (leaf true NODE_IDENT ts) in (
       h.0,
       (
         with_trivia_branch NODE_APPLY inside h.0 (after_item true ts) (on_some all f.head f.position fs h.0 al.1 w h.1.1.1)
-            (name_with_trivia NODE_IDENT f.row h.0 ts h.1.0),
+            (name_with_trivia NODE_IDENT f.children h.0 ts h.1.0),
         (tt, h.1.1.1),
       ),
     )
@@ -298,12 +301,12 @@ perform_with_trivia all a.ApplyOr f fs ts n es al w h =
 pub step_with_trivia : (all : List Token) (m : Machine) → AreStacked m.frames → AttachesTrivia all m → AttachesTrivia all (step true m)
 step_with_trivia all m k h = by_frames m.frames k h
   where
-    by_frames : (fs : List Frame) → AreStacked fs → HaveTrivia all fs m.left → AttachesTrivia all (step_on true fs m.left m.prev_end m.faults)
+    by_frames : (fs : List Frame) → AreStacked fs → HaveTrivia all fs m.remaining → AttachesTrivia all (step_on true fs m.remaining m.prev_end m.faults)
     by_frames [] k h = tt
     by_frames (f ∷ fs) k h =
-        let next : Option SyntaxKind = head_kind (items m.left) in
-        let near : Bool = touches m.prev_end (items m.left) in
-        perform_with_trivia all (action_at f.position next near) f fs m.left m.prev_end m.faults (allowed f.position next near) k h
+        let next : Option SyntaxKind = head_kind (items m.remaining) in
+        let near : Bool = touches m.prev_end (items m.remaining) in
+        perform_with_trivia all (action_at f.position next near) f fs m.remaining m.prev_end m.faults (allowed f.position next near) k h
 
 -- many steps keep the rows as their items and the tokens make them
 pub runs_with_trivia : (all : List Token) {m n : Machine} → Runs true m n → AreStacked m.frames → AttachesTrivia all m → AttachesTrivia all n
@@ -311,16 +314,17 @@ runs_with_trivia all rest k h = h
 runs_with_trivia all (further {m = m} r) k h = runs_with_trivia all r (step_stacked true m k) (step_with_trivia all m k h)
 
 -- the root's row is what its items and the tokens of the text make of it, and the tokens that are left are left behind these items
-pub root_with_trivia : (ts : List Token) {m : Machine} (f : Frame) → Runs true (begins ts) m → m.frames ≡ f ∷ [] → HasTrivia f.row ts m.left
+pub root_with_trivia : (ts : List Token) {m : Machine} (f : Frame) → Runs true (initial_machine ts) m → m.frames ≡ f ∷ [] → HasTrivia f.children ts m.remaining
 root_with_trivia ts {m = m} f r e =
-    let all : HaveTrivia ts (f ∷ []) m.left =
-    subst (λ (x : List Frame). HaveTrivia ts x m.left) e (runs_with_trivia ts r (begins_stacked ts) (ts, (with_trivia_blank ts, (tt, refl)))) in
-    subst (λ (x : List Token). HasTrivia f.row x m.left) all.1.1.1 all.1.0
+    let all : HaveTrivia ts (f ∷ []) m.remaining =
+    subst (λ (x : List Frame). HaveTrivia ts x m.remaining) e (runs_with_trivia ts r (initial_stacked ts) (ts, (with_trivia_blank ts, (tt, refl)))) in
+    subst (λ (x : List Token). HasTrivia f.children x m.remaining) all.1.1.1 all.1.0
 
 -- the trees of a whole text are what their items and its tokens make of them
-pub root_row_with_trivia : (ts : List Token) (m : Machine) (f : Frame) → Runs true (begins ts) m → m.frames ≡ f ∷ [] → items m.left ≡ []
-    → f.row ⊕ trivia_before m.left ≡ with_all_trivia (without_trivia (f.row ⊕ trivia_before m.left)) ts
+pub root_row_with_trivia : (ts : List Token) (m : Machine) (f : Frame) → Runs true (initial_machine ts) m → m.frames ≡ f ∷ [] → items m.remaining ≡ []
+    → f.children ⊕ trivia_before m.remaining ≡ with_all_trivia (without_trivia (f.children ⊕ trivia_before m.remaining)) ts
 root_row_with_trivia ts m f r e z =
-    let w : HasTrivia f.row ts m.left = root_with_trivia ts f r e in
-    sym (ap (λ x. with_all_trivia x ts) (with_leading_without_trivia f.row m.left) ∙ ap (λ x. x ⊕ trivia_before (left_after (without_trivia f.row) ts)) w.same
-    ∙ ap (λ x. f.row ⊕ trivia_before x) w.left)
+    let w : HasTrivia f.children ts m.remaining = root_with_trivia ts f r e in
+    sym (ap (λ x. with_all_trivia x ts) (with_leading_without_trivia f.children m.remaining)
+    ∙ ap (λ x. x ⊕ trivia_before (remaining_after (without_trivia f.children) ts)) w.same
+    ∙ ap (λ x. f.children ⊕ trivia_before x) w.remaining)

@@ -3,7 +3,7 @@ use Rattle.std.proofs.Common.{◌≡◌, Bool, true, false, List, [], ◌∷◌,
 use Rattle.rnix_kinds.specs.declared.kinds.SyntaxKind.{SyntaxKind, TheVariants.{TOKEN_IDENT, TOKEN_OR, NODE_IDENT, NODE_CUR_POS, NODE_ERROR}}
 use Rattle.{rnix_kinds.specs.SyntaxKind.is_trivia, rnix_grammar.specs.AnnotatedForest.{Token, AnnotatedForest, blank, token, branch, fault, ◌⊕◌, tokens_in}}
 use Rattle.rnix_grammar.specs.{AnnotatedForest.{forget, leaf_kind_as, HaveLeafKinds}, Layout.{from_item, from_item_if, tail_of, items, trivia_if}}
-use Rattle.rnix_grammar.specs.{Layout.{trivia_before, is_last, trivia_after, rest_after, left_after, with_trivia}, Trim.{BeginsWithItem, EndsWithItem}}
+use Rattle.rnix_grammar.specs.{Layout.{trivia_before, is_last, trivia_after, rest_after, remaining_after, with_trivia}, Trim.{BeginsWithItem, EndsWithItem}}
 use Rattle.{rnix_grammar.specs.Trim.{leaf_kinds, token_kinds, AreFaultsTrimmed, AreNodesTrimmed}, rnix_proof_lemmas.proofs.LayoutLemmas.{IsFirst, first_item}}
 use Rattle.rnix_proof_lemmas.proofs.{LayoutLemmas.{IsBared, bared, items-from_item, items-rest_after, with_trivia_tokens}, EdgeLemmas.{IsSome, some}}
 use Rattle.rnix_proof_lemmas.proofs.EdgeLemmas.{some_before, some_behind, ends_behind, ends_both, begins_part, token_kinds-++, kinds_in, kinds_in-⊕}
@@ -57,31 +57,31 @@ ended_trees (token k x f) ts us e h =
     let w : IsFirst x (tokens_in f ++ us) ts = first_item x (tokens_in f ++ us) ts e in
     let rest : List Token = tail_of (from_item ts) in
     ended_behind ts (token k x f) (token k x (with_trivia f rest)) (x.kind ∷ []) (kinds_in (with_trivia f rest)) refl (some x.kind []) w.item
-    (ended_trees f rest us w.left h).ends
+    (ended_trees f rest us w.remaining h).ends
 ended_trees (branch k c f) ts us e h =
     let d : AnnotatedForest = with_trivia c (from_item ts) in
-    let rest : List Token = left_after c (from_item ts) in
+    let rest : List Token = remaining_after c (from_item ts) in
     let below = ended_trees c (from_item ts) (tokens_in f ++ us) (items-from_item ts ∙ e ∙ append_assoc (tokens_in c) (tokens_in f) us) h.1 in
     ended_behind ts (branch k c f) (branch k d (with_trivia f rest)) (kinds_in d) (kinds_in (with_trivia f rest))
     (token_kinds-++ (tokens_in d) (tokens_in (with_trivia f rest)))
-    (below.some h.0) below.ends (ended_trees f rest us (inside c f ts us e).left h.2).ends
+    (below.some h.0) below.ends (ended_trees f rest us (inside c f ts us e).remaining h.2).ends
 ended_trees (fault n c f) ts us e h =
     let d : AnnotatedForest = with_trivia c (from_item ts) in
-    let rest : List Token = left_after c (from_item ts) in
+    let rest : List Token = remaining_after c (from_item ts) in
     let below = ended_trees c (from_item ts) (tokens_in f ++ us) (items-from_item ts ∙ e ∙ append_assoc (tokens_in c) (tokens_in f) us) h.2 in
     subst (λ (z : Bool). IsEnded (fault n c f) (trivia_before ts ⊕ fault n d (trivia_after z rest ⊕ with_trivia f (rest_after z rest)))) (sym h.0)
     (ended_behind ts (fault n c f) (fault n d (with_trivia f rest)) (kinds_in d) (kinds_in (with_trivia f rest))
     (token_kinds-++ (tokens_in d) (tokens_in (with_trivia f rest)))
-    (below.some h.1) below.ends (ended_trees f rest us (inside c f ts us e).left h.3).ends)
+    (below.some h.1) below.ends (ended_trees f rest us (inside c f ts us e).remaining h.3).ends)
 
 -- what is given trivia from an item on begins and ends with items
 edged_from : (f : AnnotatedForest) (ts us : List Token) → items ts ≡ tokens_in f ++ us → AreFilled f → IsEdged (with_trivia f (from_item ts))
 edged_from f ts us e h =
     let own : items (from_item ts) ≡ tokens_in f ++ us = items-from_item ts ∙ e in
     let g : AnnotatedForest = with_trivia f (from_item ts) in
-    let all : token_kinds (from_item ts) ≡ kinds_in g ++ token_kinds (left_after f (from_item ts)) =
-    ap token_kinds (sym (with_trivia_tokens f (from_item ts) us own)) ∙ token_kinds-++ (tokens_in g) (left_after f (from_item ts)) in (
-      begins_part (kinds_in g) (token_kinds (left_after f (from_item ts))) (subst BeginsWithItem all (begins_item ts)),
+    let all : token_kinds (from_item ts) ≡ kinds_in g ++ token_kinds (remaining_after f (from_item ts)) =
+    ap token_kinds (sym (with_trivia_tokens f (from_item ts) us own)) ∙ token_kinds-++ (tokens_in g) (remaining_after f (from_item ts)) in (
+      begins_part (kinds_in g) (token_kinds (remaining_after f (from_item ts))) (subst BeginsWithItem all (begins_item ts)),
       (ended_trees f (from_item ts) us own h).ends,
     )
 
@@ -102,14 +102,15 @@ pub with_trivia_edged : (f : AnnotatedForest) (ts us : List Token) → items ts 
 with_trivia_edged blank ts us e h = tt
 with_trivia_edged (token k x f) ts us e h =
     let rest : List Token = tail_of (from_item ts) in
-    edged-⊕ (trivia_before ts) (token k x (with_trivia f rest)) (edged_trivia ts) (with_trivia_edged f rest us (first_item x (tokens_in f ++ us) ts e).left h)
+    edged-⊕ (trivia_before ts) (token k x (with_trivia f rest)) (edged_trivia ts) (with_trivia_edged f rest us (first_item x (tokens_in f
+    ++ us) ts e).remaining h)
 with_trivia_edged (branch k c f) ts us e h =
     let all : items ts ≡ tokens_in c ++ (tokens_in f ++ us) = e ∙ append_assoc (tokens_in c) (tokens_in f) us in
-    let rest : List Token = left_after c (from_item ts) in
+    let rest : List Token = remaining_after c (from_item ts) in
     edged-⊕ (trivia_before ts) (branch k (with_trivia c (from_item ts)) (with_trivia f rest)) (edged_trivia ts) (
       edged_from c ts (tokens_in f ++ us) all (rows_filled c h.2),
       with_trivia_edged c (from_item ts) (tokens_in f ++ us) (items-from_item ts ∙ all) h.2,
-      with_trivia_edged f rest us (inside c f ts us e).left h.3,
+      with_trivia_edged f rest us (inside c f ts us e).remaining h.3,
     )
 with_trivia_edged (fault n c f) ts us e h = absurd h
 
@@ -124,15 +125,15 @@ with_trivia_trimmed blank ts us e h = tt
 with_trivia_trimmed (token k x f) ts us e h =
     let rest : List Token = tail_of (from_item ts) in
     faults_trimmed-⊕ (trivia_before ts) (token k x (with_trivia f rest)) (faults_trimmed_trivia ts)
-    (with_trivia_trimmed f rest us (first_item x (tokens_in f ++ us) ts e).left h)
+    (with_trivia_trimmed f rest us (first_item x (tokens_in f ++ us) ts e).remaining h)
 with_trivia_trimmed (branch k c f) ts us e h =
     let all : items ts ≡ tokens_in c ++ (tokens_in f ++ us) = e ∙ append_assoc (tokens_in c) (tokens_in f) us in
-    let rest : List Token = left_after c (from_item ts) in
+    let rest : List Token = remaining_after c (from_item ts) in
     faults_trimmed-⊕ (trivia_before ts) (branch k (with_trivia c (from_item ts)) (with_trivia f rest)) (faults_trimmed_trivia ts)
-    (with_trivia_trimmed c (from_item ts) (tokens_in f ++ us) (items-from_item ts ∙ all) h.0, with_trivia_trimmed f rest us (inside c f ts us e).left h.1)
+    (with_trivia_trimmed c (from_item ts) (tokens_in f ++ us) (items-from_item ts ∙ all) h.0, with_trivia_trimmed f rest us (inside c f ts us e).remaining h.1)
 with_trivia_trimmed (fault n c f) ts us e h =
     let all : items ts ≡ tokens_in c ++ (tokens_in f ++ us) = e ∙ append_assoc (tokens_in c) (tokens_in f) us in
-    let rest : List Token = left_after c (from_item ts) in
+    let rest : List Token = remaining_after c (from_item ts) in
     let later : List Token = rest_after (is_last n) rest in
     let edges = edged_from c ts (tokens_in f ++ us) all h.0 in
     faults_trimmed-⊕ (trivia_before ts) (fault n (with_trivia c (from_item ts)) (trivia_after (is_last n) rest ⊕ with_trivia f later))
@@ -141,7 +142,7 @@ with_trivia_trimmed (fault n c f) ts us e h =
       edges.1,
       with_trivia_trimmed c (from_item ts) (tokens_in f ++ us) (items-from_item ts ∙ all) h.1,
       faults_trimmed-⊕ (trivia_after (is_last n) rest) (with_trivia f later) (trimmed_after (is_last n) rest)
-          (with_trivia_trimmed f later us (items-rest_after (is_last n) rest ∙ (inside c f ts us e).left) h.2),
+          (with_trivia_trimmed f later us (items-rest_after (is_last n) rest ∙ (inside c f ts us e).remaining) h.2),
     )
 
 -- kinds that are trivia at the same places
@@ -170,14 +171,14 @@ name_alike TOKEN_OR = refl
 name_alike _ = refl
 
 -- below the current position too
-place_alike : (k : SyntaxKind) → is_trivia (leaf_kind_as NODE_CUR_POS k) ≡ is_trivia k
-place_alike TOKEN_IDENT = refl
-place_alike _ = refl
+trivia_alike : (k : SyntaxKind) → is_trivia (leaf_kind_as NODE_CUR_POS k) ≡ is_trivia k
+trivia_alike TOKEN_IDENT = refl
+trivia_alike _ = refl
 
 -- below any parent
 pub remapped_is_trivia : (p k : SyntaxKind) → is_trivia (leaf_kind_as p k) ≡ is_trivia k
 remapped_is_trivia NODE_IDENT k = name_alike k
-remapped_is_trivia NODE_CUR_POS k = place_alike k
+remapped_is_trivia NODE_CUR_POS k = trivia_alike k
 remapped_is_trivia _ k = refl
 
 -- the leaves of a row and its tokens

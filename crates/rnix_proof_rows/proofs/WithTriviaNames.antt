@@ -1,7 +1,7 @@
 -- Names hold their tokens alone with trivia around them too.
 use Rattle.std.proofs.Common.{◌≡◌, Bool, true, false, List, [], ◌∷◌, refl, sym}
 use Rattle.{rnix_kinds.specs.SyntaxKind.is_trivia, rnix_grammar.specs.AnnotatedForest.{Token, AnnotatedForest, blank, token, branch, fault, ◌⊕◌}}
-use Rattle.rnix_grammar.specs.{Layout.{from_item, tail_of, trivia_if, trivia_before, is_last, trivia_after, rest_after, left_after, with_trivia}, Trim.is_single_token}
+use Rattle.rnix_grammar.specs.{Layout.{from_item, tail_of, trivia_if, trivia_before, is_last, trivia_after, rest_after, remaining_after, with_trivia}, Trim.is_single_token}
 use Rattle.{rnix_grammar.specs.Trim.{begins_with_node, AreNamesSingleTokens}, rnix_proof_lemmas.proofs.{Basics.true_is_not_false, LayoutLemmas.trivia-from_item}}
 
 -- two rows
@@ -37,14 +37,14 @@ with_trivia_names blank ts h = tt
 with_trivia_names (token k t f) ts h = let rest : List Token = tail_of (from_item ts) in bare-⊕ (trivia_before ts) (token k t (with_trivia f rest))
     (trivia_names ts) (with_trivia_names f rest h)
 with_trivia_names (branch k c f) ts h =
-    let rest : List Token = left_after c (from_item ts) in
+    let rest : List Token = remaining_after c (from_item ts) in
     bare-⊕ (trivia_before ts) (branch k (with_trivia c (from_item ts)) (with_trivia f rest)) (trivia_names ts) (
       (λ e. single_token_with_trivia c ts (h.0.0 e), λ e. begins_with_trivia c ts (h.0.1 e)),
       with_trivia_names c (from_item ts) h.1,
       with_trivia_names f rest h.2,
     )
 with_trivia_names (fault n c f) ts h =
-    let rest : List Token = left_after c (from_item ts) in
+    let rest : List Token = remaining_after c (from_item ts) in
     let later : List Token = rest_after (is_last n) rest in
     bare-⊕ (trivia_before ts) (fault n (with_trivia c (from_item ts)) (trivia_after (is_last n) rest ⊕ with_trivia f later)) (trivia_names ts) (
       with_trivia_names c (from_item ts) h.0,

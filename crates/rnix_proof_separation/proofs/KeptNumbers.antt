@@ -122,8 +122,8 @@ module _ (x : List ℕ) where
   no_slash_run i free k h is =
       elim (cases_lt k i) [
         | inl before ↦ free k before is
-        | inr past ↦ (let place : i + (k - i) ≡ k = omega arith in
-            no_slash is_ascii_digit refl (get_or x k 0) (ap is_ascii_digit (sym (get_or-drop i x (k - i) 0 ∙ ap (λ j. get_or x j 0) place))
+        | inr past ↦ (let index_is : i + (k - i) ≡ k = omega arith in
+            no_slash is_ascii_digit refl (get_or x k 0) (ap is_ascii_digit (sym (get_or-drop i x (k - i) 0 ∙ ap (λ j. get_or x j 0) index_is))
             ∙ prefix_len_passes is_ascii_digit (drop i x) (k - i) 0 (omega arith)) is)
       ]
 

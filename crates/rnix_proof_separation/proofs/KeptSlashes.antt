@@ -79,8 +79,8 @@ angle_run x first last =
     passes : (k : ℕ) → k < run_end is_path 1 x → class_test Angle (get_or x k 0) ≡ true
     passes zero h = ap (class_test Angle) first
     passes (suc k) h =
-        let place : 1 + k ≡ suc k = omega arith in
-        or_left _ _ (ap is_path (sym (get_or-drop 1 x k 0 ∙ ap (λ j. get_or x j 0) place)) ∙ prefix_len_passes is_path (drop 1 x) k 0 (omega arith))
+        let index_is : 1 + k ≡ suc k = omega arith in
+        or_left _ _ (ap is_path (sym (get_or-drop 1 x k 0 ∙ ap (λ j. get_or x j 0) index_is)) ∙ prefix_len_passes is_path (drop 1 x) k 0 (omega arith))
 
 abbrev EndsAngle : ℕ → Type 0
 EndsAngle b = (class_test Angle b ≡ false) × ((b == 62) ≡ false)

@@ -4,7 +4,7 @@ use Rattle.{rnix_kinds.specs.declared.kinds.SyntaxKind.{SyntaxKind, TheVariants.
 use Rattle.rnix_grammar.specs.{declared.rules.Part.TheVariants.Many, Fault.Fault, AnnotatedForest.{Token, Note, Stray, Unwanted, Extra, DoubleBind, TooDeep}}
 use Rattle.rnix_grammar.specs.{AnnotatedForest.{AnnotatedForest, row_of, tokens_in}, Rules.{Row, ◌·◌, row, after, may_end, counts, expects_end, IsExpected}}
 use Rattle.rnix_grammar.specs.Reads.{Reads, end, leaf, missing_part, wrong, second, inner, deeper, IsWrong}
-use Rattle.rnix_proof_lemmas.proofs.{AnnotatedForestLemmas.tokens_in-row_of, Basics.{true_is_not_false, not_nil, none_left, none_right}, RowKinds.has_row}
+use Rattle.rnix_proof_lemmas.proofs.{AnnotatedForestLemmas.tokens_in-row_of, Basics.{true_is_not_false, not_nil, none_remaining, none_right}, RowKinds.has_row}
 use Rattle.rnix_proof_lemmas.proofs.ReachableRows.{IsKnown, is_viable, known_row, known_second, known_after, known_missing, known_wrong}
 use Rattle.{rnix_proof_lemmas.proofs.ViableRows.{end_viable, reads_viable, reads_row}, rnix_proof_rows.proofs.RowsWithoutAttrpath.{has_no_attrpath, HasNoNode}}
 use Rattle.{rnix_proof_rows.proofs.RowsWithoutAttrpath.{no_attrpath_row, row_some}, rnix_proof_size.proofs.{Counts.{nodes, nodes_row}, Bounds.{is_full, spare}}}
@@ -49,7 +49,7 @@ empty {d = d} {q = q} (missing_part {r = r} {f = f} w v m o h) i e u t g =
     let less : spare (is_full d) r ≤ spare (is_full d) q = missing_spare (is_full d) m i in
     omega (arith, rest, less)
 empty {d = d} {n = n} {q = q} {us = us} (wrong {r = r} {f = f} note ts x o v h) i e u t g =
-    let none : ts ≡ [] = sym (tokens_in-row_of ts) ∙ none_left (tokens_in (row_of ts)) (tokens_in f) t in
+    let none : ts ≡ [] = sym (tokens_in-row_of ts) ∙ none_remaining (tokens_in (row_of ts)) (tokens_in f) t in
     let last : tokens_in f ≡ [] = none_right (tokens_in (row_of ts)) (tokens_in f) t in
     let k : IsKnown _ r = known_wrong note _ _ _ v i in
     let rest : nodes f ≤ spare (is_full d) r = empty h k e u last (λ b. no_attrpath_row h k (end_viable _ e) b u last) in
@@ -59,9 +59,9 @@ empty {d = d} {n = n} {q = q} {us = us} (wrong {r = r} {f = f} note ts x o v h) 
     (subst (λ ts. IsWrong note d q r ts (tokens_in f ++ us)) none v) in
     let bare = nodes_row ts in
     omega (arith, rest, more, bare)
-empty (second {c = c} {f = f} h y s) i e u t g = nothing (row_some h known_second refl y.0) (none_left (tokens_in c) (tokens_in f) t)
+empty (second {c = c} {f = f} h y s) i e u t g = nothing (row_some h known_second refl y.0) (none_remaining (tokens_in c) (tokens_in f) t)
 empty {d = d} {q = q} {us = us} (inner {k = k} {c = c} {f = f} o h y x w z s) i e u t g =
-    let none : tokens_in c ≡ [] = none_left (tokens_in c) (tokens_in f) t in
+    let none : tokens_in c ≡ [] = none_remaining (tokens_in c) (tokens_in f) t in
     let last : tokens_in f ≡ [] = none_right (tokens_in c) (tokens_in f) t in
     let over : tokens_in f ++ us ≡ [] = ap (λ ts. ts ++ us) last ∙ u in
     let n : IsKnown _ (after q k) = known_after k i in

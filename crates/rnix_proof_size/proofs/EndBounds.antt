@@ -111,16 +111,16 @@ node_goes {i} v w q k n l h s =
     record { none = λ e. at_most _ _ (was (begins_with_child (after q k)) _ both.0 e); some = at_most _ _ both.1 }
 
 -- the places inside an operand that counts are one more
-open_places : (d : ℕ) → d < depth_limit → is_full d ≡ false
-open_places d h = lt-leb depth_limit d h
+open_depths : (d : ℕ) → d < depth_limit → is_full d ≡ false
+open_depths d h = lt-leb depth_limit d h
 
 pub room_inside : (counted : Bool) (d : ℕ) → (counted ≡ true → d < depth_limit)
     → fits_inside counted (is_full (if counted then suc d else d)) (is_full d) ≡ true
-room_inside true d h = ap is_false (open_places d (h refl))
+room_inside true d h = ap is_false (open_depths d (h refl))
 room_inside false d h = same_true (is_full d) (is_full d) refl
 
 pub room_here : (counted : Bool) (d : ℕ) → (counted ≡ true → d < depth_limit) → has_room (is_full d) counted ≡ true
-room_here true d h = ap (λ w. has_room w true) (open_places d (h refl))
+room_here true d h = ap (λ w. has_room w true) (open_depths d (h refl))
 room_here false d h = no_room (is_full d)
   where
     no_room : (w : Bool) → has_room w false ≡ true

@@ -4,7 +4,7 @@ use Rattle.{std.proofs.lemmas.List.length-append, rnix_kinds.specs.declared.kind
 use Rattle.rnix_grammar.specs.{declared.rules.Part.TheVariants.BoundAlready, Fault.Fault, AnnotatedForest.{Token, Note, Stray, Unwanted, Extra, DoubleBind}}
 use Rattle.rnix_grammar.specs.{AnnotatedForest.{TooDeep, AnnotatedForest, is_some, row_of, tokens_in, leaf_kind}, Rules.{Row, done, ◌·◌, row, second_name}}
 use Rattle.rnix_grammar.specs.{Rules.{after, may_end, counts}, Reads.{Reads, end, leaf, missing_part, wrong, second, inner, deeper, IsWrong}}
-use Rattle.rnix_proof_lemmas.proofs.{Basics.true_is_not_false, UnwantedRuns.some_left, ReachableRows.{IsKnown, is_viable, known_row, known_second, known_after}}
+use Rattle.rnix_proof_lemmas.proofs.{Basics.true_is_not_false, UnwantedRuns.some_remaining, ReachableRows.{IsKnown, is_viable, known_row, known_second, known_after}}
 use Rattle.rnix_proof_lemmas.proofs.{ReachableRows.known_wrong, ViableRows.{end_viable, reads_viable, reads_row, past_ends}}
 use Rattle.{rnix_proof_rows.proofs.RowsWithoutAttrpath.{begins_with_child, no_attrpath_row, row_some}, rnix_proof_size.proofs.Counts.{nodes, nodes_row}}
 use Rattle.rnix_proof_size.proofs.{Bounds.{is_full, surplus, spare, excess}, EmptyRows.empty, ClosedRows.{nothing, some_length, row_tokens, closed}}
@@ -159,4 +159,4 @@ last {d = d} {q = q} {us = us} (inner {k = k} {c = c} {f = f} o h y x w z t) i e
     (node_goes (is_full (deeper q d)) (is_full d) q k i (reads_viable t (end_viable _ e)) (reads_row h y.0) (room_inside (counts q) d o))
     (tail t n e u (last t n e u))
     (λ none. last h (known_row k) y.0 (over f u none) (some_inside c f s none))
-    (λ more. closed h (known_row k) y.0 (some_left (tokens_in f) us more))
+    (λ more. closed h (known_row k) y.0 (some_remaining (tokens_in f) us more))

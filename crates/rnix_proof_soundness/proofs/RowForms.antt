@@ -4,7 +4,7 @@ use Rattle.{std.proofs.lemmas.Bool.Decides.nat_tests, rnix_kinds.specs.{declared
 use Rattle.{rnix_green.specs.Forest.{Forest, empty, leaf, node}, rnix_grammar.specs.{AnnotatedForest.AnnotatedForest, Tables.{is_among, is_or}}}
 use Rattle.rnix_grammar.specs.{Levels.{expression_level, selection_level}, TokenKinds.is_path_piece, Extensions.{is_one, node_count, is_extension}}
 use Rattle.rnix_grammar.specs.{Rules.{Row, done, ◌·◌, row}, declared.rules.Part.TheVariants.EndOr}
-use Rattle.rnix_grammar.specs.{Rows.{fits, is_atom, is_attr, is_entry, is_expression}, AllowedNames.is_named, TreeLevels.level_of}
+use Rattle.rnix_grammar.specs.{NodeClasses.{fits, is_atom, is_attr, is_entry, is_expression}, AllowedNames.is_named, TreeLevels.level_of}
 use Rattle.rnix_proof_lemmas.proofs.{Basics.{not_if, true_is_not_false}, EveryKind.{not_together, whenever_both, never as no_kind_both}, KindsOfNodes.fits_expression}
 use Rattle.rnix_proof_soundness.proofs.RowViews.{begins_with_leaf, entry_text, IsBind, binds_before, binds_behind, IsPart, IsIn, Offers, attr_of, is_piece, continues_path}
 use Rattle.rnix_proof_soundness.proofs.RowViews.{Ends, ends, Leads, leads, heads, One, FirstNode, stands, Several, over, and_leaf, and_node}

@@ -2,8 +2,8 @@
 use Rattle.std.proofs.Common.{◌≡◌, ◌⊎◌, inl, inr, ⊎_elim, ℕ, Bool, true, false, List, [], refl, sym, ◌∙◌, subst, ◌||◌, ◌&&◌, if◌then◌else◌, nat_eq, nat_le}
 use Rattle.{rnix_kinds.specs.{declared.kinds.SyntaxKind.SyntaxKind, SyntaxKind.is_token}, rnix_green.specs.Equality.{same_kind, same_kind-decides}}
 use Rattle.{rnix_green.specs.Forest.{Forest, empty, leaf, node}, rnix_grammar.specs.{Levels.selection_level, Rules.{Row, never, done, ◌·◌, ◌or◌, only}}}
-use Rattle.rnix_grammar.specs.{Rules.{or_else, after, may_end}, TokenKinds.is_path_piece, Extensions.holds_no_lambda, Rows.{is_attr, is_entry, is_expression}}
-use Rattle.rnix_grammar.specs.{Rows.fits, Tables.is_or, Grammar.{name, Strict, Attr, Attrpath, last_attr, attr_dot, Binding, Formal, Inherit, Interpol}}
+use Rattle.rnix_grammar.specs.{Rules.{or_else, after, may_end}, TokenKinds.is_path_piece, Extensions.holds_no_lambda, NodeClasses.{is_attr, is_entry, is_expression}}
+use Rattle.rnix_grammar.specs.{NodeClasses.fits, Tables.is_or, Grammar.{name, Strict, Attr, Attrpath, last_attr, attr_dot, Binding, Formal, Inherit, Interpol}}
 use Rattle.{rnix_grammar.specs.Grammar.{Parameter, Source}, rnix_proof_lemmas.{specs.LeafKinds.is_node, proofs.Basics.{not_if, true_is_not_false}}}
 use Rattle.rnix_proof_lemmas.proofs.{EveryKind.{never as no_kind_both}, KindsOfNodes.fits_expression}
 use Rattle.rnix_grammar.specs.declared.rules.Part.TheVariants as p

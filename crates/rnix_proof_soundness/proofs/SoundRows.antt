@@ -3,9 +3,9 @@ use Rattle.std.proofs.Common.{◌≡◌, ⊎_elim, ℕ, ◌≤◌, Bool, true, f
 use Rattle.{std.proofs.{Common.{nat_eq, nat_le}, lemmas.Bool.{and_parts, or_cases, Decides.nat_tests}}, rnix_kinds.specs.declared.kinds.SyntaxKind.SyntaxKind}
 use Rattle.rnix_kinds.specs.declared.kinds.SyntaxKind.TheVariants.{TOKEN_CUR_POS, TOKEN_IDENT, TOKEN_INTEGER, TOKEN_OR, TOKEN_R_BRACE, NODE_CUR_POS, NODE_IDENT}
 use Rattle.rnix_kinds.specs.{declared.kinds.SyntaxKind.TheVariants.{NODE_LAMBDA, NODE_LITERAL, NODE_PAT_BIND, NODE_PAT_ENTRY}, SyntaxKind.is_token}
-use Rattle.{rnix_green.specs.{Equality.same_kind, Forest.{Forest, empty, leaf, node}}, rnix_grammar.specs.{Rows.{is_attr, is_expression}, Rules.{Row, never}}}
+use Rattle.{rnix_green.specs.{Equality.same_kind, Forest.{Forest, empty, leaf, node}}, rnix_grammar.specs.{NodeClasses.{is_attr, is_expression}, Rules.{Row, never}}}
 use Rattle.rnix_grammar.specs.{Rules.{done, ◌·◌, ◌or◌, after, only, may_end, run_at, level_at, IsFollowed}, BehindErrors.{after_run, after_error}}
-use Rattle.rnix_grammar.specs.{Beginnings.IsOperandOf, Levels.selection_level, AnnotatedForest.{Token, Note, Stray, Unwanted, Extra, DoubleBind, TooDeep}}
+use Rattle.rnix_grammar.specs.{FirstKinds.IsOperandOf, Levels.selection_level, AnnotatedForest.{Token, Note, Stray, Unwanted, Extra, DoubleBind, TooDeep}}
 use Rattle.rnix_grammar.specs.AnnotatedForest.{AnnotatedForest, blank, token, branch, fault, ◌⊕◌, one_token, one_branch, one_fault, leaf_kind, leaf_kind_as}
 use Rattle.rnix_grammar.specs.{AllowedNames.{is_name_at, is_named_in, is_plain}, Named.{begins_with_token, is_repeated, is_name_allowed, Lacks}}
 use Rattle.rnix_grammar.specs.{Extensions.{holds_no_lambda, is_extension}, Repaired.repaired, Reports.{entry_name, only_token, repeats}, TreeLevels.is_atom_row}

@@ -6,8 +6,8 @@ use Rattle.rnix_kinds.specs.declared.kinds.SyntaxKind.TheVariants.{NODE_APPLY, N
 use Rattle.rnix_kinds.specs.declared.kinds.SyntaxKind.TheVariants.{NODE_PAT_BIND, NODE_PAT_ENTRY, NODE_PATTERN, NODE_SELECT, NODE_UNARY_OP}
 use Rattle.{rnix_kinds.{specs.SyntaxKind.is_token, proofs.AllKinds.{all_kinds, implied}}, rnix_green.specs.Forest.{Forest, empty, leaf, node}}
 use Rattle.rnix_grammar.specs.AnnotatedForest.{Token, Note, Stray, Unwanted, Extra, DoubleBind, TooDeep, AnnotatedForest, blank, token, branch, fault, ◌⊕◌}
-use Rattle.rnix_grammar.specs.{AnnotatedForest.{one_token, one_branch, one_fault, leaf_kind_as}, Beginnings.IsOperandOf, BehindErrors.{after_run, after_error}}
-use Rattle.rnix_grammar.specs.{Rows.{fits, is_atom, is_expression, is_infix, is_simple}, Levels.{application_level, binding_power, has_attr_level, left_of}}
+use Rattle.rnix_grammar.specs.{AnnotatedForest.{one_token, one_branch, one_fault, leaf_kind_as}, FirstKinds.IsOperandOf, BehindErrors.{after_run, after_error}}
+use Rattle.rnix_grammar.specs.{NodeClasses.{fits, is_atom, is_expression, is_infix, is_simple}, Levels.{application_level, binding_power, has_attr_level, left_of}}
 use Rattle.rnix_grammar.specs.{Levels.{negation_level, inversion_level, right_of, selection_level}, Rules.{Row, never, done, ◌·◌, row, after, only, may_end}}
 use Rattle.rnix_grammar.specs.{Rules.run_at, AllowedNames.{is_name_at, is_plain, is_position}, Named.{begins_with_token, is_name_allowed}, Operands.follows}
 use Rattle.rnix_grammar.specs.TreeLevels.{calls_or, is_atom_row, is_or_leaf, is_or_row, level_of, operator_in, prefix_in, row_level}

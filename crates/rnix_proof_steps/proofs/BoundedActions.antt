@@ -23,14 +23,14 @@ bounds levels x a.ClosePattern = closes levels x
 bounds levels x a.CloseDoubleBind = closes levels x
 bounds levels x a.EndOperand = closes levels x
 bounds levels x a.Extra = (2 + 2 * measure x, last levels x) ∷ []
-bounds levels x (a.Take after) = moves levels x (p.Left after)
-bounds levels x (a.Run until after) = moves levels x (p.Left after)
-bounds levels x (a.Leaf k after) = moves levels x (p.Left after)
-bounds levels x (a.Open k inside after) = opens levels x (p.Left inside) (p.Left after)
-bounds levels x (a.Begin k inside after) = pushes 0 levels x (p.Left inside) (p.Left after)
-bounds levels x (a.Entry after) = opens levels x (p.Left PAT_ENTRY) (p.Left after)
-bounds levels x (a.DoubleBind after) = opens levels x (p.Left SECOND_BIND) (p.Left after)
-bounds levels x (a.Read level counted after) = reads levels (nat_eq level 0) counted x (p.Left after)
+bounds levels x (a.Take after) = moves levels x (p.InRow after)
+bounds levels x (a.Run until after) = moves levels x (p.InRow after)
+bounds levels x (a.Leaf k after) = moves levels x (p.InRow after)
+bounds levels x (a.Open k inside after) = opens levels x (p.InRow inside) (p.InRow after)
+bounds levels x (a.OpenEmpty k inside after) = pushes 0 levels x (p.InRow inside) (p.InRow after)
+bounds levels x (a.Entry after) = opens levels x (p.InRow PAT_ENTRY) (p.InRow after)
+bounds levels x (a.DoubleBind after) = opens levels x (p.InRow SECOND_BIND) (p.InRow after)
+bounds levels x (a.Read level counted after) = reads levels (nat_eq level 0) counted x (p.InRow after)
 bounds levels x (a.Wrap k inside max_bp) = opens levels x inside operand
 bounds levels x a.Apply = applies levels x
 bounds levels x a.ApplyOr = moves levels x operand
@@ -44,7 +44,7 @@ abbrev AttrActions : (Action → Type 0) → ℕ → ℕ → Type 0
 AttrActions P again after = P (a.Open NODE_DYNAMIC DYNAMIC after) × P (a.Open NODE_STRING STRING after) × P (a.Leaf NODE_IDENT after) × P (a.Run u.Attr again)
 
 abbrev NamesActions : (Action → Type 0) → ℕ → Type 0
-NamesActions P left = P (a.Take INHERIT_CLOSED) × AttrActions P INHERITED_NAME left
+NamesActions P remaining = P (a.Take INHERIT_CLOSED) × AttrActions P INHERITED_NAME remaining
 
 abbrev FormalsActions : (Action → Type 0) → Bool → ℕ → Type 0
 FormalsActions P bound after =
@@ -60,9 +60,9 @@ EachAction P (Some (Next (r.Wanted kind))) i =
     P (a.Take (i + 1)) × P (a.Run (expected_set_of kind) i) × P (a.Leaf NODE_IDENT (i + 1)) × P (a.Run u.Ident i)
 EachAction P (Some (Next (r.Many level closer))) i = P (a.Take (i + 1)) × P (a.Read level true i)
 EachAction P (Some (Next (r.Entries closer))) i =
-    P (a.Open NODE_INHERIT INHERIT i) × P (a.Take (i + 1)) × P (a.Begin NODE_ATTRPATH_VALUE ATTRPATH_VALUE i)
+    P (a.Open NODE_INHERIT INHERIT i) × P (a.Take (i + 1)) × P (a.OpenEmpty NODE_ATTRPATH_VALUE ATTRPATH_VALUE i)
 EachAction P (Some (Next r.Attr)) i = AttrActions P i (i + 1)
-EachAction P (Some (Next r.Attrpath)) i = P (a.Begin NODE_ATTRPATH ATTRPATH (i + 1))
+EachAction P (Some (Next r.Attrpath)) i = P (a.OpenEmpty NODE_ATTRPATH ATTRPATH (i + 1))
 EachAction P (Some (Next r.MoreAttrs)) i = P (a.Take ATTRPATH) × P a.Close
 EachAction P (Some (Next r.Names)) i = NamesActions P i
 EachAction P (Some (Next (r.Optional kind))) i = P (a.Open NODE_INHERIT_FROM INHERIT_FROM (i + 1)) × NamesActions P (i + 1)
@@ -86,8 +86,8 @@ EachAction P (Some (Next part)) i = P (a.Take (i + 1))
 attr_acted : (P : Action → Type 0) (again after : ℕ) (kind : SyntaxKind) → AttrActions P again after → P (attr_action again after (Some kind))
 attr_acted P again after kind h = each_kind (λ k. P (attr_action again after (Some k))) (assumption (h.0, h.1, h.2, h.3)) kind
 
-names_acted : (P : Action → Type 0) (left after : ℕ) (kind : SyntaxKind) → NamesActions P left → P (names_action left after (Some kind))
-names_acted P left after kind h = choice P (same_kind kind TOKEN_SEMICOLON) h.0 (attr_acted P INHERITED_NAME left kind h.1)
+names_acted : (P : Action → Type 0) (remaining after : ℕ) (kind : SyntaxKind) → NamesActions P remaining → P (names_action remaining after (Some kind))
+names_acted P remaining after kind h = choice P (same_kind kind TOKEN_SEMICOLON) h.0 (attr_acted P INHERITED_NAME remaining kind h.1)
 
 formals_acted : (P : Action → Type 0) (bound : Bool) (after : ℕ) (kind : SyntaxKind) → FormalsActions P bound after → P (formals_action bound after (Some kind))
 formals_acted P bound after kind h = each_kind (λ k. P (formals_action bound after (Some k))) (assumption (h.0, h.1, h.2, h.3)) kind
@@ -130,10 +130,10 @@ acted P (Some (Next _)) i kind touches h = h
 
 -- each slot's actions keep to the bounds
 abbrev KeepsAt : ℕ → Type 0
-KeepsAt i = EachAction (λ action. keeps (p.Left i) action ≡ true) (slot_at i) i
+KeepsAt i = EachAction (λ action. keeps (p.InRow i) action ≡ true) (slot_at i) i
 
 past_end : (i : ℕ) → slot_at i ≡ None → drop i SLOTS ≡ [] → KeepsAt i
-past_end i e d = subst (λ s. EachAction (λ action. keeps (p.Left i) action ≡ true) s i) (sym e) (ap closes_at e)
+past_end i e d = subst (λ s. EachAction (λ action. keeps (p.InRow i) action ≡ true) s i) (sym e) (ap closes_at e)
   where
     closes_at : Option Slot → Bool
     closes_at s =
@@ -145,13 +145,14 @@ keeps_at = each_index KeepsAt (assumption) past_end
 
 -- the operand behind an operator
 behind_operator : (level : ℕ) (any : Bool)
-    → (are_at_most (reads false any false (p.Right level) (p.Left BIN_OP_END)) && are_at_most (reads true any false (p.Right level) (p.Left BIN_OP_END))) ≡ true
+    → (are_at_most (reads false any false (p.Right level) (p.InRow BIN_OP_END)) && are_at_most (reads true any false (p.Right level) (p.InRow BIN_OP_END)))
+    ≡ true
 behind_operator level true = refl
 behind_operator level false = refl
 
 -- so at each position
 kept : (x : Position) (kind : SyntaxKind) (touches : Bool) → keeps x (action_at x (Some kind) touches) ≡ true
-kept (p.Left i) kind touches = acted (λ action. keeps (p.Left i) action ≡ true) (slot_at i) i kind touches (keeps_at i)
+kept (p.InRow i) kind touches = acted (λ action. keeps (p.InRow i) action ≡ true) (slot_at i) i kind touches (keeps_at i)
 kept (p.AfterOperand min_bp max_bp) kind touches =
     choice (λ action. keeps (p.AfterOperand min_bp max_bp) action ≡ true) (may_continue min_bp max_bp kind)
     (every (λ k. keeps (p.AfterOperand min_bp max_bp) (continue_action k)) refl kind) refl

@@ -1,13 +1,13 @@
 -- What is enough where an operand begins.
 use Rattle.std.proofs.Common.{◌≡◌, ◌≤◌, ℕ, ◌+◌, ◌*◌, Bool, true, List, [], ◌∷◌, max, ap, sym, ◌∙◌, arith}
-use Rattle.rnix_grammar.specs.{declared.{position.Position.Position, begin.Begin.Begin, slot_table.TheConstants.{LEGACY_LET, LAMBDA, PATTERN, BOUND_PATTERN}}, Fault.Fault}
+use Rattle.rnix_grammar.specs.{declared.{position.Position.Position, operand_start.OperandStart.OperandStart, slot_table.TheConstants.{LEGACY_LET, LAMBDA, PATTERN, BOUND_PATTERN}}, Fault.Fault}
 use Rattle.rnix_grammar.specs.{AnnotatedForest.{Token, AnnotatedForest, head_kind}, Layout.{items, tail_of}}
 use Rattle.rnix_proof_lemmas.specs.{Machine.{Head, Node, Operand, Frame, put, opened, with_leading, after_item, begun}, Measures.measure, Allowed.is_there}
 use Rattle.rnix_proof_lemmas.proofs.{Basics.true_is_not_false, StackedFrames.BeginsInner, WithoutTriviaLemmas.items_behind}
 use Rattle.rnix_proof_steps.proofs.StepBounds.{per_item, room, held, closing, last, closed, AreAtMost, operand, operand_last, operand_closed, operand_ended, one_frame, two_frames, three_frames}
 use Rattle.rnix_proof_steps.proofs.{BoundedOperands.begun_bounds, Budgets.{ends, pays, Covers, Enough}}
 use Rattle.rnix_grammar.specs.declared.position.Position.TheVariants as p
-use Rattle.rnix_grammar.specs.declared.begin.Begin.TheVariants as b
+use Rattle.rnix_grammar.specs.declared.operand_start.OperandStart.TheVariants as b
 
 -- a number is enough for frames that wait for an operand inside so many counted positions, which begins with the item before others
 pub record Awaits (levels any : Bool) (c : ℕ) (us : List Token) (d : ℕ) (fs : List Frame) : Type 0 where
@@ -50,19 +50,19 @@ two_enough levels any c us (v ∷ vs) d level max_bp fs head x inside row m h e 
 three_enough : (levels any : Bool) (c more : ℕ) (us vs : List Token) (d level max_bp : ℕ) (fs : List Frame) (head other : Head) (x : Position)
     (inside between row : AnnotatedForest)
     → AreAtMost (three_frames more levels any x) → more + pays levels vs ≤ pays levels us → Awaits levels any c us d fs
-    → Enough levels c vs (opened head x d inside ∷ (opened other (p.Left LAMBDA) d between ∷ (opened Operand (p.AfterOperand level max_bp) d row ∷ fs)))
+    → Enough levels c vs (opened head x d inside ∷ (opened other (p.InRow LAMBDA) d between ∷ (opened Operand (p.AfterOperand level max_bp) d row ∷ fs)))
 three_enough levels any c more us [] d level max_bp fs head other x inside between row m h e = omega (arith, m.1.1.1.1.0, e.ended)
 three_enough levels any c more us (v ∷ vs) d level max_bp fs head other x inside between row m h e =
     let waits : ℕ = held levels operand + room levels d + ends fs in
     let done : ℕ = closing operand + e.below in
     let next : ℕ = max waits done in
-    let function : ℕ = held levels (p.Left LAMBDA) + room levels d + (2 * measure operand + ends fs) in
+    let function : ℕ = held levels (p.InRow LAMBDA) + room levels d + (2 * measure operand + ends fs) in
     let first : pays levels vs + closed levels x + function ≤ c = omega (arith, m.1.0, h, e.last_in) in
-    let second : pays levels vs + closed levels x + closing (p.Left LAMBDA) + waits ≤ c = omega (arith, m.1.1.0, h, e.last_in) in
-    let third : pays levels vs + closed levels x + closing (p.Left LAMBDA) + done ≤ c = omega (arith, m.1.1.1.0, h, e.closed_in) in
+    let second : pays levels vs + closed levels x + closing (p.InRow LAMBDA) + waits ≤ c = omega (arith, m.1.1.0, h, e.last_in) in
+    let third : pays levels vs + closed levels x + closing (p.InRow LAMBDA) + done ≤ c = omega (arith, m.1.1.1.0, h, e.closed_in) in
     record {
       last_in = omega (arith, m.0, h, e.last_in);
-      below = max function (closing (p.Left LAMBDA) + next);
+      below = max function (closing (p.InRow LAMBDA) + next);
       closed_in = omega (arith, first, second, third);
       rest = (omega arith, (next, omega arith, (omega arith, (e.below, omega arith, e.rest))));
     }
@@ -77,12 +77,13 @@ tail_gains levels [] h = absurd (true_is_not_false (sym h))
 tail_gains levels (t ∷ us) h = omega arith
 
 -- for what an operand begins with
-pub begun_enough : (levels any : Bool) (begin : Begin) (c level d : ℕ) (t u : Token) (us : List Token) (f : Frame) (fs : List Frame) (ts : List Token) (n : ℕ)
+pub begun_enough : (levels any : Bool) (how : OperandStart) (c level d : ℕ) (t u : Token) (us : List Token) (f : Frame) (fs : List Frame) (ts : List Token)
+    (n : ℕ)
     (es : List Fault)
-    → items ts ≡ t ∷ us → BeginsInner (head_kind us) begin → AreAtMost (begun_bounds levels any begin)
-    → Awaits levels any c us d (put f.position (with_leading true f.row ts) f ∷ fs)
-    → Enough levels c (items (begun true begin level d u f fs ts n es).left) (begun true begin level d u f fs ts n es).frames
-begun_enough levels any begin c level d t u us f fs ts n es q i m e = by begin i m
+    → items ts ≡ t ∷ us → BeginsInner (head_kind us) how → AreAtMost (begun_bounds levels any how)
+    → Awaits levels any c us d (put f.position (with_leading true f.children ts) f ∷ fs)
+    → Enough levels c (items (begun true how level d u f fs ts n es).remaining) (begun true how level d u f fs ts n es).frames
+begun_enough levels any how c level d t u us f fs ts n es q i m e = by how i m
   where
     one : pays levels (items (after_item true ts)) ≤ pays levels us
     one = omega (arith, ap (pays levels) (items_behind ts ∙ ap tail_of q))
@@ -90,17 +91,17 @@ begun_enough levels any begin c level d t u us f fs ts n es q i m e = by begin i
     two : pays levels (items (after_item true (after_item true ts))) ≡ pays levels (tail_of us)
     two = ap (pays levels) (items_behind (after_item true ts) ∙ ap tail_of (items_behind ts) ∙ ap (λ xs. tail_of (tail_of xs)) q)
 
-    by : (begin : Begin) → BeginsInner (head_kind us) begin → AreAtMost (begun_bounds levels any begin)
-        → Enough levels c (items (begun true begin level d u f fs ts n es).left) (begun true begin level d u f fs ts n es).frames
+    by : (how : OperandStart) → BeginsInner (head_kind us) how → AreAtMost (begun_bounds levels any how)
+        → Enough levels c (items (begun true how level d u f fs ts n es).remaining) (begun true how level d u f fs ts n es).frames
     by (b.Leaf k) i m = one_enough levels any c us (items (after_item true ts)) d level 16 _ _ m one e
-    by (b.Node k left max_bp) i m = two_enough levels any c us (items (after_item true ts)) d level max_bp _ (Node k) (p.Left left) _ _ m one e
+    by (b.Node k remaining max_bp) i m = two_enough levels any c us (items (after_item true ts)) d level max_bp _ (Node k) (p.InRow remaining) _ _ m one e
     by b.LegacyLet i m =
-        two_enough levels any c us (items (after_item true (after_item true ts))) d level 0 _ _ (p.Left LEGACY_LET) _ _ m
+        two_enough levels any c us (items (after_item true (after_item true ts))) d level 0 _ _ (p.InRow LEGACY_LET) _ _ m
         (omega (arith, two, tail_pays levels us)) e
-    by b.NameLambda i m = two_enough levels any c us (items (after_item true ts)) d level 16 _ _ (p.Left LAMBDA) _ _ m one e
+    by b.NameLambda i m = two_enough levels any c us (items (after_item true ts)) d level 16 _ _ (p.InRow LAMBDA) _ _ m one e
     by b.BoundLambda i m =
-        three_enough levels any c (per_item levels) us (items (after_item true (after_item true ts))) d level 16 _ _ _ (p.Left BOUND_PATTERN) _ _ _ m
+        three_enough levels any c (per_item levels) us (items (after_item true (after_item true ts))) d level 16 _ _ _ (p.InRow BOUND_PATTERN) _ _ _ m
         (omega (arith, two, tail_gains levels us i)) e
     by b.PatternLambda i m =
-        three_enough levels any c 0 us (items (after_item true ts)) d level 16 _ _ _ (p.Left PATTERN) _ _ _ m (omega (arith, one)) e
+        three_enough levels any c 0 us (items (after_item true ts)) d level 16 _ _ _ (p.InRow PATTERN) _ _ _ m (omega (arith, one)) e
     by b.Stray i m = one_enough levels any c us (items (after_item true ts)) d level 16 _ _ m one e

@@ -1,9 +1,9 @@
 -- The machine reads each text in so few steps.
 use Rattle.std.proofs.Common.{◌≡◌, ◌≤◌, ℕ, suc, ◌+◌, ◌*◌, Bool, true, false, List, [], ◌∷◌, length, refl, ap, subst, arith}
 use Rattle.rnix_grammar.specs.{Fault.Fault, AnnotatedForest.Token, Layout.items}
-use Rattle.rnix_proof_lemmas.specs.{FrameKinds.AreStacked, Machine.{Frame, Machine, machine, begins, step, Runs}}
+use Rattle.rnix_proof_lemmas.specs.{FrameKinds.AreStacked, Machine.{Frame, Machine, machine, initial_machine, step, Runs}}
 use Rattle.rnix_proof_lemmas.specs.Machine.{rest as here, then as further}
-use Rattle.rnix_proof_lemmas.proofs.StackedFrames.{step_stacked, begins_stacked}
+use Rattle.rnix_proof_lemmas.proofs.StackedFrames.{step_stacked, initial_stacked}
 use Rattle.rnix_proof_steps.specs.StepCount.{steps_in, is_finished, AreNeeded, ComesIn}
 use Rattle.rnix_proof_steps.proofs.{Budgets.{pays, Enough, two_least, two_less}, BudgetedSteps.step_leaves}
 
@@ -16,12 +16,12 @@ within levels b (f ∷ fs) ts n es to here needed s x = omega (arith, two_least 
 within levels b (f ∷ fs) ts n es to (further runs) needed s x =
     let next : Machine = step true (machine (f ∷ fs) ts n es) in
     let less : (c : ℕ) × (b ≡ 2 + c) = two_less b (two_least levels b (items ts) f fs x) in
-    let left : Enough levels less.0 (items next.left) next.frames =
+    let remaining : Enough levels less.0 (items next.remaining) next.frames =
     step_leaves levels less.0 f fs ts n es s (subst (λ b. Enough levels b (items ts) (f ∷ fs)) less.1 x) needed.0 in
     omega (
       arith,
       less.1,
-      within levels less.0 next.frames next.left next.prev_end next.faults to runs needed.1 (step_stacked true (machine (f ∷ fs) ts n es) s) left,
+      within levels less.0 next.frames next.remaining next.prev_end next.faults to runs needed.1 (step_stacked true (machine (f ∷ fs) ts n es) s) remaining,
     )
 
 -- what is enough at the beginning
@@ -33,32 +33,32 @@ pays_levels : (us : List Token) → pays true us ≡ 8 * length us
 pays_levels [] = refl
 pays_levels (t ∷ us) = omega (arith, pays_levels us)
 
-begins_items : (ts us : List Token) → Enough false (15 * length us + 4) us (begins ts).frames
-begins_items ts [] = omega arith
-begins_items ts (t ∷ us) =
+initial_items : (ts us : List Token) → Enough false (15 * length us + 4) us (initial_machine ts).frames
+initial_items ts [] = omega arith
+initial_items ts (t ∷ us) =
     record { last_in = omega (arith, pays_items us); below = 0; closed_in = omega (arith, pays_items us); rest = tt }
 
-begins_levels : (ts us : List Token) → Enough true (8 * length us + 7172) us (begins ts).frames
-begins_levels ts [] = omega arith
-begins_levels ts (t ∷ us) =
+initial_levels : (ts us : List Token) → Enough true (8 * length us + 7172) us (initial_machine ts).frames
+initial_levels ts [] = omega arith
+initial_levels ts (t ∷ us) =
     record { last_in = omega (arith, pays_levels us); below = 0; closed_in = omega (arith, pays_levels us); rest = tt }
 
 -- so many steps are at most fifteen for two items, and one more
-pub by_items : (steps : ℕ) (ts : List Token) (to : Machine) → ComesIn steps (begins ts) to → 2 * steps ≤ 15 * length (items ts) + 2
+pub by_items : (steps : ℕ) (ts : List Token) (to : Machine) → ComesIn steps (initial_machine ts) to → 2 * steps ≤ 15 * length (items ts) + 2
 by_items steps ts to c =
     omega (
       arith,
       c.count,
-      within false (15 * length (items ts) + 4) (begins ts).frames ts 0 [] to c.runs c.needed (begins_stacked ts) (begins_items ts (items ts)),
+      within false (15 * length (items ts) + 4) (initial_machine ts).frames ts 0 [] to c.runs c.needed (initial_stacked ts) (initial_items ts (items ts)),
     )
 
 -- and at most four for each item, seven for each level of nesting, and one more
-pub by_levels : (steps : ℕ) (ts : List Token) (to : Machine) → ComesIn steps (begins ts) to → steps ≤ 4 * length (items ts) + 3585
+pub by_levels : (steps : ℕ) (ts : List Token) (to : Machine) → ComesIn steps (initial_machine ts) to → steps ≤ 4 * length (items ts) + 3585
 by_levels steps ts to c =
     omega (
       arith,
       c.count,
-      within true (8 * length (items ts) + 7172) (begins ts).frames ts 0 [] to c.runs c.needed (begins_stacked ts) (begins_levels ts (items ts)),
+      within true (8 * length (items ts) + 7172) (initial_machine ts).frames ts 0 [] to c.runs c.needed (initial_stacked ts) (initial_levels ts (items ts)),
     )
 
 -- one step more

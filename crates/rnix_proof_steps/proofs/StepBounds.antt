@@ -39,7 +39,7 @@ behind_path i (Some (Next r.Attrpath)) = slot_at (i + 1)
 behind_path i slot = slot
 
 abbrev pub extra : Bool → Position → ℕ
-extra levels (p.Left i) = extra_in levels (behind_path i (slot_at i))
+extra levels (p.InRow i) = extra_in levels (behind_path i (slot_at i))
 extra levels (p.AfterOperand min_bp max_bp) = if levels then 16 else 3
 extra levels (p.Right level) = if levels then 14 else 0
 
@@ -58,7 +58,7 @@ closing_in slot = 0
 
 -- if the frame is complete before the text ends
 abbrev pub closing : Position → ℕ
-closing (p.Left i) = closing_in (behind_path i (slot_at i))
+closing (p.InRow i) = closing_in (behind_path i (slot_at i))
 closing (p.AfterOperand min_bp max_bp) = 2
 closing (p.Right level) = 0
 
@@ -75,11 +75,11 @@ closing_next most slot = most
 
 -- so it is for the innermost frame and the next item together
 abbrev pub last : Bool → Position → ℕ
-last levels (p.Left i) = held_next (per_item levels) (slot_at i) + held levels (p.Left i)
+last levels (p.InRow i) = held_next (per_item levels) (slot_at i) + held levels (p.InRow i)
 last levels x = per_item levels + held levels x
 
 abbrev pub closed : Bool → Position → ℕ
-closed levels (p.Left i) = closing_next (per_item levels) (slot_at i) + closing (p.Left i)
+closed levels (p.InRow i) = closing_next (per_item levels) (slot_at i) + closing (p.InRow i)
 closed levels x = per_item levels + closing x
 
 -- a frame that is not the innermost needs no more
@@ -98,17 +98,17 @@ closing_next_most false (Some (Next r.Attrpath)) = omega arith
 closing_next_most levels _ = omega arith
 
 pub last_most : (levels : Bool) (x : Position) → last levels x ≤ per_item levels + held levels x
-last_most levels (p.Left i) = omega (arith, held_next_most levels (slot_at i))
+last_most levels (p.InRow i) = omega (arith, held_next_most levels (slot_at i))
 last_most levels (p.AfterOperand min_bp max_bp) = omega arith
 last_most levels (p.Right level) = omega arith
 
 pub closed_most : (levels : Bool) (x : Position) → closed levels x ≤ per_item levels + closing x
-closed_most levels (p.Left i) = omega (arith, closing_next_most levels (slot_at i))
+closed_most levels (p.InRow i) = omega (arith, closing_next_most levels (slot_at i))
 closed_most levels (p.AfterOperand min_bp max_bp) = omega arith
 closed_most levels (p.Right level) = omega arith
 
 pub last_least : (levels : Bool) (x : Position) → 2 * measure x ≤ last levels x
-last_least levels (p.Left i) = omega arith
+last_least levels (p.InRow i) = omega arith
 last_least levels (p.AfterOperand min_bp max_bp) = omega arith
 last_least levels (p.Right level) = omega arith
 
@@ -183,11 +183,11 @@ reads levels any counted x y =
 -- where an argument is read, with an operand that waits below the application
 abbrev pub applies : Bool → Position → List (ℕ × ℕ)
 applies levels x =
-    (2 + operand_last false + 2 * measure (p.Left APPLIED) + 2 * measure operand, per_item levels + last levels x)
-    ∷ ((2 + operand_closed levels + held levels (p.Left APPLIED) + 2 * measure operand, per_item levels + last levels x)
-    ∷ ((2 + operand_closed levels + closing (p.Left APPLIED) + held levels operand, per_item levels + last levels x)
-    ∷ ((2 + operand_closed levels + closing (p.Left APPLIED) + closing operand, per_item levels + closed levels x)
-    ∷ ((2 + operand_ended + 2 * measure (p.Left APPLIED) + 2 * measure operand, last levels x) ∷ []))))
+    (2 + operand_last false + 2 * measure (p.InRow APPLIED) + 2 * measure operand, per_item levels + last levels x)
+    ∷ ((2 + operand_closed levels + held levels (p.InRow APPLIED) + 2 * measure operand, per_item levels + last levels x)
+    ∷ ((2 + operand_closed levels + closing (p.InRow APPLIED) + held levels operand, per_item levels + last levels x)
+    ∷ ((2 + operand_closed levels + closing (p.InRow APPLIED) + closing operand, per_item levels + closed levels x)
+    ∷ ((2 + operand_ended + 2 * measure (p.InRow APPLIED) + 2 * measure operand, last levels x) ∷ []))))
 
 -- what an operand needs that begins: one frame, two, or three, where the second is a function's
 abbrev pub one_frame : Bool → Bool → List (ℕ × ℕ)
@@ -201,8 +201,8 @@ two_frames levels any x =
 
 abbrev pub three_frames : ℕ → Bool → Bool → Position → List (ℕ × ℕ)
 three_frames more levels any x =
-    (last levels x + 2 * measure (p.Left LAMBDA) + 2 * measure operand, more + operand_last any)
-    ∷ ((closed levels x + held levels (p.Left LAMBDA) + 2 * measure operand, more + operand_last any)
-    ∷ ((closed levels x + closing (p.Left LAMBDA) + held levels operand, more + operand_last any)
-    ∷ ((closed levels x + closing (p.Left LAMBDA) + closing operand, operand_closed levels)
-    ∷ ((2 * measure x + 2 * measure (p.Left LAMBDA) + 2 * measure operand, operand_ended) ∷ []))))
+    (last levels x + 2 * measure (p.InRow LAMBDA) + 2 * measure operand, more + operand_last any)
+    ∷ ((closed levels x + held levels (p.InRow LAMBDA) + 2 * measure operand, more + operand_last any)
+    ∷ ((closed levels x + closing (p.InRow LAMBDA) + held levels operand, more + operand_last any)
+    ∷ ((closed levels x + closing (p.InRow LAMBDA) + closing operand, operand_closed levels)
+    ∷ ((2 * measure x + 2 * measure (p.InRow LAMBDA) + 2 * measure operand, operand_ended) ∷ []))))

@@ -3,7 +3,7 @@ use Rattle.std.proofs.Common.{◌≡◌, ℕ, zero, suc, true, List, [], ◌∷�
 use Rattle.rnix_kinds.specs.Lexical.Tokens.{Lexeme}
 use Rattle.rnix_kinds.specs.declared.kinds.SyntaxKind.TheVariants.{TOKEN_WHITESPACE, TOKEN_LET, TOKEN_INTERPOL_START, TOKEN_STRING_START, TOKEN_IDENT, TOKEN_PATH_REL}
 use Rattle.rnix_grammar.specs.AnnotatedForest.{placed_from}
-use Rattle.rnix_proof_lemmas.specs.Machine.{Machine, begins, step}
+use Rattle.rnix_proof_lemmas.specs.Machine.{Machine, initial_machine, step}
 use Rattle.rnix_proof_steps.specs.StepCount.{is_finished}
 
 -- the steps of a machine until the root is complete, or so many
@@ -12,7 +12,7 @@ steps_until zero m = 0
 steps_until (suc n) m = if is_finished true m then 0 else suc (steps_until n (step true m))
 
 abbrev steps_for : List Lexeme → ℕ
-steps_for tokens = steps_until 100 (begins (placed_from 0 tokens))
+steps_for tokens = steps_until 100 (initial_machine (placed_from 0 tokens))
 
 abbrev space : Lexeme
 space = (TOKEN_WHITESPACE, codes " ")

@@ -23,7 +23,7 @@ is_finished_on trivia (f ∷ fs) ts n = is_finish (action_at f.position (head_ki
 
 -- so it is at a machine
 abbrev pub is_finished : Bool → Machine → Bool
-is_finished trivia m = is_finished_on trivia m.frames m.left m.prev_end
+is_finished trivia m = is_finished_on trivia m.frames m.remaining m.prev_end
 
 -- the number of steps from a machine to another
 abbrev pub steps_in : {trivia : Bool} {from to : Machine} → Runs trivia from to → ℕ

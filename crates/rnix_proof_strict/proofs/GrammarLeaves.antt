@@ -5,7 +5,7 @@ use Rattle.rnix_kinds.specs.declared.kinds.SyntaxKind.TheVariants.{NODE_LIST, NO
 use Rattle.rnix_kinds.specs.{declared.kinds.SyntaxKind.TheVariants.{NODE_ATTRPATH_VALUE, NODE_INHERIT, NODE_INTERPOL}, SyntaxKind.is_token}
 use Rattle.{rnix_kinds.proofs.AllKinds.implied, rnix_green.specs.Forest.{Forest, empty, leaf, node}, rnix_grammar.specs.Extensions.has_no_extension}
 use Rattle.rnix_grammar.specs.{Extensions.{holds_no_lambda, is_extension}, Derivation.has_tokens_alone, Levels.{expression_level, left_of, right_of}}
-use Rattle.rnix_grammar.specs.{Rows.{is_infix, is_plain_literal}, TokenKinds.is_path_piece}
+use Rattle.rnix_grammar.specs.{NodeClasses.{is_infix, is_plain_literal}, TokenKinds.is_path_piece}
 use Rattle.rnix_grammar.specs.Grammar as G
 
 -- a row below a node whose leaves are tokens, and none of whose trees is an accepted extension

@@ -3,8 +3,8 @@ use Rattle.std.proofs.Common.{◌≡◌, ℕ, suc, false, List, [], ◌∷◌, r
 use Rattle.{rnix_kinds.specs.declared.kinds.SyntaxKind.{SyntaxKind, TheVariants.NODE_ROOT}, rnix_grammar.specs.{Fault.Fault, AnnotatedForest.Token}}
 use Rattle.rnix_grammar.specs.{AnnotatedForest.{AnnotatedForest, blank, tokens_in, end_from}, declared.slot_table.TheConstants.ROOT}
 use Rattle.rnix_grammar.specs.{declared.{position.Position.Position, rules.Part.TheVariants.TextEnd}, Rules.{Row, done, ◌·◌}, Reads.ReadsRoot}
-use Rattle.rnix_proof_lemmas.specs.{Machine.{Node, Frame, Machine, machine, opened, begins, step, Runs, rest as here, then as further}, SlotRows.left_at}
-use Rattle.rnix_proof_lemmas.{specs.SlotRows.left_in, proofs.{Basics.{Where, where_one}, EachIndex.each_index, RestAt.rest_at}}
+use Rattle.rnix_proof_lemmas.specs.{Machine.{Node, Frame, Machine, machine, opened, initial_machine, step, Runs, rest as here, then as further}, SlotRows.remaining_at}
+use Rattle.rnix_proof_lemmas.{specs.SlotRows.remaining_in, proofs.{Basics.{Where, where_one}, EachIndex.each_index, RestAt.rest_at}}
 use Rattle.rnix_proof_uniqueness.proofs.{ReadingHeights.{height, IsLower, AllRows, Trees}, TreeReads.tree_runs, OneAction.is_text_end, RowReads.row_next}
 use Rattle.rnix_proof_uniqueness.proofs.StepReads.{ReadsTo}
 use Rattle.rnix_grammar.specs.declared.position.Position.TheVariants as p
@@ -29,7 +29,7 @@ abbrev pub root_end : ℕ
 root_end = suc ROOT
 
 abbrev pub root_frame : AnnotatedForest → Frame
-root_frame row = opened (Node NODE_ROOT) (p.Left root_end) 0 row
+root_frame row = opened (Node NODE_ROOT) (p.InRow root_end) 0 row
 
 -- the root's frame alone, with nothing left to read
 abbrev pub ended_with : AnnotatedForest → ℕ → List Fault → Machine
@@ -38,11 +38,11 @@ ended_with row n es = machine (root_frame row ∷ []) [] n es
 -- the row of the innermost frame
 abbrev pub row_in : List Frame → AnnotatedForest
 row_in [] = blank
-row_in (f ∷ fs) = f.row
+row_in (f ∷ fs) = f.children
 
 -- so what is read of some items to their end is one tree, with the same errors
-pub ended_once : (ts : List Token) (f : AnnotatedForest) (n : ℕ) (es : List Fault) (m : Machine) → Runs false (begins ts) (ended_with f n es)
-    → Runs false (begins ts) m → step false m ≡ m
+pub ended_once : (ts : List Token) (f : AnnotatedForest) (n : ℕ) (es : List Fault) (m : Machine) → Runs false (initial_machine ts) (ended_with f n es)
+    → Runs false (initial_machine ts) m → step false m ≡ m
     → (row_in m.frames ≡ f) × (m.faults ≡ es)
 ended_once ts f n es m r q h =
     let e = same_end q r h refl in
@@ -65,23 +65,24 @@ all_read (suc m) = by (all_read m)
     by w = (λ k d n x s b us f es i h l. row_next m w.0 w.1 x i refl h.reads h.short l, tree_runs m w.0 w.1)
 
 -- the root's row ends at one position
-text_ends : (i : ℕ) → Where (is_text_end (left_at i)) (i ≡ root_end)
-text_ends = each_index (λ i. Where (is_text_end (left_at i)) (i ≡ root_end)) (assumption)
-    (λ i e d. subst (λ ss. Where (is_text_end (left_in ss)) (i ≡ root_end)) (sym d) tt)
+text_ends : (i : ℕ) → Where (is_text_end (remaining_at i)) (i ≡ root_end)
+text_ends = each_index (λ i. Where (is_text_end (remaining_at i)) (i ≡ root_end)) (assumption)
+    (λ i e d. subst (λ ss. Where (is_text_end (remaining_in ss)) (i ≡ root_end)) (sym d) tt)
 
-text_end_at : (x : Position) → rest_at x ≡ TextEnd · done → x ≡ p.Left root_end
-text_end_at (p.Left i) h = ap p.Left (where_one (is_text_end (left_at i)) (ap is_text_end h) (text_ends i))
+text_end_at : (x : Position) → rest_at x ≡ TextEnd · done → x ≡ p.InRow root_end
+text_end_at (p.InRow i) h = ap p.InRow (where_one (is_text_end (remaining_at i)) (ap is_text_end h) (text_ends i))
 text_end_at (p.AfterOperand min_bp max_bp) h = absurd (cc)
 text_end_at (p.Right level) h = absurd (cc)
 
 -- a reading of some items is what the steps make of them
 pub reads_runs : (f : AnnotatedForest) (faults : List Fault) → ReadsRoot f faults
-    → Runs false (begins (tokens_in f)) (ended_with f (end_from 0 (tokens_in f)) faults)
+    → Runs false (initial_machine (tokens_in f)) (ended_with f (end_from 0 (tokens_in f)) faults)
 reads_runs f faults r =
-    let w : ReadsTo NODE_ROOT 0 0 (p.Left ROOT) (TextEnd · done) blank [] f faults =
-    (all_read (suc (height r))).0 NODE_ROOT 0 0 (p.Left ROOT) (TextEnd · done) blank [] f faults refl (record { reads = r; short = omega arith }) refl in
-    subst (λ (ts : List Token). Runs false (begins ts) (ended_with f (end_from 0 (tokens_in f)) faults)) (append-nil (tokens_in f))
-    (subst (λ (y : Position). Runs false (begins (tokens_in f ++ [])) (machine (opened (Node NODE_ROOT) y 0 f ∷ []) [] (end_from 0 (tokens_in f)) faults))
+    let w : ReadsTo NODE_ROOT 0 0 (p.InRow ROOT) (TextEnd · done) blank [] f faults =
+    (all_read (suc (height r))).0 NODE_ROOT 0 0 (p.InRow ROOT) (TextEnd · done) blank [] f faults refl (record { reads = r; short = omega arith }) refl in
+    subst (λ (ts : List Token). Runs false (initial_machine ts) (ended_with f (end_from 0 (tokens_in f)) faults)) (append-nil (tokens_in f))
+    (subst (λ (y : Position). Runs false (initial_machine (tokens_in f ++ [])) (machine (opened (Node NODE_ROOT) y 0 f
+    ∷ []) [] (end_from 0 (tokens_in f)) faults))
     (text_end_at w.position w.is)
     (w.row (Node NODE_ROOT) [] [] refl refl))
 
@@ -89,5 +90,5 @@ reads_runs f faults r =
 pub one_row : (f g : AnnotatedForest) (es fs : List Fault) → ReadsRoot f es → ReadsRoot g fs → tokens_in f ≡ tokens_in g → (f ≡ g) × (es ≡ fs)
 one_row f g es fs r s e =
     let h = ended_once (tokens_in f) f (end_from 0 (tokens_in f)) es (ended_with g (end_from 0 (tokens_in g)) fs) (reads_runs f es r)
-    (subst (λ (ts : List Token). Runs false (begins ts) (ended_with g (end_from 0 (tokens_in g)) fs)) (sym e) (reads_runs g fs s)) refl in
+    (subst (λ (ts : List Token). Runs false (initial_machine ts) (ended_with g (end_from 0 (tokens_in g)) fs)) (sym e) (reads_runs g fs s)) refl in
     (sym h.0, sym h.1)

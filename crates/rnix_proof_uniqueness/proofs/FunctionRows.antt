@@ -2,12 +2,12 @@
 use Rattle.std.proofs.Common.{◌≡◌, ℕ, true, false, List, [], ◌∷◌, ◌++◌, refl, ap, sym, ◌∙◌, subst, append-nil, ◌⊎◌, inl, inr, append_assoc}
 use Rattle.rnix_kinds.{proofs.AllKinds.implied, specs.declared.kinds.SyntaxKind.{SyntaxKind, TheVariants.{TOKEN_L_BRACE, TOKEN_LET, NODE_ERROR}}}
 use Rattle.rnix_kinds.specs.declared.kinds.SyntaxKind.TheVariants.{NODE_LEGACY_LET, TOKEN_AT, TOKEN_IDENT, NODE_IDENT, NODE_IDENT_PARAM, NODE_LAMBDA}
-use Rattle.{rnix_kinds.specs.declared.kinds.SyntaxKind.TheVariants.{NODE_PATTERN, NODE_PAT_BIND}, rnix_grammar.specs.{Fault.Fault, Begins.{begin_for, begin_of}}}
-use Rattle.rnix_grammar.specs.{Begins.second_kind, AnnotatedForest.{Token, Stray, AnnotatedForest, blank, token, ◌⊕◌, one_token, one_branch, one_fault, row_of}}
+use Rattle.{rnix_kinds.specs.declared.kinds.SyntaxKind.TheVariants.{NODE_PATTERN, NODE_PAT_BIND}, rnix_grammar.specs.{Fault.Fault, OperandStarts.{operand_start_for, operand_start_of}}}
+use Rattle.rnix_grammar.specs.{OperandStarts.second_kind, AnnotatedForest.{Token, Stray, AnnotatedForest, blank, token, ◌⊕◌, one_token, one_branch, one_fault, row_of}}
 use Rattle.rnix_grammar.specs.{AnnotatedForest.{tokens_in, leaf_kind, head_kind, end_from, branch, leaf_kind_as}, Reports.{report, repeats}}
 use Rattle.rnix_grammar.specs.declared.{rules.Part.TheVariants.Child, slot_table.TheConstants.{LEGACY_LET, BOUND_PATTERN, LAMBDA, PATTERN}}
-use Rattle.rnix_grammar.specs.{declared.{position.Position.Position, begin.Begin.Begin}, Reads.end, Rules.{after, row as row_of_kind, ◌·◌, done}}
-use Rattle.rnix_proof_lemmas.specs.{Machine.{Operand, Frame, machine, opened, begun, Node, operand_on, Runs, rest as here}, SlotRows.left_at}
+use Rattle.rnix_grammar.specs.{declared.{position.Position.Position, operand_start.OperandStart.OperandStart}, Reads.end, Rules.{after, row as row_of_kind, ◌·◌, done}}
+use Rattle.rnix_proof_lemmas.specs.{Machine.{Operand, Frame, machine, opened, begun, Node, operand_on, Runs, rest as here}, SlotRows.remaining_at}
 use Rattle.rnix_proof_lemmas.{proofs.{EveryKind.{only, only_both}, FollowLemmas.{FollowedTo, atom_is_selection_level}}}
 use Rattle.rnix_proof_lemmas.proofs.{FollowLemmas.{followed_atom, followed_keyword}, Basics.true_is_not_false, TokenEnds.end_behind, ReachableRows.is_viable}
 use Rattle.rnix_proof_uniqueness.proofs.{StepReads.{runs_to, runs_from, IsOperandRead, ReadsTree, runs_on}, OneAction.{is_inner, is_closed}}
@@ -16,7 +16,7 @@ use Rattle.rnix_proof_uniqueness.proofs.ReadingHeights.{by_leaf, by_stray, by_no
 use Rattle.rnix_proof_uniqueness.proofs.{RowTrees.{operand_read, read_on, ReadOn, node_read}, OperandBegins.{begins_with_item, BegunByItem, led_leaf, led_node}}
 use Rattle.rnix_proof_uniqueness.proofs.OperandBegins.{begins_led, begins_so, followed_item_begun, BegunBy}
 use Rattle.rnix_grammar.specs.declared.position.Position.TheVariants as p
-use Rattle.rnix_grammar.specs.declared.begin.Begin.TheVariants as b
+use Rattle.rnix_grammar.specs.declared.operand_start.OperandStart.TheVariants as b
 
 -- an item that begins no operand
 pub stray_reads : (t : Token) (d n : ℕ) (us : List Token) → ReadsTree d n (t ∷ []) (one_fault Stray (row_of (t ∷ []))) us (report Stray (t ∷ []) ∷ [])
@@ -45,7 +45,7 @@ led_item m rows k d n us t f es h r level F fs gs min_bp begins = by (begins_led
     row : AnnotatedForest → Frame
     row g = opened Operand (p.AfterOperand level 16) d (one_branch k (token (leaf_kind k t) t g))
 
-    by : BegunByItem k t.kind (begin_of level t.kind t.text (head_kind ts) (second_kind ts))
+    by : BegunByItem k t.kind (operand_start_of level t.kind t.text (head_kind ts) (second_kind ts))
         → IsOperandRead level d n (t ∷ tokens_in f) (one_branch k (token (leaf_kind k t) t f)) us es F fs gs
     by (led_leaf e g a) =
         let v = complete_done r g in
@@ -65,7 +65,7 @@ led_item m rows k d n us t f es h r level F fs gs min_bp begins = by (begins_led
       followed = subst (λ (v : ℕ). FollowedTo v (one_branch k (token (leaf_kind k t) t f))) l (followed_item_begun k t.kind t f h);
       runs =
           runs_from (ap (λ v. begun false v level d t F fs (t ∷ ts) n gs) e)
-          (operand_read (read_on rows (p.Left z) c (complete_to g refl r)) (led_inner k h) (led_closed k h) (p.AfterOperand level max_bp) d (F ∷ fs) gs);
+          (operand_read (read_on rows (p.InRow z) c (complete_to g refl r)) (led_inner k h) (led_closed k h) (p.AfterOperand level max_bp) d (F ∷ fs) gs);
     }
 
 -- no node is first in such an expression
@@ -81,7 +81,7 @@ led_reads m rows k h d n us c es r =
 
 -- an old `let` is read
 legacy_item : (m : ℕ) → AllRows m → (d n : ℕ) (us : List Token) (t v : Token) (f : AnnotatedForest) (es : List Fault)
-    → Complete m NODE_LEGACY_LET d v.end (left_at LEGACY_LET) (token t.kind t (one_token v.kind v)) us f es
+    → Complete m NODE_LEGACY_LET d v.end (remaining_at LEGACY_LET) (token t.kind t (one_token v.kind v)) us f es
     → ReadsTree d n (t ∷ (v ∷ tokens_in f)) (one_branch NODE_LEGACY_LET (token t.kind t (token v.kind v f))) us es
 legacy_item m rows d n us t v f es r level F fs gs min_bp begins =
     let ts : List Token = v ∷ (tokens_in f ++ us) in
@@ -91,7 +91,7 @@ legacy_item m rows d n us t v f es r level F fs gs min_bp begins =
       followed = followed_keyword (one_branch NODE_LEGACY_LET (g ⊕ f)) refl refl;
       runs =
           runs_from (ap (λ z. begun false z level d t F fs (t ∷ ts) n gs) (begins_so NODE_LEGACY_LET level t ts begins).0)
-          (operand_read (read_on rows (p.Left LEGACY_LET) refl r) refl refl (p.AfterOperand level 0) d (F ∷ fs) gs);
+          (operand_read (read_on rows (p.InRow LEGACY_LET) refl r) refl refl (p.AfterOperand level 0) d (F ∷ fs) gs);
     }
 
 -- so it is by its row
@@ -103,12 +103,12 @@ legacy_reads m rows d n us c es r =
     let e : c ≡ token w.item.kind w.item (token v.item.kind v.item v.more) = w.is ∙ ap (λ z. token w.item.kind w.item z) v.is in
     subst (λ (z : AnnotatedForest). ReadsTree d n (tokens_in z) (one_branch NODE_LEGACY_LET z) us es) (sym e)
     (legacy_item m rows d n us w.item v.item v.more es (complete_to
-    (ap (after (Child TOKEN_L_BRACE · left_at LEGACY_LET))
-    (only (λ j. is_viable (after (Child TOKEN_L_BRACE · left_at LEGACY_LET) j)) TOKEN_L_BRACE refl v.item.kind v.alive)) refl v.rest))
+    (ap (after (Child TOKEN_L_BRACE · remaining_at LEGACY_LET))
+    (only (λ j. is_viable (after (Child TOKEN_L_BRACE · remaining_at LEGACY_LET) j)) TOKEN_L_BRACE refl v.item.kind v.alive)) refl v.rest))
 
 -- the steps read the rest of a function's row behind its parameter
 abbrev Body : SyntaxKind → ℕ → ℕ → AnnotatedForest → List Token → AnnotatedForest → List Fault → Type 0
-Body k d n c us f es = ReadOn NODE_LAMBDA d (end_from n (tokens_in c)) (p.Left LAMBDA) (one_branch k c) us f es
+Body k d n c us f es = ReadOn NODE_LAMBDA d (end_from n (tokens_in c)) (p.InRow LAMBDA) (one_branch k c) us f es
 
 -- so the function is read
 abbrev IsFunction : SyntaxKind → ℕ → ℕ → AnnotatedForest → AnnotatedForest → List Token → List Fault → List Fault → Type 0
@@ -116,12 +116,12 @@ IsFunction k d n c f us ds es = Body k d n c us f es → ReadsTree d n (tokens_i
 
 -- a function whose steps are known behind its beginning
 function_read : (level d n : ℕ) (zs : List Token) (c : AnnotatedForest) (us : List Token) (es : List Fault) (F : Frame) (fs : List Frame) (gs : List Fault)
-    (t : Token) (ts : List Token) (begin : Begin)
-    → zs ++ us ≡ t ∷ ts → begin_of level t.kind t.text (head_kind ts) (second_kind ts) ≡ begin
-    → Runs false (begun false begin level d t F fs (t ∷ ts) n gs) (machine
+    (t : Token) (ts : List Token) (how : OperandStart)
+    → zs ++ us ≡ t ∷ ts → operand_start_of level t.kind t.text (head_kind ts) (second_kind ts) ≡ how
+    → Runs false (begun false how level d t F fs (t ∷ ts) n gs) (machine
     (opened Operand (p.AfterOperand level 16) d (one_branch NODE_LAMBDA c) ∷ (F ∷ fs)) us (end_from n zs) (gs ++ es))
     → IsOperandRead level d n zs (one_branch NODE_LAMBDA c) us es F fs gs
-function_read level d n zs c us es F fs gs t ts begin e h r = record {
+function_read level d n zs c us es F fs gs t ts how e h r = record {
   max_bp = 16;
   followed = followed_atom (one_branch NODE_LAMBDA c) refl refl;
   runs =
@@ -172,8 +172,8 @@ named_reads m d n us c f ds es r = by (item_or_name refl (front_of refl r refl))
 -- a pattern that has begun, and the rest of its function
 pattern_runs : {x : Position} {g c f : AnnotatedForest} {level d m : ℕ} {F : Frame} {fs : List Frame} {us : List Token} {es ds gs : List Fault}
     → ReadOn NODE_PATTERN d m x g (tokens_in f ++ us) c es
-    → ReadOn NODE_LAMBDA d (end_from m (tokens_in c)) (p.Left LAMBDA) (one_branch NODE_PATTERN (g ⊕ c)) us f ds
-    → Runs false (machine (opened (Node NODE_PATTERN) x d g ∷ (opened (Node NODE_LAMBDA) (p.Left LAMBDA) d blank
+    → ReadOn NODE_LAMBDA d (end_from m (tokens_in c)) (p.InRow LAMBDA) (one_branch NODE_PATTERN (g ⊕ c)) us f ds
+    → Runs false (machine (opened (Node NODE_PATTERN) x d g ∷ (opened (Node NODE_LAMBDA) (p.InRow LAMBDA) d blank
     ∷ (opened Operand (p.AfterOperand level 16) d blank ∷ (F ∷ fs))))
     ((tokens_in c ++ tokens_in f) ++ us) m gs)
     (machine (opened Operand (p.AfterOperand level 16) d (one_branch NODE_LAMBDA (branch NODE_PATTERN (g ⊕ c) f)) ∷ (F ∷ fs)) us
@@ -181,22 +181,22 @@ pattern_runs : {x : Position} {g c f : AnnotatedForest} {level d m : ℕ} {F : F
 pattern_runs {x} {g} {c} {f} {level} {d} {m} {F} {fs} {us} {es} {ds} {gs} row more =
     let below : Frame = opened Operand (p.AfterOperand level 16) d blank in
     runs_from (cc (append_assoc (tokens_in c) (tokens_in f) us))
-    (runs_on (node_read row refl (Node NODE_LAMBDA) (p.Left LAMBDA) d blank (below ∷ (F ∷ fs)) gs)
+    (runs_on (node_read row refl (Node NODE_LAMBDA) (p.InRow LAMBDA) d blank (below ∷ (F ∷ fs)) gs)
     (runs_to (cc (append_assoc gs (es ++ []) ds, end_behind m (tokens_in c) (tokens_in f)))
     (operand_read more refl refl (p.AfterOperand level 16) d (F ∷ fs) (gs ++ (es ++ [])))))
 
 -- the first item of a pattern without a name before it
-brace_kind : (i : SyntaxKind) → is_viable (after (row_of_kind NODE_PATTERN) i) ≡ true → BegunBy i (begin_for NODE_PATTERN i) → i ≡ TOKEN_L_BRACE
+brace_kind : (i : SyntaxKind) → is_viable (after (row_of_kind NODE_PATTERN) i) ≡ true → BegunBy i (operand_start_for NODE_PATTERN i) → i ≡ TOKEN_L_BRACE
 brace_kind TOKEN_L_BRACE l w = refl
 brace_kind _ l w = cc
 
 -- and of one with a name
-name_kind : (i : SyntaxKind) → leaf_kind_as NODE_IDENT i ≡ TOKEN_IDENT → BegunBy i (begin_for NODE_PATTERN i) → i ≡ TOKEN_IDENT
+name_kind : (i : SyntaxKind) → leaf_kind_as NODE_IDENT i ≡ TOKEN_IDENT → BegunBy i (operand_start_for NODE_PATTERN i) → i ≡ TOKEN_IDENT
 name_kind TOKEN_IDENT h w = refl
 name_kind _ h w = cc
 
 -- no pattern begins with a token of the row that binds its name
-no_bind : (i : SyntaxKind) → is_viable (after (row_of_kind NODE_PAT_BIND) i) ≡ true → BegunBy i (begin_for NODE_PATTERN i) → ⊥
+no_bind : (i : SyntaxKind) → is_viable (after (row_of_kind NODE_PAT_BIND) i) ≡ true → BegunBy i (operand_start_for NODE_PATTERN i) → ⊥
 no_bind TOKEN_AT l w = cc
 no_bind _ l w = cc
 
@@ -210,8 +210,9 @@ braced_reads m rows d n t us c f ds es l r more level F fs gs min_bp begins =
     let x : AnnotatedForest = branch NODE_PATTERN (token t.kind t c) f in
     let w = begins_so NODE_PATTERN level t ts begins in
     let k : t.kind ≡ TOKEN_L_BRACE = brace_kind t.kind l w.1 in
-    function_read level d n (t ∷ (tokens_in c ++ tokens_in f)) x us ((ds ++ []) ++ es) F fs gs t ts b.PatternLambda refl (w.0 ∙ ap (begin_for NODE_PATTERN) k)
-    (pattern_runs (read_on rows (p.Left PATTERN) refl (complete_to (ap (after (row_of_kind NODE_PATTERN)) k) refl r)) more)
+    function_read level d n (t ∷ (tokens_in c ++ tokens_in f)) x us ((ds ++ []) ++ es) F fs gs t ts b.PatternLambda refl (w.0
+    ∙ ap (operand_start_for NODE_PATTERN) k)
+    (pattern_runs (read_on rows (p.InRow PATTERN) refl (complete_to (ap (after (row_of_kind NODE_PATTERN)) k) refl r)) more)
 
 -- a name and `@`
 abbrev name_at : Token → Token → AnnotatedForest
@@ -219,7 +220,7 @@ name_at t v = branch NODE_IDENT (one_token (leaf_kind NODE_IDENT t) t) (one_toke
 
 -- a function of a pattern that begins with a name
 bound_item : (t v : Token) (c f : AnnotatedForest) (d n : ℕ) (us : List Token) (ds es : List Fault) → leaf_kind NODE_IDENT t ≡ TOKEN_IDENT
-    → ReadOn NODE_PATTERN d v.end (p.Left BOUND_PATTERN) (one_branch NODE_PAT_BIND (name_at t v)) (tokens_in f ++ us) c ds
+    → ReadOn NODE_PATTERN d v.end (p.InRow BOUND_PATTERN) (one_branch NODE_PAT_BIND (name_at t v)) (tokens_in f ++ us) c ds
     → Body NODE_PATTERN d n (branch NODE_PAT_BIND (name_at t v) c) us f es
     → ReadsTree d n (t ∷ (v ∷ (tokens_in c ++ tokens_in f))) (one_branch NODE_LAMBDA (branch NODE_PATTERN (branch NODE_PAT_BIND (name_at t v) c) f)) us
     ((ds ++ []) ++ es)
@@ -229,12 +230,12 @@ bound_item t v c f d n us ds es h r more level F fs gs min_bp begins =
     let w = begins_so NODE_PATTERN level t ts begins in
     let k : t.kind ≡ TOKEN_IDENT = name_kind t.kind h w.1 in
     function_read level d n (t ∷ (v ∷ (tokens_in c ++ tokens_in f))) x us ((ds ++ []) ++ es) F fs gs t ts b.BoundLambda refl
-    (w.0 ∙ ap (begin_for NODE_PATTERN) k) (pattern_runs r more)
+    (w.0 ∙ ap (operand_start_for NODE_PATTERN) k) (pattern_runs r more)
 
 -- so it is by the row of the name
 bound_reads : (m : ℕ) → AllRows m → (d n : ℕ) (us : List Token) (c g f : AnnotatedForest) (bs ds es : List Fault)
     → Complete m NODE_PAT_BIND d n (row_of_kind NODE_PAT_BIND) blank (tokens_in g ++ (tokens_in f ++ us)) c bs
-    → Complete m NODE_PATTERN d (end_from n (tokens_in c)) (left_at BOUND_PATTERN) (one_branch NODE_PAT_BIND c) (tokens_in f ++ us) g ds
+    → Complete m NODE_PATTERN d (end_from n (tokens_in c)) (remaining_at BOUND_PATTERN) (one_branch NODE_PAT_BIND c) (tokens_in f ++ us) g ds
     → IsFunction NODE_PATTERN d n (branch NODE_PAT_BIND c g) f us ((bs ++ []) ++ ds) es
 bound_reads m rows d n us c g f bs ds es r r' = by (item_or_name refl (front_of refl r refl))
   where
@@ -252,9 +253,9 @@ bound_reads m rows d n us c g f bs ds es r r' = by (item_or_name refl (front_of 
         let u = item_alone v (ap (after (Child TOKEN_AT · done)) (only (λ j. is_viable (after (Child TOKEN_AT · done) j)) TOKEN_AT refl v.item.kind v.alive)) in
         let e : c ≡ name_at t.item v.item = t.is ∙ ap (λ q. branch NODE_IDENT (one_token (leaf_kind NODE_IDENT t.item) t.item) q) u.0 in
         subst (λ bs. IsFunction NODE_PATTERN d n (branch NODE_PAT_BIND c g) f us ((bs ++ []) ++ ds) es) (sym u.1)
-        (subst (λ c. Complete m NODE_PATTERN d (end_from n (tokens_in c)) (left_at BOUND_PATTERN) (one_branch NODE_PAT_BIND c) (tokens_in f ++ us) g ds
+        (subst (λ c. Complete m NODE_PATTERN d (end_from n (tokens_in c)) (remaining_at BOUND_PATTERN) (one_branch NODE_PAT_BIND c) (tokens_in f ++ us) g ds
         → IsFunction NODE_PATTERN d n (branch NODE_PAT_BIND c g) f us ds es) (sym e)
-        (λ r more. bound_item t.item v.item g f d n us ds es t.kind (read_on rows (p.Left BOUND_PATTERN) refl r) more) r')
+        (λ r more. bound_item t.item v.item g f d n us ds es t.kind (read_on rows (p.InRow BOUND_PATTERN) refl r) more) r')
 
 -- a function of a pattern is read
 pattern_reads : (m : ℕ) → AllRows m → (d n : ℕ) (us : List Token) (c f : AnnotatedForest) (ds es : List Fault)
@@ -294,7 +295,7 @@ lambda_reads m rows d n us _ _ (by_node {k = i} {c = c} {f = f} {ds = ds} {es = 
   where
     by : (i ≡ NODE_IDENT_PARAM) ⊎ (i ≡ NODE_PATTERN) → Parameter m d n us c f ds es i
     by (inl h) =
-        subst (Parameter m d n us c f ds es) (sym h) (λ r r'. named_reads m d n us c f ds es r (read_on rows (p.Left LAMBDA) refl r'))
+        subst (Parameter m d n us c f ds es) (sym h) (λ r r'. named_reads m d n us c f ds es r (read_on rows (p.InRow LAMBDA) refl r'))
     by (inr h) =
         subst (Parameter m d n us c f ds es) (sym h) (λ r r'. pattern_reads m rows d n us c f ds es (front_of refl r refl)
-        (read_on rows (p.Left LAMBDA) refl r'))
+        (read_on rows (p.InRow LAMBDA) refl r'))

@@ -1,6 +1,6 @@
 pub mod ViableReadings
 pub mod OneAction
-pub mod PlaceActions
+pub mod PositionActions
 pub mod StepReads
 pub mod ReadingHeights
 pub mod OperandBegins

@@ -5,18 +5,18 @@ use Rattle.rnix_kinds.specs.declared.kinds.SyntaxKind.{SyntaxKind, TheVariants.{
 use Rattle.rnix_kinds.specs.declared.kinds.SyntaxKind.TheVariants.{TOKEN_IDENT, NODE_DYNAMIC, NODE_INHERIT, NODE_INHERIT_FROM, NODE_INTERPOL, NODE_PAT_BIND}
 use Rattle.{rnix_kinds.specs.declared.kinds.SyntaxKind.TheVariants.NODE_STRING, rnix_green.specs.Equality.same_kind}
 use Rattle.rnix_grammar.specs.declared.{position.Position.Position, action.Action.Action, slot_table.TheConstants.SLOTS, rules.Part.TheVariants.BoundAlready}
-use Rattle.rnix_grammar.specs.{declared.rules.Part.TheVariants.TextEnd, Actions.{left_action, action_at}, AnnotatedForest.{Token, blank, head_kind}}
+use Rattle.rnix_grammar.specs.{declared.rules.Part.TheVariants.TextEnd, Actions.{action_at_slot, action_at}, AnnotatedForest.{Token, blank, head_kind}}
 use Rattle.rnix_grammar.specs.{AnnotatedForest.{leaf_kind_as, touches}, Rules.{Row, never, ◌·◌, row, after, may_end, missing, is_there, run_at}}
-use Rattle.{rnix_grammar.specs.Rules.{is_first_expected, level_at, IsExpected}, rnix_proof_lemmas.specs.SlotRows.{left_at, left_in, kind_at}}
+use Rattle.{rnix_grammar.specs.Rules.{is_first_expected, level_at, IsExpected}, rnix_proof_lemmas.specs.SlotRows.{remaining_at, remaining_in, kind_at}}
 use Rattle.rnix_proof_lemmas.proofs.{Basics.true_is_not_false, EachIndex.each_index, EveryKind.same, ActionTable.{is_waiting, IsActionAt, action_is_at}}
-use Rattle.rnix_proof_lemmas.proofs.{RestAt.rest_at, RowParts.{is_left, expects_next, expects_at}, ReachableRows.is_viable}
+use Rattle.rnix_proof_lemmas.proofs.{RestAt.rest_at, RowParts.{is_remaining, expects_next, expects_at}, ReachableRows.is_viable}
 use Rattle.rnix_proof_uniqueness.proofs.ViableReadings.{as_expected}
 use Rattle.rnix_grammar.specs.declared.position.Position.TheVariants as p
 use Rattle.rnix_grammar.specs.declared.action.Action.TheVariants as a
 
 -- a position of the row of a node of a kind, where the reader waits
 abbrev pub is_at : SyntaxKind → Position → Bool
-is_at k (p.Left i) = same_kind (kind_at i) k && is_waiting (left_at i)
+is_at k (p.InRow i) = same_kind (kind_at i) k && is_waiting (remaining_at i)
 is_at k (p.AfterOperand min_bp max_bp) = false
 is_at k (p.Right level) = same_kind NODE_BIN_OP k
 
@@ -28,7 +28,7 @@ goal (a.MissWanted until y) = y
 goal (a.Run until y) = y
 goal (a.Leaf k y) = y
 goal (a.Open k z y) = y
-goal (a.Begin k z y) = y
+goal (a.OpenEmpty k z y) = y
 goal (a.Entry y) = y
 goal (a.DoubleBind y) = y
 goal (a.Read level counted y) = y
@@ -36,11 +36,11 @@ goal action = 0
 
 -- that is a position of the row of a node of a kind
 abbrev pub lands : SyntaxKind → Action → Bool
-lands k action = is_at k (p.Left (goal action))
+lands k action = is_at k (p.InRow (goal action))
 
 -- this is done, and leads to a position of the row of a node of a kind where that is left of it
 abbrev pub LeadsTo : SyntaxKind → Row → (ℕ → Action) → Action → Type 0
-LeadsTo k r to action = (action ≡ to (goal action)) × (left_at (goal action) ≡ r) × (is_at k (p.Left (goal action)) ≡ true)
+LeadsTo k r to action = (action ≡ to (goal action)) × (remaining_at (goal action) ≡ r) × (is_at k (p.InRow (goal action)) ≡ true)
 
 -- one test asks for another
 abbrev pub asks : Bool → Bool → Bool
@@ -138,8 +138,8 @@ begins_with_item k = opens_with_item k || (same_kind NODE_IDENT k || same_kind N
 -- a node of a kind is begun, or is the next item
 abbrev pub opens : SyntaxKind → Action → Bool
 opens k (a.Leaf NODE_IDENT y) = same_kind NODE_IDENT k
-opens k (a.Open j z y) = same_kind j k && (is_at j (p.Left z) && (is_inner j && opens_with_item j))
-opens k (a.Begin j z y) = same_kind j k && (is_at j (p.Left z) && is_inner j)
+opens k (a.Open j z y) = same_kind j k && (is_at j (p.InRow z) && (is_inner j && opens_with_item j))
+opens k (a.OpenEmpty j z y) = same_kind j k && (is_at j (p.InRow z) && is_inner j)
 opens k (a.Entry y) = same_kind NODE_PAT_ENTRY k
 opens k action = false
 
@@ -201,20 +201,20 @@ every_next test h (Some k) = every (λ k. test (Some k)) (and_parts (test None) 
 
 abbrev by_nodes : ℕ → Bool → SyntaxKind → Bool
 by_nodes i touch k =
-    asks (is_viable (after (left_at i) k)) (asks (is_viable (row k))
-    (all_next (λ next. by_node (kind_at i) (left_at i) touch k next (left_action i next touch))))
+    asks (is_viable (after (remaining_at i) k)) (asks (is_viable (row k))
+    (all_next (λ next. by_node (kind_at i) (remaining_at i) touch k next (action_at_slot i next touch))))
 
 -- all of it at an index of the table
 abbrev at_index : Bool → ℕ → Bool
 at_index touch i =
-    all_next (λ next. is_only (kind_at i) (left_at i) touch next (left_action i next touch))
-    && (is_any (level_at (left_at i) blank) || list_all (by_nodes i touch) all_kinds)
+    all_next (λ next. is_only (kind_at i) (remaining_at i) touch next (action_at_slot i next touch))
+    && (is_any (level_at (remaining_at i) blank) || list_all (by_nodes i touch) all_kinds)
 
 abbrev IsIndex : Bool → ℕ → Type 0
-IsIndex touch i = asks (is_waiting (left_at i)) (at_index touch i) ≡ true
+IsIndex touch i = asks (is_waiting (remaining_at i)) (at_index touch i) ≡ true
 
 past_end : (touch : Bool) (i : ℕ) → drop i SLOTS ≡ [] → IsIndex touch i
-past_end touch i d = ap (λ ss. asks (is_waiting (left_in ss)) (at_index touch i)) d
+past_end touch i d = ap (λ ss. asks (is_waiting (remaining_in ss)) (at_index touch i)) d
 
 is_index : (touch : Bool) (i : ℕ) → IsIndex touch i
 is_index true = each_index (IsIndex true) (assumption) (λ i e d. past_end true i d)
@@ -227,26 +227,26 @@ pub record IsDone (k : SyntaxKind) (r : Row) (touch : Bool) (next : Option Synta
   pub nodes : (j : SyntaxKind) → level_at r blank ≡ None → is_viable (after r j) ≡ true → is_viable (row j) ≡ true → by_node k r touch j next action ≡ true
 
 -- so it is at an index
-left_done : (i : ℕ) (touch : Bool) (next : Option SyntaxKind) → is_waiting (left_at i) ≡ true
-    → IsDone (kind_at i) (left_at i) touch next (left_action i next touch)
-left_done i touch next h =
-    let all = and_parts (all_next (λ next. is_only (kind_at i) (left_at i) touch next (left_action i next touch))) _
-    (asked (is_waiting (left_at i)) (at_index touch i) (is_index touch i) h) in
+remaining_done : (i : ℕ) (touch : Bool) (next : Option SyntaxKind) → is_waiting (remaining_at i) ≡ true
+    → IsDone (kind_at i) (remaining_at i) touch next (action_at_slot i next touch)
+remaining_done i touch next h =
+    let all = and_parts (all_next (λ next. is_only (kind_at i) (remaining_at i) touch next (action_at_slot i next touch))) _
+    (asked (is_waiting (remaining_at i)) (at_index touch i) (is_index touch i) h) in
     record {
-      action_is_at = action_is_at (p.Left i) touch next h;
-      only = every_next (λ next. is_only (kind_at i) (left_at i) touch next (left_action i next touch)) all.0 next;
+      action_is_at = action_is_at (p.InRow i) touch next h;
+      only = every_next (λ next. is_only (kind_at i) (remaining_at i) touch next (action_at_slot i next touch)) all.0 next;
       nodes = λ j n l o.
           let nodes = every (by_nodes i touch) (sym (ap (λ l. is_any l || list_all (by_nodes i touch) all_kinds) n) ∙ all.1) j in
-          every_next (λ next. by_node (kind_at i) (left_at i) touch j next (left_action i next touch))
-          (asked (is_viable (row j)) _ (asked (is_viable (after (left_at i) j)) _ nodes l) o) next;
+          every_next (λ next. by_node (kind_at i) (remaining_at i) touch j next (action_at_slot i next touch))
+          (asked (is_viable (row j)) _ (asked (is_viable (after (remaining_at i) j)) _ nodes l) o) next;
     }
 
 -- so at each position of a row
 pub done_at : (k : SyntaxKind) (x : Position) (touch : Bool) (next : Option SyntaxKind) → is_at k x ≡ true
     → IsDone k (rest_at x) touch next (action_at x next touch)
-done_at k (p.Left i) touch next h =
-    let w = and_parts (same_kind (kind_at i) k) (is_waiting (left_at i)) h in
-    subst (λ k. IsDone k (left_at i) touch next (left_action i next touch)) (same (kind_at i) k w.0) (left_done i touch next w.1)
+done_at k (p.InRow i) touch next h =
+    let w = and_parts (same_kind (kind_at i) k) (is_waiting (remaining_at i)) h in
+    subst (λ k. IsDone k (remaining_at i) touch next (action_at_slot i next touch)) (same (kind_at i) k w.0) (remaining_done i touch next w.1)
 done_at k (p.AfterOperand min_bp max_bp) touch next h = absurd (true_is_not_false (sym h))
 done_at k (p.Right level) touch next h =
     subst (λ k. IsDone k (rest_at (p.Right level)) touch next (action_at (p.Right level) next touch)) (same NODE_BIN_OP k h)
@@ -273,20 +273,20 @@ pub other_item : {k : SyntaxKind} {r : Row} {touch : Bool} {next : Option Syntax
 other_item {k} {r} {action = action} w o = (and_parts (asks (may_end r) (is_ending k action)) _ (other_end w o)).1
 
 -- what is left at such a position begins with no child that is there whenever the node is
-waiting_left : (r : Row) → is_waiting r ≡ true → is_left r ≡ true
-waiting_left never h = refl
-waiting_left _ h = h
+waiting_remaining : (r : Row) → is_waiting r ≡ true → is_remaining r ≡ true
+waiting_remaining never h = refl
+waiting_remaining _ h = h
 
 pub waiting_viable : (r : Row) → is_waiting r ≡ true → is_viable r ≡ true
 waiting_viable never h = h
 waiting_viable _ h = refl
 
-pub left_at_place : (k : SyntaxKind) (x : Position) → is_at k x ≡ true → is_left (rest_at x) ≡ true
-left_at_place k (p.Left i) h = waiting_left (left_at i) (and_parts (same_kind (kind_at i) k) (is_waiting (left_at i)) h).1
-left_at_place k (p.AfterOperand min_bp max_bp) h = absurd (true_is_not_false (sym h))
-left_at_place k (p.Right level) h = refl
+pub remaining_at_position : (k : SyntaxKind) (x : Position) → is_at k x ≡ true → is_remaining (rest_at x) ≡ true
+remaining_at_position k (p.InRow i) h = waiting_remaining (remaining_at i) (and_parts (same_kind (kind_at i) k) (is_waiting (remaining_at i)) h).1
+remaining_at_position k (p.AfterOperand min_bp max_bp) h = absurd (true_is_not_false (sym h))
+remaining_at_position k (p.Right level) h = refl
 
 -- the next item is expected at a position as a reading says
 pub next_is : (k : SyntaxKind) (x : Position) (n : ℕ) (ts : List Token) (own : Bool) → is_at k x ≡ true → IsExpected (rest_at x) n ts own
     → expects_next (rest_at x) (touches n ts) (head_kind ts) ≡ own
-next_is k x n ts own h o = sym (expects_at (rest_at x) n ts) ∙ as_expected (rest_at x) (left_at_place k x h) n ts own o
+next_is k x n ts own h o = sym (expects_at (rest_at x) n ts) ∙ as_expected (rest_at x) (remaining_at_position k x h) n ts own o

@@ -2,7 +2,7 @@
 use Rattle.{std.proofs.Common.{◌≡◌, ℕ, zero, suc, false, List, [], ◌∷◌, refl, sym, subst}, rnix_kinds.specs.declared.kinds.SyntaxKind.SyntaxKind}
 use Rattle.{rnix_kinds.specs.{declared.kinds.SyntaxKind.TheVariants.{NODE_ROOT, NODE_ERROR}, Lexical.Tokens.tokens_of}, rnix_grammar.specs.Fault.Fault}
 use Rattle.rnix_grammar.specs.AnnotatedForest.{Token, Note, AnnotatedForest, blank, token, branch, fault, leaf_kind, tokens_in, end_from, placed_from}
-use Rattle.{rnix_grammar.specs.{Layout.{items, tail_of}, Reads.ReadsRoot}, rnix_proof_lemmas.{specs.{Machine.{Machine, begins, step, Runs, rest as here}}}}
+use Rattle.{rnix_grammar.specs.{Layout.{items, tail_of}, Reads.ReadsRoot}, rnix_proof_lemmas.{specs.{Machine.{Machine, initial_machine, step, Runs, rest as here}}}}
 use Rattle.{rnix_proof_lemmas.{specs.{Machine.{then as further}}}, rnix_proof_uniqueness.proofs.AllReads.{ended_with, ended_once, reads_runs}}
 
 -- a row of trees without its items: each leaf takes the next one
@@ -67,18 +67,19 @@ steps_run (suc n) m = further (steps_run n (step false m))
 
 -- where the steps end with some trees and errors, each reading of these items has them
 same : (ts : List Token) (f g : AnnotatedForest) (n : ℕ) (es fs : List Fault)
-    → Runs false (begins ts) (ended_with f n es) → tokens_in g ≡ ts → ReadsRoot g fs → (f ≡ g) × (es ≡ fs)
+    → Runs false (initial_machine ts) (ended_with f n es) → tokens_in g ≡ ts → ReadsRoot g fs → (f ≡ g) × (es ≡ fs)
 same ts f g n es fs r e w =
     let k = end_from 0 (tokens_in g) in
-    let h = ended_once ts f n es (ended_with g k fs) r (subst (λ (z : List Token). Runs false (begins z) (ended_with g k fs)) e (reads_runs g fs w)) refl in
+    let h = ended_once ts f n es (ended_with g k fs) r (subst (λ (z : List Token). Runs false (initial_machine z) (ended_with g k fs)) e (reads_runs g fs w))
+    refl in
     (sym h.0, sym h.1)
 
 -- the steps make its reading of a text, of which each of the examples needs fewer
 abbrev pub IsMade : Case → Type 0
-IsMade c = steps 60 (begins (items_of c)) ≡ end_with (items_of c) c.right
+IsMade c = steps 60 (initial_machine (items_of c)) ≡ end_with (items_of c) c.right
 
 -- so the text is read so
 pub holds : (c : Case) → IsMade c → Holds c
 holds c e f faults h w =
     same (items_of c) (trees_in c.right (items_of c)) f (end_from 0 (items_of c)) c.right.1 faults
-    (subst (Runs false (begins (items_of c))) e (steps_run 60 (begins (items_of c)))) h w
+    (subst (Runs false (initial_machine (items_of c))) e (steps_run 60 (initial_machine (items_of c)))) h w

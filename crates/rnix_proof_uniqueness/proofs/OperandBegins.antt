@@ -6,17 +6,17 @@ use Rattle.rnix_kinds.specs.declared.kinds.SyntaxKind.TheVariants.{NODE_APPLY, N
 use Rattle.{rnix_kinds.specs.declared.kinds.SyntaxKind.TheVariants.{NODE_SELECT, NODE_UNARY_OP}, rnix_grammar.specs.Actions.{continue_action, more_action}}
 use Rattle.rnix_grammar.specs.{Actions.{may_continue}, Levels.binding_power, AnnotatedForest.{Token, AnnotatedForest, head_kind, end_from, blank}}
 use Rattle.rnix_grammar.specs.{AnnotatedForest.{token, branch, one_branch, leaf_kind_as}, Operands.{follows, first_tree, is_continued}}
-use Rattle.rnix_grammar.specs.{declared.{action.Action.Action, begin.Begin.Begin}, Fault.Fault, TreeLevels.{row_level, level_of}}
-use Rattle.rnix_grammar.specs.{Begins.{first_kind, begin_for, begin_of, second_kind}, Rows.{is_atom, is_expression}, Rules.{after, done}}
-use Rattle.{rnix_grammar.{specs.{Rules.{row as row_of_kind}}}, rnix_grammar.specs.Beginnings.BeginsAs, rnix_proof_lemmas.specs.Machine.{Operand, Frame, machine}}
-use Rattle.rnix_proof_lemmas.{specs.{Machine.{opened, perform, operand_on, Runs, Node}, SlotRows.left_at}, proofs.Basics.true_is_not_false}
+use Rattle.rnix_grammar.specs.{declared.{action.Action.Action, operand_start.OperandStart.OperandStart}, Fault.Fault, TreeLevels.{row_level, level_of}}
+use Rattle.rnix_grammar.specs.{OperandStarts.{first_kind, operand_start_for, operand_start_of, second_kind}, NodeClasses.{is_atom, is_expression}, Rules.{after, done}}
+use Rattle.{rnix_grammar.{specs.{Rules.{row as row_of_kind}}}, rnix_grammar.specs.FirstKinds.BeginsAs, rnix_proof_lemmas.specs.Machine.{Operand, Frame, machine}}
+use Rattle.rnix_proof_lemmas.{specs.{Machine.{opened, perform, operand_on, Runs, Node}, SlotRows.remaining_at}, proofs.Basics.true_is_not_false}
 use Rattle.rnix_proof_lemmas.proofs.{LevelLemmas.{at_most, at_most_true}, FollowLemmas.{FollowedTo, follows_level, atom_is_selection_level, followed_atom}}
 use Rattle.rnix_proof_lemmas.proofs.{FollowLemmas.{followed_negated, followed_inverted, followed_keyword}, TokenEnds.end_behind}
 use Rattle.rnix_proof_lemmas.proofs.EachBeginning.{each_first_tree, kind_of, kind_of_begin}
 use Rattle.rnix_proof_uniqueness.proofs.{StepReads.{runs_on, runs_to, runs_from, step_to, IsOperandRead, ReadsTree}, OneAction.is_at}
 use Rattle.rnix_grammar.specs.declared.position.Position.TheVariants as p
 use Rattle.rnix_grammar.specs.declared.action.Action.TheVariants as a
-use Rattle.rnix_grammar.specs.declared.begin.Begin.TheVariants as b
+use Rattle.rnix_grammar.specs.declared.operand_start.OperandStart.TheVariants as b
 
 -- an item goes on with a tree, as far as the tree's level
 pub goes : (level max_bp : ℕ) (i : SyntaxKind) (x : AnnotatedForest) → FollowedTo max_bp x → follows i x ≡ true → level ≤ binding_power i
@@ -95,30 +95,30 @@ max_bp_at NODE_UNARY_OP i = 13
 max_bp_at k i = if is_atom k then 16 else 0
 
 -- what an item of a kind begins
-abbrev pub BegunBy : SyntaxKind → Begin → Type 0
+abbrev pub BegunBy : SyntaxKind → OperandStart → Type 0
 BegunBy i (b.Leaf k) = (begins_with_item k ≡ true) × (after (row_of_kind k) (leaf_kind_as k i) ≡ done) × (is_atom k ≡ true)
-BegunBy i (b.Node k z max_bp) = (begins_with_item k ≡ true) × (after (row_of_kind k) (leaf_kind_as k i) ≡ left_at z) × (is_at k (p.Left z) ≡ true)
+BegunBy i (b.Node k z max_bp) = (begins_with_item k ≡ true) × (after (row_of_kind k) (leaf_kind_as k i) ≡ remaining_at z) × (is_at k (p.InRow z) ≡ true)
     × (max_bp_at k i ≡ max_bp)
 BegunBy i b.NameLambda = i ≡ TOKEN_IDENT
 BegunBy i b.BoundLambda = i ≡ TOKEN_IDENT
 BegunBy i b.PatternLambda = i ≡ TOKEN_L_BRACE
-BegunBy i begin = Unit {0}
+BegunBy i how = Unit {0}
 
 -- so it is for each beginning
-begins_by : (level : ℕ) (i : SyntaxKind) (text : List ℕ) (second third : Option SyntaxKind) → BegunBy i (begin_of level i text second third)
-begins_by = each_first_tree (λ i second k. BegunBy i (begin_for k i)) (λ second. assumption)
+begins_by : (level : ℕ) (i : SyntaxKind) (text : List ℕ) (second third : Option SyntaxKind) → BegunBy i (operand_start_of level i text second third)
+begins_by = each_first_tree (λ i second k. BegunBy i (operand_start_for k i)) (λ second. assumption)
 
 -- the beginning of some items, by the kind of the first tree
 pub begins_so : (k : SyntaxKind) (level : ℕ) (t : Token) (ts : List Token) → first_kind level t.kind t.text (head_kind ts) (second_kind ts) ≡ k
-    → (begin_of level t.kind t.text (head_kind ts) (second_kind ts) ≡ begin_for k t.kind) × BegunBy t.kind (begin_for k t.kind)
+    → (operand_start_of level t.kind t.text (head_kind ts) (second_kind ts) ≡ operand_start_for k t.kind) × BegunBy t.kind (operand_start_for k t.kind)
 begins_so k level t ts e =
-    let s = ap (λ j. begin_for j t.kind) e in (s, subst (BegunBy t.kind) s (begins_by level t.kind t.text (head_kind ts) (second_kind ts)))
+    let s = ap (λ j. operand_start_for j t.kind) e in (s, subst (BegunBy t.kind) s (begins_by level t.kind t.text (head_kind ts) (second_kind ts)))
 
 -- how an expression that begins with an item does so: it is the item, or a node that goes on at a position
-pub data BegunByItem (k i : SyntaxKind) (begin : Begin) : Type 0 where
-  led_leaf : begin ≡ b.Leaf k → after (row_of_kind k) (leaf_kind_as k i) ≡ done → is_atom k ≡ true → BegunByItem k i begin
-  led_node : (z max_bp : ℕ) → begin ≡ b.Node k z max_bp → after (row_of_kind k) (leaf_kind_as k i) ≡ left_at z → is_at k (p.Left z) ≡ true
-      → max_bp_at k i ≡ max_bp → BegunByItem k i begin
+pub data BegunByItem (k i : SyntaxKind) (how : OperandStart) : Type 0 where
+  led_leaf : how ≡ b.Leaf k → after (row_of_kind k) (leaf_kind_as k i) ≡ done → is_atom k ≡ true → BegunByItem k i how
+  led_node : (z max_bp : ℕ) → how ≡ b.Node k z max_bp → after (row_of_kind k) (leaf_kind_as k i) ≡ remaining_at z → is_at k (p.InRow z) ≡ true
+      → max_bp_at k i ≡ max_bp → BegunByItem k i how
 
 -- such an expression is its own first tree
 first_led : (k : SyntaxKind) (c f : AnnotatedForest) → begins_with_item k ≡ true → first_tree (branch k c f) ≡ k
@@ -126,7 +126,7 @@ first_led NODE_BIN_OP c f h = absurd (true_is_not_false (sym h))
 first_led _ c f h = cc
 
 -- each such expression begins so, by its beginning
-led_by : (k i : SyntaxKind) (begin : Begin) → begins_with_item k ≡ true → kind_of begin ≡ k → BegunBy i begin → BegunByItem k i begin
+led_by : (k i : SyntaxKind) (how : OperandStart) → begins_with_item k ≡ true → kind_of how ≡ k → BegunBy i how → BegunByItem k i how
 led_by k i (b.Leaf j) h e w =
     let v = subst (λ (z : SyntaxKind). BegunBy i (b.Leaf z)) e w in led_leaf (ap b.Leaf e) v.1 v.2
 led_by k i (b.Node j z max_bp) h e w =
@@ -136,10 +136,10 @@ led_by k i _ h e w = absurd (true_is_not_false (sym h ∙ ap begins_with_item (s
 -- each such expression begins so
 pub begins_led : (k : SyntaxKind) → begins_with_item k ≡ true → (level : ℕ) (t : Token) (ts : List Token) (c : AnnotatedForest)
     → first_kind level t.kind t.text (head_kind ts) (second_kind ts) ≡ first_tree (one_branch k c)
-    → BegunByItem k t.kind (begin_of level t.kind t.text (head_kind ts) (second_kind ts))
+    → BegunByItem k t.kind (operand_start_of level t.kind t.text (head_kind ts) (second_kind ts))
 begins_led k h level t ts c e =
     let w = begins_so k level t ts (e ∙ first_led k c blank h) in
-    subst (BegunByItem k t.kind) (sym w.0) (led_by k t.kind (begin_for k t.kind) h (kind_of_begin k t.kind) w.1)
+    subst (BegunByItem k t.kind) (sym w.0) (led_by k t.kind (operand_start_for k t.kind) h (kind_of_begin k t.kind) w.1)
 
 -- the nodes of prefix operators
 abbrev is_unary : SyntaxKind → Bool

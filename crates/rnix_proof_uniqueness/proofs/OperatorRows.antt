@@ -5,9 +5,9 @@ use Rattle.rnix_kinds.specs.declared.kinds.SyntaxKind.TheVariants.{NODE_HAS_ATTR
 use Rattle.rnix_grammar.specs.declared.{position.Position.Position, rules.Part.TheVariants.{Binary, Suffix}, slot_table.TheConstants.{HAS_ATTR, SELECT}}
 use Rattle.rnix_grammar.specs.{Fault.Fault, Actions.{continue_action}, Levels.{binding_power, right_of, max_bp_of}, AnnotatedForest.{Token, Stray}}
 use Rattle.rnix_grammar.specs.AnnotatedForest.{AnnotatedForest, blank, branch, token, ◌⊕◌, one_token, one_branch, one_fault, row_of, tokens_in, leaf_kind}
-use Rattle.rnix_grammar.specs.{AnnotatedForest.end_from, Reports.report, Rows.{is_atom, is_questioned, is_operand, is_infix, is_expression}}
+use Rattle.rnix_grammar.specs.{AnnotatedForest.end_from, Reports.report, NodeClasses.{is_atom, is_questioned, is_operand, is_infix, is_expression}}
 use Rattle.rnix_grammar.specs.{TreeLevels.row_level, Operands.{follows, first_tree}, Rules.{IsFollowed, Row, after, done, only as row_if, row as row_of_kind}}
-use Rattle.{rnix_grammar.specs.{Rules.◌·◌, Reads.{deeper, end}}, rnix_proof_lemmas.specs.{Machine.{Node, Operand, machine, opened}, SlotRows.left_at}}
+use Rattle.{rnix_grammar.specs.{Rules.◌·◌, Reads.{deeper, end}}, rnix_proof_lemmas.specs.{Machine.{Node, Operand, machine, opened}, SlotRows.remaining_at}}
 use Rattle.rnix_proof_lemmas.proofs.{KindsOfNodes.{unreported, is_error, keeps_kind}, EveryKind.only, AnnotatedForestLemmas.⊕-assoc, FirstTrees.IsSingle}
 use Rattle.rnix_proof_lemmas.proofs.{FirstTrees.{a_node, an_error, first_in, single_operator}, FollowLemmas.{FollowedTo, followed_infix, followed_question}}
 use Rattle.rnix_proof_lemmas.proofs.{FollowLemmas.{followed_selection, follows_token}, RestAt.rest_at, ReachableRows.is_viable}
@@ -141,11 +141,11 @@ binary_reads m rows trees =
 -- so is a test for an attribute
 pub question_reads : (m : ℕ) → AllRows m → Trees m → KindReads m NODE_HAS_ATTR
 question_reads m rows trees =
-    joined_reads m rows trees NODE_HAS_ATTR (Suffix TOKEN_QUESTION · left_at HAS_ATTR) is_questioned (λ i. p.Left HAS_ATTR) (λ i. 13) (record {
+    joined_reads m rows trees NODE_HAS_ATTR (Suffix TOKEN_QUESTION · remaining_at HAS_ATTR) is_questioned (λ i. p.InRow HAS_ATTR) (λ i. 13) (record {
       begins = record { goes = λ j. refl; fitting = implied is_questioned is_expression refl; deep = λ d. refl };
       known = (refl, refl, refl, refl, refl);
       follow = λ i x h. h;
-      goes = λ i l. ap (after (Suffix TOKEN_QUESTION · left_at HAS_ATTR)) (question i l);
+      goes = λ i l. ap (after (Suffix TOKEN_QUESTION · remaining_at HAS_ATTR)) (question i l);
       in_row_of = λ i. refl;
       action = λ i l. ap continue_action (question i l);
       level = λ i x t f one l. sym (ap binding_power (question i l));
@@ -153,17 +153,17 @@ question_reads m rows trees =
       first = λ x. refl;
     })
   where
-    question : (i : SyntaxKind) → is_viable (after (Suffix TOKEN_QUESTION · left_at HAS_ATTR) i) ≡ true → i ≡ TOKEN_QUESTION
-    question i l = only (λ j. is_viable (after (Suffix TOKEN_QUESTION · left_at HAS_ATTR) j)) TOKEN_QUESTION refl i l
+    question : (i : SyntaxKind) → is_viable (after (Suffix TOKEN_QUESTION · remaining_at HAS_ATTR) i) ≡ true → i ≡ TOKEN_QUESTION
+    question i l = only (λ j. is_viable (after (Suffix TOKEN_QUESTION · remaining_at HAS_ATTR) j)) TOKEN_QUESTION refl i l
 
 -- so is a selection
 pub selected_reads : (m : ℕ) → AllRows m → Trees m → KindReads m NODE_SELECT
 selected_reads m rows trees =
-    joined_reads m rows trees NODE_SELECT (Suffix TOKEN_DOT · left_at SELECT) is_atom (λ i. p.Left SELECT) (λ i. 15) (record {
+    joined_reads m rows trees NODE_SELECT (Suffix TOKEN_DOT · remaining_at SELECT) is_atom (λ i. p.InRow SELECT) (λ i. 15) (record {
       begins = record { goes = λ j. refl; fitting = implied is_atom is_expression refl; deep = λ d. refl };
       known = (refl, refl, refl, refl, refl);
       follow = λ i x h. h;
-      goes = λ i l. ap (after (Suffix TOKEN_DOT · left_at SELECT)) (dot i l);
+      goes = λ i l. ap (after (Suffix TOKEN_DOT · remaining_at SELECT)) (dot i l);
       in_row_of = λ i. refl;
       action = λ i l. ap continue_action (dot i l);
       level = λ i x t f one l. sym (ap binding_power (dot i l));
@@ -171,5 +171,5 @@ selected_reads m rows trees =
       first = λ x. refl;
     })
   where
-    dot : (i : SyntaxKind) → is_viable (after (Suffix TOKEN_DOT · left_at SELECT) i) ≡ true → i ≡ TOKEN_DOT
-    dot i l = only (λ j. is_viable (after (Suffix TOKEN_DOT · left_at SELECT) j)) TOKEN_DOT refl i l
+    dot : (i : SyntaxKind) → is_viable (after (Suffix TOKEN_DOT · remaining_at SELECT) i) ≡ true → i ≡ TOKEN_DOT
+    dot i l = only (λ j. is_viable (after (Suffix TOKEN_DOT · remaining_at SELECT) j)) TOKEN_DOT refl i l

@@ -5,7 +5,7 @@ use Rattle.{rnix_kinds.specs.declared.kinds.SyntaxKind.{SyntaxKind, TheVariants.
 use Rattle.rnix_grammar.specs.{declared.{position.Position.Position, rules.Part.TheVariants.{Argument, Atom, Binary, Child, First, Suffix}}, Fault.Fault}
 use Rattle.rnix_grammar.specs.{Tables.wanted_kinds, AnnotatedForest.{Token, Note, Stray, Unwanted, Extra, DoubleBind, TooDeep, AnnotatedForest, blank, token}}
 use Rattle.rnix_grammar.specs.AnnotatedForest.{branch, fault, ◌⊕◌, one_token, one_branch, one_fault, row_of, tokens_in, leaf_kind, head_kind, end_from}
-use Rattle.rnix_grammar.specs.{Reports.{report, repeats}, Rows.fits, Beginnings.IsOperandOf, Rules.{Row, done, ◌·◌, ◌or◌, after, counts, level_at, may_end}}
+use Rattle.rnix_grammar.specs.{Reports.{report, repeats}, NodeClasses.fits, FirstKinds.IsOperandOf, Rules.{Row, done, ◌·◌, ◌or◌, after, counts, level_at, may_end}}
 use Rattle.rnix_grammar.specs.{Rules.{missing, run_at, is_first_expected, row as row_of_kind, IsExpected, IsFollowed}, Reads.{IsOver, IsWrong, Reads, deeper}}
 use Rattle.{rnix_grammar.specs.Reads.{end, leaf, inner, missing_part, wrong, second}, rnix_proof_lemmas.proofs.AnnotatedForestLemmas.tokens_in-row_of}
 use Rattle.rnix_proof_lemmas.proofs.{Basics.{true_is_not_false, not_if}, RowParts.is_front, RestAt.rest_at, ViableRows.{past_ends, end_viable, reads_viable}}

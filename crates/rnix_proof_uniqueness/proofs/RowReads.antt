@@ -5,18 +5,18 @@ use Rattle.rnix_kinds.specs.declared.kinds.SyntaxKind.{SyntaxKind, TheVariants.{
 use Rattle.{rnix_green.specs.Equality.same_kind, rnix_grammar.specs.declared.{position.Position.Position, action.Action.Action}}
 use Rattle.rnix_grammar.specs.{declared.{slot_table.TheConstants.{PAT_ENTRY, SECOND_BIND}, rules.Part.TheVariants.BoundAlready}, Actions.action_at}
 use Rattle.rnix_grammar.specs.{Reports.{report, repeats}, Reads.{IsWrong, deeper, IsRoom, Reads, end, leaf, inner, missing_part, wrong, second}}
-use Rattle.rnix_grammar.specs.{Beginnings.{BeginsAs, IsOperandOf}, AnnotatedForest.{Token, Note, Stray, Unwanted, Extra, DoubleBind, TooDeep, AnnotatedForest, ◌⊕◌}}
+use Rattle.rnix_grammar.specs.{FirstKinds.{BeginsAs, IsOperandOf}, AnnotatedForest.{Token, Note, Stray, Unwanted, Extra, DoubleBind, TooDeep, AnnotatedForest, ◌⊕◌}}
 use Rattle.rnix_grammar.specs.AnnotatedForest.{one_fault, row_of, head_kind, end_from, touches, blank, one_branch, tokens_in, leaf_kind_as, token, one_token}
 use Rattle.rnix_grammar.specs.{AnnotatedForest.leaf_kind, Rules.{IsExpected, Row, after, counts, level_at, is_first_expected, row as row_of_kind, done, ◌·◌}}
-use Rattle.{rnix_grammar.specs.{Rules.{expects_end, missing, second_name}, Fault.Fault, Rows.{fits, is_expression}}, rnix_proof_lemmas.specs.Machine.machine}
-use Rattle.rnix_proof_lemmas.specs.{Machine.{opened, perform, dropped, Frame, SecondBind, rest as stays}, SlotRows.{left_at, kind_at}}
+use Rattle.{rnix_grammar.specs.{Rules.{expects_end, missing, second_name}, Fault.Fault, NodeClasses.{fits, is_expression}}, rnix_proof_lemmas.specs.Machine.machine}
+use Rattle.rnix_proof_lemmas.specs.{Machine.{opened, perform, dropped, Frame, SecondBind, rest as stays}, SlotRows.{remaining_at, kind_at}}
 use Rattle.rnix_proof_lemmas.proofs.{Basics.true_is_not_false, UnwantedRuns.dropped_all, RestAt.rest_at, KindsOfNodes.unreported}
 use Rattle.rnix_proof_lemmas.proofs.{KindsOfNodes.fits_expression, ActionTable.is_waiting, RowParts.left_level, EveryKind.only}
 use Rattle.rnix_proof_lemmas.proofs.{AnnotatedForestLemmas.tokens_in-row_of, ReachableRows.is_viable, ViableRows.reads_viable}
 use Rattle.rnix_proof_uniqueness.proofs.{StepReads.{runs_from, runs_to, step_to, ReadsTo, runs_on}, OneAction.{done_at, is_any, is_at, next_is, or_true}}
-use Rattle.rnix_proof_uniqueness.proofs.OneAction.{LeadsTo, opens_with_item, is_inner, is_name, is_opened, left_at_place, names_only, waiting_viable}
-use Rattle.rnix_proof_uniqueness.proofs.PlaceActions.{Operands, extra_at, reads_at, runs_at, IfNext, IsNode, by_begin, by_open, by_name, by_entry, NodeRead}
-use Rattle.rnix_proof_uniqueness.proofs.{PlaceActions.{node_at, double_bind_at}, FunctionRows.stray_reads, RowTrees.{OneTo, goes_one, one_operand}}
+use Rattle.rnix_proof_uniqueness.proofs.OneAction.{LeadsTo, opens_with_item, is_inner, is_name, is_opened, remaining_at_position, names_only, waiting_viable}
+use Rattle.rnix_proof_uniqueness.proofs.PositionActions.{Operands, extra_at, reads_at, runs_at, IfNext, IsNode, by_open_empty, by_open, by_name, by_entry, NodeRead}
+use Rattle.rnix_proof_uniqueness.proofs.{PositionActions.{node_at, double_bind_at}, FunctionRows.stray_reads, RowTrees.{OneTo, goes_one, one_operand}}
 use Rattle.rnix_proof_uniqueness.proofs.RowTrees.{dropped_front, too_far, node_read, read_on, closes_second, row_end, row_on, row_lost, one_leaf}
 use Rattle.rnix_proof_uniqueness.proofs.ReadingHeights.{Complete, AllRows, Trees, front_of, is_firm, complete_viable, complete_to, Item, Name, name_item}
 use Rattle.rnix_proof_uniqueness.proofs.ReadingHeights.{item_or_name, begins_so, height, less, less_left, less_right, item_next}
@@ -48,7 +48,7 @@ module _ (q : SyntaxKind) (d n : ℕ) (x : Position) (r : Row) (b : AnnotatedFor
   wrong_one (Unwanted until) (t ∷ ts) vs o w =
       let ws : List Token = t ∷ ts ++ vs in
       goes_one (a.Run until) (runs_at until (done_at q x (touches n ws) (Some t.kind) here) (next_is q x n ws false here o) w.2)
-      (λ y h fs gs e. runs_from (ap (λ (v : List Token). machine (opened h (p.Left y) d (b ⊕ one_fault (Unwanted until) (row_of v)) ∷ fs) (dropped v ws)
+      (λ y h fs gs e. runs_from (ap (λ (v : List Token). machine (opened h (p.InRow y) d (b ⊕ one_fault (Unwanted until) (row_of v)) ∷ fs) (dropped v ws)
       (end_from n v)
       (gs ++ report (Unwanted until) v ∷ [])) (sym w.1)) (runs_to (cc (dropped_front (t ∷ ts) vs)) stays))
   wrong_one Extra [] vs o w = absurd (true_is_not_false (sym w.0))
@@ -91,11 +91,11 @@ module _ (m : ℕ) (q : SyntaxKind) (d n : ℕ) (x : Position) (to : Row) (b : A
 
   -- an item opens it
   abbrev Opened : SyntaxKind → ℕ → AnnotatedForest → Type 0
-  Opened k z c = IfNext (head_kind (tokens_in c ++ vs)) (λ j. after (row_of_kind k) (leaf_kind_as k j) ≡ left_at z)
+  Opened k z c = IfNext (head_kind (tokens_in c ++ vs)) (λ j. after (row_of_kind k) (leaf_kind_as k j) ≡ remaining_at z)
 
   -- a node that one token opens
   inner_opens : AllRows m → (z : ℕ) (k : SyntaxKind) (c : AnnotatedForest) (ds : List Fault) → Complete m k d n (row_of_kind k) blank vs c ds
-      → is_inner k ≡ true → is_at k (p.Left z) ≡ true → opens_with_item k ≡ true → Opened k z c → LeadsTo q to (a.Open k z) (act_before c) → Inner k ds c
+      → is_inner k ≡ true → is_at k (p.InRow z) ≡ true → opens_with_item k ≡ true → Opened k z c → LeadsTo q to (a.Open k z) (act_before c) → Inner k ds c
   inner_opens rows z k c ds r i l o g act = by (item_or_name tests.0 (front_of refl r tests.1.0))
     where
       tests : (names_only (row_of_kind k) ≡ true) × ((is_firm (row_of_kind k) ≡ true) × (is_opened k ≡ true))
@@ -104,15 +104,16 @@ module _ (m : ℕ) (q : SyntaxKind) (d n : ℕ) (x : Position) (to : Row) (b : A
           (λ k. names_only (row_of_kind k) && (is_firm (row_of_kind k) && is_opened k)) refl k o) in
           (w.0, and_parts (is_firm (row_of_kind k)) (is_opened k) w.1)
 
-      waits : (r : Row) → r ≡ left_at z → is_viable r ≡ true
-      waits r e = ap is_viable e ∙ waiting_viable (left_at z) (and_parts (same_kind (kind_at z) k) (is_waiting (left_at z)) l).1
+      waits : (r : Row) → r ≡ remaining_at z → is_viable r ≡ true
+      waits r e = ap is_viable e ∙ waiting_viable (remaining_at z) (and_parts (same_kind (kind_at z) k) (is_waiting (remaining_at z)) l).1
 
       by : Item m k d (row_of_kind k) blank vs c ds ⊎ Name m k d (row_of_kind k) blank vs c ds → Inner k ds c
       by (inl t) =
           subst (λ (g : AnnotatedForest). Opened k z g → LeadsTo q to (a.Open k z) (act_before g) → Inner k ds g) (sym t.is)
-          (λ g act. goes_one (a.Open k z) act (λ y h fs gs e. node_read (read_on rows (p.Left z) l (complete_to g refl t.rest)) i h (p.Left y) d b fs gs)) g act
+          (λ g act. goes_one (a.Open k z) act (λ y h fs gs e. node_read (read_on rows (p.InRow z) l (complete_to g refl t.rest)) i h (p.InRow y) d b fs gs)) g
+          act
       by (inr t) =
-          let same : after (row_of_kind k) (leaf_kind_as k t.item.kind) ≡ left_at z = subst (Opened k z) t.is g in
+          let same : after (row_of_kind k) (leaf_kind_as k t.item.kind) ≡ remaining_at z = subst (Opened k z) t.is g in
           let other = implied (λ j. is_viable (after (row_of_kind k) (leaf_kind_as k j))) (λ j. if is_name j then false else true) tests.1.1 t.item.kind
           (waits _ same) in
           absurd (true_is_not_false (sym other ∙ ap (λ j. if same_kind j TOKEN_IDENT then false else true) t.kind))
@@ -138,14 +139,14 @@ module _ (m : ℕ) (q : SyntaxKind) (d n : ℕ) (x : Position) (to : Row) (b : A
           absurd (true_is_not_false (sym t.alive ∙ ap (λ j. is_viable (after (row_of_kind NODE_PAT_ENTRY) j)) i))
       by (inr t) =
           subst (λ (g : AnnotatedForest). LeadsTo q to a.Entry (act_before g) → Inner NODE_PAT_ENTRY ds g) (sym t.is)
-          (λ act. goes_one a.Entry act (λ y h fs gs e. node_read (read_on rows (p.Left PAT_ENTRY) refl t.rest) refl h (p.Left y) d b fs gs)) act
+          (λ act. goes_one a.Entry act (λ y h fs gs e. node_read (read_on rows (p.InRow PAT_ENTRY) refl t.rest) refl h (p.InRow y) d b fs gs)) act
 
   -- a node that is no operand, by how it begins
   inner_kind : AllRows m → (k : SyntaxKind) (c : AnnotatedForest) (ds : List Fault) → Complete m k d n (row_of_kind k) blank vs c ds
       → IsNode k q to (head_kind (tokens_in c ++ vs)) (act_before c)
       → Inner k ds c
-  inner_kind rows k c ds r (by_begin z i e act) =
-      goes_one (a.Begin k z) act (λ y h fs gs g. node_read (read_on rows (p.Left z) i.0 (complete_to e refl r)) i.1 h (p.Left y) d b fs gs)
+  inner_kind rows k c ds r (by_open_empty z i e act) =
+      goes_one (a.OpenEmpty k z) act (λ y h fs gs g. node_read (read_on rows (p.InRow z) i.0 (complete_to e refl r)) i.1 h (p.InRow y) d b fs gs)
   inner_kind rows k c ds r (by_open z i g act) = inner_opens rows z k c ds r i.1 i.0 i.2 g act
   inner_kind rows k c ds r (by_name e act) = subst (λ k. Complete m k d n (row_of_kind k) blank vs c ds → Inner k ds c) (sym e) (λ r. inner_name c ds r act) r
   inner_kind rows k c ds r (by_entry e next act) =
@@ -179,7 +180,7 @@ inner_one m rows trees {q} {k} {d} {n} {x} {b} {vs} {c} {ds} l r room o op g = b
         → OneTo q d n x to b (tokens_in c) vs (one_branch k c) (ds ++ repeats k b c)
     by (inl w) =
         inner_operand m q d n x to b vs trees w.0.level k c ds r w.1 w.0.act room
-        (subst (λ (v : Option ℕ). IsOperandOf v (one_branch k c) vs) (left_level (rest_at x) (left_at_place q x l) (one_branch k c) ∙ w.0.is) op)
+        (subst (λ (v : Option ℕ). IsOperandOf v (one_branch k c) vs) (left_level (rest_at x) (remaining_at_position q x l) (one_branch k c) ∙ w.0.is) op)
     by (inr w) =
         inner_kind m q d n x to b vs rows k c ds (subst (λ (v : ℕ). Complete m k v n (row_of_kind k) blank vs c ds) (w.0.deep d) r) w.1
 
@@ -196,8 +197,8 @@ second_one rows {q} {d} {n} {x} {b} {c} {vs} {ds} l i r =
     (subst (λ j. LeadsTo q done a.DoubleBind (action_at x (Some j) (touches n ts))) (sym at)
     (double_bind_at (done_at q x (touches n ts) (Some TOKEN_AT) l) i))
     (λ y h fs gs e.
-    let row = read_on rows (p.Left SECOND_BIND) refl (complete_to (ap (after second_name) at) refl t.rest) in
-    let f : Frame = opened h (p.Left y) d b in
+    let row = read_on rows (p.InRow SECOND_BIND) refl (complete_to (ap (after second_name) at) refl t.rest) in
+    let f : Frame = opened h (p.InRow y) d b in
     runs_on (row.row SecondBind (f ∷ fs) gs refl refl)
     (step_to (closes_second row.position d (end_from t.item.end (tokens_in t.more)) (token (leaf_kind NODE_ERROR t.item) t.item t.more) f fs vs
     (gs ++ ds) row.here row.over)

@@ -2,7 +2,7 @@
 use Rattle.std.proofs.Common.{◌≡◌, ℕ, Bool, true, false, List, [], ◌∷◌, ◌++◌, refl, ap, sym, ◌∙◌, subst, append-nil, append_assoc, suc, ◌<◌, ◌≤◌, Some, None}
 use Rattle.{std.proofs.{Common.{arith, if◌then◌else◌, nat_le}, lemmas.Bool.Decides.nat_tests}, rnix_kinds.specs.declared.kinds.SyntaxKind.SyntaxKind}
 use Rattle.rnix_kinds.specs.declared.kinds.SyntaxKind.TheVariants.{NODE_PAT_ENTRY, NODE_ERROR, NODE_ROOT}
-use Rattle.rnix_grammar.specs.{declared.{position.Position.Position, action.Action.Action}, Beginnings.BeginsAs, Fault.Fault, Actions.action_at, Rules.{Row, IsExpected, after}}
+use Rattle.rnix_grammar.specs.{declared.{position.Position.Position, action.Action.Action}, FirstKinds.BeginsAs, Fault.Fault, Actions.action_at, Rules.{Row, IsExpected, after}}
 use Rattle.rnix_grammar.specs.{Rules.{counts, expects_end, missing}, Reads.{IsOver, IsRoom, deeper}, AnnotatedForest.{Token, DoubleBind, AnnotatedForest}}
 use Rattle.rnix_grammar.specs.AnnotatedForest.{blank, ◌⊕◌, one_branch, one_fault, tokens_in, head_kind, end_from, touches, one_token, leaf_kind}
 use Rattle.{rnix_grammar.specs.{Reports.{report, repeats}, Tables.depth_limit, Operands.is_continued, TreeLevels.row_level}, rnix_proof_lemmas.specs.Machine.Head}
@@ -11,7 +11,7 @@ use Rattle.rnix_proof_lemmas.{specs.Machine.{rest as here}, proofs.{Basics.true_
 use Rattle.rnix_proof_lemmas.proofs.{AnnotatedForestLemmas.{⊕-assoc, ⊕-blank}, TokenEnds.end_behind, OpenHeads.is_open, ViableRows.end_viable}
 use Rattle.{rnix_proof_lemmas.proofs.ReachableRows.is_viable, rnix_proof_uniqueness.proofs.StepReads.{runs_on, runs_to, step_to, ReadsRow, runs_from}}
 use Rattle.rnix_proof_uniqueness.proofs.{StepReads.{ReadsTree, IsOperandRead, ReadsTo}, OneAction.{is_at, is_closed, is_ending, is_inner, LeadsTo, done_at}}
-use Rattle.rnix_proof_uniqueness.proofs.{OneAction.{goal, next_is}, PlaceActions.{ends_at, Misses, misses_at, takes_at}, ReadingHeights.{Complete, AllRows}}
+use Rattle.rnix_proof_uniqueness.proofs.{OneAction.{goal, next_is}, PositionActions.{ends_at, Misses, misses_at, takes_at}, ReadingHeights.{Complete, AllRows}}
 use Rattle.rnix_proof_uniqueness.proofs.{ReadingHeights.IsLower, OperandBegins.settles}
 use Rattle.rnix_grammar.specs.declared.action.Action.TheVariants as a
 use Rattle.rnix_grammar.specs.declared.position.Position.TheVariants as p
@@ -39,13 +39,14 @@ quiet _ b c e = refl
 closes_by : (k : SyntaxKind) (act : Action) → is_ending k act ≡ true
     → (d n : ℕ) (x : Position) (c : AnnotatedForest) (F : Frame) (fs : List Frame) (ts : List Token) (gs : List Fault)
     → is_inner k ≡ true
-    → perform false act (opened (Node k) x d c) (F ∷ fs) ts n gs ≡ machine (put F.position (F.row ⊕ one_branch k c) F ∷ fs) ts n (gs ++ repeats k F.row c)
+    → perform false act (opened (Node k) x d c) (F ∷ fs) ts n gs
+    ≡ machine (put F.position (F.children ⊕ one_branch k c) F ∷ fs) ts n (gs ++ repeats k F.children c)
 closes_by k a.Close i d n x c F fs ts gs h =
-    ap (λ z. machine (put F.position (F.row ⊕ one_branch k c) F ∷ fs) ts n z) (sym (append-nil gs) ∙ ap (λ z. gs ++ z) (sym (quiet k F.row c i)))
+    ap (λ z. machine (put F.position (F.children ⊕ one_branch k c) F ∷ fs) ts n z) (sym (append-nil gs) ∙ ap (λ z. gs ++ z) (sym (quiet k F.children c i)))
 closes_by k a.ClosePattern i d n x c F fs ts gs h =
-    ap (λ z. machine (put F.position (F.row ⊕ one_branch k c) F ∷ fs) ts n z) (sym (append-nil gs) ∙ ap (λ z. gs ++ z) (sym (quiet k F.row c i)))
+    ap (λ z. machine (put F.position (F.children ⊕ one_branch k c) F ∷ fs) ts n z) (sym (append-nil gs) ∙ ap (λ z. gs ++ z) (sym (quiet k F.children c i)))
 closes_by k a.CloseEntry i d n x c F fs ts gs h =
-    ap (λ j. machine (put F.position (F.row ⊕ one_branch k c) F ∷ fs) ts n (gs ++ repeats j F.row c)) (same NODE_PAT_ENTRY k i)
+    ap (λ j. machine (put F.position (F.children ⊕ one_branch k c) F ∷ fs) ts n (gs ++ repeats j F.children c)) (same NODE_PAT_ENTRY k i)
 closes_by k a.CloseDoubleBind i d n x c F fs ts gs h = absurd (true_is_not_false (sym h ∙ ap is_inner (sym (same NODE_ERROR k i))))
 closes_by k _ i d n x c F fs ts gs h = absurd (true_is_not_false (sym h ∙ ap is_inner (sym (same NODE_ROOT k i))))
 
@@ -76,7 +77,7 @@ operand_read {k} {d} {m} {x} {g} {vs} {f} {ds} r i q y e fs gs =
 -- the end of a second name completes it
 double_bind_by : (act : Action) → is_ending NODE_ERROR act ≡ true
     → (x : Position) (d n : ℕ) (c : AnnotatedForest) (F : Frame) (fs : List Frame) (ts : List Token) (gs : List Fault)
-    → perform false act (opened SecondBind x d c) (F ∷ fs) ts n gs ≡ machine (put F.position (F.row ⊕ one_fault DoubleBind c) F ∷ fs) ts n
+    → perform false act (opened SecondBind x d c) (F ∷ fs) ts n gs ≡ machine (put F.position (F.children ⊕ one_fault DoubleBind c) F ∷ fs) ts n
     (gs ++ report DoubleBind (tokens_in c) ∷ [])
 double_bind_by a.CloseDoubleBind i x d n c F fs ts gs = refl
 double_bind_by _ i x d n c F fs ts gs = absurd (true_is_not_false (sym i))
@@ -84,7 +85,7 @@ double_bind_by _ i x d n c F fs ts gs = absurd (true_is_not_false (sym i))
 -- a second name whose row ends is complete
 pub closes_second : (x : Position) (d n : ℕ) (c : AnnotatedForest) (F : Frame) (fs : List Frame) (ts : List Token) (gs : List Fault)
     → is_at NODE_ERROR x ≡ true → IsOver (rest_at x) n ts
-    → step false (machine (opened SecondBind x d c ∷ (F ∷ fs)) ts n gs) ≡ machine (put F.position (F.row ⊕ one_fault DoubleBind c) F ∷ fs) ts n
+    → step false (machine (opened SecondBind x d c ∷ (F ∷ fs)) ts n gs) ≡ machine (put F.position (F.children ⊕ one_fault DoubleBind c) F ∷ fs) ts n
     (gs ++ report DoubleBind (tokens_in c) ∷ [])
 closes_second x d n c F fs ts gs h o = double_bind_by (action_at x (head_kind ts) (touches n ts)) (ends_at NODE_ERROR x n ts h o) x d n c F fs ts gs
 
@@ -106,12 +107,12 @@ pub record OneTo (k : SyntaxKind) (d n : ℕ) (x : Position) (to : Row) (b : Ann
 pub goes_one : {k : SyntaxKind} {d n : ℕ} {x : Position} {to : Row} {b w : AnnotatedForest} {ts vs : List Token} {ds : List Fault} (f : ℕ → Action)
     → LeadsTo k to f (action_at x (head_kind (ts ++ vs)) (touches n (ts ++ vs)))
     → ((y : ℕ) (h : Head) (fs : List Frame) (gs : List Fault) → kind_of h ≡ k
-    → Runs false (perform false (f y) (opened h x d b) fs (ts ++ vs) n gs) (machine (opened h (p.Left y) d (b ⊕ w) ∷ fs) vs (end_from n ts) (gs ++ ds)))
+    → Runs false (perform false (f y) (opened h x d b) fs (ts ++ vs) n gs) (machine (opened h (p.InRow y) d (b ⊕ w) ∷ fs) vs (end_from n ts) (gs ++ ds)))
     → OneTo k d n x to b ts vs w ds
 goes_one {d = d} {n} {x} {b = b} {ts = ts} {vs} f g one =
     let action : Action = action_at x (head_kind (ts ++ vs)) (touches n (ts ++ vs)) in
     record {
-      position = p.Left (goal action);
+      position = p.InRow (goal action);
       is = g.1;
       here = g.2;
       one = λ h fs gs o e. step_to (ap (λ z. perform false z (opened h x d b) fs (ts ++ vs) n gs) g.0) (one (goal action) h fs gs e);
@@ -158,7 +159,7 @@ row_lost {m} {k} {d} {n} {x} {r} {s} {b} {us} {f} {e} {es} rows at u v l room h 
     lost = misses_at (done_at k x false None at) l room
 
     z : Position
-    z = p.Left (goal (action_at x None false))
+    z = p.InRow (goal (action_at x None false))
 
     q : ReadsTo k d n z s b us f es
     q = rows k d n z s b us f es lost.here (subst (λ q. IsLower m k d n q s b us f es) (sym lost.rest) h) viable
@@ -175,13 +176,13 @@ row_lost {m} {k} {d} {n} {x} {r} {s} {b} {us} {f} {e} {es} rows at u v l room h 
 reads_counted : (level : ℕ) (counted : Bool) (x : Position) (y d n : ℕ) (b : AnnotatedForest) (h : Head) (fs : List Frame) (ts : List Token) (gs : List Fault)
     → (counted ≡ true → d < depth_limit)
     → perform false (a.Read level counted y) (opened h x d b) fs ts n gs ≡ operand_on false level (if counted then suc d else d)
-    (opened h (p.Left y) d b) fs ts ts n gs
+    (opened h (p.InRow y) d b) fs ts ts n gs
 reads_counted level false x y d n b h fs ts gs r = refl
 reads_counted level true x y d n b h fs ts gs r = by (nat_le depth_limit d) refl
   where
     by : (w : Bool) → nat_le depth_limit d ≡ w
-        → (if w then limited false (opened h (p.Left y) d b) fs ts n gs else operand_on false level (suc d) (opened h (p.Left y) d b) fs ts ts n gs)
-        ≡ operand_on false level (suc d) (opened h (p.Left y) d b) fs ts ts n gs
+        → (if w then limited false (opened h (p.InRow y) d b) fs ts n gs else operand_on false level (suc d) (opened h (p.InRow y) d b) fs ts ts n gs)
+        ≡ operand_on false level (suc d) (opened h (p.InRow y) d b) fs ts ts n gs
     by true e = absurd (grind (arith, nat_tests, e, r refl))
     by false e = refl
 
@@ -191,9 +192,9 @@ pub one_operand : {d n level : ℕ} {w : AnnotatedForest} {ts vs : List Token} {
     → BeginsAs level w (ts ++ vs) → is_continued level w vs ≡ false → ReadsTree (deeper (rest_at x) d) n ts w vs ds
     → (y : ℕ) (h : Head) (fs : List Frame) (gs : List Fault)
     → Runs false (perform false (a.Read level (counts (rest_at x)) y) (opened h x d b) fs (ts ++ vs) n gs)
-    (machine (opened h (p.Left y) d (b ⊕ w) ∷ fs) vs (end_from n ts) (gs ++ ds))
+    (machine (opened h (p.InRow y) d (b ⊕ w) ∷ fs) vs (end_from n ts) (gs ++ ds))
 one_operand {d} {n} {level} {w} {ts} {vs} {ds} x b room min_bp begun over tree y h fs gs =
-    let f : Frame = opened h (p.Left y) d b in
+    let f : Frame = opened h (p.InRow y) d b in
     let r : IsOperandRead level (deeper (rest_at x) d) n ts w vs ds f fs gs = tree level f fs gs min_bp begun in
     runs_from (reads_counted level (counts (rest_at x)) x y d n b h fs (ts ++ vs) gs room)
     (runs_on r.runs
@@ -207,11 +208,11 @@ dropped_front (t ∷ ts) vs = dropped_front ts vs
 
 -- an operand beyond the limit is not
 pub too_far : (level d n y : ℕ) (x : Position) (h : Head) (b : AnnotatedForest) (fs : List Frame) (ts : List Token) (gs : List Fault) → d ≡ depth_limit
-    → perform false (a.Read level true y) (opened h x d b) fs ts n gs ≡ limited false (opened h (p.Left y) d b) fs ts n gs
+    → perform false (a.Read level true y) (opened h x d b) fs ts n gs ≡ limited false (opened h (p.InRow y) d b) fs ts n gs
 too_far level d n y x h b fs ts gs r = by (nat_le depth_limit d) refl
   where
     f : Frame
-    f = opened h (p.Left y) d b
+    f = opened h (p.InRow y) d b
 
     by : (w : Bool) → nat_le depth_limit d ≡ w → (if w then limited false f fs ts n gs else operand_on false level
         (suc d) f fs ts ts n gs) ≡ limited false f fs ts n gs

@@ -5,8 +5,8 @@ use Rattle.rnix_kinds.specs.declared.kinds.SyntaxKind.TheVariants.{TOKEN_FLOAT, 
 use Rattle.{rnix_kinds.specs.{declared.kinds.SyntaxKind.TheVariants.{NODE_LEGACY_LET, NODE_SELECT}, SyntaxKind.is_fn_arg}, rnix_grammar.specs.Fault.Fault}
 use Rattle.rnix_grammar.specs.{Actions.{continue_action}, Levels.binding_power, TokenKinds.is_or, AnnotatedForest.{Token, Stray, AnnotatedForest, blank}}
 use Rattle.rnix_grammar.specs.AnnotatedForest.{branch, fault, ◌⊕◌, one_token, one_branch, one_fault, row_of, tokens_in, leaf_kind, head_kind, end_from}
-use Rattle.rnix_grammar.specs.{Reports.{report, repeats}, Rows.{is_simple, is_expression, fits}, TreeLevels.{row_level, is_or_row}, Operands.{follows, is_continued}}
-use Rattle.rnix_grammar.specs.{declared.{rules.Part.TheVariants.Argument, slot_table.TheConstants.APPLIED}, Beginnings.{BeginsAs, IsOperandOf}}
+use Rattle.rnix_grammar.specs.{Reports.{report, repeats}, NodeClasses.{is_simple, is_expression, fits}, TreeLevels.{row_level, is_or_row}, Operands.{follows, is_continued}}
+use Rattle.rnix_grammar.specs.{declared.{rules.Part.TheVariants.Argument, slot_table.TheConstants.APPLIED}, FirstKinds.{BeginsAs, IsOperandOf}}
 use Rattle.{rnix_grammar.{specs.{Rules.{IsExpected, IsFollowed, done, only as row_if, row as row_of_kind, ◌·◌}}}, rnix_proof_lemmas.specs.Machine.Node}
 use Rattle.rnix_proof_lemmas.{specs.{Machine.{Operand, Frame, machine, opened, perform, rest as here}}, proofs.KindsOfNodes.unreported}
 use Rattle.rnix_proof_lemmas.proofs.{Basics.true_is_not_false, EveryKind.{alike, never, only}, FirstTrees.{IsSingle, first_in, single_calls}}
@@ -37,9 +37,9 @@ called zs xs x v i d n us es ds one next arg follow tree passed plain tight begu
     continued zs xs x z i a.Apply 15 d n us es ds follow next (passes i arg) (first_in x v one)
     (omega (arith, level, alike is_fn_arg binding_power (λ j. 15) refl i arg)) (followed_call z level refl) tree
     (λ level other f fs gs.
-    let below : List Frame = opened (Node NODE_APPLY) (p.Left APPLIED) d x ∷ (opened Operand (p.AfterOperand level 15) d blank ∷ (f ∷ fs)) in
+    let below : List Frame = opened (Node NODE_APPLY) (p.InRow APPLIED) d x ∷ (opened Operand (p.AfterOperand level 15) d blank ∷ (f ∷ fs)) in
     let q : IsOperandRead 16 d (end_from n zs) xs v us ds _ _ gs =
-    passed 16 (opened (Node NODE_APPLY) (p.Left APPLIED) d x) (opened Operand (p.AfterOperand level 15) d blank ∷ (f ∷ fs)) gs tight begun in
+    passed 16 (opened (Node NODE_APPLY) (p.InRow APPLIED) d x) (opened Operand (p.AfterOperand level 15) d blank ∷ (f ∷ fs)) gs tight begun in
     runs_on q.runs
     (step_to (ap (λ w. perform false w (opened Operand (p.AfterOperand 16 q.max_bp) d v) below us (end_from (end_from n zs) xs) (gs ++ ds))
     (settles 16 q.max_bp v us q.followed over)) (step_to refl here)))

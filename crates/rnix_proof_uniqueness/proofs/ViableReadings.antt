@@ -3,7 +3,7 @@ use Rattle.std.proofs.Common.{◌≡◌, ℕ, Bool, true, false, List, [], ◌�
 use Rattle.rnix_kinds.specs.declared.kinds.SyntaxKind.{SyntaxKind, TheVariants.{TOKEN_IDENT, TOKEN_R_BRACE, TOKEN_STRING_END}}
 use Rattle.rnix_grammar.specs.{declared.rules.Part.TheVariants.{Child, Atom, First, Suffix, Binary, Operand, Many}, AnnotatedForest.{Token, blank}}
 use Rattle.rnix_grammar.specs.{Tables.wanted_kinds, Rules.{Row, ◌·◌, ◌or◌, only, expects, IsExpected, level_at, counts}, Actions.expected_set_of}
-use Rattle.{rnix_grammar.specs.declared.expected_set.ExpectedSet.ExpectedSet, rnix_proof_lemmas.proofs.{ReachableRows.is_viable, RowParts.is_left}}
+use Rattle.{rnix_grammar.specs.declared.expected_set.ExpectedSet.ExpectedSet, rnix_proof_lemmas.proofs.{ReachableRows.is_viable, RowParts.is_remaining}}
 use Rattle.rnix_grammar.specs.declared.expected_set.ExpectedSet.TheVariants as u
 
 -- nothing is no value
@@ -16,7 +16,7 @@ viable_only true r h = refl
 viable_only false r h = absurd (cc)
 
 -- at a position, what is expected is what comes next
-pub as_expected : (r : Row) → is_left r ≡ true → (n : ℕ) (ts : List Token) (own : Bool) → IsExpected r n ts own → expects r n ts ≡ own
+pub as_expected : (r : Row) → is_remaining r ≡ true → (n : ℕ) (ts : List Token) (own : Bool) → IsExpected r n ts own → expects r n ts ≡ own
 as_expected (Child kind · r) i n ts own h = absurd (cc)
 as_expected (Atom · r) i n ts own h = absurd (cc)
 as_expected (First m · r) i n ts own h = absurd (cc)

@@ -14,11 +14,11 @@ length-tokens_cut text n [] = refl
 length-tokens_cut text n (t ∷ ts) = ap suc (length-tokens_cut text t.end ts)
 
 -- the token at an index within
-pub at_place : (text : List ℕ) (n : ℕ) (ts : List TokenEnd) (i : ℕ) (d : TokenEnd) → i < length ts
+pub at_offset : (text : List ℕ) (n : ℕ) (ts : List TokenEnd) (i : ℕ) (d : TokenEnd) → i < length ts
     → drop i (tokens_cut text n ts) ≡ token_cut text (start_of n i ts) (get_or ts i d) ∷ drop (suc i) (tokens_cut text n ts)
-at_place text n [] i d h = absurd (omega arith)
-at_place text n (t ∷ ts) zero d h = refl
-at_place text n (t ∷ ts) (suc i) d h = at_place text t.end ts i d (omega arith)
+at_offset text n [] i d h = absurd (omega arith)
+at_offset text n (t ∷ ts) zero d h = refl
+at_offset text n (t ∷ ts) (suc i) d h = at_offset text t.end ts i d (omega arith)
 
 -- no token is behind the last
 pub behind_all : (text : List ℕ) (ts : List TokenEnd) (i : ℕ) → length ts ≤ i → drop i (tokens_cut text 0 ts) ≡ []
@@ -75,7 +75,7 @@ pub token_found : (text : List ℕ) (ts : List TokenEnd) (i : ℕ) (d : TokenEnd
 token_found text ts i d start cut h s e =
     let t : TokenEnd = get_or ts i d in
     ap (λ x. Some (token_with t.kind x start t.end)) e ∙ ap (λ n. Some (token_with t.kind (take (t.end - n) (drop n text)) n t.end)) s
-    ∙ sym (ap head_of (at_place text 0 ts i d h))
+    ∙ sym (ap head_of (at_offset text 0 ts i d h))
 
 -- texts that are UTF-8 are so together
 joined_utf8 : (ls : List Lexeme) → All (λ t. IsUtf8 t.1) ls → IsUtf8 (flat_map text_of ls)

@@ -7,7 +7,7 @@ use Rattle.rnix_proof_lemmas.specs.Document.{IsRead}
 use Rattle.rnix_grammar.specs.AnnotatedForest.{Token, placed_from, forget, head_kind}
 use Rattle.rnix_proof_lemmas.specs.Allowed.{Allowed}
 use Rattle.rnix_proof_lemmas.specs.FrameKinds.{frame_kind, IsStackedOn}
-use Rattle.rnix_proof_lemmas.specs.Machine.{Frame, Machine, machine, begins, with_leading}
+use Rattle.rnix_proof_lemmas.specs.Machine.{Frame, Machine, machine, initial_machine, with_leading}
 use Rattle.rnix_proof_steps.specs.StepCount.{ComesIn}
 use Rattle.{rnix_proof_lemmas.proofs.StackedFrames.{head_root, root_alone}, rnix_reader.specs.{declared.mark.Mark.Mark, State.{State, pushed}, Erase.{erase, mark_at}, Holds.{IsReadTo, IsThrough}}}
 use Rattle.rnix_reader.proofs.{FrameKindLemmas.head_sort, StateLemmas.state_is, SkippedRuns.no_items}
@@ -18,7 +18,7 @@ use Rattle.rnix_grammar.specs.declared.action.Action.TheVariants as a
 pub opened_root : (r : List Token) (b b0 : Draft) (errors : List ParseError) (marks : List Mark) (at : ℕ) (s : State) → b0 ≡ blank
     → b ≡ node_opened NODE_ROOT (tree_count b0.finished) b0
     → errors ≡ [] → marks ≡ [] → at ≡ tree_count b0.finished
-    → s ≡ pushed (mark_at (p.Left ROOT) 0 at) record {
+    → s ≡ pushed (mark_at (p.InRow ROOT) 0 at) record {
       rest = r;
       trees = b.finished;
       open_nodes = b.open_nodes;
@@ -26,14 +26,14 @@ pub opened_root : (r : List Token) (b b0 : Draft) (errors : List ParseError) (ma
       prev_end = 0;
       marks = marks;
     }
-    → s ≡ erase (begins s.rest)
+    → s ≡ erase (initial_machine s.rest)
 unfolding pushed
 opened_root r b b0 errors marks at s e0 e1 e2 e3 e4 e =
     let builder : b ≡ node_opened NODE_ROOT 0 blank = e1 ∙ ap (λ x. node_opened NODE_ROOT (tree_count x.finished) x) e0 in
-    let first : s ≡ erase (begins r) =
+    let first : s ≡ erase (initial_machine r) =
     e ∙ state_is refl (ap (λ x. x.finished) builder) (ap (λ x. x.open_nodes) builder) (ap (map fault_of) e2) refl
-    (ap (λ x. x ++ mark_at (p.Left ROOT) 0 at ∷ []) e3 ∙ ap (λ x. mark_at (p.Left ROOT) 0 x ∷ []) (e4 ∙ ap (λ x. tree_count x.finished) e0)) in
-    first ∙ ap (λ x. erase (begins x)) (sym (ap (λ x. x.rest) first))
+    (ap (λ x. x ++ mark_at (p.InRow ROOT) 0 at ∷ []) e3 ∙ ap (λ x. mark_at (p.InRow ROOT) 0 x ∷ []) (e4 ∙ ap (λ x. tree_count x.finished) e0)) in
+    first ∙ ap (λ x. erase (initial_machine x)) (sym (ap (λ x. x.rest) first))
 
 tree_is_node : (t : Tree) (f : Forest) → forest_of t ≡ node NODE_ROOT f empty → t ≡ record { kind = NODE_ROOT; children = f }
 tree_is_node t f e =
@@ -58,8 +58,9 @@ root_through {steps} {from} f fs ts n es comes fit ends = record {
 }
 
 -- where the text is read its tree and its errors are as promised
-pub read_of : (ls : List Lexeme) (t : IsThrough (begins (placed_from 0 ls))) (tree : Tree) (faults : List Fault)
-    → tree ≡ record { kind = NODE_ROOT; children = forget (with_leading true t.root.row t.last.left) } → faults ≡ t.last.faults → IsRead ls tree faults
+pub read_of : (ls : List Lexeme) (t : IsThrough (initial_machine (placed_from 0 ls))) (tree : Tree) (faults : List Fault)
+    → tree ≡ record { kind = NODE_ROOT; children = forget (with_leading true t.root.children t.last.remaining) } → faults ≡ t.last.faults
+    → IsRead ls tree faults
 read_of ls t tree faults e f = record {
   root = t.root;
   last = t.last;
@@ -77,7 +78,8 @@ pub read_made : {Counted : ℕ → Type 0} (ls : List Lexeme) (ts : List Token) 
     → forest_of tree ≡ s.trees → IsRead ls tree s.faults
 read_made {Counted} ls ts s tree e r t =
     let all : IsReadTo Counted (placed_from 0 ls) s = subst (λ x. IsReadTo Counted x s) e r in
-    read_of ls all.through tree s.faults (tree_is_node tree (forget (with_leading true all.through.root.row all.through.last.left)) (t ∙ all.trees)) all.faults
+    read_of ls all.through tree s.faults (tree_is_node tree (forget (with_leading true all.through.root.children all.through.last.remaining)) (t
+    ∙ all.trees)) all.faults
 
 -- one more mark leaves the tokens
 pub rest_marked : (m : Mark) (s s' : State) → s' ≡ pushed m s → s'.rest ≡ s.rest

@@ -4,12 +4,12 @@ use Rattle.{rnix_kinds.specs.{declared.kinds.SyntaxKind.TheVariants.NODE_ROOT, L
 use Rattle.rnix_grammar.specs.{declared.action.Action.Action, Fault.Fault, AnnotatedForest.{Token, placed_from, forget, head_kind, touches}, Layout.items}
 use Rattle.rnix_grammar.specs.Actions.{action_at}
 use Rattle.rnix_proof_lemmas.specs.FrameKinds.{AreStacked}
-use Rattle.rnix_proof_lemmas.specs.Machine.{Frame, Machine, machine, begins, with_leading, perform}
+use Rattle.rnix_proof_lemmas.specs.Machine.{Frame, Machine, machine, initial_machine, with_leading, perform}
 use Rattle.rnix_proof_lemmas.specs.Machine.{rest as here}
 use Rattle.rnix_proof_lemmas.proofs.Basics.{true_is_not_false}
 use Rattle.rnix_proof_lemmas.specs.Allowed.{Allowed}
 use Rattle.rnix_proof_lemmas.specs.Document.{IsRead}
-use Rattle.rnix_proof_lemmas.proofs.{StackedFrames.{step_stacked, begins_stacked}, AllowedLemmas.allowed}
+use Rattle.rnix_proof_lemmas.proofs.{StackedFrames.{step_stacked, initial_stacked}, AllowedLemmas.allowed}
 use Rattle.rnix_proof_steps.{specs.StepCount.is_finish, proofs.BudgetedRuns.comes_before}
 use Rattle.rnix_reader.{specs.Holds.IsThrough, proofs.{DocumentLemmas.{root_through, read_of}, WorkLemmas.{cost_of, perform_less}}}
 use Rattle.rnix_grammar.specs.declared.action.Action.TheVariants as a
@@ -43,7 +43,7 @@ through (suc c) (f ∷ fs) ts n es l k = by (λ hs us m gs x y. through c hs us 
     by again false e =
         let less : cost_of next < cost_of (machine (f ∷ fs) ts n es) = perform_less f fs ts n es k action may e in
         let rest : IsThrough next =
-        again next.frames next.left next.prev_end next.faults (omega (arith, less, l)) (step_stacked true (machine (f ∷ fs) ts n es) k) in
+        again next.frames next.remaining next.prev_end next.faults (omega (arith, less, l)) (step_stacked true (machine (f ∷ fs) ts n es) k) in
         record {
           last = rest.last;
           steps = rest.steps + 1;
@@ -56,12 +56,12 @@ through (suc c) (f ∷ fs) ts n es l k = by (λ hs us m gs x y. through c hs us 
         }
 
 -- each list of tokens is read to its end
-pub each_through : (ts : List Token) → IsThrough (begins ts)
-each_through ts = through (suc (cost_of (begins ts))) (begins ts).frames ts 0 [] (omega arith) (begins_stacked ts)
+pub each_through : (ts : List Token) → IsThrough (initial_machine ts)
+each_through ts = through (suc (cost_of (initial_machine ts))) (initial_machine ts).frames ts 0 [] (omega arith) (initial_stacked ts)
 
 -- as a tree with errors
 pub each_read : (ls : List Lexeme) → (tree : Tree) × ((faults : List Fault) × IsRead ls tree faults)
 each_read ls =
-    let t : IsThrough (begins (placed_from 0 ls)) = each_through (placed_from 0 ls) in
-    let tree : Tree = record { kind = NODE_ROOT; children = forget (with_leading true t.root.row t.last.left) } in
+    let t : IsThrough (initial_machine (placed_from 0 ls)) = each_through (placed_from 0 ls) in
+    let tree : Tree = record { kind = NODE_ROOT; children = forget (with_leading true t.root.children t.last.remaining) } in
     (tree, (t.last.faults, read_of ls t tree t.last.faults refl refl))

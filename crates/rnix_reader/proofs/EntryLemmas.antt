@@ -21,8 +21,8 @@ pub record IsEntry (f g : Frame) (fs : List Frame) (names names' : Names) (again
   pub entry : f.head ≡ Node NODE_PAT_ENTRY
   pub pattern : g.head ≡ Node NODE_PATTERN
   pub name : Token
-  pub named : entry_name (without_trivia f.row) ≡ Some name
-  pub top_set : TopSet names.sets.items g.row (AreOpenSets fs)
+  pub named : entry_name (without_trivia f.children) ≡ Some name
+  pub top_set : TopSet names.sets.items g.children (AreOpenSets fs)
   pub entered : Entered name.text top_set.below top_set.set names'
   pub entries : entries_in names' ≡ entries_of (g ∷ fs)
   pub fault_is : again ≡ (if has_name name.text top_set.set then Some (duplicated_args (extent_of (name ∷ [])) name.text) else None)
@@ -35,12 +35,12 @@ entry_there f g fs names names' again st e w c =
     let entry : f.head ≡ Node NODE_PAT_ENTRY = head_entry f.head (st.0 ∙ e) in
     let below : frame_kind g.position ≡ Pattern = holds_entry (frame_kind g.position) (ap (may_hold (frame_kind g.position)) (sym e) ∙ st.1) in
     let pattern : g.head ≡ Node NODE_PATTERN = head_pattern g.head (head_sort g.head g.position fs st.2 ∙ below) in
-    let top_set : TopSet names.sets.items g.row (AreOpenSets fs) =
-    known_pattern g.head g.row names.sets.items (AreOpenSets fs) pattern
-    (subst (λ x. AreOpenSetsOn x f.row names.sets.items (AreOpenSets (g ∷ fs))) entry w.sets) in
-    let begun : IsBegun (Node NODE_PAT_ENTRY) f.row = subst (λ x. IsBegun x f.row) entry w.begun.0 in
+    let top_set : TopSet names.sets.items g.children (AreOpenSets fs) =
+    known_pattern g.head g.children names.sets.items (AreOpenSets fs) pattern
+    (subst (λ x. AreOpenSetsOn x f.children names.sets.items (AreOpenSets (g ∷ fs))) entry w.sets) in
+    let begun : IsBegun (Node NODE_PAT_ENTRY) f.children = subst (λ x. IsBegun x f.children) entry w.begun.0 in
     let t : Token = begun.0 in
-    let named : name_of f.head f.row ≡ Some t = ap (λ x. name_of x f.row) entry ∙ begun.1 in
+    let named : name_of f.head f.children ≡ Some t = ap (λ x. name_of x f.children) entry ∙ begun.1 in
     let all : entries_in names ≡ entries_of (g ∷ fs) ++ entry_at t ∷ [] = w.entries ∙ ap (λ x. entries_of (g ∷ fs) ++ named_by x) named in
     let done = c.entered (entries_of (g ∷ fs)) t.text (extent_of (t ∷ [])) top_set.below top_set.set all top_set.all in
     record { entry = entry; pattern = pattern; name = t; named = begun.1; top_set = top_set; entered = done.0; entries = done.1; fault_is = done.2 }
@@ -60,7 +60,7 @@ done_entry f [] ts n es names names' s' st w e d = absurd (true_is_not_false (sy
 done_entry f (g ∷ fs) ts n es names names' s' st w e d =
     let q = entry_there f g fs names names' d.again st e w d.closed in
     let fault : Fault = duplicated_args (extent_of (q.name ∷ [])) q.name.text in
-    let old : AnnotatedForest = without_trivia g.row in
+    let old : AnnotatedForest = without_trivia g.children in
     d.state ∙ ap (λ x. reported_if x (ended (popped (machine (f ∷ (g ∷ fs)) ts n es))))
     (q.fault_is ∙ ap (λ x. if x then Some fault else None) (q.top_set.is q.name.text))
     ∙ ap (reported_if (if has_entry q.name.text old then Some fault else None)) (closes f (g ∷ fs) ts n es st (ap is_operand_frame e) (ap is_root e))

@@ -3,7 +3,7 @@ use Rattle.{std.proofs.Common.{◌≡◌, ℕ, true, false, List, [], ◌∷◌,
 use Rattle.rnix_green.{specs.{Forest.{Forest, join, tree_count}, Draft.wrapped-join, ForestCode.join_empty}, proofs.ForestLemmas.join_assoc}
 use Rattle.rnix_grammar.specs.{declared.{position.Position.Position, expected_set.ExpectedSet.ExpectedSet}, Fault.Fault, UnwantedRun.run_of, Layout.{items, from_item, trivia_before, tail_of, with_trivia}}
 use Rattle.rnix_grammar.specs.AnnotatedForest.{Token, Note, AnnotatedForest, blank, ◌⊕◌, one_branch, one_fault, row_of, forget, end_from}
-use Rattle.rnix_proof_lemmas.specs.Machine.{Head, Node, SecondBind, Operand, Frame, put, opened, with_leading, leaf, leaf_in, after_item, item_end, end_of, made, run_row, run_rest, machine, closed}
+use Rattle.rnix_proof_lemmas.specs.Machine.{Head, Node, SecondBind, Operand, Frame, put, opened, with_leading, leaf, leaf_in, after_item, item_end, end_of, made, run_leaves, run_rest, machine, closed}
 use Rattle.rnix_proof_lemmas.proofs.{Basics.true_is_not_false, LayoutLemmas.{from_item-from_item, items-from_item}, AnnotatedForestLemmas.forget-⊕}
 use Rattle.rnix_proof_lemmas.specs.FrameKinds.{OperandFrame, frame_kind, frame_kind_of_head, IsStackedOn}
 use Rattle.rnix_reader.specs.{declared.mark.Mark.Mark, State.{State, eaten, taken, bumped, skipped, started_here, started, started_at, ended, failed, pushed}}
@@ -17,9 +17,9 @@ grown t a b = join_assoc t (forget a) (forget b) ∙ ap (join t) (sym (forget-�
 
 -- the trivia before the next item go to the innermost frame
 pub erase-eaten : (ms : List Mark) (f : Frame) (fs : List Frame) (ts : List Token) (n : ℕ) (es : List Fault)
-    → eaten (erase_with ms (machine (f ∷ fs) ts n es)) ≡ erase_with ms (machine (put f.position (with_leading true f.row ts) f ∷ fs) (from_item ts) n es)
+    → eaten (erase_with ms (machine (f ∷ fs) ts n es)) ≡ erase_with ms (machine (put f.position (with_leading true f.children ts) f ∷ fs) (from_item ts) n es)
 unfolding eaten
-erase-eaten ms f fs ts n es = state_is refl (grown (trees_of fs) f.row (trivia_before ts)) refl refl refl refl
+erase-eaten ms f fs ts n es = state_is refl (grown (trees_of fs) f.children (trivia_before ts)) refl refl refl refl
 
 -- behind the trivia none are left
 pub erase-settled : (ms : List Mark) (fs : List Frame) (ts : List Token) (n : ℕ) (es : List Fault)
@@ -28,21 +28,22 @@ erase-settled ms fs ts n es = eaten-settled (erase_with ms (machine fs (from_ite
 
 -- the next token goes to the innermost frame
 erase-taken : (ms : List Mark) (k : SyntaxKind) (f : Frame) (fs : List Frame) (us : List Token) (n : ℕ) (es : List Fault)
-    → taken k (erase_with ms (machine (f ∷ fs) us n es)) ≡ erase_with ms (machine (put f.position (f.row ⊕ leaf_in k us) f ∷ fs) (tail_of us) (end_of n us) es)
-erase-taken ms k f fs us n es = state_is refl (grown (trees_of fs) f.row (leaf_in k us)) refl refl refl refl
+    → taken k (erase_with ms (machine (f ∷ fs) us n es))
+    ≡ erase_with ms (machine (put f.position (f.children ⊕ leaf_in k us) f ∷ fs) (tail_of us) (end_of n us) es)
+erase-taken ms k f fs us n es = state_is refl (grown (trees_of fs) f.children (leaf_in k us)) refl refl refl refl
 
 -- and so does the next item
 pub erase-bumped : (ms : List Mark) (k : SyntaxKind) (f : Frame) (fs : List Frame) (ts : List Token) (n : ℕ) (es : List Fault)
     → bumped k (erase_with ms (machine (f ∷ fs) ts n es)) ≡ erase_with ms
-    (machine (put f.position (with_leading true f.row ts ⊕ leaf true k ts) f ∷ fs) (after_item true ts) (item_end true n ts) es)
+    (machine (put f.position (with_leading true f.children ts ⊕ leaf true k ts) f ∷ fs) (after_item true ts) (item_end true n ts) es)
 unfolding bumped
 erase-bumped ms k f fs ts n es = ap (taken k) (erase-eaten ms f fs ts n es)
-    ∙ erase-taken ms k (put f.position (with_leading true f.row ts) f) fs (from_item ts) n es
+    ∙ erase-taken ms k (put f.position (with_leading true f.children ts) f) fs (from_item ts) n es
 
 -- behind the trivia it goes there alone
 pub erase-next : (ms : List Mark) (k : SyntaxKind) (f : Frame) (fs : List Frame) (ts : List Token) (n : ℕ) (es : List Fault)
     → bumped k (erase_with ms (machine (f ∷ fs) (from_item ts) n es)) ≡ erase_with ms
-    (machine (put f.position (f.row ⊕ leaf true k ts) f ∷ fs) (after_item true ts) (item_end true n ts) es)
+    (machine (put f.position (f.children ⊕ leaf true k ts) f ∷ fs) (after_item true ts) (item_end true n ts) es)
 unfolding bumped
 erase-next ms k f fs ts n es = ap (taken k) (erase-settled ms (f ∷ fs) ts n es) ∙ erase-taken ms k f fs (from_item ts) n es
 
@@ -71,9 +72,9 @@ pub erase-closed : (ms : List Mark) (h : Head) (position : Position) (d : ℕ) (
     → ended (erase_with ms (machine (opened h position d row ∷ (g ∷ fs)) ts n es)) ≡ erase_with ms (closed (opened h position d row) (g ∷ fs) ts n es)
 unfolding ended
 erase-closed ms (Node k) position d row g fs ts n es e =
-    state_is refl (wrapped-join k (trees_of (g ∷ fs)) (forget row) ∙ grown (trees_of fs) g.row (one_branch k row)) refl refl refl refl
+    state_is refl (wrapped-join k (trees_of (g ∷ fs)) (forget row) ∙ grown (trees_of fs) g.children (one_branch k row)) refl refl refl refl
 erase-closed ms SecondBind position d row g fs ts n es e =
-    state_is refl (wrapped-join NODE_ERROR (trees_of (g ∷ fs)) (forget row) ∙ grown (trees_of fs) g.row (made SecondBind row)) refl refl refl refl
+    state_is refl (wrapped-join NODE_ERROR (trees_of (g ∷ fs)) (forget row) ∙ grown (trees_of fs) g.children (made SecondBind row)) refl refl refl refl
 erase-closed ms Operand position d row g fs ts n es e = absurd (true_is_not_false e)
 
 -- a node that is not the root is complete
@@ -81,14 +82,14 @@ pub closes : (f : Frame) (fs : List Frame) (ts : List Token) (n : ℕ) (es : Lis
     → is_operand_frame (frame_kind f.position) ≡ false
     → is_root (frame_kind f.position) ≡ false → ended (popped (machine (f ∷ fs) ts n es)) ≡ erase (closed f fs ts n es)
 closes f [] ts n es st l r = absurd (true_is_not_false (sym (ap is_root st.1) ∙ r))
-closes f (g ∷ fs) ts n es st l r = erase-closed _ f.head f.position f.depth f.row g fs ts n es (ap is_operand_frame st.0 ∙ l)
+closes f (g ∷ fs) ts n es st l r = erase-closed _ f.head f.position f.depth f.children g fs ts n es (ap is_operand_frame st.0 ∙ l)
 
 -- an operand is complete
 pub settles : (f : Frame) (fs : List Frame) (ts : List Token) (n : ℕ) (es : List Fault) → IsStackedOn f.head f.position fs
     → frame_kind f.position ≡ OperandFrame
     → popped (machine (f ∷ fs) ts n es) ≡ erase (closed f fs ts n es)
 settles f [] ts n es st e = absurd (true_is_not_false (sym (ap is_root st.1) ∙ ap is_root e))
-settles f (g ∷ fs) ts n es st e = rw (head_operand f.head (st.0 ∙ e)) (state_is refl (grown (trees_of fs) g.row f.row) refl refl refl refl)
+settles f (g ∷ fs) ts n es st e = rw (head_operand f.head (st.0 ∙ e)) (state_is refl (grown (trees_of fs) g.children f.children) refl refl refl refl)
 
 -- an error is the last of all
 pub closed_failed : (e : Fault) (f : Frame) (fs : List Frame) (ts : List Token) (n : ℕ) (es : List Fault)
@@ -99,7 +100,7 @@ closed_failed e f (g ∷ fs) ts n es = refl
 
 leaf_here : (ms : List Mark) (k : SyntaxKind) (f : Frame) (fs : List Frame) (us : List Token) (n : ℕ) (es : List Fault)
     → ended (taken k (started_here k (erase_with ms (machine (f ∷ fs) us n es))))
-    ≡ erase_with ms (machine (put f.position (f.row ⊕ one_branch k (leaf_in k us)) f ∷ fs) (tail_of us) (end_of n us) es)
+    ≡ erase_with ms (machine (put f.position (f.children ⊕ one_branch k (leaf_in k us)) f ∷ fs) (tail_of us) (end_of n us) es)
 leaf_here ms k f fs us n es =
     ap (λ x. ended (taken k x)) (erase-started ms k f.position f.depth (f ∷ fs) us n es)
     ∙ ap ended (erase-taken ms k (opened (Node k) f.position f.depth blank) (f ∷ fs) us n es)
@@ -108,37 +109,38 @@ leaf_here ms k f fs us n es =
 -- a node over the next item
 pub erase-leaf_node_made : (ms : List Mark) (k : SyntaxKind) (f : Frame) (fs : List Frame) (ts : List Token) (n : ℕ) (es : List Fault)
     → leaf_node_made k (erase_with ms (machine (f ∷ fs) ts n es))
-    ≡ erase_with ms (machine (put f.position (with_leading true f.row ts ⊕ one_branch k (leaf true k ts)) f ∷ fs) (after_item true ts) (item_end true n ts) es)
+    ≡ erase_with ms (machine (put f.position (with_leading true f.children ts ⊕ one_branch k (leaf true k ts)) f
+    ∷ fs) (after_item true ts) (item_end true n ts) es)
 erase-leaf_node_made ms k f fs ts n es =
     ap (λ x. ended (taken k (started_here k x))) (erase-eaten ms f fs ts n es)
-    ∙ leaf_here ms k (put f.position (with_leading true f.row ts) f) fs (from_item ts) n es
+    ∙ leaf_here ms k (put f.position (with_leading true f.children ts) f) fs (from_item ts) n es
 
 -- behind the trivia it stands there alone
 pub erase-first : (ms : List Mark) (k : SyntaxKind) (f : Frame) (fs : List Frame) (ts : List Token) (n : ℕ) (es : List Fault)
     → leaf_node_made k (erase_with ms (machine (f ∷ fs) (from_item ts) n es))
-    ≡ erase_with ms (machine (put f.position (f.row ⊕ one_branch k (leaf true k ts)) f ∷ fs) (after_item true ts) (item_end true n ts) es)
+    ≡ erase_with ms (machine (put f.position (f.children ⊕ one_branch k (leaf true k ts)) f ∷ fs) (after_item true ts) (item_end true n ts) es)
 erase-first ms k f fs ts n es = ap (λ x. ended (taken k (started_here k x))) (erase-settled ms (f ∷ fs) ts n es) ∙ leaf_here ms k f fs (from_item ts) n es
 
 -- an error node over a run
 pub erase-over : (ms : List Mark) (note : Note) (until : ExpectedSet) (run : List Token) (f : Frame) (fs : List Frame) (ts : List Token) (n : ℕ)
     (es : List Fault) → run_of until (items ts) ≡ run
     → error_over until (erase_with ms (machine (f ∷ fs) ts n es))
-    ≡ erase_with ms (machine (put f.position (with_leading true f.row ts ⊕ one_fault note (run_row true run ts)) f ∷ fs) (run_rest true run ts)
+    ≡ erase_with ms (machine (put f.position (with_leading true f.children ts ⊕ one_fault note (run_leaves true run ts)) f ∷ fs) (run_rest true run ts)
     (end_from n run) es)
 unfolding ended skipped started_at eaten
 erase-over ms note until run f fs ts n es r =
-    let row : AnnotatedForest = with_leading true f.row ts in
+    let row : AnnotatedForest = with_leading true f.children ts in
     let made : Forest = forget (with_trivia (row_of run) (from_item ts)) in
     let s : State = erase_with ms (machine (f ∷ fs) ts n es) in
     ap (λ x. ended (skipped x (started NODE_ERROR s))) (ap (run_of until) (items-from_item ts) ∙ r)
     ∙ ap (λ x. ended (skipped run (started_here NODE_ERROR x))) (erase-eaten ms f fs ts n es)
     ∙ state_is refl (wrapped-join NODE_ERROR (join (trees_of fs) (forget row)) made
-    ∙ grown (trees_of fs) row (one_fault note (run_row true run ts))) refl refl refl refl
+    ∙ grown (trees_of fs) row (one_fault note (run_leaves true run ts))) refl refl refl refl
 
 -- an operand becomes part of a node
 pub erase-wrapped : (ms : List Mark) (k : SyntaxKind) (inside over : Position) (f : Frame) (fs : List Frame) (ts : List Token) (n : ℕ) (es : List Fault)
     → f.head ≡ Operand
-    → started_at (tree_count (trees_of fs)) k (erase_with ms (machine (put over f.row f ∷ fs) ts n es))
-    ≡ erase_with ms (machine (opened (Node k) inside f.depth f.row ∷ (opened Operand over f.depth blank ∷ fs)) ts n es)
+    → started_at (tree_count (trees_of fs)) k (erase_with ms (machine (put over f.children f ∷ fs) ts n es))
+    ≡ erase_with ms (machine (opened (Node k) inside f.depth f.children ∷ (opened Operand over f.depth blank ∷ fs)) ts n es)
 unfolding started_at
 erase-wrapped ms k inside over f fs ts n es h = rw (h, join_empty (trees_of fs)) refl

@@ -70,15 +70,15 @@ head_sort head position [] w = w.0
 head_sort head position (f ∷ fs) w = w.0
 
 -- no place is that of a name
-pub place_named : (position : Position) → is_name (frame_kind position) ≡ false
-place_named (p.Left i) = each_index (λ i. is_name (frame_kind (p.Left i)) ≡ false) (assumption) (λ i e d. ap (λ ss. is_name (frame_kind_in ss)) d) i
-place_named (p.AfterOperand min_bp max_bp) = refl
-place_named (p.Right level) = refl
+pub range_named : (position : Position) → is_name (frame_kind position) ≡ false
+range_named (p.InRow i) = each_index (λ i. is_name (frame_kind (p.InRow i)) ≡ false) (assumption) (λ i e d. ap (λ ss. is_name (frame_kind_in ss)) d) i
+range_named (p.AfterOperand min_bp max_bp) = refl
+range_named (p.Right level) = refl
 
 -- at a position of a row no operand is open
-pub row_not_operand : (left : ℕ) → is_operand_frame (frame_kind (p.Left left)) ≡ false
-row_not_operand left =
-    each_index (λ i. is_operand_frame (frame_kind (p.Left i)) ≡ false) (assumption) (λ i e d. ap (λ ss. is_operand_frame (frame_kind_in ss)) d) left
+pub row_not_operand : (remaining : ℕ) → is_operand_frame (frame_kind (p.InRow remaining)) ≡ false
+row_not_operand remaining =
+    each_index (λ i. is_operand_frame (frame_kind (p.InRow i)) ≡ false) (assumption) (λ i e d. ap (λ ss. is_operand_frame (frame_kind_in ss)) d) remaining
 
 leaf_kept : (k j : SyntaxKind) → is_name (frame_kind_of_node k) ≡ false → leaf_kind_as k j ≡ j
 leaf_kept NODE_IDENT j e = cc

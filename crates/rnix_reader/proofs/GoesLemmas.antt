@@ -2,17 +2,17 @@
 use Rattle.rnix_grammar.specs.declared.slot_table.TheConstants.{BOUND_PATTERN, LAMBDA, LEGACY_LET, PATTERN}
 use Rattle.std.proofs.Common.{◌≡◌, ℕ, suc, Bool, true, false, List, [], ◌∷◌, Option, refl, ap, sym, ◌∙◌, subst, if◌then◌else◌, ◌&&◌, nat_le}
 use Rattle.rnix_kinds.specs.declared.kinds.SyntaxKind.{SyntaxKind, TheVariants.{NODE_ERROR, NODE_IDENT, NODE_LAMBDA, NODE_PATTERN, NODE_PAT_BIND}}
-use Rattle.{rnix_kinds.specs.declared.kinds.SyntaxKind.TheVariants.{NODE_IDENT_PARAM, NODE_LEGACY_LET}, rnix_grammar.specs.declared.{begin.Begin.Begin}}
-use Rattle.rnix_grammar.specs.{Fault.{Fault}, Tables.depth_limit, Begins.{begin_of, second_kind}, AnnotatedForest.{Token, Stray, TooDeep}}
+use Rattle.{rnix_kinds.specs.declared.kinds.SyntaxKind.TheVariants.{NODE_IDENT_PARAM, NODE_LEGACY_LET}, rnix_grammar.specs.declared.{operand_start.OperandStart.OperandStart}}
+use Rattle.rnix_grammar.specs.{Fault.{Fault}, Tables.depth_limit, OperandStarts.{operand_start_of, second_kind}, AnnotatedForest.{Token, Stray, TooDeep}}
 use Rattle.rnix_grammar.specs.{AnnotatedForest.{AnnotatedForest, blank, ◌⊕◌, one_branch, one_fault, head_kind, end_from}, Layout.{items}}
-use Rattle.rnix_proof_lemmas.specs.Machine.{Head, Node, SecondBind, Operand, Frame, Machine, put, opened, with_leading, leaf, after_item, item_end, run_row, run_rest, machine}
+use Rattle.rnix_proof_lemmas.specs.Machine.{Head, Node, SecondBind, Operand, Frame, Machine, put, opened, with_leading, leaf, after_item, item_end, run_leaves, run_rest, machine}
 use Rattle.rnix_proof_lemmas.specs.FrameKinds.{FrameKind, SecondBindFrame, frame_kind, frame_kind_of_head, may_hold, is_open, IsStackedOn}
 use Rattle.rnix_proof_lemmas.specs.Machine.{limited, begun, operand_on, reading}
-use Rattle.{rnix_proof_lemmas.proofs.{Basics.true_is_not_false, StackedFrames.{BeginsInner, begin_inner}}, rnix_reader.specs.declared.pattern_names.Names.Names}
+use Rattle.{rnix_proof_lemmas.proofs.{Basics.true_is_not_false, StackedFrames.{BeginsInner, operand_start_inner}}, rnix_reader.specs.declared.pattern_names.Names.Names}
 use Rattle.rnix_reader.{specs.{Placed.AreInOrder, Holds.{HasRange, AreNamed}, Performed.{NamesFor, opens_pattern, opens_on}}, proofs.FrameKindLemmas.head_sort}
 use Rattle.rnix_reader.proofs.{OrderLemmas.{order_from, order_behind, order_all}, RowLemmas.{no_entry_leaf, no_entry_fault}, OpenNames.{grow_trivia, grow_behind, push_node, push_operand, push_pattern}}
 use Rattle.rnix_grammar.specs.declared.position.Position.TheVariants as p
-use Rattle.rnix_grammar.specs.declared.begin.Begin.TheVariants as b
+use Rattle.rnix_grammar.specs.declared.operand_start.OperandStart.TheVariants as b
 
 -- the machine goes on
 pub record Goes (m : Machine) (names : Names) : Type 0 where
@@ -20,12 +20,12 @@ pub record Goes (m : Machine) (names : Names) : Type 0 where
   pub under : List Frame
   pub frames : m.frames ≡ top ∷ under
   pub named : AreNamed top under names
-  pub range : HasRange names.second m.prev_end top.head top.row
-  pub order : AreInOrder m.prev_end m.left
+  pub range : HasRange names.second m.prev_end top.head top.children
+  pub order : AreInOrder m.prev_end m.remaining
 
 -- a machine goes on whose names are known
 pub goes : {f : Frame} {fs : List Frame} {ts : List Token} {n : ℕ} {es : List Fault} {names : Names} → AreNamed f fs names
-    → HasRange names.second n f.head f.row
+    → HasRange names.second n f.head f.children
     → AreInOrder n ts → Goes (machine (f ∷ fs) ts n es) names
 goes {f = f} {fs = fs} w r o = record { top = f; under = fs; frames = refl; named = w; range = r; order = o }
 
@@ -39,7 +39,7 @@ open_range m n Operand row e = tt
 pub goes_open : {f : Frame} {fs : List Frame} {ts : List Token} {n : ℕ} {es : List Fault} {names : Names} → is_open (frame_kind_of_head f.head) ≡ true
     → AreNamed f fs names
     → AreInOrder n ts → Goes (machine (f ∷ fs) ts n es) names
-goes_open {f = f} {n = n} {names = names} e w o = goes w (open_range names.second n f.head f.row e) o
+goes_open {f = f} {n = n} {names = names} e w o = goes w (open_range names.second n f.head f.children e) o
 
 -- what holds something is no second name
 pub holds_open : (s t : FrameKind) → may_hold s t ≡ true → is_open s ≡ true
@@ -59,54 +59,54 @@ module _ (level d : ℕ) (f : Frame) (fs : List Frame) (ts : List Token) (n : �
     (o : AreInOrder n ts) where
   -- the frames below the operand
   abbrev waiting : List Frame
-  waiting = put f.position (with_leading true f.row ts) f ∷ fs
+  waiting = put f.position (with_leading true f.children ts) f ∷ fs
 
   operand : (max_bp : ℕ) (row : AnnotatedForest) → AreNamed (opened Operand (p.AfterOperand level max_bp) d row) waiting names
   operand max_bp row = push_operand level max_bp d row (grow_trivia f.position ts w)
 
-  function : AreNamed (opened (Node NODE_LAMBDA) (p.Left LAMBDA) d blank) (opened Operand (p.AfterOperand level 16) d blank ∷ waiting) names
-  function = push_node NODE_LAMBDA (p.Left LAMBDA) d blank refl (operand 16 blank)
+  function : AreNamed (opened (Node NODE_LAMBDA) (p.InRow LAMBDA) d blank) (opened Operand (p.AfterOperand level 16) d blank ∷ waiting) names
+  function = push_node NODE_LAMBDA (p.InRow LAMBDA) d blank refl (operand 16 blank)
 
   behind_double_bind : AreInOrder (item_end true (item_end true n ts) (after_item true ts)) (after_item true (after_item true ts))
   behind_double_bind = order_behind (item_end true n ts) (after_item true ts) (order_behind n ts o)
 
-  begun_goes : (t : Token) (second : Option SyntaxKind) (begin : Begin) (names' : Names) → BeginsInner second begin
-      → NamesFor (opens_pattern begin) names names'
-      → Goes (begun true begin level d t f fs ts n es) names'
+  begun_goes : (t : Token) (second : Option SyntaxKind) (how : OperandStart) (names' : Names) → BeginsInner second how
+      → NamesFor (opens_pattern how) names names'
+      → Goes (begun true how level d t f fs ts n es) names'
   begun_goes t second (b.Leaf k) names' fit e = stays e (goes_open refl (operand 16 (one_branch k (leaf true k ts))) (order_behind n ts o))
-  begun_goes t second (b.Node k left max_bp) names' fit e =
-      stays e (goes_open (ap is_open fit.0) (push_node k (p.Left left) d (leaf true k ts) fit.0 (operand max_bp blank)) (order_behind n ts o))
+  begun_goes t second (b.Node k remaining max_bp) names' fit e =
+      stays e (goes_open (ap is_open fit.0) (push_node k (p.InRow remaining) d (leaf true k ts) fit.0 (operand max_bp blank)) (order_behind n ts o))
   begun_goes t second b.LegacyLet names' fit e =
       let row : AnnotatedForest = with_leading true (leaf true NODE_LEGACY_LET ts) (after_item true ts) ⊕ leaf true NODE_LEGACY_LET (after_item true ts) in
-      stays e (goes_open refl (push_node NODE_LEGACY_LET (p.Left LEGACY_LET) d row refl (operand 0 blank)) behind_double_bind)
+      stays e (goes_open refl (push_node NODE_LEGACY_LET (p.InRow LEGACY_LET) d row refl (operand 0 blank)) behind_double_bind)
   begun_goes t second b.NameLambda names' fit e =
       let row : AnnotatedForest = one_branch NODE_IDENT_PARAM (one_branch NODE_IDENT (leaf true NODE_IDENT ts)) in
-      stays e (goes_open refl (push_node NODE_LAMBDA (p.Left LAMBDA) d row refl (operand 16 blank)) (order_behind n ts o))
+      stays e (goes_open refl (push_node NODE_LAMBDA (p.InRow LAMBDA) d row refl (operand 16 blank)) (order_behind n ts o))
   begun_goes t second b.BoundLambda names' fit e =
       let name : AnnotatedForest = one_branch NODE_IDENT (leaf true NODE_IDENT ts) in
       let row : AnnotatedForest = one_branch NODE_PAT_BIND (with_leading true name (after_item true ts) ⊕ leaf true NODE_PAT_BIND (after_item true ts)) in
-      goes_open refl (push_pattern (p.Left BOUND_PATTERN) d row (λ name. refl) e function) behind_double_bind
+      goes_open refl (push_pattern (p.InRow BOUND_PATTERN) d row (λ name. refl) e function) behind_double_bind
   begun_goes t second b.PatternLambda names' fit e =
-      goes_open refl (push_pattern (p.Left PATTERN) d (leaf true NODE_PATTERN ts) (no_entry_leaf NODE_PATTERN ts) e function) (order_behind n ts o)
+      goes_open refl (push_pattern (p.InRow PATTERN) d (leaf true NODE_PATTERN ts) (no_entry_leaf NODE_PATTERN ts) e function) (order_behind n ts o)
   begun_goes t second b.Stray names' fit e = stays e (goes_open refl (operand 16 (one_fault Stray (leaf true NODE_ERROR ts))) (order_behind n ts o))
 
   operand_goes : (us : List Token) (names' : Names) → is_open (frame_kind_of_head f.head) ≡ true → NamesFor (opens_on level us) names names'
       → Goes (operand_on true level d f fs ts us n es) names'
   operand_goes [] names' m e = stays e (goes_open m w o)
   operand_goes (t ∷ us) names' m e =
-      begun_goes t (head_kind us) (begin_of level t.kind t.text (head_kind us) (second_kind us)) names'
-      (begin_inner level t.kind t.text (head_kind us) (second_kind us)) e
+      begun_goes t (head_kind us) (operand_start_of level t.kind t.text (head_kind us) (second_kind us)) names'
+      (operand_start_inner level t.kind t.text (head_kind us) (second_kind us)) e
 
 -- what is nested too deep
 limited_goes : (f : Frame) (fs : List Frame) (ts : List Token) (n : ℕ) (es : List Fault) (names : Names) → AreNamed f fs names
     → is_open (frame_kind_of_head f.head) ≡ true → AreInOrder n ts
     → Goes (limited true f fs ts n es) names
 limited_goes f fs ts n es names w m o =
-    let left : List Token = run_rest true (items ts) ts in
-    let row : AnnotatedForest = run_row true (items ts) ts in
-    let grown : AreNamed (put f.position (with_leading true f.row ts ⊕ one_fault TooDeep row) f) fs names =
+    let remaining : List Token = run_rest true (items ts) ts in
+    let row : AnnotatedForest = run_leaves true (items ts) ts in
+    let grown : AreNamed (put f.position (with_leading true f.children ts ⊕ one_fault TooDeep row) f) fs names =
     grow_behind f.position ts (one_fault TooDeep row) (no_entry_fault TooDeep row) w in
-    goes_open m (grow_trivia f.position left grown) (order_from (end_from n (items ts)) left (order_all n ts o).0)
+    goes_open m (grow_trivia f.position remaining grown) (order_from (end_from n (items ts)) remaining (order_all n ts o).0)
 
 -- an operand of a level is read
 pub reading_goes : (level : ℕ) (counted : Bool) (f : Frame) (fs : List Frame) (ts : List Token) (n : ℕ) (es : List Fault) (names names' : Names)

@@ -1,7 +1,7 @@
 pub mod FrameKindLemmas
 pub mod CursorLemmas
 pub mod StateLemmas
-pub mod TextLeft
+pub mod TextRemaining
 pub mod SkippedRuns
 pub mod EraseLemmas
 pub mod NameLemmas
@@ -16,5 +16,5 @@ pub mod GoesLemmas
 pub mod PerformLemmas
 pub mod LoopLemmas
 pub mod DocumentLemmas
-pub mod BeginLemmas
+pub mod OperandStartLemmas
 pub mod EachText

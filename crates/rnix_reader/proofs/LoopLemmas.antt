@@ -7,11 +7,11 @@ use Rattle.rnix_grammar.specs.Actions.{continue_action, may_continue, more_actio
 use Rattle.rnix_grammar.specs.{AnnotatedForest.{forget, head_kind, touches}, Layout.{items, from_item}, Fault.Fault}
 use Rattle.rnix_proof_lemmas.specs.Allowed.{Allowed}
 use Rattle.rnix_proof_lemmas.{specs.FrameKinds.{OperandFrame, frame_kind, AreStacked}, proofs.Basics.true_is_not_false}
-use Rattle.rnix_proof_lemmas.specs.Machine.{Head, Node, Machine, opened, with_leading, machine, begins, step}
+use Rattle.rnix_proof_lemmas.specs.Machine.{Head, Node, Machine, opened, with_leading, machine, initial_machine, step}
 use Rattle.rnix_proof_lemmas.specs.Machine.{rest as here}
 use Rattle.rnix_proof_steps.{specs.StepCount.{is_finish, ComesIn}, proofs.BudgetedRuns.{comes_on, by_items, by_levels}}
 use Rattle.{rnix_proof_lemmas.proofs.{StackedFrames.step_stacked, AllowedLemmas.allowed}, rnix_reader.specs.declared.mark.Mark.Mark}
-use Rattle.rnix_reader.specs.{declared.pattern_names.Names.Names, Placed.AreInOrder, PatternNames.entries_in, State.{State, items_left, with_marks, eaten, ended}, Erase.marks_of}
+use Rattle.rnix_reader.specs.{declared.pattern_names.Names.Names, Placed.AreInOrder, PatternNames.entries_in, State.{State, items_remaining, with_marks, eaten, ended}, Erase.marks_of}
 use Rattle.rnix_reader.specs.{Erase.{mark_of, erase, erase_with, popped}, Holds.{IsGoing, IsThrough, IsReadTo, work}, Performed.{Performed, NamesAfter, IsReady}}
 use Rattle.rnix_reader.{specs.Performed.{action_of, is_continuation, is_row_action}, proofs.{FrameKindLemmas.{is_operand_frame, row_not_operand}, StateLemmas.state_is, DocumentLemmas.root_through, EraseLemmas.erase-eaten}}
 use Rattle.rnix_reader.proofs.{StepsOfReader.{ready, performs}, GoesLemmas.Goes, PerformLemmas.perform_goes, WorkLemmas.{work_is, perform_less}}
@@ -19,15 +19,15 @@ use Rattle.rnix_grammar.specs.declared.position.Position.TheVariants as p
 use Rattle.rnix_grammar.specs.declared.action.Action.TheVariants as a
 
 -- the text is about to be read
-pub starts : (Counted : ℕ → Type 0) (s : State) (names : Names) → Counted 0 → s ≡ erase (begins s.rest) → AreInOrder 0 s.rest
+pub starts : (Counted : ℕ → Type 0) (s : State) (names : Names) → Counted 0 → s ≡ erase (initial_machine s.rest) → AreInOrder 0 s.rest
     → names.sets.items ≡ [] → entries_in names ≡ []
     → IsGoing Counted s.rest s names
 starts Counted s names n e o k t = record {
   steps = 0;
   counted = n;
-  top = opened (Node NODE_ROOT) (p.Left ROOT) 0 blank;
+  top = opened (Node NODE_ROOT) (p.InRow ROOT) 0 blank;
   under = [];
-  left = s.rest;
+  remaining = s.rest;
   prev_end = 0;
   faults = [];
   comes = record { runs = here; needed = tt; count = refl };
@@ -63,21 +63,21 @@ more_goes min_bp max_bp (Some kind) =
 -- after an operand the text is not read to its end
 pub operand_goes : (position : Position) (min_bp max_bp : ℕ) (s : State) → position ≡ p.AfterOperand min_bp max_bp → action_of position s ≡ a.Finish → ⊥
 operand_goes position min_bp max_bp s is end =
-    false≢true (sym (more_goes min_bp max_bp (head_kind (items_left s))) ∙ ap is_finish (sym (ap (λ q. action_of q s) is) ∙ end))
+    false≢true (sym (more_goes min_bp max_bp (head_kind (items_remaining s))) ∙ ap is_finish (sym (ap (λ q. action_of q s) is) ∙ end))
 
 -- at a position of a row no operand goes on or is complete
-no_operand : (position : Position) (left : ℕ) → position ≡ p.Left left → frame_kind position ≡ OperandFrame → ⊥
-no_operand position left e h =
-    true_is_not_false (sym (ap is_operand_frame h) ∙ ap (λ q. is_operand_frame (frame_kind q)) e ∙ row_not_operand left)
+no_operand : (position : Position) (remaining : ℕ) → position ≡ p.InRow remaining → frame_kind position ≡ OperandFrame → ⊥
+no_operand position remaining e h =
+    true_is_not_false (sym (ap is_operand_frame h) ∙ ap (λ q. is_operand_frame (frame_kind q)) e ∙ row_not_operand remaining)
 
-row_action : (position : Position) (next : Option SyntaxKind) (action : Action) (left : ℕ) → position ≡ p.Left left → Allowed position next action
+row_action : (position : Position) (next : Option SyntaxKind) (action : Action) (remaining : ℕ) → position ≡ p.InRow remaining → Allowed position next action
     → (action ≡ a.Finish → ⊥) → is_row_action action ≡ true
-row_action position next a.Finish left e al other = absurd (other refl)
-row_action position next a.EndOperand left e al other = absurd (no_operand position left e al)
-row_action position next (a.Wrap k inside max_bp) left e al other = absurd (no_operand position left e al.1)
-row_action position next a.Apply left e al other = absurd (no_operand position left e al.1)
-row_action position next a.ApplyOr left e al other = absurd (no_operand position left e al.1)
-row_action position next action left e al other = refl
+row_action position next a.Finish remaining e al other = absurd (other refl)
+row_action position next a.EndOperand remaining e al other = absurd (no_operand position remaining e al)
+row_action position next (a.Wrap k inside max_bp) remaining e al other = absurd (no_operand position remaining e al.1)
+row_action position next a.Apply remaining e al other = absurd (no_operand position remaining e al.1)
+row_action position next a.ApplyOr remaining e al other = absurd (no_operand position remaining e al.1)
+row_action position next action remaining e al other = refl
 
 -- the root over all trees
 root_ended : (h : Head) (position : Position) (d : ℕ) (row : AnnotatedForest) (ts : List Token) (n : ℕ) (es : List Fault) → h ≡ Node NODE_ROOT
@@ -89,7 +89,7 @@ root_ended h position d row ts n es e = rw e (state_is refl (wrapped-join NODE_R
 -- what follows where the innermost mark is taken: an action may be performed, and it leaves less to do, or the text is read
 pub record Turn (Counted : ℕ → Type 0) (steps : ℕ) (first : List Token) (s : State) (names : Names) (mark : Mark) (s1 : State) (action : Action) : Type 0 where
   pub ready : IsReady action mark s1 names
-  pub row : (left : ℕ) → mark.position ≡ p.Left left → (action ≡ a.Finish → ⊥) → is_row_action action ≡ true
+  pub row : (remaining : ℕ) → mark.position ≡ p.InRow remaining → (action ≡ a.Finish → ⊥) → is_row_action action ≡ true
   pub goes : Counted (steps + 1) → (s' : State) (names' : Names) → (action ≡ a.Finish → ⊥) → Performed action mark s1 names s' names'
       → NamesAfter action mark s1 names names' → IsGoing Counted first s' names' × (work s' < work s)
   pub root : action ≡ a.Finish → 0 < length s1.open_nodes
@@ -97,13 +97,13 @@ pub record Turn (Counted : ℕ → Type 0) (steps : ℕ) (first : List Token) (s
 
 module _ {Before : ℕ → Type 0} {first : List Token} {s : State} {names : Names} (g : IsGoing Before first s names) (Counted : ℕ → Type 0) where
   abbrev before : Machine
-  before = machine (g.top ∷ g.under) g.left g.prev_end g.faults
+  before = machine (g.top ∷ g.under) g.remaining g.prev_end g.faults
 
   abbrev action : Action
   action = action_of g.top.position (popped before)
 
-  may : Allowed g.top.position (head_kind (items g.left)) action
-  may = allowed g.top.position (head_kind (items g.left)) (touches g.prev_end (items g.left))
+  may : Allowed g.top.position (head_kind (items g.remaining)) action
+  may = allowed g.top.position (head_kind (items g.remaining)) (touches g.prev_end (items g.remaining))
 
   -- a step is taken
   going : Counted (g.steps + 1) → (s' : State) (names' : Names) → (action ≡ a.Finish → ⊥)
@@ -112,19 +112,19 @@ module _ {Before : ℕ → Type 0} {first : List Token} {s : State} {names : Nam
   going n s' names' other d k =
       let q : is_finish action ≡ false = not_finish action other in
       let after : Machine = step true before in
-      let done : Goes after names' = perform_goes g.top g.under g.left g.prev_end names g.named g.well action g.faults names' may q k in
-      let whole : after ≡ machine (done.top ∷ done.under) after.left after.prev_end after.faults =
-      ap (λ x. machine x after.left after.prev_end after.faults) done.frames in
-      let state : s' ≡ erase after = performs g.top g.under g.left g.prev_end g.faults names g.well action s' names' g.named may q d in (
+      let done : Goes after names' = perform_goes g.top g.under g.remaining g.prev_end names g.named g.well action g.faults names' may q k in
+      let whole : after ≡ machine (done.top ∷ done.under) after.remaining after.prev_end after.faults =
+      ap (λ x. machine x after.remaining after.prev_end after.faults) done.frames in
+      let state : s' ≡ erase after = performs g.top g.under g.remaining g.prev_end g.faults names g.well action s' names' g.named may q d in (
         record {
           steps = g.steps + 1;
           counted = n;
           top = done.top;
           under = done.under;
-          left = after.left;
+          remaining = after.remaining;
           prev_end = after.prev_end;
           faults = after.faults;
-          comes = subst (ComesIn (g.steps + 1) (begins first)) whole (comes_on g.steps (begins first) before g.comes q);
+          comes = subst (ComesIn (g.steps + 1) (initial_machine first)) whole (comes_on g.steps (initial_machine first) before g.comes q);
           state = state ∙ ap erase whole;
           well = record { fit = subst AreStacked done.frames (step_stacked true before g.well.fit); range = done.range; order = done.order };
           named = done.named;
@@ -133,18 +133,19 @@ module _ {Before : ℕ → Type 0} {first : List Token} {s : State} {names : Nam
           arith,
           ap work state ∙ work_is after,
           ap work g.state ∙ work_is before,
-          perform_less g.top g.under g.left g.prev_end g.faults g.well.fit action may q,
+          perform_less g.top g.under g.remaining g.prev_end g.faults g.well.fit action may q,
         ),
       )
 
   -- the text is read
   read : Counted (g.steps + 1) → (s' : State) → action ≡ a.Finish → s' ≡ ended (eaten (popped before)) → IsReadTo Counted first s'
   read n s' q e =
-      let end : Allowed g.top.position (head_kind (items g.left)) a.Finish = subst (Allowed g.top.position (head_kind (items g.left))) q may in
-      let through : IsThrough (begins first) = root_through g.top g.under g.left g.prev_end g.faults g.comes g.well.fit end in
-      let state = e ∙ ap (λ x. ended (eaten (popped (machine x g.left g.prev_end g.faults)))) through.alone
-      ∙ ap ended (erase-eaten [] g.top [] g.left g.prev_end g.faults)
-      ∙ root_ended g.top.head g.top.position g.top.depth (with_leading true g.top.row g.left) (from_item g.left) g.prev_end g.faults through.head in
+      let end : Allowed g.top.position (head_kind (items g.remaining)) a.Finish = subst (Allowed g.top.position (head_kind (items g.remaining))) q may in
+      let through : IsThrough (initial_machine first) = root_through g.top g.under g.remaining g.prev_end g.faults g.comes g.well.fit end in
+      let state = e ∙ ap (λ x. ended (eaten (popped (machine x g.remaining g.prev_end g.faults)))) through.alone
+      ∙ ap ended (erase-eaten [] g.top [] g.remaining g.prev_end g.faults)
+      ∙ root_ended g.top.head g.top.position g.top.depth (with_leading true g.top.children g.remaining) (from_item g.remaining) g.prev_end g.faults
+      through.head in
       record {
         through = through;
         turns = g.steps + 1;
@@ -159,10 +160,10 @@ module _ {Before : ℕ → Type 0} {first : List Token} {s : State} {names : Nam
 
   concrete : Turn Counted g.steps first s names (mark_of g.top g.under) (popped before) action
   concrete =
-      let needs : IsReady action (mark_of g.top g.under) (popped before) names = ready g.top g.under g.left g.prev_end g.faults names g.well action may in
+      let needs : IsReady action (mark_of g.top g.under) (popped before) names = ready g.top g.under g.remaining g.prev_end g.faults names g.well action may in
       record {
         ready = needs;
-        row = λ left e other. row_action g.top.position (head_kind (items g.left)) action left e may other;
+        row = λ remaining e other. row_action g.top.position (head_kind (items g.remaining)) action remaining e may other;
         goes = going;
         root = λ e. subst (λ x. IsReady x (mark_of g.top g.under) (popped before) names) e needs;
         finished = read;

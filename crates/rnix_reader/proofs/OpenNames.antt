@@ -15,25 +15,25 @@ use Rattle.rnix_grammar.specs.declared.position.Position.TheVariants as p
 -- a row grows at its end
 pub grow : {f : Frame} {fs : List Frame} {names : Names} (after : Position) (g : AnnotatedForest)
     → (is_pattern (frame_kind_of_head f.head) ≡ true → HasNoEntry g)
-    → AreNamed f fs names → AreNamed (put after (f.row ⊕ g) f) fs names
+    → AreNamed f fs names → AreNamed (put after (f.children ⊕ g) f) fs names
 grow {f = f} {fs = fs} {names = names} after g q w = record {
-  begun = (begun_more f.head f.row g w.begun.0, w.begun.1);
-  sets = known_more f.head f.row g names.sets.items (AreOpenSets fs) q w.sets;
-  entries = w.entries ∙ ap (λ x. entries_of fs ++ named_by x) (sym (name_more f.head f.row g w.begun.0));
+  begun = (begun_more f.head f.children g w.begun.0, w.begun.1);
+  sets = known_more f.head f.children g names.sets.items (AreOpenSets fs) q w.sets;
+  entries = w.entries ∙ ap (λ x. entries_of fs ++ named_by x) (sym (name_more f.head f.children g w.begun.0));
 }
 
 -- a row goes on at another position
-pub moved_on : {f : Frame} {fs : List Frame} {names : Names} (after : Position) → AreNamed f fs names → AreNamed (put after f.row f) fs names
+pub moved_on : {f : Frame} {fs : List Frame} {names : Names} (after : Position) → AreNamed f fs names → AreNamed (put after f.children f) fs names
 moved_on after w = record { begun = w.begun; sets = w.sets; entries = w.entries }
 
 -- a row grows by trivia
 pub grow_trivia : {f : Frame} {fs : List Frame} {names : Names} (after : Position) (ts : List Token) → AreNamed f fs names
-    → AreNamed (put after (with_leading true f.row ts) f) fs names
+    → AreNamed (put after (with_leading true f.children ts) f) fs names
 grow_trivia after ts w = grow after (trivia_before ts) (λ q. no_entry_trivia ts) w
 
 -- and by more behind them
 pub grow_behind : {f : Frame} {fs : List Frame} {names : Names} (after : Position) (ts : List Token) (g : AnnotatedForest) → HasNoEntry g
-    → AreNamed f fs names → AreNamed (put after (with_leading true f.row ts ⊕ g) f) fs names
+    → AreNamed f fs names → AreNamed (put after (with_leading true f.children ts ⊕ g) f) fs names
 grow_behind after ts g none w = grow after g (λ q. none) (grow_trivia after ts w)
 
 -- heads of which no names are known
@@ -87,7 +87,7 @@ push_operand min_bp max_bp d row w = push Operand (p.AfterOperand min_bp max_bp)
 -- a second name is opened
 pub push_second : {f : Frame} {fs : List Frame} {names names' : Names} (d : ℕ) (row : AnnotatedForest) → IsBegun SecondBind row
     → names'.sets.items ≡ names.sets.items → entries_in names' ≡ entries_in names → AreNamed f fs names
-    → AreNamed (opened SecondBind (p.Left SECOND_BIND) d row) (f ∷ fs) names'
+    → AreNamed (opened SecondBind (p.InRow SECOND_BIND) d row) (f ∷ fs) names'
 push_second {f = f} {fs = fs} d row i s e w = record {
   begun = (i, w.begun);
   sets = subst (AreOpenSets (f ∷ fs)) (sym s) w.sets;
@@ -106,7 +106,7 @@ push_pattern {f = f} {fs = fs} {names = names} position d row none o w = record 
 -- an entry is opened, with its name
 pub push_entry : {f : Frame} {fs : List Frame} {names names' : Names} (d : ℕ) (row : AnnotatedForest) (t : Token)
     → entry_name (without_trivia row) ≡ Some t → EntryOpened (entry_at t) names names' → AreNamed f fs names
-    → AreNamed (opened (Node NODE_PAT_ENTRY) (p.Left PAT_ENTRY) d row) (f ∷ fs) names'
+    → AreNamed (opened (Node NODE_PAT_ENTRY) (p.InRow PAT_ENTRY) d row) (f ∷ fs) names'
 push_entry {f = f} {fs = fs} d row t e o w = record {
   begun = ((t, e), w.begun);
   sets = subst (AreOpenSets (f ∷ fs)) (sym o.sets) w.sets;
@@ -118,8 +118,8 @@ pub instead : {f : Frame} {fs : List Frame} {names : Names} (min_bp max_bp d : �
     → AreNamed (opened Operand (p.AfterOperand min_bp max_bp) d row) fs names
 instead {f = f} {fs = fs} {names = names} min_bp max_bp d row o w = record {
   begun = (tt, w.begun.1);
-  sets = subst (λ h. AreOpenSetsOn h f.row names.sets.items (AreOpenSets fs)) o w.sets;
-  entries = w.entries ∙ ap (λ h. entries_of fs ++ named_by (name_of h f.row)) o;
+  sets = subst (λ h. AreOpenSetsOn h f.children names.sets.items (AreOpenSets fs)) o w.sets;
+  entries = w.entries ∙ ap (λ h. entries_of fs ++ named_by (name_of h f.children)) o;
 }
 
 -- what closes has no entry of its own
@@ -134,38 +134,39 @@ made_quiet Operand row s b m q = absurd (true_is_not_false (sym q))
 -- a frame is complete
 pub pop : {f g : Frame} {fs : List Frame} {names : Names} → IsStackedOn f.head f.position (g ∷ fs) → has_no_names (frame_kind f.position) ≡ true
     → AreNamed f (g ∷ fs) names
-    → AreNamed (put g.position (g.row ⊕ made f.head f.row) g) fs names
+    → AreNamed (put g.position (g.children ⊕ made f.head f.children) g) fs names
 pop {f = f} {g = g} {fs = fs} {names = names} st b w =
     let bare : has_no_names (frame_kind_of_head f.head) ≡ true = ap has_no_names st.0 ∙ b in
     let kept : AreNamed g fs names = record {
       begun = w.begun.1;
-      sets = subst (λ A. A) (no_names_known f.head f.row names.sets.items (AreOpenSets (g ∷ fs)) bare) w.sets;
-      entries = w.entries ∙ same_entries (g ∷ fs) (name_of f.head f.row) (no_names_name f.head f.row bare);
+      sets = subst (λ A. A) (no_names_known f.head f.children names.sets.items (AreOpenSets (g ∷ fs)) bare) w.sets;
+      entries = w.entries ∙ same_entries (g ∷ fs) (name_of f.head f.children) (no_names_name f.head f.children bare);
     } in
-    grow g.position (made f.head f.row)
-    (λ q. made_quiet f.head f.row (frame_kind g.position) bare (ap (may_hold (frame_kind g.position)) st.0 ∙ st.1)
+    grow g.position (made f.head f.children)
+    (λ q. made_quiet f.head f.children (frame_kind g.position) bare (ap (may_hold (frame_kind g.position)) st.0 ∙ st.1)
     (ap is_pattern (sym (head_sort g.head g.position fs st.2)) ∙ q)) kept
 
 -- a pattern is complete, and its set is dropped
 pub pop_pattern : {f g : Frame} {fs : List Frame} {names names' : Names} → f.head ≡ Node NODE_PATTERN → PatternClosed names names' → AreNamed f (g ∷ fs) names
-    → AreNamed (put g.position (g.row ⊕ made f.head f.row) g) fs names'
+    → AreNamed (put g.position (g.children ⊕ made f.head f.children) g) fs names'
 pop_pattern {f = f} {g = g} {fs = fs} {names = names} {names' = names'} e c w =
-    let top_set : TopSet names.sets.items f.row (AreOpenSets (g ∷ fs)) = known_pattern f.head f.row names.sets.items (AreOpenSets (g ∷ fs)) e w.sets in
+    let top_set : TopSet names.sets.items f.children (AreOpenSets (g ∷ fs)) =
+    known_pattern f.head f.children names.sets.items (AreOpenSets (g ∷ fs)) e w.sets in
     let kept : AreNamed g fs names' = record {
       begun = w.begun.1;
       sets = subst (AreOpenSets (g ∷ fs)) (sym (c.sets top_set.below top_set.set top_set.all)) top_set.more;
-      entries = c.entries ∙ w.entries ∙ same_entries (g ∷ fs) (name_of f.head f.row) (ap (λ h. name_of h f.row) e);
+      entries = c.entries ∙ w.entries ∙ same_entries (g ∷ fs) (name_of f.head f.children) (ap (λ h. name_of h f.children) e);
     } in
-    grow g.position (made f.head f.row) (λ q. subst (λ h. HasNoEntry (made h f.row)) (sym e) (λ name. refl)) kept
+    grow g.position (made f.head f.children) (λ q. subst (λ h. HasNoEntry (made h f.children)) (sym e) (λ name. refl)) kept
 
 -- an entry is complete, and its name is in the set
 pub pop_entry : {f g : Frame} {fs : List Frame} {names names' : Names} {again : Option Fault} → IsEntry f g fs names names' again → AreNamed f (g ∷ fs) names
-    → AreNamed (put g.position (g.row ⊕ made f.head f.row) g) fs names'
+    → AreNamed (put g.position (g.children ⊕ made f.head f.children) g) fs names'
 pop_entry {f = f} {g = g} {fs = fs} {names' = names'} q w = record {
-  begun = (begun_more g.head g.row (made f.head f.row) w.begun.1.0, w.begun.1.1);
-  sets = subst (λ h. AreOpenSetsOn g.head (g.row ⊕ made h f.row) names'.sets.items (AreOpenSets fs)) (sym q.entry)
-      (known_entry g.head g.row f.row q.name q.top_set.below q.entered.set names'.sets.items (AreOpenSets fs)
+  begun = (begun_more g.head g.children (made f.head f.children) w.begun.1.0, w.begun.1.1);
+  sets = subst (λ h. AreOpenSetsOn g.head (g.children ⊕ made h f.children) names'.sets.items (AreOpenSets fs)) (sym q.entry)
+      (known_entry g.head g.children f.children q.name q.top_set.below q.entered.set names'.sets.items (AreOpenSets fs)
       (ap (λ h. is_pattern (frame_kind_of_head h)) q.pattern) q.named q.entered.sets q.top_set.more
       (λ other. q.entered.has other ∙ ap (λ x. if bytes_eq q.name.text other then true else x) (q.top_set.is other)));
-  entries = q.entries ∙ ap (λ x. entries_of fs ++ named_by x) (sym (name_more g.head g.row (made f.head f.row) w.begun.1.0));
+  entries = q.entries ∙ ap (λ x. entries_of fs ++ named_by x) (sym (name_more g.head g.children (made f.head f.children) w.begun.1.0));
 }

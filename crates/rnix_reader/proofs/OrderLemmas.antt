@@ -1,7 +1,7 @@
 -- Tokens that are left stay in order.
 use Rattle.{std.proofs.Common.{◌≡◌, ◌≤◌, ℕ, List, [], ◌∷◌, ◌++◌, true, false, ap, ◌∙◌, subst, arith}, rnix_kinds.specs.SyntaxKind.is_trivia}
 use Rattle.rnix_grammar.specs.{declared.expected_set.ExpectedSet.{ExpectedSet, TheVariants.End}, AnnotatedForest.{Token, row_of, end_from}, Layout.{items, from_item, from_item_if, tail_of}}
-use Rattle.rnix_grammar.specs.{Layout.left_after, UnwantedRun.run_of}
+use Rattle.rnix_grammar.specs.{Layout.remaining_after, UnwantedRun.run_of}
 use Rattle.rnix_proof_lemmas.specs.Machine.{after_item, item_end, end_of, run_rest, dropped}
 use Rattle.rnix_proof_lemmas.proofs.{WithoutTriviaLemmas.run_prefix, LayoutLemmas.{IsFirst, first_item, items-from_item}}
 use Rattle.rnix_reader.{specs.Placed.AreInOrder, proofs.{CursorLemmas.in_order_from, SkippedRuns.run_all}}
@@ -31,7 +31,7 @@ reach_least n ts o = end_least n (from_item ts) (order_from n ts o)
 
 -- behind a run of items
 record Passed (n : ℕ) (run ts : List Token) : Type 0 where
-  order : AreInOrder (end_from n run) (left_after (row_of run) ts)
+  order : AreInOrder (end_from n run) (remaining_after (row_of run) ts)
   least : n ≤ end_from n run
 
 passed : (n : ℕ) (run us ts : List Token) → items ts ≡ run ++ us → AreInOrder n ts → Passed n run ts
@@ -39,7 +39,7 @@ passed n [] us ts e o = record { order = o; least = omega arith }
 passed n (t ∷ run) us ts e o =
     let first : IsFirst t (run ++ us) ts = first_item t (run ++ us) ts e in
     let ends : item_end true n ts ≡ t.end = ap (end_of n) first.here in
-    let ih = passed t.end run us (tail_of (from_item ts)) first.left (subst (λ x. AreInOrder x (after_item true ts)) ends (order_behind n ts o)) in
+    let ih = passed t.end run us (tail_of (from_item ts)) first.remaining (subst (λ x. AreInOrder x (after_item true ts)) ends (order_behind n ts o)) in
     record { order = ih.order; least = omega (arith, ih.least, reach_least n ts o, ends) }
 
 -- behind a run tokens are in order

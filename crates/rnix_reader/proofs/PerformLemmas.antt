@@ -4,7 +4,7 @@ use Rattle.{rnix_kinds.specs.declared.kinds.SyntaxKind.{SyntaxKind, TheVariants.
 use Rattle.rnix_grammar.specs.{declared.{slot_table.TheConstants.APPLIED, position.Position.Position, action.Action.Action}, Fault.Fault, AnnotatedForest.{Token, Note}}
 use Rattle.rnix_grammar.specs.AnnotatedForest.{Unwanted, Extra, AnnotatedForest, blank, ◌⊕◌, one_branch, one_fault, tokens_in, without_trivia, head_of}
 use Rattle.rnix_grammar.specs.{AnnotatedForest.{head_kind, end_from, extent_of}, Layout.{items, from_item, trivia_before, tail_of}, Reports.only_token}
-use Rattle.rnix_proof_lemmas.specs.Machine.{Node, Operand, Frame, put, opened, with_leading, leaf, leaf_in, kind_of, min_bp_of, after_item, item_end, end_of, run_row, run_rest}
+use Rattle.rnix_proof_lemmas.specs.Machine.{Node, Operand, Frame, put, opened, with_leading, leaf, leaf_in, kind_of, min_bp_of, after_item, item_end, end_of, run_leaves, run_rest}
 use Rattle.rnix_grammar.specs.UnwantedRun.{run_of}
 use Rattle.rnix_proof_lemmas.specs.Allowed.{Allowed}
 use Rattle.rnix_proof_lemmas.specs.FrameKinds.{Pattern, Entry, OperandFrame, frame_kind, is_open, IsStackedOn}
@@ -33,9 +33,9 @@ leaf_tokens k ts = ap tokens_in (leaf_without_trivia k ts) ∙ elim (items ts) a
 leaf_end : (n : ℕ) (ts : List Token) → item_end true n ts ≡ end_from n (firsts (items ts))
 leaf_end n ts = item_end_items n ts ∙ elim (items ts) as (λ us. end_of n us ≡ end_from n (firsts us)) [ [] ↦ refl | t ∷ us ↦ refl ]
 
-run_tokens : (note : Note) (run us ts : List Token) → items ts ≡ run ++ us → tokens_in (without_trivia (one_fault note (run_row true run ts))) ≡ run
+run_tokens : (note : Note) (run us ts : List Token) → items ts ≡ run ++ us → tokens_in (without_trivia (one_fault note (run_leaves true run ts))) ≡ run
 run_tokens note run us ts e =
-    append-nil (tokens_in (without_trivia (run_row true run ts))) ∙ ap tokens_in (run_bared run ts us e).same ∙ tokens_in-row_of run
+    append-nil (tokens_in (without_trivia (run_leaves true run ts))) ∙ ap tokens_in (run_bared run ts us e).same ∙ tokens_in-row_of run
 
 closing_pattern : (f : Frame) (fs : List Frame) (ts : List Token) (n : ℕ) (es : List Fault) (names names' : Names) → AreNamed f fs names
     → IsWell f fs ts n names.second
@@ -64,12 +64,13 @@ module _ (f : Frame) (fs : List Frame) (ts : List Token) (n : ℕ) (names : Name
   -- the innermost row grows by some items
   grows : (after : Position) (g : AnnotatedForest) (run us : List Token) (m : ℕ) (es : List Fault) → HasNoEntry g → tokens_in (without_trivia g) ≡ run
       → m ≡ end_from n run → n ≤ m → AreInOrder m us
-      → Goes (machine (put after (with_leading true f.row ts ⊕ g) f ∷ fs) us m es) names
+      → Goes (machine (put after (with_leading true f.children ts ⊕ g) f ∷ fs) us m es) names
   grows after g run us m es none i r l o =
-      let begun : IsBegun f.head f.row = w.begun.0 in
-      let trivia = range_more names.second n n f.head f.row (trivia_before ts) [] begun v.range (ap tokens_in (without_trivia-trivia ts)) refl (omega arith) in
-      goes (grow_behind after ts g none w) (range_more names.second n m f.head (with_leading true f.row ts) g run
-      (begun_more f.head f.row (trivia_before ts) begun) trivia i r l) o
+      let begun : IsBegun f.head f.children = w.begun.0 in
+      let trivia = range_more names.second n n f.head f.children (trivia_before ts) [] begun v.range (ap tokens_in (without_trivia-trivia ts)) refl
+      (omega arith) in
+      goes (grow_behind after ts g none w) (range_more names.second n m f.head (with_leading true f.children ts) g run
+      (begun_more f.head f.children (trivia_before ts) begun) trivia i r l) o
 
   -- at a position behind an operand an operand is open
   loose : frame_kind f.position ≡ OperandFrame → f.head ≡ Operand
@@ -81,7 +82,7 @@ module _ (f : Frame) (fs : List Frame) (ts : List Token) (n : ℕ) (names : Name
   entry_goes after [] es names' e h does = absurd (true_is_not_false (sym h))
   entry_goes after (t ∷ us) es names' e h does =
       let name = ap only_token (leaf_without_trivia NODE_IDENT ts ∙ ap (leaf_in NODE_IDENT) e) in
-      goes_open refl (push_entry f.depth (one_branch NODE_IDENT (leaf true NODE_IDENT ts)) t name (does t (ap head_of e)) (grow_trivia (p.Left after) ts w))
+      goes_open refl (push_entry f.depth (one_branch NODE_IDENT (leaf true NODE_IDENT ts)) t name (does t (ap head_of e)) (grow_trivia (p.InRow after) ts w))
       (order_behind n ts v.order)
 
   -- a second name begins
@@ -97,7 +98,7 @@ module _ (f : Frame) (fs : List Frame) (ts : List Token) (n : ℕ) (names : Name
       let range : (let x : Extent = record { start = names'.second; end = item_end true n ts } in x) ≡ extent_of (tokens_in (without_trivia row)) =
       ap (λ x. let y : Extent = record { start = x; end = item_end true n ts } in y) new.second
       ∙ ap (λ x. let y : Extent = record { start = t.start; end = x } in y) end ∙ sym (ap extent_of tokens) in
-      goes (push_second f.depth row (t, [], tokens) new.sets new.entries (grow_trivia (p.Left after) ts w)) (range, omega (arith, ordered.1, end, new.second))
+      goes (push_second f.depth row (t, [], tokens) new.sets new.entries (grow_trivia (p.InRow after) ts w)) (range, omega (arith, ordered.1, end, new.second))
       (order_behind n ts v.order)
 
   -- each action leaves a machine that goes on
@@ -111,45 +112,45 @@ module _ (f : Frame) (fs : List Frame) (ts : List Token) (n : ℕ) (names : Name
   perform_goes a.Finish es names' al g k = absurd (true_is_not_false g)
   perform_goes a.EndOperand es names' al g k = stays k (closing es (ap has_no_names al) (ap is_root al))
   perform_goes a.Extra es names' al g k =
-      let row : AnnotatedForest = run_row true (items ts) ts in
+      let row : AnnotatedForest = run_leaves true (items ts) ts in
       let all = order_all n ts v.order in
       stays k (grows f.position (one_fault Extra row) (items ts) (run_rest true (items ts) ts) (end_from n (items ts)) _ (no_entry_fault Extra row)
       (run_tokens Extra (items ts) (dropped (items ts) (items ts)) ts (all_prefix (items ts))) refl all.1 all.0)
   perform_goes (a.Take after) es names' al g k =
       let row : AnnotatedForest = leaf true (kind_of f.head) ts in
-      stays k (grows (p.Left after) row (firsts (items ts)) (after_item true ts) (item_end true n ts) es (no_entry_leaf (kind_of f.head) ts)
+      stays k (grows (p.InRow after) row (firsts (items ts)) (after_item true ts) (item_end true n ts) es (no_entry_leaf (kind_of f.head) ts)
       (leaf_tokens (kind_of f.head) ts) (leaf_end n ts) (reach_least n ts v.order) (order_behind n ts v.order))
-  perform_goes (a.Miss after) es names' al g k = stays k (goes (moved_on (p.Left after) w) v.range v.order)
-  perform_goes (a.MissWanted until after) es names' al g k = stays k (goes (moved_on (p.Left after) w) v.range v.order)
+  perform_goes (a.Miss after) es names' al g k = stays k (goes (moved_on (p.InRow after) w) v.range v.order)
+  perform_goes (a.MissWanted until after) es names' al g k = stays k (goes (moved_on (p.InRow after) w) v.range v.order)
   perform_goes (a.Run until after) es names' al g k =
       let run : List Token = run_of until (items ts) in
-      let row : AnnotatedForest = run_row true run ts in
+      let row : AnnotatedForest = run_leaves true run ts in
       let all = order_run until n ts v.order in
-      stays k (grows (p.Left after) (one_fault (Unwanted until) row) run (run_rest true run ts) (end_from n run) _ (no_entry_fault (Unwanted until) row)
+      stays k (grows (p.InRow after) (one_fault (Unwanted until) row) run (run_rest true run ts) (end_from n run) _ (no_entry_fault (Unwanted until) row)
       (run_tokens (Unwanted until) run (dropped run (items ts)) ts (run_prefix until (items ts))) refl all.1 all.0)
   perform_goes (a.Leaf j after) es names' al g k =
       let row : AnnotatedForest = one_branch j (leaf true j ts) in
-      stays k (grows (p.Left after) row (firsts (items ts)) (after_item true ts) (item_end true n ts) es
+      stays k (grows (p.InRow after) row (firsts (items ts)) (after_item true ts) (item_end true n ts) es
       (subst (λ x. HasNoEntry (one_branch x (leaf true x ts))) (sym al.2) (λ name. refl))
       (append-nil (tokens_in (without_trivia (leaf true j ts))) ∙ leaf_tokens j ts) (leaf_end n ts) (reach_least n ts v.order) (order_behind n ts v.order))
   perform_goes (a.Open j inside after) es names' al g k =
-      stays k (goes_open (ap is_open al.2) (push_node j (p.Left inside) f.depth (leaf true j ts) al.2 (grow_trivia (p.Left after) ts w))
+      stays k (goes_open (ap is_open al.2) (push_node j (p.InRow inside) f.depth (leaf true j ts) al.2 (grow_trivia (p.InRow after) ts w))
       (order_behind n ts v.order))
-  perform_goes (a.Begin j inside after) es names' al g k =
-      stays k (goes_open (ap is_open al.1) (push_node j (p.Left inside) f.depth blank al.1 (grow_trivia (p.Left after) ts w)) (order_from n ts v.order))
+  perform_goes (a.OpenEmpty j inside after) es names' al g k =
+      stays k (goes_open (ap is_open al.1) (push_node j (p.InRow inside) f.depth blank al.1 (grow_trivia (p.InRow after) ts w)) (order_from n ts v.order))
   perform_goes (a.Entry after) es names' al g k = entry_goes after (items ts) es names' refl (ap is_there al.0) k
   perform_goes (a.DoubleBind after) es names' al g k = double_bind_goes after (items ts) es names' refl al.0 k
   perform_goes (a.Read level counted after) es names' al g k =
-      reading_goes level counted (put (p.Left after) f.row f) fs ts n es names names' (moved_on (p.Left after) w)
+      reading_goes level counted (put (p.InRow after) f.children f) fs ts n es names names' (moved_on (p.InRow after) w)
       (holder_open f fs OperandFrame v.fit al.1) v.order k
   perform_goes (a.Wrap j inside max_bp) es names' al g k =
-      let row : AnnotatedForest = with_leading true f.row ts ⊕ leaf true j ts in
+      let row : AnnotatedForest = with_leading true f.children ts ⊕ leaf true j ts in
       stays k (goes_open (ap is_open al.2) (push_node j inside f.depth row al.2 (instead (min_bp_of f.position) max_bp f.depth blank (loose al.1) w))
       (order_behind n ts v.order))
   perform_goes a.Apply es names' al g k =
       let over : Frame = opened Operand (p.AfterOperand (min_bp_of f.position) 15) f.depth blank in
-      reading_goes 16 false (opened (Node NODE_APPLY) (p.Left APPLIED) f.depth f.row) (over ∷ fs) ts n es names names'
-      (push_node NODE_APPLY (p.Left APPLIED) f.depth f.row refl (instead (min_bp_of f.position) 15 f.depth blank (loose al.1) w)) refl v.order k
+      reading_goes 16 false (opened (Node NODE_APPLY) (p.InRow APPLIED) f.depth f.children) (over ∷ fs) ts n es names names'
+      (push_node NODE_APPLY (p.InRow APPLIED) f.depth f.children refl (instead (min_bp_of f.position) 15 f.depth blank (loose al.1) w)) refl v.order k
   perform_goes a.ApplyOr es names' al g k =
-      let row : AnnotatedForest = one_branch NODE_APPLY (with_leading true f.row ts ⊕ one_branch NODE_IDENT (leaf true NODE_IDENT ts)) in
+      let row : AnnotatedForest = one_branch NODE_APPLY (with_leading true f.children ts ⊕ one_branch NODE_IDENT (leaf true NODE_IDENT ts)) in
       stays k (goes_open refl (instead (min_bp_of f.position) 15 f.depth row (loose al.1) w) (order_behind n ts v.order))

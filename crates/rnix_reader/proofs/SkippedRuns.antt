@@ -7,8 +7,8 @@ use Rattle.rnix_grammar.specs.{AnnotatedForest.{Token, token, row_of, forget, he
 use Rattle.rnix_grammar.specs.{Layout.{from_item, trivia_before, tail_of, with_trivia, item_if}, UnwantedRun.run_of, Reports.report}
 use Rattle.rnix_proof_lemmas.specs.Machine.{leaf_in, end_of}
 use Rattle.rnix_proof_lemmas.proofs.{LayoutLemmas.{first_item, items-from_item}, AnnotatedForestLemmas.forget-⊕, UnwantedRuns.run_begins}
-use Rattle.rnix_reader.specs.{FrameSteps.operand_begun, Reported.{error_over, next_run}, Placed.AreInOrder, State.{State, items_left, eaten, bumped, skipped}}
-use Rattle.rnix_reader.{specs.State.{started, started_at, ended, pushed}, proofs.{CursorLemmas.in_order_from, StateLemmas.{state_is, first_of, none_left}}}
+use Rattle.rnix_reader.specs.{FrameSteps.operand_begun, Reported.{error_over, next_run}, Placed.AreInOrder, State.{State, items_remaining, eaten, bumped, skipped}}
+use Rattle.rnix_reader.{specs.State.{started, started_at, ended, pushed}, proofs.{CursorLemmas.in_order_from, StateLemmas.{state_is, first_of, none_remaining}}}
 
 -- nothing is skipped
 pub skipped-none : (s : State) → skipped [] s ≡ s
@@ -31,9 +31,9 @@ skipped-more t us run s s' i e =
     ∙ ap (skipped run) (sym e)
 
 -- what is left behind an item
-pub left_bumped : (k : SyntaxKind) (t : Token) (us : List Token) (s s' : State) → items s.rest ≡ t ∷ us → s' ≡ bumped k s → items s'.rest ≡ us
+pub remaining_bumped : (k : SyntaxKind) (t : Token) (us : List Token) (s s' : State) → items s.rest ≡ t ∷ us → s' ≡ bumped k s → items s'.rest ≡ us
 unfolding bumped eaten
-left_bumped k t us s s' i e = ap (λ x. items x.rest) e ∙ (first_item t us s.rest i).left
+remaining_bumped k t us s s' i e = ap (λ x. items x.rest) e ∙ (first_item t us s.rest i).remaining
 
 -- where a run stops and goes on
 pub run_stops : (u : ExpectedSet) (ts : List Token) → stops u (head_kind ts) ≡ true → run_of u ts ≡ []
@@ -55,8 +55,8 @@ pub skip_turn : (u : ExpectedSet) (t : Token) (s s' : State) → head_of (items 
     → skipped (run_of u (items s'.rest)) s' ≡ skipped (run_of u (items s.rest)) s
 skip_turn u t s s' h off e =
     let all : items s.rest ≡ t ∷ tail_of (items s.rest) = first_of (items s.rest) t h in
-    let left : items s'.rest ≡ tail_of (items s.rest) = left_bumped NODE_ERROR t (tail_of (items s.rest)) s s' all e in
-    ap (λ x. skipped (run_of u x) s') left
+    let remaining : items s'.rest ≡ tail_of (items s.rest) = remaining_bumped NODE_ERROR t (tail_of (items s.rest)) s s' all e in
+    ap (λ x. skipped (run_of u x) s') remaining
     ∙ sym (skipped-more t (tail_of (items s.rest)) (run_of u (tail_of (items s.rest))) s s' all e)
     ∙ ap (λ x. skipped x s) (sym (ap (run_of u) all ∙ run_begins u t (tail_of (items s.rest)) off))
 
@@ -66,13 +66,13 @@ skip_end u s h = ap (λ x. skipped x s) (run_stops u (items s.rest) h) ∙ skipp
 
 -- so does one where no item is left
 pub skip_none : (u : ExpectedSet) (s : State) → head_of (items s.rest) ≡ None → skipped (run_of u (items s.rest)) s ≡ s
-skip_none u s h = ap (λ x. skipped (run_of u x) s) (none_left (items s.rest) h) ∙ skipped-none s
+skip_none u s h = ap (λ x. skipped (run_of u x) s) (none_remaining (items s.rest) h) ∙ skipped-none s
 
 -- with one item read fewer are left
 pub shorter : (t : Token) (s s' : State) → head_of (items s.rest) ≡ Some t → s' ≡ bumped NODE_ERROR s → length (items s'.rest) < length (items s.rest)
 shorter t s s' h e =
     let all = first_of (items s.rest) t h in
-    omega (arith, ap length all, ap length (left_bumped NODE_ERROR t (tail_of (items s.rest)) s s' all e))
+    omega (arith, ap length all, ap length (remaining_bumped NODE_ERROR t (tail_of (items s.rest)) s s' all e))
 
 -- a run as a node reaches as far as its tokens
 reached_over : (u : ExpectedSet) (s : State) → (error_over u s).prev_end ≡ end_from s.prev_end (run_of u (items s.rest))
@@ -100,7 +100,7 @@ run_end u n (t ∷ ts) o = elim (is_wanted u t.kind) as (λ x. n ≤ end_from n 
 ]
 
 -- an item ends no earlier than it begins
-pub item_in_order : (s : State) (t : Token) → AreInOrder 0 s.rest → head_of (items_left s) ≡ Some t → t.start ≤ t.end
+pub item_in_order : (s : State) (t : Token) → AreInOrder 0 s.rest → head_of (items_remaining s) ≡ Some t → t.start ≤ t.end
 item_in_order s t o e = (subst (AreInOrder 0) (first_of (items s.rest) t e) (in_order_items 0 s.rest o)).1
 
 -- where a run ends, by the first of its items
@@ -108,7 +108,7 @@ run_first : (u : ExpectedSet) (t : Token) (ts : List Token) → head_of ts ≡ S
 run_first u t ts h off = ap (run_of u) (first_of ts t h) ∙ run_begins u t (tail_of ts) off
 
 -- a run reaches at least as far as its first item begins
-pub run_reach : (u : ExpectedSet) (s s' : State) (t : Token) → AreInOrder 0 s.rest → head_of (items_left s) ≡ Some t → is_wanted u t.kind ≡ false
+pub run_reach : (u : ExpectedSet) (s s' : State) (t : Token) → AreInOrder 0 s.rest → head_of (items_remaining s) ≡ Some t → is_wanted u t.kind ≡ false
     → s' ≡ error_over u s → t.start ≤ s'.prev_end
 run_reach u s s' t o h off e =
     let inside : AreInOrder 0 (t ∷ tail_of (items s.rest)) = subst (AreInOrder 0) (first_of (items s.rest) t h) (in_order_items 0 s.rest o) in
@@ -117,7 +117,7 @@ run_reach u s s' t o h off e =
     omega (arith, inside.1, run_end u t.end (tail_of (items s.rest)) inside.2, is)
 
 -- the range of a run is that of its tokens
-pub run_extent : (u : ExpectedSet) (s s' : State) (t : Token) (range : Extent) → head_of (items_left s) ≡ Some t → is_wanted u t.kind ≡ false
+pub run_extent : (u : ExpectedSet) (s s' : State) (t : Token) (range : Extent) → head_of (items_remaining s) ≡ Some t → is_wanted u t.kind ≡ false
     → s' ≡ error_over u s
     → range ≡ record { start = t.start; end = s'.prev_end } → range ≡ extent_of (next_run u s)
 run_extent u s s' t range h off e r =

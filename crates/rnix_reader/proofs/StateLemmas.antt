@@ -22,9 +22,9 @@ first_of [] t e = absurd (cc)
 first_of (u ∷ us) t e = let same : u ≡ t = cc in ap (λ x. x ∷ us) same
 
 -- where no token comes next none is left
-pub none_left : (ts : List Token) → head_of ts ≡ None → ts ≡ []
-none_left [] e = refl
-none_left (u ∷ us) e = absurd (cc)
+pub none_remaining : (ts : List Token) → head_of ts ≡ None → ts ≡ []
+none_remaining [] e = refl
+none_remaining (u ∷ us) e = absurd (cc)
 
 -- so it is where the first token is looked up
 pub item_there : (ts : List Token) (r : Option PlacedToken) (t : PlacedToken) → option_map token_of r ≡ head_of ts → r ≡ Some t → head_of ts ≡ Some (token_of t)
@@ -34,7 +34,7 @@ pub first_there : (ts : List Token) (r : Option PlacedToken) (t : PlacedToken) �
 first_there ts r t e h = first_of ts (token_of t) (item_there ts r t e h)
 
 pub none_there : (ts : List Token) (r : Option PlacedToken) → option_map token_of r ≡ head_of ts → r ≡ None → ts ≡ []
-none_there ts r e h = none_left ts (sym e ∙ ap (option_map token_of) h)
+none_there ts r e h = none_remaining ts (sym e ∙ ap (option_map token_of) h)
 
 -- the token before the next item, if there is one, is trivia
 pub first_trivia : (ts now : List Token) (at next : ℕ) (r : Option PlacedToken) → now ≡ drop at ts → from_item (drop at ts) ≡ drop next ts → at < next

@@ -12,7 +12,7 @@ use Rattle.rnix_proof_lemmas.specs.FrameKinds.{SecondBindFrame, OperandFrame, fr
 use Rattle.rnix_reader.specs.{declared.pattern_names.Names.Names, State.{State, bumped, started_at, ended, failed, pushed}, Reported.error_over, FrameSteps.{node_started, node_here, node_wrapped, leaf_node_made}, Holds.{HasRange, IsWell, AreNamed}}
 use Rattle.rnix_reader.specs.{Erase.{trees_of, nodes_of, mark_of, opened_on, erase, popped}, Performed.{Performed, IsReady, IsCheckpoint, expression_read}}
 use Rattle.rnix_proof_steps.{specs.StepCount.is_finish, proofs.BudgetedSteps.is_root}
-use Rattle.rnix_reader.proofs.{FrameKindLemmas.{is_operand_frame, is_name, head_operand, head_second_bind, head_sort, place_named, own_leaf}, BegunLemmas.expression_is, SkippedRuns.run_all, EntryLemmas.done_entry}
+use Rattle.rnix_reader.proofs.{FrameKindLemmas.{is_operand_frame, is_name, head_operand, head_second_bind, head_sort, range_named, own_leaf}, BegunLemmas.expression_is, SkippedRuns.run_all, EntryLemmas.done_entry}
 use Rattle.rnix_reader.proofs.EraseLemmas.{erase-eaten, erase-bumped, erase-next, erase-node_started, erase-leaf_node_made, erase-first, erase-over, erase-wrapped, erase-closed, closes, settles, closed_failed}
 use Rattle.rnix_grammar.specs.declared.position.Position.TheVariants as p
 use Rattle.rnix_grammar.specs.declared.action.Action.TheVariants as a
@@ -30,7 +30,7 @@ inside_head h k n os l i = le-leb k n l
 inside : (fs : List Frame) (n : ℕ) → tree_count (trees_of fs) ≤ n → is_inside n (nodes_of fs) ≡ true
 inside [] n l = refl
 inside (f ∷ fs) n l =
-    let all = tree_count-join (trees_of fs) (forget f.row) in
+    let all = tree_count-join (trees_of fs) (forget f.children) in
     inside_head f.head (tree_count (trees_of fs)) n (nodes_of fs) (omega (arith, l, all)) (inside fs n (omega (arith, l, all)))
 
 module _ (f : Frame) (fs : List Frame) (ts : List Token) (n : ℕ) (es : List Fault) (names : Names) (w : IsWell f fs ts n names.second) where
@@ -48,11 +48,11 @@ module _ (f : Frame) (fs : List Frame) (ts : List Token) (n : ℕ) (es : List Fa
   checkpoint =
       let at : ℕ = tree_count (trees_of fs) in
       let le : nat_le at (tree_count (trees_of (f ∷ fs))) ≡ true =
-      le-leb at (tree_count (trees_of (f ∷ fs))) (omega (arith, tree_count-join (trees_of fs) (forget f.row))) in
+      le-leb at (tree_count (trees_of (f ∷ fs))) (omega (arith, tree_count-join (trees_of fs) (forget f.children))) in
       rw le (inside_head f.head at at (nodes_of fs) (omega arith) (inside fs at (omega arith)))
 
-  again : frame_kind f.position ≡ SecondBindFrame → HasRange names.second n SecondBind f.row
-  again e = subst (λ x. HasRange names.second n x f.row) (head_second_bind f.head (sort ∙ e)) w.range
+  again : frame_kind f.position ≡ SecondBindFrame → HasRange names.second n SecondBind f.children
+  again e = subst (λ x. HasRange names.second n x f.children) (head_second_bind f.head (sort ∙ e)) w.range
 
   -- what an action needs is there
   pub ready : (action : Action) → Allowed f.position (head_kind (items ts)) action → IsReady action (mark_of f fs) popped_state names
@@ -69,15 +69,15 @@ module _ (f : Frame) (fs : List Frame) (ts : List Token) (n : ℕ) (es : List Fa
   ready a.ApplyOr al = checkpoint
   ready _ al = tt
 
-  opens : (k : SyntaxKind) (inside after : Position) → node_started k inside f.depth (erase (machine (put after f.row f ∷ fs) ts n es))
-      ≡ erase (machine (opened (Node k) inside f.depth blank ∷ (put after (with_leading true f.row ts) f ∷ fs)) (from_item ts) n es)
+  opens : (k : SyntaxKind) (inside after : Position) → node_started k inside f.depth (erase (machine (put after f.children f ∷ fs) ts n es))
+      ≡ erase (machine (opened (Node k) inside f.depth blank ∷ (put after (with_leading true f.children ts) f ∷ fs)) (from_item ts) n es)
   opens k inside after =
-      ap (node_here k inside f.depth) (erase-eaten _ (put after f.row f) fs ts n es)
-      ∙ erase-node_started k inside f.depth (put after (with_leading true f.row ts) f ∷ fs) (from_item ts) n es
+      ap (node_here k inside f.depth) (erase-eaten _ (put after f.children f) fs ts n es)
+      ∙ erase-node_started k inside f.depth (put after (with_leading true f.children ts) f ∷ fs) (from_item ts) n es
 
   wraps : (k : SyntaxKind) (inside over : Position) → frame_kind f.position ≡ OperandFrame
       → node_wrapped k inside over (mark_of f fs) popped_state ≡ erase
-      (machine (opened (Node k) inside f.depth f.row ∷ (opened Operand over f.depth blank ∷ fs)) ts n es)
+      (machine (opened (Node k) inside f.depth f.children ∷ (opened Operand over f.depth blank ∷ fs)) ts n es)
   unfolding pushed started_at
   wraps k inside over e = rw (head_operand f.head (sort ∙ e), join_empty (trees_of fs)) refl
 
@@ -90,7 +90,7 @@ module _ (f : Frame) (fs : List Frame) (ts : List Token) (n : ℕ) (es : List Fa
   performs a.ClosePattern s' names' k al g d = d ∙ closes f fs ts n es w.fit (ap is_operand_frame al) (ap is_root al)
   performs a.CloseEntry s' names' k al g d = done_entry f fs ts n es names names' s' w.fit k al d
   performs a.CloseDoubleBind s' names' k al g d =
-      let tokens : List Token = tokens_in (without_trivia f.row) in
+      let tokens : List Token = tokens_in (without_trivia f.children) in
       d ∙ ap (λ x. failed (double_bind x) (ended popped_state)) (again al).0
       ∙ ap (failed (report DoubleBind tokens)) (closes f fs ts n es w.fit (ap is_operand_frame al) (ap is_root al))
       ∙ closed_failed (report DoubleBind tokens) f fs ts n es
@@ -101,38 +101,39 @@ module _ (f : Frame) (fs : List Frame) (ts : List Token) (n : ℕ) (es : List Fa
       d ∙ ap (λ x. failed (report Extra x) (error_over End (erase (machine (f ∷ fs) ts n es)))) (run_all run)
       ∙ ap (failed (report Extra run)) (erase-over _ Extra End run f fs ts n es (run_all run))
   performs (a.Take after) s' names' k al g d =
-      d ∙ erase-bumped _ NODE_ROOT (put (p.Left after) f.row f) fs ts n es
-      ∙ ap (λ x. erase (machine (put (p.Left after) (with_leading true f.row ts ⊕ x) f ∷ fs) (after_item true ts) (item_end true n ts) es))
-      (own_leaf f.head (from_item ts) (ap is_name sort ∙ place_named f.position))
+      d ∙ erase-bumped _ NODE_ROOT (put (p.InRow after) f.children f) fs ts n es
+      ∙ ap (λ x. erase (machine (put (p.InRow after) (with_leading true f.children ts ⊕ x) f ∷ fs) (after_item true ts) (item_end true n ts) es))
+      (own_leaf f.head (from_item ts) (ap is_name sort ∙ range_named f.position))
   performs (a.Miss after) s' names' k al g d = d
   performs (a.MissWanted until after) s' names' k al g d = d
   performs (a.Run until after) s' names' k al g d =
       let run : List Token = run_of until (items ts) in
-      d ∙ ap (failed (report (Unwanted until) run)) (erase-over _ (Unwanted until) until run (put (p.Left after) f.row f) fs ts n es refl)
-  performs (a.Leaf j after) s' names' k al g d = d ∙ erase-leaf_node_made _ j (put (p.Left after) f.row f) fs ts n es
+      d ∙ ap (failed (report (Unwanted until) run)) (erase-over _ (Unwanted until) until run (put (p.InRow after) f.children f) fs ts n es refl)
+  performs (a.Leaf j after) s' names' k al g d = d ∙ erase-leaf_node_made _ j (put (p.InRow after) f.children f) fs ts n es
   performs (a.Open j inside after) s' names' k al g d =
-      d ∙ ap (bumped j) (opens j (p.Left inside) (p.Left after)) ∙ erase-next _ j (opened (Node j) (p.Left inside) f.depth blank)
-      (put (p.Left after) (with_leading true f.row ts) f ∷ fs) ts n es
-  performs (a.Begin j inside after) s' names' k al g d = d ∙ opens j (p.Left inside) (p.Left after)
+      d ∙ ap (bumped j) (opens j (p.InRow inside) (p.InRow after)) ∙ erase-next _ j (opened (Node j) (p.InRow inside) f.depth blank)
+      (put (p.InRow after) (with_leading true f.children ts) f ∷ fs) ts n es
+  performs (a.OpenEmpty j inside after) s' names' k al g d = d ∙ opens j (p.InRow inside) (p.InRow after)
   performs (a.Entry after) s' names' k al g d =
-      d ∙ ap (leaf_node_made NODE_IDENT) (opens NODE_PAT_ENTRY (p.Left PAT_ENTRY) (p.Left after))
-      ∙ erase-first _ NODE_IDENT (opened (Node NODE_PAT_ENTRY) (p.Left PAT_ENTRY) f.depth blank)
-      (put (p.Left after) (with_leading true f.row ts) f ∷ fs) ts n es
+      d ∙ ap (leaf_node_made NODE_IDENT) (opens NODE_PAT_ENTRY (p.InRow PAT_ENTRY) (p.InRow after))
+      ∙ erase-first _ NODE_IDENT (opened (Node NODE_PAT_ENTRY) (p.InRow PAT_ENTRY) f.depth blank)
+      (put (p.InRow after) (with_leading true f.children ts) f ∷ fs) ts n es
   performs (a.DoubleBind after) s' names' k al g d =
-      d ∙ ap (bumped NODE_ERROR) (opens NODE_ERROR (p.Left SECOND_BIND) (p.Left after))
-      ∙ erase-next _ NODE_ERROR (opened SecondBind (p.Left SECOND_BIND) f.depth blank) (put (p.Left after) (with_leading true f.row ts) f ∷ fs) ts n es
-  performs (a.Read level counted after) s' names' k al g d = d ∙ expression_is (put (p.Left after) f.row f) fs ts n es level counted
+      d ∙ ap (bumped NODE_ERROR) (opens NODE_ERROR (p.InRow SECOND_BIND) (p.InRow after))
+      ∙ erase-next _ NODE_ERROR (opened SecondBind (p.InRow SECOND_BIND) f.depth blank) (put (p.InRow after) (with_leading true f.children ts) f ∷ fs) ts n es
+  performs (a.Read level counted after) s' names' k al g d = d ∙ expression_is (put (p.InRow after) f.children f) fs ts n es level counted
   performs (a.Wrap j inside max_bp) s' names' k al g d =
       let over : Position = p.AfterOperand (min_bp_of f.position) max_bp in
-      d ∙ ap (bumped j) (wraps j inside over al.1) ∙ erase-bumped _ j (opened (Node j) inside f.depth f.row) (opened Operand over f.depth blank ∷ fs) ts n es
+      d ∙ ap (bumped j) (wraps j inside over al.1) ∙ erase-bumped _ j (opened (Node j) inside f.depth f.children) (opened Operand over f.depth blank
+      ∷ fs) ts n es
   performs a.Apply s' names' k al g d =
       let over : Position = p.AfterOperand (min_bp_of f.position) 15 in
-      d ∙ ap (expression_read 16 false f.depth) (wraps NODE_APPLY (p.Left APPLIED) over al.1)
-      ∙ expression_is (opened (Node NODE_APPLY) (p.Left APPLIED) f.depth f.row) (opened Operand over f.depth blank ∷ fs) ts n es 16 false
+      d ∙ ap (expression_read 16 false f.depth) (wraps NODE_APPLY (p.InRow APPLIED) over al.1)
+      ∙ expression_is (opened (Node NODE_APPLY) (p.InRow APPLIED) f.depth f.children) (opened Operand over f.depth blank ∷ fs) ts n es 16 false
   performs a.ApplyOr s' names' k al g d =
       let over : Position = p.AfterOperand (min_bp_of f.position) 15 in
-      let row : AnnotatedForest = with_leading true f.row ts ⊕ one_branch NODE_IDENT (leaf true NODE_IDENT ts) in
+      let row : AnnotatedForest = with_leading true f.children ts ⊕ one_branch NODE_IDENT (leaf true NODE_IDENT ts) in
       let gs : List Frame = opened Operand over f.depth blank ∷ fs in
-      d ∙ ap (λ x. ended (leaf_node_made NODE_IDENT x)) (erase-wrapped _ NODE_APPLY (p.Left APPLIED) over f fs ts n es (head_operand f.head (sort ∙ al.1)))
-      ∙ ap ended (erase-leaf_node_made _ NODE_IDENT (opened (Node NODE_APPLY) (p.Left APPLIED) f.depth f.row) gs ts n es)
-      ∙ erase-closed _ (Node NODE_APPLY) (p.Left APPLIED) f.depth row (opened Operand over f.depth blank) fs (after_item true ts) (item_end true n ts) es refl
+      d ∙ ap (λ x. ended (leaf_node_made NODE_IDENT x)) (erase-wrapped _ NODE_APPLY (p.InRow APPLIED) over f fs ts n es (head_operand f.head (sort ∙ al.1)))
+      ∙ ap ended (erase-leaf_node_made _ NODE_IDENT (opened (Node NODE_APPLY) (p.InRow APPLIED) f.depth f.children) gs ts n es)
+      ∙ erase-closed _ (Node NODE_APPLY) (p.InRow APPLIED) f.depth row (opened Operand over f.depth blank) fs (after_item true ts) (item_end true n ts) es refl

@@ -12,7 +12,7 @@ use Rattle.rnix_reader.specs.State.{State}
 -- the trees of all frames in one row
 abbrev pub trees_of : List Frame → Forest
 trees_of [] = empty
-trees_of (f ∷ fs) = join (trees_of fs) (forget f.row)
+trees_of (f ∷ fs) = join (trees_of fs) (forget f.children)
 
 -- the nodes that are open; an operand is none yet
 abbrev pub opened_on : Head → ℕ → List OpenNode → List OpenNode
@@ -46,7 +46,7 @@ rest_of (f ∷ fs) = fs
 -- what the reader holds of a machine, with these marks
 abbrev pub erase_with : List Mark → Machine → State
 erase_with marks m = record {
-  rest = m.left;
+  rest = m.remaining;
   trees = trees_of m.frames;
   open_nodes = nodes_of m.frames;
   faults = m.faults;

@@ -4,10 +4,10 @@ use Rattle.std.specs.Prelude.{ℕ, Bool, true, false, List}
 use Rattle.rnix_kinds.specs.declared.kinds.SyntaxKind.{SyntaxKind}
 use Rattle.rnix_kinds.specs.declared.kinds.SyntaxKind.TheVariants.{TOKEN_IDENT, TOKEN_L_BRACE, TOKEN_LET, NODE_APPLY, NODE_ERROR, NODE_IDENT, NODE_IDENT_PARAM, NODE_LAMBDA, NODE_LEGACY_LET, NODE_PAT_BIND, NODE_PAT_ENTRY, NODE_PATTERN}
 use Rattle.rnix_green.specs.Forest.{tree_count}
-use Rattle.rnix_grammar.specs.declared.begin.Begin.{Begin}
+use Rattle.rnix_grammar.specs.declared.operand_start.OperandStart.{OperandStart}
 use Rattle.rnix_grammar.specs.declared.position.Position.{Position}
-use Rattle.rnix_grammar.specs.declared.position.Position.TheVariants.{AfterOperand, Left}
-use Rattle.rnix_grammar.specs.Begins.{begin_of, second_kind}
+use Rattle.rnix_grammar.specs.declared.position.Position.TheVariants.{AfterOperand, InRow}
+use Rattle.rnix_grammar.specs.OperandStarts.{operand_start_of, second_kind}
 use Rattle.rnix_grammar.specs.AnnotatedForest.{Token, head_kind}
 use Rattle.rnix_grammar.specs.Levels.{application_level}
 use Rattle.rnix_reader.specs.declared.mark.Mark.{Mark}
@@ -36,11 +36,11 @@ leaf_node_made k s = ended (taken k (started k s))
 
 -- an entry of a pattern is open, with its name
 abbrev pub entry_begun : Position → Mark → State → State
-entry_begun after m s = leaf_node_made NODE_IDENT (node_started NODE_PAT_ENTRY (Left PAT_ENTRY) m.depth (moved_to after m s))
+entry_begun after m s = leaf_node_made NODE_IDENT (node_started NODE_PAT_ENTRY (InRow PAT_ENTRY) m.depth (moved_to after m s))
 
 -- the second name of a pattern is open, with its first token
 abbrev pub second_begun : Position → Mark → State → State
-second_begun after m s = node_begun NODE_ERROR (Left SECOND_BIND) m.depth (moved_to after m s)
+second_begun after m s = node_begun NODE_ERROR (InRow SECOND_BIND) m.depth (moved_to after m s)
 
 -- a node is open from where the operand before it begins; the operand goes on behind the node
 abbrev pub node_wrapped : SyntaxKind → Position → Position → Mark → State → State
@@ -48,7 +48,7 @@ node_wrapped k inside over m s = pushed (mark_at inside m.depth m.at) (started_a
 
 -- the operand before is applied to the next operand
 abbrev pub application_begun : ℕ → Mark → State → State
-application_begun min_bp m s = node_wrapped NODE_APPLY (Left APPLIED) (AfterOperand min_bp application_level) m s
+application_begun min_bp m s = node_wrapped NODE_APPLY (InRow APPLIED) (AfterOperand min_bp application_level) m s
 
 -- the operand before `or` is applied to the name `or`
 abbrev pub or_applied : Position → Mark → State → State
@@ -76,23 +76,23 @@ node_operand_begun k inside over d s = node_begun k inside d (operand_begun over
 
 -- an operand begins that is `let {`, with `let`
 abbrev pub legacy_let_begun : Position → ℕ → State → State
-legacy_let_begun over d s = bumped NODE_LEGACY_LET (node_operand_begun NODE_LEGACY_LET (Left LEGACY_LET) over d s)
+legacy_let_begun over d s = bumped NODE_LEGACY_LET (node_operand_begun NODE_LEGACY_LET (InRow LEGACY_LET) over d s)
 
 -- an operand begins that is a function, before its parameter
 abbrev pub lambda_begun : Position → ℕ → State → State
-lambda_begun over d s = node_started NODE_LAMBDA (Left LAMBDA) d (operand_begun over d s)
+lambda_begun over d s = node_started NODE_LAMBDA (InRow LAMBDA) d (operand_begun over d s)
 
 -- a function begins whose parameter is a pattern, with the name that is bound to the pattern
 abbrev pub bound_lambda_begun : Position → ℕ → State → State
-bound_lambda_begun over d s = binding_read (node_started NODE_PATTERN (Left BOUND_PATTERN) d (lambda_begun over d s))
+bound_lambda_begun over d s = binding_read (node_started NODE_PATTERN (InRow BOUND_PATTERN) d (lambda_begun over d s))
 
 -- a function begins whose parameter is a pattern, with `{`
 abbrev pub pattern_lambda_begun : Position → ℕ → State → State
-pattern_lambda_begun over d s = node_begun NODE_PATTERN (Left PATTERN) d (lambda_begun over d s)
+pattern_lambda_begun over d s = node_begun NODE_PATTERN (InRow PATTERN) d (lambda_begun over d s)
 
 -- how an operand of a level begins with an item, by the items behind it
-abbrev pub begins_with : ℕ → Token → List Token → Begin
-begins_with level t us = begin_of level t.kind t.text (head_kind us) (second_kind us)
+abbrev pub begins_with : ℕ → Token → List Token → OperandStart
+begins_with level t us = operand_start_of level t.kind t.text (head_kind us) (second_kind us)
 
 -- how an operand begins with this item depends on the second
 abbrev pub looks_behind : SyntaxKind → Bool

@@ -8,40 +8,41 @@ use Rattle.rnix_grammar.specs.declared.position.Position.{Position}
 use Rattle.rnix_grammar.specs.declared.position.Position.TheVariants as p
 use Rattle.rnix_grammar.specs.AnnotatedForest.{Token, AnnotatedForest, tokens_in, without_trivia, forget, extent_of}
 use Rattle.rnix_grammar.specs.Layout.{items}
-use Rattle.rnix_proof_lemmas.specs.Machine.{Head, Node, SecondBind, Frame, Machine, machine, begins, with_leading}
+use Rattle.rnix_proof_lemmas.specs.Machine.{Head, Node, SecondBind, Frame, Machine, machine, initial_machine, with_leading}
 use Rattle.rnix_proof_steps.specs.StepCount.{ComesIn}
 use Rattle.rnix_grammar.specs.Reports.{entry_name, has_entry}
 use Rattle.rnix_grammar.specs.Fault.{Fault}
 use Rattle.rnix_proof_lemmas.specs.FrameKinds.{IsStackedOn}
-use Rattle.rnix_proof_lemmas.specs.Measures.{measure, begin_measure}
+use Rattle.rnix_proof_lemmas.specs.Measures.{measure, start_measure}
 use Rattle.rnix_reader.specs.declared.mark.Mark.{Mark}
 use Rattle.rnix_reader.specs.declared.pattern_names.NameSet.{NameSet}
 use Rattle.rnix_reader.specs.declared.pattern_names.Names.{Names}
 use Rattle.rnix_reader.specs.Placed.{AreInOrder}
 use Rattle.rnix_reader.specs.PatternNames.{has_name, entries_in, entry_at}
-use Rattle.rnix_reader.specs.State.{State, items_left}
+use Rattle.rnix_reader.specs.State.{State, items_remaining}
 use Rattle.rnix_reader.specs.Erase.{erase}
 
 -- an entry begins with its name, and a second name with a token
 abbrev pub IsBegun : Head → AnnotatedForest → Type 0
-IsBegun (Node NODE_PAT_ENTRY) row = (t : Token) × (entry_name (without_trivia row) ≡ Some t)
-IsBegun SecondBind row = (t : Token) × (us : List Token) × (tokens_in (without_trivia row) ≡ t ∷ us)
-IsBegun head row = Unit {0}
+IsBegun (Node NODE_PAT_ENTRY) children = (t : Token) × (entry_name (without_trivia children) ≡ Some t)
+IsBegun SecondBind children = (t : Token) × (us : List Token) × (tokens_in (without_trivia children) ≡ t ∷ us)
+IsBegun head children = Unit {0}
 
 -- all frames
 abbrev pub AreBegun : List Frame → Type 0
 AreBegun [] = Unit {0}
-AreBegun (f ∷ fs) = IsBegun f.head f.row × AreBegun fs
+AreBegun (f ∷ fs) = IsBegun f.head f.children × AreBegun fs
 
 -- a second name has the range between two offsets
 abbrev pub HasRange : ℕ → ℕ → Head → AnnotatedForest → Type 0
-HasRange start end SecondBind row = ((let x : Extent = record { start = start; end = end } in x) ≡ extent_of (tokens_in (without_trivia row))) × (start ≤ end)
-HasRange start end head row = Unit {0}
+HasRange start end SecondBind children = ((let x : Extent = record { start = start; end = end } in x) ≡ extent_of (tokens_in (without_trivia children)))
+    × (start ≤ end)
+HasRange start end head children = Unit {0}
 
 -- the frames stand on one another, a second name ends where the last item ended, and the tokens are in order
 pub record IsWell (f : Frame) (fs : List Frame) (ts : List Token) (n second : ℕ) : Type 0 where
   pub fit : IsStackedOn f.head f.position fs
-  pub range : HasRange second n f.head f.row
+  pub range : HasRange second n f.head f.children
   pub order : AreInOrder n ts
 
 -- the name of an entry, which may be absent, with its range
@@ -51,35 +52,35 @@ named_by (Some t) = entry_at t ∷ []
 
 -- the name of an open entry
 abbrev pub name_of : Head → AnnotatedForest → Option Token
-name_of (Node NODE_PAT_ENTRY) row = entry_name (without_trivia row)
-name_of head row = None
+name_of (Node NODE_PAT_ENTRY) children = entry_name (without_trivia children)
+name_of head children = None
 
 -- the names of all open entries, the innermost last
 abbrev pub entries_of : List Frame → List (List ℕ × Extent)
 entries_of [] = []
-entries_of (f ∷ fs) = entries_of fs ++ named_by (name_of f.head f.row)
+entries_of (f ∷ fs) = entries_of fs ++ named_by (name_of f.head f.children)
 
 -- a set has the names of a pattern's entries
 abbrev pub IsOf : NameSet → AnnotatedForest → Type 0
-IsOf s row = (name : List ℕ) → has_name name s ≡ has_entry name (without_trivia row)
+IsOf s children = (name : List ℕ) → has_name name s ≡ has_entry name (without_trivia children)
 
 -- the last of some sets is that of a pattern, and more holds of those below
-pub record TopSet (sets : List NameSet) (row : AnnotatedForest) (More : List NameSet → Type 0) : Type 0 where
+pub record TopSet (sets : List NameSet) (children : AnnotatedForest) (More : List NameSet → Type 0) : Type 0 where
   pub below : List NameSet
   pub set : NameSet
   pub all : sets ≡ below ++ set ∷ []
-  pub is : IsOf set row
+  pub is : IsOf set children
   pub more : More below
 
 -- the sets that are open above others, by what is open
 abbrev pub AreOpenSetsOn : Head → AnnotatedForest → List NameSet → (List NameSet → Type 0) → Type 0
-AreOpenSetsOn (Node NODE_PATTERN) row sets More = TopSet sets row More
-AreOpenSetsOn head row sets More = More sets
+AreOpenSetsOn (Node NODE_PATTERN) children sets More = TopSet sets children More
+AreOpenSetsOn head children sets More = More sets
 
 -- the sets of names are those of the open patterns
 abbrev pub AreOpenSets : List Frame → List NameSet → Type 0
 AreOpenSets [] sets = sets ≡ []
-AreOpenSets (f ∷ fs) sets = AreOpenSetsOn f.head f.row sets (AreOpenSets fs)
+AreOpenSets (f ∷ fs) sets = AreOpenSetsOn f.head f.children sets (AreOpenSets fs)
 
 -- the names that the reader keeps are those of the open patterns and entries
 pub record AreNamed (f : Frame) (fs : List Frame) (names : Names) : Type 0 where
@@ -93,12 +94,12 @@ pub record IsGoing (Counted : ℕ → Type 0) (first : List Token) (s : State) (
   pub counted : Counted steps
   pub top : Frame
   pub under : List Frame
-  pub left : List Token
+  pub remaining : List Token
   pub prev_end : ℕ
   pub faults : List Fault
-  pub comes : ComesIn steps (begins first) (machine (top ∷ under) left prev_end faults)
-  pub state : s ≡ erase (machine (top ∷ under) left prev_end faults)
-  pub well : IsWell top under left prev_end names.second
+  pub comes : ComesIn steps (initial_machine first) (machine (top ∷ under) remaining prev_end faults)
+  pub state : s ≡ erase (machine (top ∷ under) remaining prev_end faults)
+  pub well : IsWell top under remaining prev_end names.second
   pub named : AreNamed top under names
 
 -- some steps lead to where the root alone is open and nothing is left
@@ -109,26 +110,26 @@ pub record IsThrough (from : Machine) : Type 0 where
   pub root : Frame
   pub alone : last.frames ≡ root ∷ []
   pub head : root.head ≡ Node NODE_ROOT
-  pub position : root.position ≡ p.Left (ROOT + 1)
-  pub nothing : items last.left ≡ []
+  pub position : root.position ≡ p.InRow (ROOT + 1)
+  pub nothing : items last.remaining ≡ []
 
 -- a whole text is read, and as many turns are counted: one for each step and one more, at most fifteen for two items and two more, and at most four for
 -- each item, seven for each level of nesting, and two more
 pub record IsReadTo (Counted : ℕ → Type 0) (ts : List Token) (s : State) : Type 0 where
-  pub through : IsThrough (begins ts)
+  pub through : IsThrough (initial_machine ts)
   pub turns : ℕ
   pub counted : Counted turns
   pub each_step : turns ≡ through.steps + 1
   pub few : 2 * turns ≤ 15 * length (items ts) + 4
   pub few_in_levels : turns ≤ 4 * length (items ts) + 3586
-  pub trees : s.trees ≡ node NODE_ROOT (forget (with_leading true through.root.row through.last.left)) empty
+  pub trees : s.trees ≡ node NODE_ROOT (forget (with_leading true through.root.children through.last.remaining)) empty
   pub nodes : s.open_nodes ≡ []
   pub faults : s.faults ≡ through.last.faults
 
 -- the positions of what is open, the innermost first
-abbrev pub places_on : List Mark → List Position
-places_on [] = []
-places_on (m ∷ ms) = places_on ms ++ m.position ∷ []
+abbrev pub positions_on : List Mark → List Position
+positions_on [] = []
+positions_on (m ∷ ms) = positions_on ms ++ m.position ∷ []
 
 -- their weights
 abbrev pub measures : List Position → ℕ
@@ -136,19 +137,19 @@ measures [] = 0
 measures (x ∷ xs) = measure x + measures xs
 
 -- what is added where a node may begin without an item
-abbrev pub begin_measure_at : List Token → Position → ℕ
-begin_measure_at [] x = 0
-begin_measure_at (t ∷ ts) x = begin_measure x
+abbrev pub start_measure_at : List Token → Position → ℕ
+start_measure_at [] x = 0
+start_measure_at (t ∷ ts) x = start_measure x
 
 -- so it is at the innermost position
-abbrev pub begin_measure_on : List Token → List Position → ℕ
-begin_measure_on ts [] = 0
-begin_measure_on ts (x ∷ xs) = begin_measure_at ts x
+abbrev pub start_measure_on : List Token → List Position → ℕ
+start_measure_on ts [] = 0
+start_measure_on ts (x ∷ xs) = start_measure_at ts x
 
 -- how much there is to do with some items at some positions
 abbrev pub cost : List Token → List Position → ℕ
-cost ts xs = 100 * length ts + measures xs + begin_measure_on ts xs
+cost ts xs = 100 * length ts + measures xs + start_measure_on ts xs
 
 -- how much there is still to do
 abbrev pub work : State → ℕ
-work s = cost (items_left s) (places_on s.marks)
+work s = cost (items_remaining s) (positions_on s.marks)

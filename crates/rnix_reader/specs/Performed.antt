@@ -4,8 +4,8 @@ use Rattle.rnix_kinds.specs.declared.kinds.SyntaxKind.TheVariants.{NODE_ROOT}
 use Rattle.rnix_green.specs.Draft.{is_checkpoint_of}
 use Rattle.rnix_grammar.specs.declared.action.Action.{Action}
 use Rattle.rnix_grammar.specs.declared.action.Action.TheVariants as a
-use Rattle.rnix_grammar.specs.declared.begin.Begin.{Begin}
-use Rattle.rnix_grammar.specs.declared.begin.Begin.TheVariants as b
+use Rattle.rnix_grammar.specs.declared.operand_start.OperandStart.{OperandStart}
+use Rattle.rnix_grammar.specs.declared.operand_start.OperandStart.TheVariants as b
 use Rattle.rnix_grammar.specs.declared.position.Position.{Position}
 use Rattle.rnix_grammar.specs.declared.position.Position.TheVariants as p
 use Rattle.rnix_grammar.specs.Actions.{action_at}
@@ -19,14 +19,14 @@ use Rattle.rnix_grammar.specs.Tables.{depth_limit, stops}
 use Rattle.rnix_reader.specs.declared.mark.Mark.{Mark}
 use Rattle.rnix_reader.specs.declared.pattern_names.Names.{Names}
 use Rattle.rnix_reader.specs.PatternNames.{entries_in, PatternOpened, PatternClosed, EntryNamed, EntryClosed}
-use Rattle.rnix_reader.specs.State.{State, items_left, IsNextItem, bumped, ended, failed}
+use Rattle.rnix_reader.specs.State.{State, items_remaining, IsNextItem, bumped, ended, failed}
 use Rattle.rnix_reader.specs.FrameSteps.{moved_to, node_started, node_begun, leaf_node_made, entry_begun, second_begun, node_wrapped, application_begun, or_applied, parameter_read, operand_begun, node_operand_begun, legacy_let_begun, lambda_begun, bound_lambda_begun, pattern_lambda_begun, begins_with}
 use Rattle.rnix_reader.specs.Reported.{unwanted_reported, extra_reported, stray_reported, limit_reported, end_reported, second_reported}
 
 -- an operand of a level begins with this token, inside so many counted positions
-abbrev pub begun_as : Begin → ℕ → ℕ → Token → State → State
+abbrev pub begun_as : OperandStart → ℕ → ℕ → Token → State → State
 begun_as (b.Leaf k) level d t s = leaf_node_made k (operand_begun (p.AfterOperand level selection_level) d s)
-begun_as (b.Node k left max_bp) level d t s = node_operand_begun k (p.Left left) (p.AfterOperand level max_bp) d s
+begun_as (b.Node k index max_bp) level d t s = node_operand_begun k (p.InRow index) (p.AfterOperand level max_bp) d s
 begun_as b.LegacyLet level d t s = legacy_let_begun (p.AfterOperand level no_level) d s
 begun_as b.NameLambda level d t s = parameter_read (lambda_begun (p.AfterOperand level selection_level) d s)
 begun_as b.BoundLambda level d t s = bound_lambda_begun (p.AfterOperand level selection_level) d s
@@ -40,7 +40,7 @@ operand_with level d (Some t) us s = begun_as (begins_with level t us) level d t
 
 -- so it is with the items that are left
 abbrev pub operand_read : ℕ → ℕ → State → State
-operand_read level d s = operand_with level d (head_of (items_left s)) (tail_of (items_left s)) s
+operand_read level d s = operand_with level d (head_of (items_remaining s)) (tail_of (items_remaining s)) s
 
 -- an operand of a level, which the limit of nesting counts or not
 abbrev pub expression_read : ℕ → Bool → ℕ → State → State
@@ -49,7 +49,7 @@ expression_read level false d s = operand_read level d s
 
 -- a node's row goes on after a position, and an operand of the row is read
 abbrev pub part_read : ℕ → Bool → ℕ → Mark → State → State
-part_read level counted after m s = expression_read level counted m.depth (moved_to (p.Left after) m s)
+part_read level counted after m s = expression_read level counted m.depth (moved_to (p.InRow after) m s)
 
 -- an operand is applied to the next one, its argument, which is read
 abbrev pub argument_read : ℕ → Mark → State → State
@@ -64,15 +64,15 @@ performed a.CloseDoubleBind m second s = second_reported second s
 performed a.Finish m second s = s
 performed a.EndOperand m second s = s
 performed a.Extra m second s = extra_reported (moved_to m.position m s)
-performed (a.Take after) m second s = bumped NODE_ROOT (moved_to (p.Left after) m s)
-performed (a.Miss after) m second s = failed ended_fault (moved_to (p.Left after) m s)
-performed (a.MissWanted until after) m second s = end_reported until (moved_to (p.Left after) m s)
-performed (a.Run until after) m second s = unwanted_reported until (moved_to (p.Left after) m s)
-performed (a.Leaf k after) m second s = leaf_node_made k (moved_to (p.Left after) m s)
-performed (a.Open k inside after) m second s = node_begun k (p.Left inside) m.depth (moved_to (p.Left after) m s)
-performed (a.Begin k inside after) m second s = node_started k (p.Left inside) m.depth (moved_to (p.Left after) m s)
-performed (a.Entry after) m second s = entry_begun (p.Left after) m s
-performed (a.DoubleBind after) m second s = second_begun (p.Left after) m s
+performed (a.Take after) m second s = bumped NODE_ROOT (moved_to (p.InRow after) m s)
+performed (a.Miss after) m second s = failed ended_fault (moved_to (p.InRow after) m s)
+performed (a.MissWanted until after) m second s = end_reported until (moved_to (p.InRow after) m s)
+performed (a.Run until after) m second s = unwanted_reported until (moved_to (p.InRow after) m s)
+performed (a.Leaf k after) m second s = leaf_node_made k (moved_to (p.InRow after) m s)
+performed (a.Open k inside after) m second s = node_begun k (p.InRow inside) m.depth (moved_to (p.InRow after) m s)
+performed (a.OpenEmpty k inside after) m second s = node_started k (p.InRow inside) m.depth (moved_to (p.InRow after) m s)
+performed (a.Entry after) m second s = entry_begun (p.InRow after) m s
+performed (a.DoubleBind after) m second s = second_begun (p.InRow after) m s
 performed (a.Read level counted after) m second s = part_read level counted after m s
 performed (a.Wrap k inside max_bp) m second s = bumped k (node_wrapped k inside (p.AfterOperand (min_bp_of m.position) max_bp) m s)
 performed a.Apply m second s = argument_read (min_bp_of m.position) m s
@@ -96,7 +96,7 @@ Performed action m s n s' n' = s' ≡ performed action m n.second s
 
 -- the action at a position
 abbrev pub action_of : Position → State → Action
-action_of position s = action_at position (head_kind (items_left s)) (touches s.prev_end (items_left s))
+action_of position s = action_at position (head_kind (items_remaining s)) (touches s.prev_end (items_remaining s))
 
 -- the action goes on with an operand
 abbrev pub is_continuation : Action → Bool
@@ -125,18 +125,18 @@ IsReady a.ClosePattern m s n = 0 < length s.open_nodes
 IsReady a.CloseEntry m s n = 0 < length s.open_nodes
 IsReady a.CloseDoubleBind m s n = (0 < length s.open_nodes) × (n.second ≤ s.prev_end)
 IsReady a.Finish m s n = 0 < length s.open_nodes
-IsReady a.Extra m s n = is_there (head_kind (items_left (moved_to m.position m s))) ≡ true
-IsReady (a.Run until after) m s n = stops until (head_kind (items_left (moved_to (p.Left after) m s))) ≡ false
+IsReady a.Extra m s n = is_there (head_kind (items_remaining (moved_to m.position m s))) ≡ true
+IsReady (a.Run until after) m s n = stops until (head_kind (items_remaining (moved_to (p.InRow after) m s))) ≡ false
 IsReady (a.Wrap k inside max_bp) m s n = IsCheckpoint m s
 IsReady a.Apply m s n = IsCheckpoint m s
 IsReady a.ApplyOr m s n = IsCheckpoint m s
 IsReady action m s n = Unit {0}
 
 -- an operand that begins with a pattern opens a set of names
-abbrev pub opens_pattern : Begin → Bool
+abbrev pub opens_pattern : OperandStart → Bool
 opens_pattern b.BoundLambda = true
 opens_pattern b.PatternLambda = true
-opens_pattern begin = false
+opens_pattern how = false
 
 -- the next items begin with a pattern
 abbrev pub opens_on : ℕ → List Token → Bool
@@ -145,7 +145,7 @@ opens_on level (t ∷ us) = opens_pattern (begins_with level t us)
 
 -- an operand, counted by the limit or not, may begin with it inside so many counted positions
 abbrev pub opens_in : ℕ → Bool → ℕ → State → Bool
-opens_in depth counted level s = if counted && nat_le depth_limit depth then false else opens_on level (items_left s)
+opens_in depth counted level s = if counted && nat_le depth_limit depth then false else opens_on level (items_remaining s)
 
 -- a set of names is opened, or the names stay
 abbrev pub NamesFor : Bool → Names → Names → Type 0
@@ -154,7 +154,7 @@ NamesFor false n n' = n' ≡ n
 
 -- what the operand of a row makes of the names
 abbrev pub PartNames : ℕ → Bool → ℕ → Mark → State → Names → Names → Type 0
-PartNames level counted after m s n n' = NamesFor (opens_in m.depth counted level (moved_to (p.Left after) m s)) n n'
+PartNames level counted after m s n n' = NamesFor (opens_in m.depth counted level (moved_to (p.InRow after) m s)) n n'
 
 -- what an argument makes of the names
 abbrev pub ArgumentNames : ℕ → Mark → State → Names → Names → Type 0

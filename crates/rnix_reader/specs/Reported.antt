@@ -8,12 +8,12 @@ use Rattle.rnix_grammar.specs.Tables.{wanted_kinds}
 use Rattle.rnix_grammar.specs.AnnotatedForest.{Token, Stray, Unwanted, Extra}
 use Rattle.rnix_grammar.specs.UnwantedRun.{run_of}
 use Rattle.rnix_grammar.specs.Reports.{report}
-use Rattle.rnix_reader.specs.State.{State, items_left, eaten, skipped, started, ended, failed}
+use Rattle.rnix_reader.specs.State.{State, items_remaining, eaten, skipped, started, ended, failed}
 use Rattle.rnix_reader.specs.FrameSteps.{leaf_node_made}
 
 -- the items that come next, up to one that stops a run
 abbrev pub next_run : ExpectedSet → State → List Token
-next_run until s = run_of until (items_left s)
+next_run until s = run_of until (items_remaining s)
 
 -- an error node over the items that come next, up to one that stops a run
 abbrev pub error_over : ExpectedSet → State → State

@@ -6,7 +6,7 @@ use Rattle.rnix_green.specs.Forest.{Forest, join, tree_count}
 use Rattle.rnix_green.specs.Draft.{Draft, OpenNode, node_closed}
 use Rattle.rnix_grammar.specs.Fault.{Fault, fault_of}
 use Rattle.rnix_grammar.specs.AnnotatedForest.{Token, row_of, forget, end_from, head_of}
-use Rattle.rnix_grammar.specs.Layout.{items, from_item, trivia_before, tail_of, left_after, with_trivia}
+use Rattle.rnix_grammar.specs.Layout.{items, from_item, trivia_before, tail_of, remaining_after, with_trivia}
 use Rattle.rnix_proof_lemmas.specs.Machine.{leaf_in, end_of}
 use Rattle.rnix_reader.specs.declared.mark.Mark.{Mark}
 use Rattle.rnix_reader.specs.declared.parser.Parser.{Parser}
@@ -36,12 +36,12 @@ abbrev pub with_marks : List Mark → State → State
 with_marks ms s = record { rest = s.rest; trees = s.trees; open_nodes = s.open_nodes; faults = s.faults; prev_end = s.prev_end; marks = ms }
 
 -- the tokens that are left and are no trivia
-abbrev pub items_left : State → List Token
-items_left s = items s.rest
+abbrev pub items_remaining : State → List Token
+items_remaining s = items s.rest
 
 -- this item is the next
 abbrev pub IsNextItem : Token → State → Type 0
-IsNextItem t s = head_of (items_left s) ≡ Some t
+IsNextItem t s = head_of (items_remaining s) ≡ Some t
 
 -- the trivia before the next item are read
 unfoldable pub eaten : State → State
@@ -72,7 +72,7 @@ bumped k s = taken k (eaten s)
 -- a run of items is read, as leaves of their own kinds
 unfoldable pub skipped : List Token → State → State
 skipped run s = record {
-  rest = left_after (row_of run) s.rest;
+  rest = remaining_after (row_of run) s.rest;
   trees = join s.trees (forget (with_trivia (row_of run) s.rest));
   open_nodes = s.open_nodes;
   faults = s.faults;

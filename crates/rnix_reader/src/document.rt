@@ -40,7 +40,7 @@ pub fn read_tokens(
     let mut turns = Uncounted;
     let at = p.here();
     p.builder.start_node(SyntaxKind::NODE_ROOT)?;
-    p.mark(Position::Left(ROOT), 0, at)?;
+    p.mark(Position::InRow(ROOT), 0, at)?;
     p.ordered();
     read_all(&mut p, &mut names, &mut turns)?;
     let Parser {

@@ -1,7 +1,7 @@
 //! Entries and second names of patterns. The names of entries are kept.
 
 ghost use Rattle.std.specs.Prelude.{◌≡◌, ◌≤◌, ◌<◌, length, OnOk};
-ghost use Rattle.rnix_grammar.specs.declared.position.Position.TheVariants.{Left};
+ghost use Rattle.rnix_grammar.specs.declared.position.Position.TheVariants.{InRow};
 ghost use Rattle.rnix_grammar.specs.AnnotatedForest.{Token};
 ghost use Rattle.rnix_reader.specs.PatternNames.{EntryNamed};
 ghost use Rattle.rnix_reader.specs.Performed.{DoubleBindOpened, EntryReported};
@@ -48,7 +48,7 @@ pub(crate) fn open_entry<'t>(
     mark: Mark,
     after: u8,
 ) -> Result<(), AllocError>
-    ensures state { OnOk result (state p.new ≡ entry_begun (Left after) mark (state p.old)) }
+    ensures state { OnOk result (state p.new ≡ entry_begun (InRow after) mark (state p.old)) }
     ensures names { (t : Token) → IsNextItem t (state p.old) → OnOk result (EntryNamed t names.old names.new) }
 {
     if let Some(name) = p.item() {
@@ -66,7 +66,7 @@ pub(crate) fn open_double_bind<'t>(
     mark: Mark,
     after: u8,
 ) -> Result<(), AllocError>
-    ensures state { OnOk result (state p.new ≡ second_begun (Left after) mark (state p.old)) }
+    ensures state { OnOk result (state p.new ≡ second_begun (InRow after) mark (state p.old)) }
     ensures names { (t : Token) → IsNextItem t (state p.old) → OnOk result (DoubleBindOpened t.start names.old names.new) }
 {
     if let Some(first) = p.item() {

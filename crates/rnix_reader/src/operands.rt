@@ -1,16 +1,16 @@
 //! How operands begin.
 
 ghost use Rattle.std.specs.Prelude.{◌≡◌, OnOk, None, if◌then◌else◌};
-ghost use Rattle.rnix_grammar.specs.Begins.{second_kind};
+ghost use Rattle.rnix_grammar.specs.OperandStarts.{second_kind};
 ghost use Rattle.rnix_grammar.specs.AnnotatedForest.{head_kind};
 ghost use Rattle.rnix_grammar.specs.Layout.{tail_of};
 ghost use Rattle.rnix_reader.specs.Placed.{token_of};
-ghost use Rattle.rnix_reader.specs.State.{state, items_left, IsNextItem};
+ghost use Rattle.rnix_reader.specs.State.{state, items_remaining, IsNextItem};
 ghost use Rattle.rnix_reader.specs.FrameSteps.{operand_begun, looks_behind, is_brace, begins_with, binding_read, lambda_begun, leaf_node_made, node_operand_begun, parameter_read};
 
 use crate::cursor::PlacedToken;
 use crate::parser::Parser;
-use rnix_grammar::{Begin, LAMBDA, Position, begin_of};
+use rnix_grammar::{LAMBDA, OperandStart, Position, operand_start_of};
 use rnix_kinds::SyntaxKind;
 use std::alloc::AllocError;
 
@@ -35,7 +35,7 @@ impl<'t> Parser<'t> {
     // The kind of the second item, where it matters to an operand that begins with a token of the kind.
     #[inline(always)]
     fn second_of(&self, kind: SyntaxKind) -> Option<SyntaxKind>
-        ensures { result ≡ (if looks_behind kind then head_kind (tail_of (items_left (state self.now))) else None) }
+        ensures { result ≡ (if looks_behind kind then head_kind (tail_of (items_remaining (state self.now))) else None) }
     {
         if looks_behind(kind) {
             return self.cursor.second();
@@ -46,7 +46,7 @@ impl<'t> Parser<'t> {
     // The kind of the third item, where it matters.
     #[inline(always)]
     fn third_of(&self, kind: SyntaxKind) -> Option<SyntaxKind>
-        ensures { result ≡ (if is_brace kind then second_kind (tail_of (items_left (state self.now))) else None) }
+        ensures { result ≡ (if is_brace kind then second_kind (tail_of (items_remaining (state self.now))) else None) }
     {
         if is_brace(kind) {
             return self.cursor.third();
@@ -55,16 +55,16 @@ impl<'t> Parser<'t> {
     }
 
     /// Returns how an operand begins, by the next item.
-    #[tactic(auto, using(crate::proofs::BeginLemmas::begin_alone))]
+    #[tactic(auto, using(crate::proofs::OperandStartLemmas::start_alone))]
     #[inline(always)]
-    pub(crate) fn beginning(&self, level: u8, first: PlacedToken<'_>) -> Begin
+    pub(crate) fn operand_start(&self, level: u8, first: PlacedToken<'_>) -> OperandStart
         requires { IsNextItem (token_of first) (state self.now) }
-        ensures { result ≡ begins_with level (token_of first.entry) (tail_of (items_left (state self.now))) }
+        ensures { result ≡ begins_with level (token_of first.entry) (tail_of (items_remaining (state self.now))) }
     {
         let kind = first.kind;
         let second = self.second_of(kind);
         let third = self.third_of(kind);
-        begin_of(level, (kind, first.text), second, third)
+        operand_start_of(level, (kind, first.text), second, third)
     }
 
     /// Reads the parameter of a function.
@@ -125,7 +125,7 @@ impl<'t> Parser<'t> {
         ensures { OnOk result (state self.new ≡ lambda_begun over depth (state self.old)) }
     {
         self.open_operand(over, depth)?;
-        self.open_node(SyntaxKind::NODE_LAMBDA, Position::Left(LAMBDA), depth)?;
+        self.open_node(SyntaxKind::NODE_LAMBDA, Position::InRow(LAMBDA), depth)?;
         Ok(())
     }
 }

@@ -20,7 +20,7 @@ pub(crate) struct Parser<'t> {
     /// Where the last item ended, in bytes.
     pub(crate) prev_end: usize,
     pub(crate) marks: Vec<Mark>,
-    ghost left: { builder.left ≡ texts_in cursor },
+    ghost remaining: { builder.remaining ≡ texts_in cursor },
 }
 
 impl<'t> Parser<'t> {
@@ -30,28 +30,28 @@ impl<'t> Parser<'t> {
     ghost use Rattle.rnix_grammar.specs.Fault.{fault_of, unexpected_eof as ended_fault};
     ghost use Rattle.rnix_grammar.specs.AnnotatedForest.{head_of, head_kind, touches};
     ghost use Rattle.rnix_reader.specs.Placed.{token_of, AreInOrder};
-    ghost use Rattle.rnix_reader.specs.State.{state, items_left, eaten, bumped, started, started_at, ended, failed, pushed};
+    ghost use Rattle.rnix_reader.specs.State.{state, items_remaining, eaten, bumped, started, started_at, ended, failed, pushed};
     ghost use Rattle.rnix_reader.specs.Erase.{mark_at};
 
     /// Returns the next token that is not trivia.
     #[tactic(auto, using(crate::proofs::CursorLemmas::head_items))]
     #[inline(always)]
     pub(crate) fn item(&self) -> Option<PlacedToken<'t>>
-        ensures { option_map token_of result ≡ head_of (items_left (state self.now)) }
+        ensures { option_map token_of result ≡ head_of (items_remaining (state self.now)) }
     {
         self.cursor.item()
     }
 
     /// Returns the kind of the next token that is not trivia.
     pub(crate) fn peek(&self) -> Option<SyntaxKind>
-        ensures { result ≡ head_kind (items_left (state self.now)) }
+        ensures { result ≡ head_kind (items_remaining (state self.now)) }
     {
         self.cursor.first()
     }
 
     /// Returns whether no trivia are between the last item and the next.
     pub(crate) fn touches(&self) -> bool
-        ensures { result ≡ touches (state self.now).prev_end (items_left (state self.now)) }
+        ensures { result ≡ touches (state self.now).prev_end (items_remaining (state self.now)) }
     {
         match self.item() {
             Some(item) => item.start == self.prev_end,

@@ -1,15 +1,15 @@
 //! Reading by the grammar's table: one step after another, until the root is complete.
 
 ghost use Rattle.std.specs.Prelude.{◌≡◌, [], OnOk, true};
-ghost use Rattle.rnix_grammar.specs.declared.begin.Begin.TheVariants.{Leaf};
-ghost use Rattle.rnix_grammar.specs.declared.position.Position.TheVariants.{Left, AfterOperand};
-ghost use Rattle.rnix_proof_lemmas.specs.Machine.{begins, min_bp_of};
+ghost use Rattle.rnix_grammar.specs.declared.operand_start.OperandStart.TheVariants.{Leaf};
+ghost use Rattle.rnix_grammar.specs.declared.position.Position.TheVariants.{InRow, AfterOperand};
+ghost use Rattle.rnix_proof_lemmas.specs.Machine.{initial_machine, min_bp_of};
 ghost use Rattle.rnix_reader.specs.Erase.{erase};
 ghost use Rattle.rnix_reader.specs.Holds.{IsReadTo};
 ghost use Rattle.rnix_reader.specs.PatternNames.{entries_in, PatternOpened};
 ghost use Rattle.rnix_reader.specs.Performed.{ArgumentNames, IsCheckpoint, IsReady, NamesAfter, NamesFor, PartNames, Performed, action_of, argument_read, begun_as, is_continuation, is_row_action, expression_read, opens_in, opens_on, opens_pattern, operand_read, part_read};
 ghost use Rattle.rnix_reader.specs.Placed.{token_of, AreInOrder};
-ghost use Rattle.rnix_reader.specs.State.{state, items_left, IsNextItem};
+ghost use Rattle.rnix_reader.specs.State.{state, items_remaining, IsNextItem};
 ghost use Rattle.rnix_reader.specs.FrameSteps.{bound_lambda_begun, legacy_let_begun, pattern_lambda_begun};
 
 use crate::cursor::PlacedToken;
@@ -19,9 +19,9 @@ use crate::parser::Parser;
 use crate::pattern_names::Names;
 use crate::turns::Turns;
 use rnix_grammar::{
-    APPLICATION_LEVEL, APPLIED, Action, BIN_OP_END, BOUND_PATTERN, Begin, ExpectedSet, LEGACY_LET,
-    NO_LEVEL, PATTERN, Position, SELECTION_LEVEL, continue_action, is_past, left_action,
-    may_continue,
+    APPLICATION_LEVEL, APPLIED, Action, BIN_OP_END, BOUND_PATTERN, ExpectedSet, LEGACY_LET,
+    NO_LEVEL, OperandStart, PATTERN, Position, SELECTION_LEVEL, action_at_slot, continue_action,
+    is_past, may_continue,
 };
 use rnix_kinds::SyntaxKind;
 use std::alloc::AllocError;
@@ -31,7 +31,7 @@ const DEPTH_LIMIT: usize = 512;
 
 // Begins an operand that is one token.
 #[inline(always)]
-fn begin_leaf<'t>(
+fn start_leaf<'t>(
     p: &mut Parser<'t>,
     kind: SyntaxKind,
     level: u8,
@@ -46,18 +46,18 @@ fn begin_leaf<'t>(
 
 // Begins an operand that is `let {`, with `let`.
 #[inline(always)]
-fn begin_legacy_let(p: &mut Parser<'_>, over: Position, depth: usize) -> Result<(), AllocError>
+fn start_let(p: &mut Parser<'_>, over: Position, depth: usize) -> Result<(), AllocError>
     ensures { OnOk result (state p.new ≡ legacy_let_begun over depth (state p.old)) }
 {
     let kind = SyntaxKind::NODE_LEGACY_LET;
-    p.node_operand(kind, Position::Left(LEGACY_LET), over, depth)?;
+    p.node_operand(kind, Position::InRow(LEGACY_LET), over, depth)?;
     p.bump(kind)?;
     Ok(())
 }
 
 // Begins a function whose parameter is a pattern, with the name that is bound to the pattern.
 #[inline(always)]
-fn begin_bound_lambda<'t>(
+fn start_bound_lambda<'t>(
     p: &mut Parser<'t>,
     names: &mut Names<'t>,
     over: Position,
@@ -69,7 +69,7 @@ fn begin_bound_lambda<'t>(
     p.lambda(over, depth)?;
     p.open_node(
         SyntaxKind::NODE_PATTERN,
-        Position::Left(BOUND_PATTERN),
+        Position::InRow(BOUND_PATTERN),
         depth,
     )?;
     p.binding()?;
@@ -79,7 +79,7 @@ fn begin_bound_lambda<'t>(
 
 // Begins a function whose parameter is a pattern, with `{`.
 #[inline(always)]
-fn begin_pattern_lambda<'t>(
+fn start_pattern_lambda<'t>(
     p: &mut Parser<'t>,
     names: &mut Names<'t>,
     over: Position,
@@ -89,18 +89,18 @@ fn begin_pattern_lambda<'t>(
     ensures names { OnOk result (PatternOpened names.old names.new) }
 {
     p.lambda(over, depth)?;
-    p.open_node(SyntaxKind::NODE_PATTERN, Position::Left(PATTERN), depth)?;
+    p.open_node(SyntaxKind::NODE_PATTERN, Position::InRow(PATTERN), depth)?;
     p.bump(SyntaxKind::NODE_PATTERN)?;
     names.open_pattern()?;
     Ok(())
 }
 
-// Begins an operand with its first item.
+// Starts an operand with its first item.
 #[inline(never)]
-fn begin<'t>(
+fn start_operand<'t>(
     p: &mut Parser<'t>,
     names: &mut Names<'t>,
-    how: Begin,
+    how: OperandStart,
     level: u8,
     depth: usize,
     first: PlacedToken<'t>,
@@ -111,23 +111,23 @@ fn begin<'t>(
 {
     let over = Position::AfterOperand(level, SELECTION_LEVEL);
     match how {
-        Begin::Leaf(kind) => begin_leaf(p, kind, level, depth, first)?,
-        Begin::Node(kind, position, max_bp) => {
+        OperandStart::Leaf(kind) => start_leaf(p, kind, level, depth, first)?,
+        OperandStart::Node(kind, position, max_bp) => {
             p.node_operand(
                 kind,
-                Position::Left(position),
+                Position::InRow(position),
                 Position::AfterOperand(level, max_bp),
                 depth,
             )?;
         }
-        Begin::LegacyLet => begin_legacy_let(p, Position::AfterOperand(level, NO_LEVEL), depth)?,
-        Begin::NameLambda => {
+        OperandStart::LegacyLet => start_let(p, Position::AfterOperand(level, NO_LEVEL), depth)?,
+        OperandStart::NameLambda => {
             p.lambda(over, depth)?;
             p.parameter()?;
         }
-        Begin::BoundLambda => begin_bound_lambda(p, names, over, depth)?,
-        Begin::PatternLambda => begin_pattern_lambda(p, names, over, depth)?,
-        Begin::Stray => {
+        OperandStart::BoundLambda => start_bound_lambda(p, names, over, depth)?,
+        OperandStart::PatternLambda => start_pattern_lambda(p, names, over, depth)?,
+        OperandStart::Stray => {
             p.open_operand(over, depth)?;
             p.stray(first)?;
         }
@@ -144,13 +144,13 @@ fn operand<'t>(
     depth: usize,
 ) -> Result<(), AllocError>
     ensures state { OnOk result (state p.new ≡ operand_read level depth (state p.old)) }
-    ensures names { OnOk result (NamesFor (opens_on level (items_left (state p.old))) names.old names.new) }
+    ensures names { OnOk result (NamesFor (opens_on level (items_remaining (state p.old))) names.old names.new) }
 {
     match p.item() {
         Some(first) => {
-            match p.beginning(level, first) {
-                Begin::Leaf(kind) => begin_leaf(p, kind, level, depth, first)?,
-                how => begin(p, names, how, level, depth, first)?,
+            match p.operand_start(level, first) {
+                OperandStart::Leaf(kind) => start_leaf(p, kind, level, depth, first)?,
+                how => start_operand(p, names, how, level, depth, first)?,
             }
         }
         None => p.fail_at_end()?,
@@ -193,7 +193,7 @@ fn read_part<'t>(
     ensures names { OnOk result (PartNames level counted after mark (state p.old) names.old names.new) }
 {
     let depth = mark.depth;
-    p.resume_at(mark, Position::Left(after))?;
+    p.resume_at(mark, Position::InRow(after))?;
     read(p, names, level, counted, depth)?;
     Ok(())
 }
@@ -212,7 +212,7 @@ fn apply<'t>(
 {
     let depth = mark.depth;
     let over = Position::AfterOperand(min_bp, APPLICATION_LEVEL);
-    p.wrap(mark, over, SyntaxKind::NODE_APPLY, Position::Left(APPLIED))?;
+    p.wrap(mark, over, SyntaxKind::NODE_APPLY, Position::InRow(APPLIED))?;
     read(p, names, SELECTION_LEVEL, false, depth)?;
     Ok(())
 }
@@ -245,7 +245,7 @@ fn step<'t>(
         Action::Run(until, after) => p.unwanted_run(mark, until, after)?,
         Action::Leaf(kind, after) => p.leaf(mark, kind, after)?,
         Action::Open(kind, inside, after) => p.open(mark, kind, inside, after)?,
-        Action::Begin(kind, inside, after) => p.begin(mark, kind, inside, after)?,
+        Action::OpenEmpty(kind, inside, after) => p.open_empty(mark, kind, inside, after)?,
         Action::Entry(after) => open_entry(p, names, mark, after)?,
         Action::DoubleBind(after) => open_double_bind(p, names, mark, after)?,
         Action::Read(level, counted, after) => read_part(p, names, mark, level, counted, after)?,
@@ -307,15 +307,15 @@ fn after_operand<'t>(
     Ok(())
 }
 
-// The action at a place of a row. Where nothing but the end of the node is to be done, no item is looked at.
+// The action at a position of a row. Where nothing but the end of the node is to be done, no item is looked at.
 #[inline(always)]
-fn action_in_row(p: &Parser<'_>, left: u8) -> Action
-    ensures { result ≡ action_of (Left left) (state p.now) }
+fn action_in_row(p: &Parser<'_>, index: u8) -> Action
+    ensures { result ≡ action_of (InRow index) (state p.now) }
 {
-    if is_past(left) {
+    if is_past(index) {
         return Action::Close;
     }
-    left_action(left, p.peek(), p.touches())
+    action_at_slot(index, p.peek(), p.touches())
 }
 
 /// Reads until the root is complete, and counts the turns: at most fifteen for two items, and two more.
@@ -325,7 +325,7 @@ pub(crate) fn read_all<'t, T: Turns>(
     names: &mut Names<'t>,
     turns: &mut T,
 ) -> Result<(), AllocError>
-    requires state { state p.old ≡ erase (begins (state p.old).rest) }
+    requires state { state p.old ≡ erase (initial_machine (state p.old).rest) }
     requires order { AreInOrder 0 (state p.old).rest }
     requires sets { names.old.sets.items ≡ [] }
     requires entries { entries_in names.old ≡ [] }
@@ -341,8 +341,8 @@ pub(crate) fn read_all<'t, T: Turns>(
             Position::Right(level) => {
                 read_part(p, names, mark, level, false, BIN_OP_END)?;
             }
-            Position::Left(left) => {
-                let action = action_in_row(p, left);
+            Position::InRow(index) => {
+                let action = action_in_row(p, index);
                 if let Action::Finish = action {
                     p.eat_trivia()?;
                     p.finish_node()?;

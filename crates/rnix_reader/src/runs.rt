@@ -6,7 +6,7 @@ ghost use Rattle.rnix_grammar.specs.Tables.{stops};
 ghost use Rattle.rnix_proof_lemmas.specs.Allowed.{is_there};
 ghost use Rattle.rnix_grammar.specs.AnnotatedForest.{extent_of, head_kind};
 ghost use Rattle.rnix_reader.specs.Placed.{token_of};
-ghost use Rattle.rnix_reader.specs.State.{state, items_left, skipped, IsNextItem};
+ghost use Rattle.rnix_reader.specs.State.{state, items_remaining, skipped, IsNextItem};
 ghost use Rattle.rnix_reader.specs.Reported.{end_reported, error_over, extra_reported, limit_reported, next_run, stray_reported, unwanted_reported};
 ghost use Rattle.rnix_reader.specs.FrameSteps.{leaf_node_made};
 
@@ -72,7 +72,7 @@ impl<'t> Parser<'t> {
 
     /// Makes an error node of a run of items where others are expected, and reports it.
     pub(crate) fn unwanted(&mut self, until: ExpectedSet) -> Result<(), AllocError>
-        requires { stops until (head_kind (items_left (state self.old))) ≡ false }
+        requires { stops until (head_kind (items_remaining (state self.old))) ≡ false }
         ensures { OnOk result (state self.new ≡ unwanted_reported until (state self.old)) }
     {
         if let Some(first) = self.item() {
@@ -85,7 +85,7 @@ impl<'t> Parser<'t> {
 
     /// Makes an error node of all that is left after the root's expression, and reports it.
     pub(crate) fn extra(&mut self) -> Result<(), AllocError>
-        requires { is_there (head_kind (items_left (state self.old))) ≡ true }
+        requires { is_there (head_kind (items_remaining (state self.old))) ≡ true }
         ensures { OnOk result (state self.new ≡ extra_reported (state self.old)) }
     {
         if let Some(first) = self.item() {

@@ -2,12 +2,12 @@
 
 ghost use Rattle.std.specs.Prelude.{◌≡◌, ◌<◌, length, false, true, OnOk};
 ghost use Rattle.rnix_kinds.specs.declared.kinds.SyntaxKind.TheVariants.{NODE_ROOT};
-ghost use Rattle.rnix_grammar.specs.declared.position.Position.TheVariants.{Left};
+ghost use Rattle.rnix_grammar.specs.declared.position.Position.TheVariants.{InRow};
 ghost use Rattle.rnix_proof_lemmas.specs.Allowed.{is_there};
 ghost use Rattle.rnix_grammar.specs.AnnotatedForest.{head_kind};
 ghost use Rattle.rnix_grammar.specs.Fault.{unexpected_eof as ended_fault};
 ghost use Rattle.rnix_grammar.specs.Tables.{stops};
-ghost use Rattle.rnix_reader.specs.State.{state, items_left, bumped, failed};
+ghost use Rattle.rnix_reader.specs.State.{state, items_remaining, bumped, failed};
 ghost use Rattle.rnix_reader.specs.FrameSteps.{moved_to, node_started, operand_begun, entry_begun, leaf_node_made, node_begun, or_applied, node_wrapped};
 ghost use Rattle.rnix_reader.specs.Performed.{IsCheckpoint};
 ghost use Rattle.rnix_reader.specs.Reported.{end_reported, extra_reported, unwanted_reported};
@@ -59,18 +59,18 @@ impl<'t> Parser<'t> {
     /// Takes the next item as a leaf.
     #[inline(always)]
     pub(crate) fn take(&mut self, mark: Mark, after: u8) -> Result<(), AllocError>
-        ensures { OnOk result (state self.new ≡ bumped NODE_ROOT (moved_to (Left after) mark (state self.old))) }
+        ensures { OnOk result (state self.new ≡ bumped NODE_ROOT (moved_to (InRow after) mark (state self.old))) }
     {
-        self.resume_at(mark, Position::Left(after))?;
+        self.resume_at(mark, Position::InRow(after))?;
         self.bump(SyntaxKind::NODE_ROOT)?;
         Ok(())
     }
 
     /// Reports that the text ends where more is expected.
     pub(crate) fn miss(&mut self, mark: Mark, after: u8) -> Result<(), AllocError>
-        ensures { OnOk result (state self.new ≡ failed ended_fault (moved_to (Left after) mark (state self.old))) }
+        ensures { OnOk result (state self.new ≡ failed ended_fault (moved_to (InRow after) mark (state self.old))) }
     {
-        self.resume_at(mark, Position::Left(after))?;
+        self.resume_at(mark, Position::InRow(after))?;
         self.fail_at_end()?;
         Ok(())
     }
@@ -82,9 +82,9 @@ impl<'t> Parser<'t> {
         until: ExpectedSet,
         after: u8,
     ) -> Result<(), AllocError>
-        ensures { OnOk result (state self.new ≡ end_reported until (moved_to (Left after) mark (state self.old))) }
+        ensures { OnOk result (state self.new ≡ end_reported until (moved_to (InRow after) mark (state self.old))) }
     {
-        self.resume_at(mark, Position::Left(after))?;
+        self.resume_at(mark, Position::InRow(after))?;
         self.missing(until)?;
         Ok(())
     }
@@ -96,17 +96,17 @@ impl<'t> Parser<'t> {
         until: ExpectedSet,
         after: u8,
     ) -> Result<(), AllocError>
-        requires { stops until (head_kind (items_left (moved_to (Left after) mark (state self.old)))) ≡ false }
-        ensures { OnOk result (state self.new ≡ unwanted_reported until (moved_to (Left after) mark (state self.old))) }
+        requires { stops until (head_kind (items_remaining (moved_to (InRow after) mark (state self.old)))) ≡ false }
+        ensures { OnOk result (state self.new ≡ unwanted_reported until (moved_to (InRow after) mark (state self.old))) }
     {
-        self.resume_at(mark, Position::Left(after))?;
+        self.resume_at(mark, Position::InRow(after))?;
         self.unwanted(until)?;
         Ok(())
     }
 
     /// Reports what is left of the text after the root's expression.
     pub(crate) fn extra_run(&mut self, mark: Mark) -> Result<(), AllocError>
-        requires { is_there (head_kind (items_left (moved_to mark.position mark (state self.old)))) ≡ true }
+        requires { is_there (head_kind (items_remaining (moved_to mark.position mark (state self.old)))) ≡ true }
         ensures { OnOk result (state self.new ≡ extra_reported (moved_to mark.position mark (state self.old))) }
     {
         self.resume_at(mark, mark.position)?;
@@ -117,27 +117,27 @@ impl<'t> Parser<'t> {
     /// Makes a node of the next item.
     #[inline(always)]
     pub(crate) fn leaf(&mut self, mark: Mark, kind: SyntaxKind, after: u8) -> Result<(), AllocError>
-        ensures { OnOk result (state self.new ≡ leaf_node_made kind (moved_to (Left after) mark (state self.old))) }
+        ensures { OnOk result (state self.new ≡ leaf_node_made kind (moved_to (InRow after) mark (state self.old))) }
     {
-        self.resume_at(mark, Position::Left(after))?;
+        self.resume_at(mark, Position::InRow(after))?;
         self.leaf_node(kind)?;
         Ok(())
     }
 
     /// Opens a node before reading anything of it.
     #[inline(always)]
-    pub(crate) fn begin(
+    pub(crate) fn open_empty(
         &mut self,
         mark: Mark,
         kind: SyntaxKind,
         inside: u8,
         after: u8,
     ) -> Result<(), AllocError>
-        ensures { OnOk result (state self.new ≡ node_started kind (Left inside) mark.depth (moved_to (Left after) mark (state self.old))) }
+        ensures { OnOk result (state self.new ≡ node_started kind (InRow inside) mark.depth (moved_to (InRow after) mark (state self.old))) }
     {
         let depth = mark.depth;
-        self.resume_at(mark, Position::Left(after))?;
-        self.open_node(kind, Position::Left(inside), depth)?;
+        self.resume_at(mark, Position::InRow(after))?;
+        self.open_node(kind, Position::InRow(inside), depth)?;
         Ok(())
     }
 
@@ -150,18 +150,18 @@ impl<'t> Parser<'t> {
         inside: u8,
         after: u8,
     ) -> Result<(), AllocError>
-        ensures { OnOk result (state self.new ≡ node_begun kind (Left inside) mark.depth (moved_to (Left after) mark (state self.old))) }
+        ensures { OnOk result (state self.new ≡ node_begun kind (InRow inside) mark.depth (moved_to (InRow after) mark (state self.old))) }
     {
-        self.begin(mark, kind, inside, after)?;
+        self.open_empty(mark, kind, inside, after)?;
         self.bump(kind)?;
         Ok(())
     }
 
     /// Opens an entry of a pattern, with its name.
     pub(crate) fn entry(&mut self, mark: Mark, after: u8) -> Result<(), AllocError>
-        ensures { OnOk result (state self.new ≡ entry_begun (Left after) mark (state self.old)) }
+        ensures { OnOk result (state self.new ≡ entry_begun (InRow after) mark (state self.old)) }
     {
-        self.begin(mark, SyntaxKind::NODE_PAT_ENTRY, PAT_ENTRY, after)?;
+        self.open_empty(mark, SyntaxKind::NODE_PAT_ENTRY, PAT_ENTRY, after)?;
         self.leaf_node(SyntaxKind::NODE_IDENT)?;
         Ok(())
     }

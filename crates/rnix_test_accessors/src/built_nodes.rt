@@ -113,8 +113,8 @@ fn describe_empty(alloc: Global, kind: SyntaxKind) -> Result<String, AllocError>
 }
 
 // Asserts what the accessors of nodes without children return, row by row.
-fn assert_empty(rt: &impl Abort, alloc: Global, rows: &[(SyntaxKind, &str)]) -> Result<(), Fail> {
-    for (kind, wanted) in rows {
+fn assert_empty(rt: &impl Abort, alloc: Global, cases: &[(SyntaxKind, &str)]) -> Result<(), Fail> {
+    for (kind, wanted) in cases {
         let name = kind.name();
         assert_eq!(rt;
             describe_empty(alloc, *kind)?.as_str(),
@@ -155,11 +155,11 @@ fn a_literal_of_several_tokens(rt: HostRuntime) -> Result<(), Fail> {
         (SyntaxKind::TOKEN_URI, "x:y"),
         (SyntaxKind::TOKEN_INTEGER, "1"),
     );
-    let rows = [
+    let cases = [
         ((SyntaxKind::TOKEN_FLOAT, "1.5"), "float=1.5;"),
         ((SyntaxKind::TOKEN_INTEGER, "2"), "integer=1;"),
     ];
-    for (last, wanted) in rows {
+    for (last, wanted) in cases {
         let found = describe_built(rt.alloc(), SyntaxKind::NODE_LITERAL, &[uri, one, last])?;
         assert_eq!(rt; found.as_str(), wanted);
     }

@@ -88,9 +88,9 @@ fn describe_first(alloc: Global, kind: SyntaxKind, text: &str) -> Result<String,
 pub fn assert_described(
     rt: &impl Abort,
     alloc: Global,
-    rows: &[(SyntaxKind, &str, &str)],
+    cases: &[(SyntaxKind, &str, &str)],
 ) -> Result<(), Fail> {
-    for (kind, text, wanted) in rows {
+    for (kind, text, wanted) in cases {
         assert_eq!(rt;
             describe_first(alloc, *kind, text)?.as_str(),
             *wanted,

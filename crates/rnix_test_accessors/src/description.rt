@@ -49,7 +49,7 @@ impl Description {
     }
 
     /// Begins the result of an accessor.
-    pub fn begin(&mut self, name: &str) {
+    pub fn write_name(&mut self, name: &str) {
         if !self.written.is_empty() {
             self.write(" ");
         }
@@ -71,7 +71,7 @@ impl Description {
 
     /// A text.
     pub fn text(&mut self, name: &str, found: Option<&str>) {
-        self.begin(name);
+        self.write_name(name);
         self.write(found.unwrap_or("-"));
         self.write(";");
     }
@@ -99,7 +99,7 @@ impl Description {
 
     /// All nodes of a type.
     pub fn all<'t, T: AstNode<'t>>(&mut self, name: &str, found: AstChildren<'t, T>) {
-        self.begin(name);
+        self.write_name(name);
         let mut any = false;
         for node in found {
             self.part(node.syntax().text());
@@ -124,7 +124,7 @@ impl Description {
                 return;
             }
         };
-        self.begin("parts");
+        self.write_name("parts");
         for part in &parts {
             match part {
                 InterpolPart::Literal(content) => self.part(content.text()),

@@ -8,7 +8,7 @@ use std::test::Fail;
 
 #[test]
 fn conditions_and_their_values(rt: HostRuntime) -> Result<(), Fail> {
-    let rows = [
+    let cases = [
         (
             SyntaxKind::NODE_IF_ELSE,
             "if a then b else c",
@@ -25,12 +25,12 @@ fn conditions_and_their_values(rt: HostRuntime) -> Result<(), Fail> {
             "with_token=with; namespace=a; semicolon_token=;; body=b;",
         ),
     ];
-    assert_described(&rt, rt.alloc(), &rows)
+    assert_described(&rt, rt.alloc(), &cases)
 }
 
 #[test]
 fn names_and_what_they_select(rt: HostRuntime) -> Result<(), Fail> {
-    let rows = [
+    let cases = [
         (SyntaxKind::NODE_IDENT, "a", "ident_token=a;"),
         (
             SyntaxKind::NODE_SELECT,
@@ -63,12 +63,12 @@ fn names_and_what_they_select(rt: HostRuntime) -> Result<(), Fail> {
             "interpol_start_token=${; expr=a; interpol_end_token=};",
         ),
     ];
-    assert_described(&rt, rt.alloc(), &rows)
+    assert_described(&rt, rt.alloc(), &cases)
 }
 
 #[test]
 fn sets_and_lets_have_entries(rt: HostRuntime) -> Result<(), Fail> {
-    let rows = [
+    let cases = [
         (
             SyntaxKind::NODE_ATTR_SET,
             "rec { a = 1; inherit b; }",
@@ -93,12 +93,12 @@ fn sets_and_lets_have_entries(rt: HostRuntime) -> Result<(), Fail> {
              attrpath_values=(body = 1;); inherits=(inherit a;); curly_close_token=};",
         ),
     ];
-    assert_described(&rt, rt.alloc(), &rows)
+    assert_described(&rt, rt.alloc(), &cases)
 }
 
 #[test]
 fn entries_have_names_and_values(rt: HostRuntime) -> Result<(), Fail> {
-    let rows = [
+    let cases = [
         (
             SyntaxKind::NODE_ATTRPATH_VALUE,
             "{ a.b = c; }",
@@ -120,12 +120,12 @@ fn entries_have_names_and_values(rt: HostRuntime) -> Result<(), Fail> {
             "l_paren_token=(; expr=a; r_paren_token=);",
         ),
     ];
-    assert_described(&rt, rt.alloc(), &rows)
+    assert_described(&rt, rt.alloc(), &cases)
 }
 
 #[test]
 fn functions_and_their_arguments(rt: HostRuntime) -> Result<(), Fail> {
-    let rows = [
+    let cases = [
         (SyntaxKind::NODE_APPLY, "a b", "lambda=a; argument=b;"),
         (
             SyntaxKind::NODE_LAMBDA,
@@ -139,12 +139,12 @@ fn functions_and_their_arguments(rt: HostRuntime) -> Result<(), Fail> {
         ),
         (SyntaxKind::NODE_IDENT_PARAM, "a: b", "ident=a;"),
     ];
-    assert_described(&rt, rt.alloc(), &rows)
+    assert_described(&rt, rt.alloc(), &cases)
 }
 
 #[test]
 fn patterns_have_entries_and_a_name(rt: HostRuntime) -> Result<(), Fail> {
-    let rows = [
+    let cases = [
         (
             SyntaxKind::NODE_PATTERN,
             "{ a ? 1, b, ... }@c: d",
@@ -168,12 +168,12 @@ fn patterns_have_entries_and_a_name(rt: HostRuntime) -> Result<(), Fail> {
         (SyntaxKind::NODE_PAT_BIND, "{ a }@b: c", "ident=b;"),
         (SyntaxKind::NODE_PAT_BIND, "b@{ a }: c", "ident=b;"),
     ];
-    assert_described(&rt, rt.alloc(), &rows)
+    assert_described(&rt, rt.alloc(), &cases)
 }
 
 #[test]
 fn groups_and_what_they_hold(rt: HostRuntime) -> Result<(), Fail> {
-    let rows = [
+    let cases = [
         (SyntaxKind::NODE_ROOT, " a ", "expr=a;"),
         (
             SyntaxKind::NODE_PAREN,
@@ -193,12 +193,12 @@ fn groups_and_what_they_hold(rt: HostRuntime) -> Result<(), Fail> {
         ),
         (SyntaxKind::NODE_ERROR, "()", "syntax=);"),
     ];
-    assert_described(&rt, rt.alloc(), &rows)
+    assert_described(&rt, rt.alloc(), &cases)
 }
 
 #[test]
 fn literals_strings_and_paths(rt: HostRuntime) -> Result<(), Fail> {
-    let rows = [
+    let cases = [
         (SyntaxKind::NODE_LITERAL, "1.5", "float=1.5;"),
         (SyntaxKind::NODE_LITERAL, "1", "integer=1;"),
         (SyntaxKind::NODE_LITERAL, "x:y", "uri=x:y;"),
@@ -208,20 +208,20 @@ fn literals_strings_and_paths(rt: HostRuntime) -> Result<(), Fail> {
         (SyntaxKind::NODE_PATH_HOME, "~/a${b}", "parts=(~/a)(${b});"),
         (SyntaxKind::NODE_PATH_SEARCH, "<a>", "content=<a>;"),
     ];
-    assert_described(&rt, rt.alloc(), &rows)
+    assert_described(&rt, rt.alloc(), &cases)
 }
 
 // Asserts which operator stands between two names.
 fn assert_operator(rt: &impl Abort, alloc: Global, sign: &str, name: &str) -> Result<(), Fail> {
     let text = format!(in alloc; "a {sign} b")?;
     let wanted = format!(in alloc; "lhs=a; operator={name}; rhs=b;")?;
-    let row = (SyntaxKind::NODE_BIN_OP, text.as_str(), wanted.as_str());
-    assert_described(rt, alloc, &[row])
+    let case = (SyntaxKind::NODE_BIN_OP, text.as_str(), wanted.as_str());
+    assert_described(rt, alloc, &[case])
 }
 
 #[test]
 fn operators_between_two_operands(rt: HostRuntime) -> Result<(), Fail> {
-    let rows = [
+    let cases = [
         ("++", "Concat"),
         ("//", "Update"),
         ("+", "Add"),
@@ -240,7 +240,7 @@ fn operators_between_two_operands(rt: HostRuntime) -> Result<(), Fail> {
         ("|>", "PipeRight"),
         ("<|", "PipeLeft"),
     ];
-    for (sign, name) in rows {
+    for (sign, name) in cases {
         assert_operator(&rt, rt.alloc(), sign, name)?;
     }
     Ok(())
@@ -248,9 +248,9 @@ fn operators_between_two_operands(rt: HostRuntime) -> Result<(), Fail> {
 
 #[test]
 fn operators_before_their_operand(rt: HostRuntime) -> Result<(), Fail> {
-    let rows = [
+    let cases = [
         (SyntaxKind::NODE_UNARY_OP, "!a", "operator=Invert; expr=a;"),
         (SyntaxKind::NODE_UNARY_OP, "-a", "operator=Negate; expr=a;"),
     ];
-    assert_described(&rt, rt.alloc(), &rows)
+    assert_described(&rt, rt.alloc(), &cases)
 }

@@ -102,7 +102,7 @@ impl<'t> Describe<'t> for Literal<'t> {
 
 impl<'t> Describe<'t> for Str<'t> {
     fn describe(&self, out: &mut Description) {
-        out.begin("parts");
+        out.write_name("parts");
         let mut any = false;
         for part in self.parts() {
             match part {

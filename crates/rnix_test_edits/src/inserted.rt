@@ -37,7 +37,7 @@ fn inserted_in_set(alloc: Global, text: &str, new: &str) -> Result<String, Alloc
 
 #[test]
 fn an_entry_follows_another(rt: HostRuntime) -> Result<(), Fail> {
-    let rows = [
+    let cases = [
         ("{\n  a = 1;\n}\n", "{\n  a = 1;\n  b = 2;\n}\n"),
         (
             "{\r\n\ta = 1; # a\r\n}",
@@ -56,7 +56,7 @@ fn an_entry_follows_another(rt: HostRuntime) -> Result<(), Fail> {
         ("let\n  a = 1;\nin a", "let\n  a = 1;\n  b = 2;\nin a"),
     ];
     let kind = SyntaxKind::NODE_ATTRPATH_VALUE;
-    for (text, wanted) in rows {
+    for (text, wanted) in cases {
         let made = inserted(rt.alloc(), text, kind, "a = 1;", "b = 2;")?;
         assert_eq!(rt; made.as_str(), wanted);
     }
@@ -71,14 +71,14 @@ fn an_entry_follows_another(rt: HostRuntime) -> Result<(), Fail> {
 
 #[test]
 fn an_item_follows_another(rt: HostRuntime) -> Result<(), Fail> {
-    let rows = [
+    let cases = [
         ("[ a ]", "[ a b ]"),
         ("[a]", "[a b]"),
         ("[ a c ]", "[ a b c ]"),
         ("[\n  a # a\n]", "[\n  a # a\n  b\n]"),
         ("a", "read otherwise"),
     ];
-    for (text, wanted) in rows {
+    for (text, wanted) in cases {
         let made = inserted(rt.alloc(), text, SyntaxKind::NODE_IDENT, "a", "b")?;
         assert_eq!(rt; made.as_str(), wanted);
     }
@@ -87,7 +87,7 @@ fn an_item_follows_another(rt: HostRuntime) -> Result<(), Fail> {
 
 #[test]
 fn an_entry_goes_into_a_set(rt: HostRuntime) -> Result<(), Fail> {
-    let rows = [
+    let cases = [
         ("{}", "{ b = 2; }"),
         ("{ }", "{ b = 2; }"),
         ("rec {  }", "rec { b = 2; }"),
@@ -99,7 +99,7 @@ fn an_entry_goes_into_a_set(rt: HostRuntime) -> Result<(), Fail> {
         ("{ # c\n a = 1; }", "{ # c\n a = 1; b = 2; }"),
         ("{ a = 1; }", "{ a = 1; b = 2; }"),
     ];
-    for (text, wanted) in rows {
+    for (text, wanted) in cases {
         let made = inserted_in_set(rt.alloc(), text, "b = 2;")?;
         assert_eq!(rt; made.as_str(), wanted);
     }

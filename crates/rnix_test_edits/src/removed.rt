@@ -18,7 +18,7 @@ fn removed(alloc: Global, text: &str, kind: SyntaxKind, own: &str) -> Result<Str
 
 #[test]
 fn an_entry_goes_with_its_line(rt: HostRuntime) -> Result<(), Fail> {
-    let rows = [
+    let cases = [
         ("{\n  a = 1;\n  b = 2;\n}\n", "{\n  a = 1;\n}\n"),
         ("{\n  b = 2;\n  a = 1;\n}\n", "{\n  a = 1;\n}\n"),
         (
@@ -34,7 +34,7 @@ fn an_entry_goes_with_its_line(rt: HostRuntime) -> Result<(), Fail> {
         // A comment that goes on stays.
         ("{\n  b = 2; /* c\n  d */\n}", "{\n  /* c\n  d */\n}"),
     ];
-    for (text, wanted) in rows {
+    for (text, wanted) in cases {
         let made = removed(rt.alloc(), text, SyntaxKind::NODE_ATTRPATH_VALUE, "b = 2;")?;
         assert_eq!(rt; made.as_str(), wanted);
     }
@@ -43,7 +43,7 @@ fn an_entry_goes_with_its_line(rt: HostRuntime) -> Result<(), Fail> {
 
 #[test]
 fn an_entry_goes_from_its_line(rt: HostRuntime) -> Result<(), Fail> {
-    let rows = [
+    let cases = [
         ("{ a = 1; b = 2; }", "{ a = 1; }"),
         ("{ b = 2; a = 1; }", "{ a = 1; }"),
         ("{ b = 2; }", "{ }"),
@@ -58,7 +58,7 @@ fn an_entry_goes_from_its_line(rt: HostRuntime) -> Result<(), Fail> {
         ("{ b = 2; a = 1; # a\n}", "{ a = 1; # a\n}"),
         ("{ # a\n  b = 2; }", "{ # a\n  }"),
     ];
-    for (text, wanted) in rows {
+    for (text, wanted) in cases {
         let made = removed(rt.alloc(), text, SyntaxKind::NODE_ATTRPATH_VALUE, "b = 2;")?;
         assert_eq!(rt; made.as_str(), wanted);
     }
@@ -67,7 +67,7 @@ fn an_entry_goes_from_its_line(rt: HostRuntime) -> Result<(), Fail> {
 
 #[test]
 fn an_item_goes(rt: HostRuntime) -> Result<(), Fail> {
-    let rows = [
+    let cases = [
         ("[ a b ]", "[ a ]"),
         ("[ b a ]", "[ a ]"),
         ("[ a b c ]", "[ a c ]"),
@@ -79,7 +79,7 @@ fn an_item_goes(rt: HostRuntime) -> Result<(), Fail> {
         ("b", "errors"),
         ("[ b", "errors"),
     ];
-    for (text, wanted) in rows {
+    for (text, wanted) in cases {
         let made = removed(rt.alloc(), text, SyntaxKind::NODE_IDENT, "b")?;
         assert_eq!(rt; made.as_str(), wanted);
     }

@@ -24,13 +24,13 @@ fn replaced(
 
 #[test]
 fn other_bytes_stay(rt: HostRuntime) -> Result<(), Fail> {
-    let rows = [
+    let cases = [
         ("a: # b\r\n  x /* c */", "a: # b\r\n  \"y\" /* c */"),
         ("[ x ]", "[ \"y\" ]"),
         ("f x.z", "f \"y\".z"),
         ("x", "\"y\""),
     ];
-    for (text, wanted) in rows {
+    for (text, wanted) in cases {
         let made = replaced(rt.alloc(), text, "x", SyntaxKind::NODE_STRING, "\"y\"")?;
         assert_eq!(rt; made.as_str(), wanted);
     }
@@ -39,7 +39,7 @@ fn other_bytes_stay(rt: HostRuntime) -> Result<(), Fail> {
 
 #[test]
 fn what_would_be_read_otherwise_is_refused(rt: HostRuntime) -> Result<(), Fail> {
-    let rows = [
+    let cases = [
         // Two items in place of one, and another operator outside.
         ("[ x ]", SyntaxKind::NODE_APPLY, "f y", "read otherwise"),
         ("x * 2", SyntaxKind::NODE_BIN_OP, "1 + 1", "read otherwise"),
@@ -57,7 +57,7 @@ fn what_would_be_read_otherwise_is_refused(rt: HostRuntime) -> Result<(), Fail> 
         ("x", SyntaxKind::NODE_STRING, "y", "read otherwise"),
         ("x +", SyntaxKind::NODE_IDENT, "y", "errors"),
     ];
-    for (text, kind, new, wanted) in rows {
+    for (text, kind, new, wanted) in cases {
         let made = replaced(rt.alloc(), text, "x", kind, new)?;
         assert_eq!(rt; made.as_str(), wanted);
     }
@@ -66,11 +66,11 @@ fn what_would_be_read_otherwise_is_refused(rt: HostRuntime) -> Result<(), Fail> 
 
 #[test]
 fn brackets_keep_an_operand_together(rt: HostRuntime) -> Result<(), Fail> {
-    let rows = [
+    let cases = [
         ("[ x ]", "(f y)", "[ (f y) ]"),
         ("x * 2", "(1 + 1)", "(1 + 1) * 2"),
     ];
-    for (text, new, wanted) in rows {
+    for (text, new, wanted) in cases {
         let made = replaced(rt.alloc(), text, "x", SyntaxKind::NODE_PAREN, new)?;
         assert_eq!(rt; made.as_str(), wanted);
     }

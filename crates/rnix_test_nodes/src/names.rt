@@ -45,9 +45,9 @@ fn a_text_is_read(rt: HostRuntime) -> Result<(), Fail> {
 // A literal of one number.
 fn literal(alloc: Global) -> Result<rnix::GreenNode, AllocError> {
     let mut builder: rnix::GreenNodeBuilder = rnix::GreenNodeBuilder::new(alloc);
-    let place: rnix::Checkpoint = builder.checkpoint();
+    let at: rnix::Checkpoint = builder.checkpoint();
     builder.token(rnix::SyntaxKind::TOKEN_INTEGER, "12")?;
-    builder.start_node_at(place, rnix::SyntaxKind::NODE_LITERAL)?;
+    builder.start_node_at(at, rnix::SyntaxKind::NODE_LITERAL)?;
     builder.finish_node()?;
     builder.finish()
 }

@@ -49,7 +49,7 @@ fn are_parts(alloc: Global, text: &str, parts: &str, searched: bool) -> Result<b
 
 #[test]
 fn paths_have_parts(rt: HostRuntime) -> Result<(), Fail> {
-    let rows = [
+    let cases = [
         ("./a ${x}", "(./a)${x}", false),
         ("./a${x}~/b", "(./a)${x}(~/b)", false),
         ("./a/${\"hello\"}", "(./a/)${\"hello\"}", false),
@@ -57,7 +57,7 @@ fn paths_have_parts(rt: HostRuntime) -> Result<(), Fail> {
         ("~/a", "(~/a)", false),
         ("<nixpkgs>", "(<nixpkgs>)", true),
     ];
-    for (text, parts, searched) in rows {
+    for (text, parts, searched) in cases {
         assert!(rt; are_parts(rt.alloc(), text, parts, searched)?, "of {text}");
     }
     Ok(())

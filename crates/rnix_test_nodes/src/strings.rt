@@ -6,13 +6,13 @@ use std::test::Fail;
 
 #[test]
 fn texts_stand_for_others(rt: HostRuntime) -> Result<(), Fail> {
-    let rows = [
+    let cases = [
         ("\\\"Hello\\\"", false, "\"Hello\""),
         ("Hello\\n\\\"World\\\" :D", false, "Hello\n\"World\" :D"),
         ("Hello''\\n'''World''' :D", true, "Hello\n''World'' :D"),
         ("\"Hello\"", true, "\"Hello\""),
     ];
-    for (text, multiline, wanted) in rows {
+    for (text, multiline, wanted) in cases {
         assert_eq!(rt; unescape(rt.alloc(), text, multiline)?.as_str(), wanted);
     }
     Ok(())
@@ -33,7 +33,7 @@ fn has_value(rt: &HostRuntime, text: &str, wanted: &str) -> Result<bool, Fail> {
 // The wanted values are those that Nix 2.8 prints.
 #[test]
 fn values_of_strings_are_those_of_nix(rt: HostRuntime) -> Result<(), Fail> {
-    let rows = [
+    let cases = [
         ("''\n  a''\\n   b\n''", "a\n b\n"),
         ("''\n    a''\\n b\n    c''", "a\nb\nc"),
         ("''\n        x''\\\n              ''", "x\n      "),
@@ -47,7 +47,7 @@ fn values_of_strings_are_those_of_nix(rt: HostRuntime) -> Result<(), Fail> {
         ("\"a\r\nb\rc\\\r\nd\\r\"", "a\nb\nc\r\nd\r"),
         ("\"\"", ""),
     ];
-    for (text, wanted) in rows {
+    for (text, wanted) in cases {
         assert!(rt; has_value(&rt, text, wanted)?, "{text}");
     }
     Ok(())
@@ -73,7 +73,7 @@ fn first_name(rt: &HostRuntime, text: &str) -> Result<Option<String>, Fail> {
 
 #[test]
 fn attributes_are_called_what_nix_calls_them(rt: HostRuntime) -> Result<(), Fail> {
-    let rows = [
+    let cases = [
         ("{ a = 1; }", Some("a")),
         ("{ \"a\" = 1; }", Some("a")),
         ("{ \"\\a\" = 1; }", Some("a")),
@@ -97,7 +97,7 @@ fn attributes_are_called_what_nix_calls_them(rt: HostRuntime) -> Result<(), Fail
         ("{ ${a} = 1; }", None),
         ("{ ''a'' = 1; }", None),
     ];
-    for (text, wanted) in rows {
+    for (text, wanted) in cases {
         let name = first_name(&rt, text)?;
         assert!(rt; name.as_ref().map(|name| name.as_str()) == wanted, "{text}");
     }

@@ -160,8 +160,8 @@ fn variants(alloc: Global, kind: SyntaxKind) -> Result<String, AllocError> {
 
 #[test]
 fn a_node_is_cast_to_the_variants_of_its_kind(rt: HostRuntime) -> Result<(), Fail> {
-    for row in VARIANTS.lines() {
-        let (name, wanted) = row.split_once(' ').unwrap_or((row, ""));
+    for case in VARIANTS.lines() {
+        let (name, wanted) = case.split_once(' ').unwrap_or((case, ""));
         let said = variants(rt.alloc(), name.parse()?)?;
         assert_eq!(rt; said.as_str(), wanted, "of {name}");
     }

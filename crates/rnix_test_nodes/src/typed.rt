@@ -94,13 +94,13 @@ fn float_in(alloc: Global, text: &str) -> Result<Option<f64>, AllocError> {
 
 #[test]
 fn numbers_with_a_point_are_read(rt: HostRuntime) -> Result<(), Fail> {
-    let rows = [
+    let cases = [
         ("1.5e-3", Some(0.0015)),
         (".25", Some(0.25)),
         ("9.e999", Some(f64::INFINITY)),
         ("1", None),
     ];
-    for (text, wanted) in rows {
+    for (text, wanted) in cases {
         assert!(rt; float_in(rt.alloc(), text)? == wanted, "of {text}");
     }
     Ok(())
@@ -108,11 +108,11 @@ fn numbers_with_a_point_are_read(rt: HostRuntime) -> Result<(), Fail> {
 
 #[test]
 fn numbers_are_read(rt: HostRuntime) -> Result<(), Fail> {
-    let rows = [
+    let cases = [
         ("9223372036854775807", Some(Some(9223372036854775807))),
         ("9223372036854775808", Some(None)),
     ];
-    for (text, wanted) in rows {
+    for (text, wanted) in cases {
         assert!(rt; value_in(rt.alloc(), text)? == wanted, "of {text}");
     }
     Ok(())

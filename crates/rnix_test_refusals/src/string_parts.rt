@@ -78,11 +78,11 @@ fn stands_for(alloc: Global, text: &str, multiline: bool, wanted: &str) -> Optio
 #[test]
 fn values_of_texts_are_asked_for_again(rt: HostRuntime) -> Result<(), AllocError> {
     let mut refused = false;
-    let rows = [
+    let cases = [
         ("Hello\\n\\\"World\\\" :D", false, "Hello\n\"World\" :D"),
         ("Hello''\\n'''World''' :D", true, "Hello\n''World'' :D"),
     ];
-    for (text, multiline, wanted) in rows {
+    for (text, multiline, wanted) in cases {
         let mut holds = stands_for(rt.alloc(), text, multiline, wanted);
         if holds.is_none() {
             refused = true;

@@ -6,20 +6,20 @@ use std::alloc::{AllocError, Global};
 use std::test::Fail;
 
 // A text, and where in it a name repeats an attribute and where the first name of this begins.
-type Row = (&'static str, &'static [(usize, usize)]);
+type Case = (&'static str, &'static [(usize, usize)]);
 
 // Whether these repetitions are found in the text, and no others.
-fn is_found(alloc: Global, row: &Row) -> Result<bool, AllocError> {
-    let found = repeated_attributes(alloc, &Root::parse(alloc, row.0)?.syntax())?;
-    for (repeated, (start, first)) in found.iter().zip(row.1) {
+fn is_found(alloc: Global, case: &Case) -> Result<bool, AllocError> {
+    let found = repeated_attributes(alloc, &Root::parse(alloc, case.0)?.syntax())?;
+    for (repeated, (start, first)) in found.iter().zip(case.1) {
         if repeated.range.start() != *start || repeated.first.start() != *first {
             return Ok(false);
         }
     }
-    Ok(found.len() == row.1.len())
+    Ok(found.len() == case.1.len())
 }
 
-const REFUSED: [Row; 22] = [
+const REFUSED: [Case; 22] = [
     ("{ a = 1; a = 2; }", &[(9, 2)]),
     ("{ a = 1; a = 2; a = 3; }", &[(9, 2), (16, 2)]),
     ("{ inherit a; a = 1; }", &[(13, 10)]),
@@ -47,7 +47,7 @@ const REFUSED: [Row; 22] = [
     ),
 ];
 
-const ACCEPTED: [Row; 14] = [
+const ACCEPTED: [Case; 14] = [
     ("{ }", &[]),
     ("{ a = 1; b = 1; }", &[]),
     ("{ a.b = 1; a.c = 2; }", &[]),
@@ -66,18 +66,18 @@ const ACCEPTED: [Row; 14] = [
 
 #[test]
 fn repetitions_that_nix_refuses_are_found(rt: HostRuntime) -> Result<(), Fail> {
-    for row in &REFUSED {
-        let is_found = is_found(rt.alloc(), row)?;
-        assert!(rt; is_found, "in {}", row.0);
+    for case in &REFUSED {
+        let is_found = is_found(rt.alloc(), case)?;
+        assert!(rt; is_found, "in {}", case.0);
     }
     Ok(())
 }
 
 #[test]
 fn definitions_that_nix_accepts_are_no_repetitions(rt: HostRuntime) -> Result<(), Fail> {
-    for row in &ACCEPTED {
-        let is_found = is_found(rt.alloc(), row)?;
-        assert!(rt; is_found, "in {}", row.0);
+    for case in &ACCEPTED {
+        let is_found = is_found(rt.alloc(), case)?;
+        assert!(rt; is_found, "in {}", case.0);
     }
     Ok(())
 }

@@ -110,12 +110,12 @@ fn the_same_is_found_inside_each_node(rt: HostRuntime) -> Result<(), Fail> {
 
 #[test]
 fn bindings_and_references_are_counted(rt: HostRuntime) -> Result<(), Fail> {
-    let rows = [
+    let cases = [
         ("let x = 1; in let x = 2; y = x; in x + y", (3, 3)),
         ("with a; with b; [ c (with d; e) f ]", (0, 6)),
         ("a: let inherit a; b = a; in b", (3, 3)),
     ];
-    for (text, wanted) in rows {
+    for (text, wanted) in cases {
         let read = Root::parse(rt.alloc(), text)?;
         let found = found_alike(rt.alloc(), &read.syntax())?;
         assert!(rt; found == Some(wanted), "in {text}");
@@ -125,7 +125,7 @@ fn bindings_and_references_are_counted(rt: HostRuntime) -> Result<(), Fail> {
 
 #[test]
 fn attributes_bind_what_they_name(rt: HostRuntime) -> Result<(), Fail> {
-    let rows = [
+    let cases = [
         ("let a.b = 1; in a", Some("a")),
         ("let \"a b\" = 1; in 2", Some("a b")),
         ("let \"\" = 1; in 2", Some("")),
@@ -147,7 +147,7 @@ fn attributes_bind_what_they_name(rt: HostRuntime) -> Result<(), Fail> {
         ("let ${''a$b''} = 1; in 2", Some("a$b")),
         ("let ${''a$''} = 1; in 2", None),
     ];
-    for (text, wanted) in rows {
+    for (text, wanted) in cases {
         let read = Root::parse(rt.alloc(), text)?;
         let names = resolve(rt.alloc(), &read.syntax())?;
         let is_wanted = match names.bindings().first() {
@@ -162,7 +162,7 @@ fn attributes_bind_what_they_name(rt: HostRuntime) -> Result<(), Fail> {
 // The numbers are those of the bindings from which Nix takes the values.
 #[test]
 fn names_with_escapes_are_bound_as_in_nix(rt: HostRuntime) -> Result<(), Fail> {
-    let rows = [
+    let cases = [
         ("a: let \"\\a\" = 1; in a", Some(1)),
         ("a: let \"\\\\a\" = 1; in a", Some(0)),
         ("a: let ${(''\n  a'')} = 1; in a", Some(1)),
@@ -172,7 +172,7 @@ fn names_with_escapes_are_bound_as_in_nix(rt: HostRuntime) -> Result<(), Fail> {
         ("let \"a\\nb\" = 1; in { inherit \"a\nb\"; }", Some(0)),
         ("a: let inherit \"\\a\"; in a", Some(1)),
     ];
-    for (text, wanted) in rows {
+    for (text, wanted) in cases {
         let read = Root::parse(rt.alloc(), text)?;
         let names = resolve(rt.alloc(), &read.syntax())?;
         let last = names.references().last().and_then(|name| name.binding);

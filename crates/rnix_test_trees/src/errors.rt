@@ -19,7 +19,7 @@ fn errors_say_what_they_are(rt: HostRuntime) -> Result<(), Fail> {
     let range = TextRange::new(3, 5);
     let wanted = only(alloc, SyntaxKind::TOKEN_R_PAREN)?;
     let name = String::from_str(alloc, "a")?;
-    let rows = [
+    let cases = [
         (ParseError::Unexpected(range), "error node at 3..5"),
         (
             ParseError::UnexpectedExtra(range),
@@ -47,7 +47,7 @@ fn errors_say_what_they_are(rt: HostRuntime) -> Result<(), Fail> {
             "recursion limit exceeded",
         ),
     ];
-    for (error, wanted) in &rows {
+    for (error, wanted) in &cases {
         let text = format!(in alloc; "{error}")?;
         assert_eq!(rt; text.as_str(), *wanted);
     }

@@ -78,7 +78,7 @@ fn sets_hold_what_was_joined(rt: HostRuntime) {
     let (add, mul) = (SyntaxKind::TOKEN_ADD, SyntaxKind::TOKEN_MUL);
     let both = add | SyntaxKind::TOKEN_SUB;
     let three = ["TOKEN_ADD", "TOKEN_MUL", "TOKEN_SUB"];
-    let rows: [(TokenSet, &[&str]); 7] = [
+    let cases: [(TokenSet, &[&str]); 7] = [
         (both, &["TOKEN_ADD", "TOKEN_SUB"]),
         (() | mul, &["TOKEN_MUL"]),
         (mul | (), &["TOKEN_MUL"]),
@@ -87,7 +87,7 @@ fn sets_hold_what_was_joined(rt: HostRuntime) {
         (both | TokenSet::new(mul), &three),
         (TokenSet::EMPTY, &[]),
     ];
-    for (set, names) in rows {
+    for (set, names) in cases {
         assert!(rt; holds_only(set, names));
     }
 }

@@ -26,13 +26,13 @@ fn is_reported(error: RunError, wanted: &str) -> bool {
 #[test]
 fn each_refusal_has_its_complaint(rt: HostRuntime) {
     assert!(rt; status(&Ok(true)) == 0 && status(&Ok(false)) == 1);
-    let rows = [
+    let cases = [
         (RunError::Read, "nix-tree: cannot read input"),
         (RunError::NotUtf8, "nix-tree: input is not UTF-8"),
         (RunError::Memory, "nix-tree: out of memory"),
         (RunError::Write, "nix-tree: cannot write output"),
     ];
-    for (error, wanted) in rows {
+    for (error, wanted) in cases {
         assert!(rt; is_reported(error, wanted), "of {wanted}");
     }
 }

@@ -36,12 +36,12 @@ fn what_is_inside_a_node_is_left_out(rt: HostRuntime) -> Result<(), Fail> {
 }
 
 // How many events are left in a walk.
-fn left(walk: PreorderWithTokens<'_>) -> usize {
-    let mut left: usize = 0;
+fn remaining(walk: PreorderWithTokens<'_>) -> usize {
+    let mut remaining: usize = 0;
     for _event in walk {
-        left = left.saturating_add(1);
+        remaining = remaining.saturating_add(1);
     }
-    left
+    remaining
 }
 
 // Two walks after they enter the roots: what comes of passing the siblings that end before two offsets, and how many events are left in each.
@@ -56,7 +56,7 @@ fn passed(
     walk.next();
     other.next();
     let is_passed = walk.pass_alike(before, &mut other, other_before);
-    (is_passed, left(walk), left(other))
+    (is_passed, remaining(walk), remaining(other))
 }
 
 #[test]
@@ -71,7 +71,7 @@ fn what_two_walks_have_alike_is_passed(rt: HostRuntime) -> Result<(), Fail> {
 #[test]
 fn what_two_walks_have_otherwise_is_not_passed(rt: HostRuntime) -> Result<(), Fail> {
     let first = Parsed::new(rt.alloc(), "[1 (2 + 3) 4]")?;
-    let all = left(first.syntax().preorder_with_tokens()).saturating_sub(1);
+    let all = remaining(first.syntax().preorder_with_tokens()).saturating_sub(1);
     for text in [
         "[1 (2 + 3) 5]",
         "[1 (2 * 3) 4]",
@@ -79,7 +79,7 @@ fn what_two_walks_have_otherwise_is_not_passed(rt: HostRuntime) -> Result<(), Fa
         "[1 (2 + 3)  ]",
     ] {
         let second = Parsed::new(rt.alloc(), text)?;
-        let others = left(second.syntax().preorder_with_tokens()).saturating_sub(1);
+        let others = remaining(second.syntax().preorder_with_tokens()).saturating_sub(1);
         let result = passed(&first.syntax(), usize::MAX, &second.syntax(), usize::MAX);
         assert!(rt; result == (Some(false), all, others));
     }
@@ -103,11 +103,11 @@ fn passed_in_lists(
     walk.next();
     other.next();
     let (all, others) = (
-        left(root.preorder_with_tokens()),
-        left(other_root.preorder_with_tokens()),
+        remaining(root.preorder_with_tokens()),
+        remaining(other_root.preorder_with_tokens()),
     );
     let is_passed = walk.pass_alike(before, &mut other, other_before);
-    let (rest, other_rest) = (left(walk), left(other));
+    let (rest, other_rest) = (remaining(walk), remaining(other));
     Ok((
         is_passed,
         all.saturating_sub(rest),

@@ -23,14 +23,14 @@ fn position(
 
 #[test]
 fn columns_count_what_is_asked(rt: HostRuntime) -> Result<(), Fail> {
-    let rows = [
+    let cases = [
         (ColumnUnit::Bytes, 7, Some((1, 4))),
         (ColumnUnit::Chars, 7, Some((1, 1))),
         (ColumnUnit::Utf16, 7, Some((1, 2))),
         (ColumnUnit::Utf16, 5, None),
         (ColumnUnit::Utf16, 9, None),
     ];
-    for (unit, offset, wanted) in rows {
+    for (unit, offset, wanted) in cases {
         assert!(rt;
             position(rt.alloc(), unit, offset)? == wanted,
             "at {offset}"
@@ -47,7 +47,7 @@ fn offset(alloc: Global, line: usize, column: usize) -> Result<Option<usize>, Al
 
 #[test]
 fn positions_lead_back(rt: HostRuntime) -> Result<(), Fail> {
-    let rows = [
+    let cases = [
         (0, 1, Some(2)),
         (1, 0, Some(3)),
         (1, 2, Some(7)),
@@ -56,7 +56,7 @@ fn positions_lead_back(rt: HostRuntime) -> Result<(), Fail> {
         (0, 2, None),
         (2, 0, None),
     ];
-    for (line, column, wanted) in rows {
+    for (line, column, wanted) in cases {
         assert!(rt;
             offset(rt.alloc(), line, column)? == wanted,
             "at {line}, {column}"
@@ -66,12 +66,12 @@ fn positions_lead_back(rt: HostRuntime) -> Result<(), Fail> {
 }
 
 // A range, its new text, and whether the edit is refused.
-type Row = (Range<usize>, &'static str, Option<EditError>);
+type Case = (Range<usize>, &'static str, Option<EditError>);
 
 // The text with edits, if each of them is refused as it should be.
-fn edited(alloc: Global, text: &str, rows: &[Row]) -> Result<Option<String>, AllocError> {
+fn edited(alloc: Global, text: &str, cases: &[Case]) -> Result<Option<String>, AllocError> {
     let mut edits = Edits::new(alloc, text);
-    for (range, new, wanted) in rows {
+    for (range, new, wanted) in cases {
         if edits.replace(range.start..range.end, new).err() != *wanted {
             return Ok(None);
         }
@@ -80,8 +80,8 @@ fn edited(alloc: Global, text: &str, rows: &[Row]) -> Result<Option<String>, All
 }
 
 // Whether the text with edits is the wanted one.
-fn is_edited(alloc: Global, text: &str, rows: &[Row], wanted: &str) -> Result<bool, AllocError> {
-    Ok(match edited(alloc, text, rows)? {
+fn is_edited(alloc: Global, text: &str, cases: &[Case], wanted: &str) -> Result<bool, AllocError> {
+    Ok(match edited(alloc, text, cases)? {
         Some(found) => found.as_str() == wanted,
         None => false,
     })
@@ -89,24 +89,24 @@ fn is_edited(alloc: Global, text: &str, rows: &[Row], wanted: &str) -> Result<bo
 
 #[test]
 fn edits_are_made_in_any_order(rt: HostRuntime) -> Result<(), Fail> {
-    let rows = [
+    let cases = [
         (14..15, "bc", None),
         (4..5, "bc", None),
         (9..10, "", None),
         (0..0, "(", None),
     ];
-    assert!(rt; is_edited(rt.alloc(), "let a = 1; in a", &rows, "(let bc = 1 in bc")?);
+    assert!(rt; is_edited(rt.alloc(), "let a = 1; in a", &cases, "(let bc = 1 in bc")?);
     Ok(())
 }
 
 #[test]
 fn refused_edits_change_nothing(rt: HostRuntime) -> Result<(), Fail> {
-    let rows = [
+    let cases = [
         (3..7, "y", None),
         (2..8, "", Some(EditError::Overlap)),
         (1..2, "", Some(EditError::InsideCharacter)),
         (7..9, "", Some(EditError::OutOfText)),
     ];
-    assert!(rt; is_edited(rt.alloc(), TEXT, &rows, "é\nyx")?);
+    assert!(rt; is_edited(rt.alloc(), TEXT, &cases, "é\nyx")?);
     Ok(())
 }

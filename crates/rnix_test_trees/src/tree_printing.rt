@@ -55,7 +55,7 @@ fn second_shown(alloc: Global, text: &str) -> Result<String, AllocError> {
 
 #[test]
 fn a_long_text_is_cut(rt: HostRuntime) -> Result<(), Fail> {
-    let rows = [
+    let cases = [
         (
             "abcdefghijklmnopqrstuvwx",
             "TOKEN_STRING_CONTENT@1..25 \"abcdefghijklmnopqrstuvwx\"",
@@ -69,7 +69,7 @@ fn a_long_text_is_cut(rt: HostRuntime) -> Result<(), Fail> {
             "TOKEN_STRING_CONTENT@1..27 \"abcdefghijklmnopqrst\u{e9} ...\"",
         ),
     ];
-    for (text, wanted) in rows {
+    for (text, wanted) in cases {
         assert_eq!(rt; second_shown(rt.alloc(), text)?.as_str(), wanted);
     }
     Ok(())

@@ -35,12 +35,12 @@ fn errors_in(alloc: Global, text: &str) -> Result<Option<(usize, bool)>, AllocEr
 
 #[test]
 fn parentheses_nest_up_to_the_limit(rt: HostRuntime) -> Result<(), Fail> {
-    let rows = [
+    let cases = [
         (511, 511, (0, false)),
         (512, 512, (513, true)),
         (512, 0, (513, true)),
     ];
-    for (opened, closed, wanted) in rows {
+    for (opened, closed, wanted) in cases {
         let text = nested(rt.alloc(), opened, closed)?;
         let found = errors_in(rt.alloc(), text.as_str())?;
         assert!(rt; found == Some(wanted), "of {opened} and {closed}");

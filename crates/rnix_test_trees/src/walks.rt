@@ -53,7 +53,7 @@ fn starts_in(alloc: Global, text: &str, offset: usize) -> Result<Starts, AllocEr
 
 #[test]
 fn tokens_stand_at_offsets(rt: HostRuntime) -> Result<(), Fail> {
-    let rows = [
+    let cases = [
         (SUM, 2, (2, Some(1), Some(2))),
         (SUM, 9, (1, Some(8), Some(8))),
         ("a b", 0, (1, Some(0), Some(0))),
@@ -62,7 +62,7 @@ fn tokens_stand_at_offsets(rt: HostRuntime) -> Result<(), Fail> {
         ("a b", 4, (0, None, None)),
         ("", 0, (0, None, None)),
     ];
-    for (text, offset, wanted) in rows {
+    for (text, offset, wanted) in cases {
         assert!(rt;
             starts_in(rt.alloc(), text, offset)? == wanted,
             "at {offset} of {text}"

@@ -54,7 +54,7 @@ fn leads_to_number(alloc: Global, names: &[&str], path: &str) -> Result<bool, Al
 
 #[test]
 fn names_are_read_as_in_nix(rt: HostRuntime) -> Result<(), Fail> {
-    let rows: [(&str, &[&str]); 12] = [
+    let cases: [(&str, &[&str]); 12] = [
         ("", &[""]),
         ("a", &["a"]),
         ("a.b-c.0", &["a", "b-c", "0"]),
@@ -68,7 +68,7 @@ fn names_are_read_as_in_nix(rt: HostRuntime) -> Result<(), Fail> {
         ("\"\\q\"", &["q"]),
         ("${g \"x\"}", &["${g \"x\"}"]),
     ];
-    for (path, names) in rows {
+    for (path, names) in cases {
         assert!(rt; leads_to_number(rt.alloc(), names, path)?, "{path}");
     }
     Ok(())

@@ -46,10 +46,10 @@ const PIECES: [&str; COUNT] = [
 // Returns the pieces that the digits of a number choose.
 fn joined(alloc: Global, number: usize, digits: usize) -> Result<String, AllocError> {
     let mut text = String::new(alloc);
-    let mut left = number;
+    let mut remaining = number;
     for _digit in 0..digits {
-        text.push_str(PIECES[left % COUNT])?;
-        left /= COUNT;
+        text.push_str(PIECES[remaining % COUNT])?;
+        remaining /= COUNT;
     }
     Ok(text)
 }

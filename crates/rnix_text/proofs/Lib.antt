@@ -4,5 +4,5 @@ pub mod PositionLemmas
 pub mod MarkOffsets
 pub mod ChangeLemmas
 pub mod RunLemmas
-pub mod PlaceLemmas
+pub mod InsertionLemmas
 pub mod TextRows

@@ -3,8 +3,8 @@ use Rattle.std.specs.Prelude.{◌≡◌, ℕ, ◌+◌, ◌-◌, ◌<◌, ◌≤�
 use Rattle.std.specs.List.{flat_map, insert}
 use Rattle.std.specs.declared.alloc.Global.{Global}
 use Rattle.rnix_text.specs.declared.edits.Edit.{Edit}
-use Rattle.rnix_text.specs.declared.runs.Place.{Place}
-use Rattle.rnix_text.specs.declared.runs.Place.TheVariants as place
+use Rattle.rnix_text.specs.declared.runs.InsertionPoint.{InsertionPoint}
+use Rattle.rnix_text.specs.declared.runs.InsertionPoint.TheVariants as insertion
 use Rattle.rnix_text.specs.Changes.{IsAdded}
 use Rattle.rnix_text.specs.Edit.{change_of}
 
@@ -31,27 +31,27 @@ abbrev pub run_ends_by : ℕ → Vec Edit Global → Bool
 run_ends_by offset run = nat_le (end_of 0 run.items) offset
 
 -- a place is one among the edits of some runs
-abbrev pub IsIn : List (Vec Edit Global) → Place → Type 0
-IsIn runs (place.In run at) = (run < length runs) × ((d : Vec Edit Global) → at ≤ length (slice_index_or runs run d).items)
-IsIn runs place.Last = Unit {0}
+abbrev pub IsIn : List (Vec Edit Global) → InsertionPoint → Type 0
+IsIn runs (insertion.In run at) = (run < length runs) × ((d : Vec Edit Global) → at ≤ length (slice_index_or runs run d).items)
+IsIn runs insertion.Last = Unit {0}
 
 -- the number of edits in front of a place
-abbrev pub index_in : List (Vec Edit Global) → Place → ℕ
-index_in runs (place.In run at) = length (edits_of (take run runs)) + at
-index_in runs place.Last = length (edits_of runs)
+abbrev pub index_in : List (Vec Edit Global) → InsertionPoint → ℕ
+index_in runs (insertion.In run at) = length (edits_of (take run runs)) + at
+index_in runs insertion.Last = length (edits_of runs)
 
 -- two places of two lists of runs have the same number of edits in front of them
-pub record IsSamePlace (old : List (Vec Edit Global)) (p : Place) (new : List (Vec Edit Global)) (q : Place) : Type 0 where
+pub record IsSameInsertionPoint (old : List (Vec Edit Global)) (p : InsertionPoint) (new : List (Vec Edit Global)) (q : InsertionPoint) : Type 0 where
   pub is_in : IsIn new q
   pub index : index_in new q ≡ index_in old p
 
 -- a run is divided into two, of which the first has this number of edits
 pub record IsDivided (old new : List (Vec Edit Global)) (run len : ℕ) : Type 0 where
-  pub first : (at : ℕ) → at ≤ len → IsSamePlace old (place.In run at) new (place.In run at)
-  pub second : (at : ℕ) → len ≤ at → IsIn old (place.In run at) → IsSamePlace old (place.In run at) new (place.In (run + 1) (at - len))
+  pub first : (at : ℕ) → at ≤ len → IsSameInsertionPoint old (insertion.In run at) new (insertion.In run at)
+  pub second : (at : ℕ) → len ≤ at → IsIn old (insertion.In run at) → IsSameInsertionPoint old (insertion.In run at) new (insertion.In (run + 1) (at - len))
 
 -- each edit of the range may be put at the place
-pub record IsPlace (start end : ℕ) (runs : List (Vec Edit Global)) (p : Place) : Type 0 where
+pub record IsInsertionPoint (start end : ℕ) (runs : List (Vec Edit Global)) (p : InsertionPoint) : Type 0 where
   pub is_in : IsIn runs p
   pub added : (e : Edit) → e.start ≡ start → e.end ≡ end
       → IsAdded (change_of e) (map change_of (edits_of runs)) (map change_of (insert (edits_of runs) (index_in runs p) e))

@@ -4,7 +4,7 @@ ghost use Rattle.std.specs.Prelude.{◌≡◌, [], string_bytes, IfOk, OnOk, IfE
 ghost use Rattle.rnix_text.specs.Changes.{changed_from, replacing, IsAdded, IsCause};
 
 use crate::edit_error::EditError;
-use crate::runs::{add, changed, place_for};
+use crate::runs::{add, changed, insertion_point};
 use std::alloc::{AllocError, Global};
 use std::marker::Model;
 use std::ops::Range;
@@ -63,11 +63,11 @@ impl<'t> Edits<'t> {
         if !self.text.is_char_boundary(start) || !self.text.is_char_boundary(end) {
             return Err(EditError::InsideCharacter);
         }
-        let Some(place) = place_for(&self.runs, start, end) else {
+        let Some(insertion) = insertion_point(&self.runs, start, end) else {
             return Err(EditError::Overlap);
         };
         let new = String::from_str(*self.runs.allocator(), new)?;
-        add(&mut self.runs, place, Edit { start, end, new })?;
+        add(&mut self.runs, insertion, Edit { start, end, new })?;
         Ok(())
     }
 

@@ -6,15 +6,15 @@ ghost use Rattle.std.specs.List.{insert};
 ghost use Rattle.std.specs.List.Sorted.{IsPartitionPoint};
 ghost use Rattle.rnix_text.specs.Changes.{Change, AreAscending, AreInOrder, changed_from, IsMet};
 ghost use Rattle.rnix_text.specs.Edit.{change_of};
-ghost use Rattle.rnix_text.specs.Runs.{edits_of, ends_by, end_of, run_ends_by, AreFilled, index_in, IsIn, IsDivided, IsPlace};
-ghost use Rattle.rnix_text.specs.declared.runs.Place.TheVariants as place;
+ghost use Rattle.rnix_text.specs.Runs.{edits_of, ends_by, end_of, run_ends_by, AreFilled, index_in, IsIn, IsDivided, IsInsertionPoint};
+ghost use Rattle.rnix_text.specs.declared.runs.InsertionPoint.TheVariants as insertion;
 
 use crate::edits::Edit;
 use std::alloc::{AllocError, Global};
 
 /// Where an edit goes.
 #[derive(Clone, Copy)]
-pub(crate) enum Place {
+pub(crate) enum InsertionPoint {
     /// In a run, before the edit at an index of it.
     In(usize, usize),
     /// After all edits.
@@ -63,23 +63,27 @@ fn edits_by(run: &[Edit], offset: usize) -> usize
     )
 }
 
-// Returns the place for an edit of a range, if it overlaps none: after the edits that end at its start or before it.
-pub(crate) fn place_for(runs: &[Vec<Edit>], start: usize, end: usize) -> Option<Place>
+// Returns where an edit goes of a range, if it overlaps none: after the edits that end at its start or before it.
+pub(crate) fn insertion_point(
+    runs: &[Vec<Edit>],
+    start: usize,
+    end: usize,
+) -> Option<InsertionPoint>
     requires order { start ≤ end }
     requires ascending { AreAscending 0 (map change_of (edits_of runs.now)) }
     requires filled { AreFilled runs.now }
-    ensures { MatchOption result (IsMet start end (map change_of (edits_of runs.now))) (IsPlace start end runs.now) }
+    ensures { MatchOption result (IsMet start end (map change_of (edits_of runs.now))) (IsInsertionPoint start end runs.now) }
 {
     let run = runs_by(runs, start);
     if run == runs.len() {
-        return Some(Place::Last);
+        return Some(InsertionPoint::Last);
     }
     let edits = runs[run].as_slice();
     let at = edits_by(edits, start);
     if edits[at].start < end {
         return None;
     }
-    Some(Place::In(run, at))
+    Some(InsertionPoint::In(run, at))
 }
 
 // Adds a run with one edit.
@@ -98,9 +102,9 @@ fn add_run(runs: &mut Vec<Vec<Edit>>, edit: Edit) -> Result<(), AllocError>
 // Puts an edit into a run.
 fn add_in(runs: &mut Vec<Vec<Edit>>, run: usize, at: usize, edit: Edit) -> Result<(), AllocError>
     requires filled { AreFilled runs.old.items }
-    requires is_in { IsIn runs.old.items (place.In run at) }
+    requires is_in { IsIn runs.old.items (insertion.In run at) }
     ensures filled { AreFilled runs.new.items }
-    ensures added { OnOk result (edits_of runs.new.items ≡ insert (edits_of runs.old.items) (index_in runs.old.items (place.In run at)) edit) }
+    ensures added { OnOk result (edits_of runs.new.items ≡ insert (edits_of runs.old.items) (index_in runs.old.items (insertion.In run at)) edit) }
     ensures stays { OnErr result (edits_of runs.new.items ≡ edits_of runs.old.items) }
 {
     runs[run].insert(at, edit)?;
@@ -129,7 +133,7 @@ fn add_last(runs: &mut Vec<Vec<Edit>>, edit: Edit) -> Result<(), AllocError>
 // Divides a run into two.
 fn divide(runs: &mut Vec<Vec<Edit>>, run: usize) -> Result<(), AllocError>
     requires filled { AreFilled runs.old.items }
-    requires is_in { IsIn runs.old.items (place.In run (HALF + 1)) }
+    requires is_in { IsIn runs.old.items (insertion.In run (HALF + 1)) }
     ensures filled { AreFilled runs.new.items }
     ensures edits { edits_of runs.new.items ≡ edits_of runs.old.items }
     ensures divided { OnOk result (IsDivided runs.old.items runs.new.items run HALF) }
@@ -143,9 +147,9 @@ fn divide(runs: &mut Vec<Vec<Edit>>, run: usize) -> Result<(), AllocError>
 // Puts an edit into a run, which is divided if it is full.
 fn add_at(runs: &mut Vec<Vec<Edit>>, run: usize, at: usize, edit: Edit) -> Result<(), AllocError>
     requires filled { AreFilled runs.old.items }
-    requires is_in { IsIn runs.old.items (place.In run at) }
+    requires is_in { IsIn runs.old.items (insertion.In run at) }
     ensures filled { AreFilled runs.new.items }
-    ensures added { OnOk result (edits_of runs.new.items ≡ insert (edits_of runs.old.items) (index_in runs.old.items (place.In run at)) edit) }
+    ensures added { OnOk result (edits_of runs.new.items ≡ insert (edits_of runs.old.items) (index_in runs.old.items (insertion.In run at)) edit) }
     ensures stays { OnErr result (edits_of runs.new.items ≡ edits_of runs.old.items) }
 {
     if runs[run].len() < MOST {
@@ -159,17 +163,21 @@ fn add_at(runs: &mut Vec<Vec<Edit>>, run: usize, at: usize, edit: Edit) -> Resul
     }
 }
 
-/// Adds an edit at a place.
-pub(crate) fn add(runs: &mut Vec<Vec<Edit>>, place: Place, edit: Edit) -> Result<(), AllocError>
+/// Adds an edit at an insertion point.
+pub(crate) fn add(
+    runs: &mut Vec<Vec<Edit>>,
+    insertion: InsertionPoint,
+    edit: Edit,
+) -> Result<(), AllocError>
     requires filled { AreFilled runs.old.items }
-    requires is_in { IsIn runs.old.items place }
+    requires is_in { IsIn runs.old.items insertion }
     ensures filled { AreFilled runs.new.items }
-    ensures added { OnOk result (edits_of runs.new.items ≡ insert (edits_of runs.old.items) (index_in runs.old.items place) edit) }
+    ensures added { OnOk result (edits_of runs.new.items ≡ insert (edits_of runs.old.items) (index_in runs.old.items insertion) edit) }
     ensures stays { OnErr result (edits_of runs.new.items ≡ edits_of runs.old.items) }
 {
-    match place {
-        Place::In(run, at) => add_at(runs, run, at, edit),
-        Place::Last => add_last(runs, edit),
+    match insertion {
+        InsertionPoint::In(run, at) => add_at(runs, run, at, edit),
+        InsertionPoint::Last => add_last(runs, edit),
     }
 }
 

@@ -7,18 +7,18 @@ use Rattle.rnix_green.proofs.{PartLemmas.{one_node, item_of_part, below_of_part,
 use Rattle.{rnix_green.proofs.InsideLemmas.elements_in_all, rnix_tree.specs.InsideCounts.{inside_count, nodes_count, spots_count}}
 
 -- the trees of a row are all of it
-row_counts : (t : Tree) (n s : ℕ) (p : Option ℕ) (f : Forest) → ((m i : ℕ) → m ≡ n + i → i < element_count f → (item t m).below ≡ (at n s p f i).below)
+sibling_counts : (t : Tree) (n s : ℕ) (p : Option ℕ) (f : Forest) → ((m i : ℕ) → m ≡ n + i → i < element_count f → (item t m).below ≡ (at n s p f i).below)
     → spots_count (map (spot_at t) (tree_numbers n f)) ≡ element_count f
-row_counts t n s p empty h = refl
-row_counts t n s p (leaf k u f) h =
+sibling_counts t n s p empty h = refl
+sibling_counts t n s p (leaf k u f) h =
     let first : (item t n).below ≡ 0 = h n 0 (omega arith) (omega arith) in
-    omega (arith, first, row_counts t (n + 1) (s + length u) p f (λ m i e l. h m (suc i) (omega arith) (omega arith)))
-row_counts t n s p (node k c f) h =
+    omega (arith, first, sibling_counts t (n + 1) (s + length u) p f (λ m i e l. h m (suc i) (omega arith) (omega arith)))
+sibling_counts t n s p (node k c f) h =
     let first : (item t n).below ≡ element_count c = h n 0 (omega arith) (omega arith) in
     omega (
       arith,
       first,
-      row_counts t (n + 1 + element_count c) (s + length (text_of c)) p f
+      sibling_counts t (n + 1 + element_count c) (s + length (text_of c)) p f
           (λ m i e l. h m (suc (element_count c + i)) (omega arith) (omega arith) ∙ after i l),
     )
   where
@@ -43,8 +43,8 @@ counts_there t n l = go _ (part_there t n l) (one_there t n l)
         omega arith
     go _ h (one_node k c) =
         let all : suc (element_count c + 0) ≡ suc (item t n).below = below_of_part t n (node k c empty) h (one_node k c) in
-        let row = row_counts t (n + 1) h.start (Some n) c (λ m i e l. within k c h m i e l) in
-        omega (arith, row)
+        let siblings = sibling_counts t (n + 1) h.start (Some n) c (λ m i e l. within k c h m i e l) in
+        omega (arith, siblings)
       where
         within : (k : _) (c : Forest) (h : IsPart 0 n (node k c empty) (items_of t)) (m i : ℕ) → m ≡ n + 1 + i → i < element_count c
             → (item t m).below ≡ (at (n + 1) h.start (Some n) c i).below

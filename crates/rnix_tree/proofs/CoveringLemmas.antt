@@ -14,16 +14,16 @@ fails true h = absurd (h refl)
 fails false h = refl
 
 -- what a range lies in starts no later than the range, and ends after its start
-holds_start : (range place : Extent) → holds range place ≡ true → (place.start ≤ range.start) × (range.start < place.end)
-holds_start range place h =
-    let sides = and_parts (nat_le place.start range.start && nat_le range.end place.end) (nat_lt place.start range.end && nat_lt range.start place.end) h in
-    let low = (and_parts (nat_le place.start range.start) (nat_le range.end place.end) sides.0).0 in
-    let high = (and_parts (nat_lt place.start range.end) (nat_lt range.start place.end) sides.1).1 in
+holds_start : (range outer : Extent) → holds range outer ≡ true → (outer.start ≤ range.start) × (range.start < outer.end)
+holds_start range outer h =
+    let sides = and_parts (nat_le outer.start range.start && nat_le range.end outer.end) (nat_lt outer.start range.end && nat_lt range.start outer.end) h in
+    let low = (and_parts (nat_le outer.start range.start) (nat_le range.end outer.end) sides.0).0 in
+    let high = (and_parts (nat_lt outer.start range.end) (nat_lt range.start outer.end) sides.1).1 in
     (grind (arith, nat_tests), grind (arith, nat_tests))
 
 -- so a range that starts elsewhere lies not in it
-starts_elsewhere : (range place : Extent) → ¬ ((place.start ≤ range.start) × (range.start < place.end)) → holds range place ≡ false
-starts_elsewhere range place h = fails (holds range place) (λ e. h (holds_start range place e))
+starts_elsewhere : (range outer : Extent) → ¬ ((outer.start ≤ range.start) × (range.start < outer.end)) → holds range outer ≡ false
+starts_elsewhere range outer h = fails (holds range outer) (λ e. h (holds_start range outer e))
 
 -- a child ends before the next begins
 pub ends_before : (t : Tree) (n m c : ℕ) → IsChild record { tree = t; number = n } m → IsChild record { tree = t; number = n } c → m < c

@@ -5,7 +5,7 @@ use Rattle.{std.specs.Prelude.if◌then◌else◌, rnix_kinds.specs.declared.kin
 use Rattle.rnix_green.specs.{Forest.{text_of, element_count}, Tree.{Tree, Item, Located, items_from, items_of, no_item, item, item_of, extent_of, forest_of}}
 use Rattle.rnix_green.{specs.{Tree.{part_of, part_at}, Walk.{Event, steps_from, event_at, preorder_of}}, proofs.NumberTests.{is_above, is_not_below}}
 use Rattle.rnix_green.proofs.{PartLemmas.{IsPart, IsOne, one_leaf, one_node, part_there, one_there, item_of_part}, PieceLemmas.length-items_from}
-use Rattle.rnix_tree.specs.{Spots.{event_of, spot_of, place_of}, declared.element.{NodeOrToken.{NodeOrToken, TheVariants.{Node, Token}}, WalkEvent.WalkEvent}}
+use Rattle.rnix_tree.specs.{Spots.{event_of, spot_of, located_of}, declared.element.{NodeOrToken.{NodeOrToken, TheVariants.{Node, Token}}, WalkEvent.WalkEvent}}
 use Rattle.rnix_tree.specs.{declared.element.WalkEvent.TheVariants.Enter, Lines.{line_of, lines_from, lines_of}, Walked.{event_lines, entered_in, IsNested}}
 use Rattle.rnix_tree.proofs.ItemsAt.{HasItemsAt, first_item, front_items, back_items}
 
@@ -149,42 +149,45 @@ walk_nested t n (node k c f) depth more h =
     )
 
 -- a walk begins at depth zero, and the depths of its events fit a number
-pub begun : (e : Located) (left : List Event) → left ≡ preorder_of e → element_count (part_at e) < 2 ^ 64 → (0 + entered_in left < 2 ^ 64) × IsNested 0 left
-begun e left is h =
-    let count : entered_in left ≡ element_count (part_at e) = ap entered_in is ∙ enters_all e.tree e.number (part_at e) in (
+pub begun : (e : Located) (remaining : List Event) → remaining ≡ preorder_of e → element_count (part_at e) < 2 ^ 64
+    → (0 + entered_in remaining < 2 ^ 64) × IsNested 0 remaining
+begun e remaining is h =
+    let count : entered_in remaining ≡ element_count (part_at e) = ap entered_in is ∙ enters_all e.tree e.number (part_at e) in (
       subst (λ (x : ℕ). 0 + x < 2 ^ 64) (sym count) (omega arith),
       subst (IsNested 0) (append-nil (preorder_of e) ∙ sym is) (walk_nested e.tree e.number (part_at e) 0 [] tt),
     )
 
 -- an element's spot has its place
-place_is : (e : NodeOrToken Located Located) → (spot_of e).1 ≡ place_of e
-place_is (Node e) = refl
-place_is (Token e) = refl
+located_is : (e : NodeOrToken Located Located) → (spot_of e).1 ≡ located_of e
+located_is (Node e) = refl
+located_is (Token e) = refl
 
 -- an element is entered: its line follows the lines so far
-pub entered : (bs all : List ℕ) (depth next : ℕ) (left rest : List Event) (event : WalkEvent (NodeOrToken Located Located)) (e : NodeOrToken Located Located)
-    → bs ++ event_lines depth left ≡ all → left ≡ event_of event ∷ rest → event ≡ Enter e → next ≡ depth + 1
-    → (bs ++ line_of depth (item_of (place_of e)).kind (extent_of (place_of e))) ++ event_lines next rest ≡ all
-entered bs all depth next left rest event e h steps is deeper =
+pub entered : (bs all : List ℕ) (depth next : ℕ) (remaining rest : List Event) (event : WalkEvent (NodeOrToken Located Located))
+    (e : NodeOrToken Located Located)
+    → bs ++ event_lines depth remaining ≡ all → remaining ≡ event_of event ∷ rest → event ≡ Enter e → next ≡ depth + 1
+    → (bs ++ line_of depth (item_of (located_of e)).kind (extent_of (located_of e))) ++ event_lines next rest ≡ all
+entered bs all depth next remaining rest event e h steps is deeper =
     let line = λ (x : Located). line_of depth (item_of x).kind (extent_of x) in
-    append_assoc bs (line (place_of e)) (event_lines next rest)
-    ∙ ap (λ x. bs ++ (line (place_of e) ++ event_lines x rest)) deeper
-    ∙ ap (λ x. bs ++ (line x ++ event_lines (depth + 1) rest)) (sym (place_is e))
+    append_assoc bs (line (located_of e)) (event_lines next rest)
+    ∙ ap (λ x. bs ++ (line (located_of e) ++ event_lines x rest)) deeper
+    ∙ ap (λ x. bs ++ (line x ++ event_lines (depth + 1) rest)) (sym (located_is e))
     ∙ ap (λ x. bs ++ event_lines depth (event_of x ∷ rest)) (sym is)
     ∙ ap (λ x. bs ++ event_lines depth x) (sym steps)
     ∙ h
 
 -- what is left of a walk keeps its depths
-pub deeper : (depth : ℕ) (left rest : List Event) (event : WalkEvent (NodeOrToken Located Located)) (e : NodeOrToken Located Located)
-    → (depth + entered_in left < 2 ^ 64) × IsNested depth left → left ≡ event_of event ∷ rest → event ≡ Enter e
+pub deeper : (depth : ℕ) (remaining rest : List Event) (event : WalkEvent (NodeOrToken Located Located)) (e : NodeOrToken Located Located)
+    → (depth + entered_in remaining < 2 ^ 64) × IsNested depth remaining → remaining ≡ event_of event ∷ rest → event ≡ Enter e
     → (depth + 1 + entered_in rest < 2 ^ 64) × IsNested (depth + 1) rest
-deeper depth left rest event e h steps is =
-    let here : left ≡ event_of (Enter e) ∷ rest = steps ∙ ap (λ x. event_of x ∷ rest) is in
+deeper depth remaining rest event e h steps is =
+    let here : remaining ≡ event_of (Enter e) ∷ rest = steps ∙ ap (λ x. event_of x ∷ rest) is in
     let fits : depth + (1 + entered_in rest) < 2 ^ 64 = subst (λ x. depth + entered_in x < 2 ^ 64) here h.0 in
     let nested : IsNested depth (event_of (Enter e) ∷ rest) = subst (IsNested depth) here h.1 in
     (omega arith, nested.1)
 
 -- no event is left: the lines so far are those of the element
-pub finished : (e : Located) (bs : List ℕ) (depth : ℕ) (left : List Event) → bs ++ event_lines depth left ≡ event_lines 0 (preorder_of e) → left ≡ []
+pub finished : (e : Located) (bs : List ℕ) (depth : ℕ) (remaining : List Event) → bs ++ event_lines depth remaining ≡ event_lines 0 (preorder_of e)
+    → remaining ≡ []
     → bs ≡ lines_of e
-finished e bs depth left h none = sym (append-nil bs) ∙ sym (ap (λ x. bs ++ event_lines depth x) none) ∙ h ∙ walk_prints e
+finished e bs depth remaining h none = sym (append-nil bs) ∙ sym (ap (λ x. bs ++ event_lines depth x) none) ∙ h ∙ walk_prints e

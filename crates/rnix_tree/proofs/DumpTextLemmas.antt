@@ -56,11 +56,11 @@ walk_prints e =
     ap (event_texts 0) (sym (append-nil (preorder_of e))) ∙ walk_texts e.tree e.number (part_at e) 0 [] ∙ nothing_last (text_lines_of e)
 
 -- an element is entered: its line follows the lines so far
-pub entered : (o all : Option (List ℕ)) (depth next : ℕ) (left rest : List Event) (event : WalkEvent (NodeOrToken Located Located))
+pub entered : (o all : Option (List ℕ)) (depth next : ℕ) (remaining rest : List Event) (event : WalkEvent (NodeOrToken Located Located))
     (e : NodeOrToken Located Located)
-    → o ++? event_texts depth left ≡ all → left ≡ event_of event ∷ rest → event ≡ Enter e → next ≡ depth + 1
+    → o ++? event_texts depth remaining ≡ all → remaining ≡ event_of event ∷ rest → event ≡ Enter e → next ≡ depth + 1
     → (o ++? text_line depth (spot_of e)) ++? event_texts next rest ≡ all
-entered o all depth next left rest event e h steps is deeper =
+entered o all depth next remaining rest event e h steps is deeper =
     regrouped o (text_line depth (spot_of e)) (event_texts next rest)
     ∙ ap (λ x. o ++? (text_line depth (spot_of e) ++? event_texts x rest)) deeper
     ∙ ap (λ x. o ++? event_texts depth (event_of x ∷ rest)) (sym is)
@@ -68,17 +68,18 @@ entered o all depth next left rest event e h steps is deeper =
     ∙ h
 
 -- an element is left: the lines stay
-pub left_behind : (o all : Option (List ℕ)) (depth next : ℕ) (left rest : List Event) (event : Event)
-    → o ++? event_texts depth left ≡ all → left ≡ event ∷ rest → event.0 ≡ false → next ≡ depth - 1 → o ++? event_texts next rest ≡ all
-left_behind o all depth next left rest (true, spot) h steps is back = absurd (cc)
-left_behind o all depth next left rest (false, spot) h steps is back =
+pub remaining_behind : (o all : Option (List ℕ)) (depth next : ℕ) (remaining rest : List Event) (event : Event)
+    → o ++? event_texts depth remaining ≡ all → remaining ≡ event ∷ rest → event.0 ≡ false → next ≡ depth - 1 → o ++? event_texts next rest ≡ all
+remaining_behind o all depth next remaining rest (true, spot) h steps is back = absurd (cc)
+remaining_behind o all depth next remaining rest (false, spot) h steps is back =
     ap (λ x. o ++? event_texts x rest) back ∙ ap (λ x. o ++? x) (sym (nothing_first (event_texts (depth - 1) rest)))
     ∙ ap (λ x. o ++? event_texts depth x) (sym steps) ∙ h
 
 -- no event is left: the lines so far are those of the element
-pub finished : (e : Located) (o : Option (List ℕ)) (depth : ℕ) (left : List Event) → o ++? event_texts depth left ≡ event_texts 0 (preorder_of e) → left ≡ []
+pub finished : (e : Located) (o : Option (List ℕ)) (depth : ℕ) (remaining : List Event) → o ++? event_texts depth remaining ≡ event_texts 0 (preorder_of e)
+    → remaining ≡ []
     → o ≡ text_lines_of e
-finished e o depth left h none = sym (nothing_last o) ∙ sym (ap (λ x. o ++? event_texts depth x) none) ∙ h ∙ walk_prints e
+finished e o depth remaining h none = sym (nothing_last o) ∙ sym (ap (λ x. o ++? event_texts depth x) none) ∙ h ∙ walk_prints e
 
 -- what was written, with one more text
 pub written_more : {W : Type 0} (took : W → List ℕ → W → Type 0) (f g h : Formatter W) (r : Result (Unit {0}) Error) (o p : Option (List ℕ))

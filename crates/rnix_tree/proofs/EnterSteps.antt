@@ -2,9 +2,9 @@
 use Rattle.std.proofs.Common.{◌≡◌, ℕ, ◌+◌, ◌-◌, ◌≤◌, ◌<◌, nat_lt, ◌∷◌, ◌++◌, length, true, false, Option, Some, refl, ap, sym, ◌∙◌, subst, arith, inl, inr}
 use Rattle.{std.{proofs.lemmas.Bool.cases_lt, specs.Prelude.if◌then◌else◌}, rnix_green.specs.Forest.{Forest, empty, leaf, node, text_of, element_count}}
 use Rattle.rnix_green.{specs.{Tree.Item, Walk.steps_from}, proofs.{NumberTests.{below_true, below_false, same_choice}, SiblingLemmas.below_fits}}
-use Rattle.rnix_tree.{specs.Cursor.{from_enter, from_leave}, proofs.WalkRows.{at, at_inside, at_behind, at_next, at_first, enter_inside, enter_behind}}
-use Rattle.rnix_tree.proofs.WalkRows.{enter_next, enter_here, leave_inside, leave_behind, leave_next, leave_leaf, leave_node, none_from_count, append_choice}
-use Rattle.rnix_tree.proofs.WalkRows.{either}
+use Rattle.rnix_tree.{specs.Cursor.{from_enter, from_leave}, proofs.WalkSiblings.{at, at_inside, at_behind, at_next, at_first, enter_inside, enter_behind}}
+use Rattle.rnix_tree.proofs.WalkSiblings.{enter_next, enter_here, leave_inside, leave_behind, leave_next, leave_leaf, leave_node, none_from_count, append_choice}
+use Rattle.rnix_tree.proofs.WalkSiblings.{either}
 
 -- what comes after an element is entered: it is left if nothing is inside it, or else what is inside it is entered
 pub enter_step : (n s : ℕ) (p : Option ℕ) (f : Forest) (m : ℕ) → n ≤ m → m < n + element_count f

@@ -2,9 +2,9 @@
 use Rattle.std.proofs.Common.{◌≡◌, ℕ, ◌+◌, ◌-◌, ◌≤◌, ◌<◌, nat_lt, [], ◌∷◌, ◌++◌, length, false, Option, Some, refl, ap, sym, ◌∙◌, subst, arith, ◌⊎◌, inl, inr}
 use Rattle.{std.{proofs.lemmas.Bool.cases_lt, specs.Prelude.if◌then◌else◌}, rnix_kinds.specs.declared.kinds.SyntaxKind.SyntaxKind}
 use Rattle.rnix_green.{specs.{Forest.{Forest, empty, leaf, node, text_of, element_count}, Walk.steps_from}, proofs.NumberTests.{below_true, below_false}}
-use Rattle.{rnix_green.proofs.{NumberTests.same_choice, SiblingLemmas.below_fits}, rnix_tree.{specs.Cursor.{from_enter, from_leave}, proofs.WalkRows.at}}
-use Rattle.rnix_tree.proofs.WalkRows.{at_inside, at_behind, at_next, at_first, enter_inside, enter_behind, enter_next, enter_here, leave_inside, leave_behind}
-use Rattle.rnix_tree.proofs.WalkRows.{leave_next, leave_leaf, leave_node, none_from_count, append_choice, either}
+use Rattle.{rnix_green.proofs.{NumberTests.same_choice, SiblingLemmas.below_fits}, rnix_tree.{specs.Cursor.{from_enter, from_leave}, proofs.WalkSiblings.at}}
+use Rattle.rnix_tree.proofs.WalkSiblings.{at_inside, at_behind, at_next, at_first, enter_inside, enter_behind, enter_next, enter_here, leave_inside, leave_behind}
+use Rattle.rnix_tree.proofs.WalkSiblings.{leave_next, leave_leaf, leave_node, none_from_count, append_choice, either}
 
 -- what comes after an element of a row's first depth is left
 pub record LeavesTop (n s : ℕ) (p : Option ℕ) (f : Forest) (m : ℕ) : Type 0 where
@@ -124,10 +124,10 @@ inside_inside n s p k c f m l u h =
     }
 
 -- the first element of a row is left, and then comes what stands behind it
-first_left : (n n' s : ℕ) (p : Option ℕ) (g f : Forest) (b : ℕ) → (at n s p g n).below ≡ b → n + 1 + b ≡ n' → n' + element_count f ≡ n + element_count g
+first_remaining : (n n' s : ℕ) (p : Option ℕ) (g f : Forest) (b : ℕ) → (at n s p g n).below ≡ b → n + 1 + b ≡ n' → n' + element_count f ≡ n + element_count g
     → (0 < element_count f → from_enter n' n g ≡ steps_from n' f)
     → steps_from n' f ≡ (if nat_lt (n + 1 + (at n s p g n).below) (n + element_count g) then from_enter (n + 1 + (at n s p g n).below) n g else [])
-first_left n n' s p g f b e d ends enters =
+first_remaining n n' s p g f b e d ends enters =
     let next : n + 1 + (at n s p g n).below ≡ n' = ap (λ x. n + 1 + x) e ∙ d in
     either (nat_lt (n + 1 + (at n s p g n).below) (n + element_count g)) _ _ _
     (λ h. let l : n + 1 + (at n s p g n).below < n + element_count g = below_true _ _ h in
@@ -159,7 +159,7 @@ leave_step n s p (leaf k t f) m l h =
             step =
                 leave_leaf n n k t f refl
                 ∙ ap (λ x. (false, n) ∷ x)
-                (first_left n (n + 1) s p (leaf k t f) f 0 (ap (λ i. i.below) first) (omega arith) (omega arith)
+                (first_remaining n (n + 1) s p (leaf k t f) f 0 (ap (λ i. i.below) first) (omega arith) (omega arith)
                 (λ some. enter_next (n + 1) n k t f (omega arith) ∙ enter_here (n + 1) (n + 1) f refl some));
           }))
     ]
@@ -193,7 +193,7 @@ leave_step n s p (node k c f) m l h =
             step =
                 leave_node n n k c f refl
                 ∙ ap (λ x. (false, n) ∷ x)
-                (first_left n (n + 1 + element_count c) s p (node k c f) f (element_count c) (ap (λ i. i.below) first) refl (omega arith)
+                (first_remaining n (n + 1 + element_count c) s p (node k c f) f (element_count c) (ap (λ i. i.below) first) refl (omega arith)
                 (λ some. enter_behind (n + 1 + element_count c) n k c f (omega arith)
                 ∙ enter_here (n + 1 + element_count c) (n + 1 + element_count c) f refl some));
           }))

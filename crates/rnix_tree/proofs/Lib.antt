@@ -5,7 +5,7 @@ pub mod OffsetLemmas
 pub mod EqualElements
 pub mod CountLemmas
 pub mod ItemsAt
-pub mod WalkRows
+pub mod WalkSiblings
 pub mod EnterSteps
 pub mod LeaveSteps
 pub mod PreorderLemmas
@@ -22,11 +22,11 @@ pub mod SkipLemmas
 pub mod CountsInside
 pub mod ChainsFall
 pub mod DigitLemmas
-pub mod RowForests
-pub mod RowWalks
-pub mod SameRows
-pub mod ShownRows
-pub mod RowsAlike
-pub mod PassedRows
+pub mod SiblingForests
+pub mod SiblingWalks
+pub mod SameSiblings
+pub mod ShownSiblings
+pub mod SiblingsAlike
+pub mod PassedSiblings
 pub mod PassLemmas
 pub mod PassExamples

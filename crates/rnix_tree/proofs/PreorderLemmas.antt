@@ -3,14 +3,14 @@ use Rattle.std.proofs.Common.{◌≡◌, ℕ, suc, ◌+◌, ◌-◌, ◌≤◌, 
 use Rattle.{std.{proofs.{Common.{arith, inl, inr}, lemmas.Bool.cases_lt}, specs.Prelude.if◌then◌else◌}, rnix_green.specs.Forest.{Forest, empty, leaf, node}}
 use Rattle.rnix_green.{specs.{Forest.element_count, Tree.{Tree, items_of, item, part_at}, Walk.{Step, steps_from}}, proofs.NumberTests.{is_same, is_above}}
 use Rattle.rnix_green.proofs.{NumberTests.below_true, SiblingLemmas.{below_fits, next_inside}, PartLemmas.{IsPart, IsOne, one_leaf, one_node, part_there}}
-use Rattle.{rnix_green.proofs.PartLemmas.{one_there, item_of_part, below_of_part}, rnix_tree.specs.Cursor.{from_enter, from_leave, steps_left, IsInside}}
+use Rattle.{rnix_green.proofs.PartLemmas.{one_there, item_of_part, below_of_part}, rnix_tree.specs.Cursor.{from_enter, from_leave, steps_remaining, IsInside}}
 use Rattle.rnix_tree.specs.{Cursor.{IsNextWithin, after_enter, after_leave, behind}, declared.walk.Next.{Next, TheVariants.{Enter, Leave, Done}}}
-use Rattle.rnix_tree.proofs.{WalkRows.{at, enter_here, leave_leaf, leave_node}, EnterSteps.enter_step, LeaveSteps.{LeavesInside, inside_top, inside_inside}}
+use Rattle.rnix_tree.proofs.{WalkSiblings.{at, enter_here, leave_leaf, leave_node}, EnterSteps.enter_step, LeaveSteps.{LeavesInside, inside_top, inside_inside}}
 use Rattle.rnix_tree.proofs.LeaveSteps.{leave_step}
 
 -- the walk over a whole part
 pub record Goes (t : Tree) (root : ℕ) (here : Next) (step : Step) (next : Next) : Type 0 where
-  pub step_is : steps_left t root here ≡ step ∷ steps_left t root next
+  pub step_is : steps_remaining t root here ≡ step ∷ steps_remaining t root next
   pub within : IsNextWithin t root next
 
 split_choice : (b : Bool) (u v : Next) (x y : List Step) (f : Next → List Step) → f u ≡ x → f v ≡ y → f (if b then u else v) ≡ (if b then x else y)
@@ -33,7 +33,7 @@ enters t root m there inside =
       step_is =
           enter_step root h.start h.parent part m low (omega arith)
           ∙ ap (λ b. (true, m) ∷ (if nat_lt 0 b then from_enter (m + 1) root part else from_leave m root part)) (sym same)
-          ∙ ap (λ x. (true, m) ∷ x) (sym (split_choice (nat_lt 0 (item t m).below) (Enter (m + 1)) (Leave m) _ _ (steps_left t root) refl refl));
+          ∙ ap (λ x. (true, m) ∷ x) (sym (split_choice (nat_lt 0 (item t m).below) (Enter (m + 1)) (Leave m) _ _ (steps_remaining t root) refl refl));
       within =
           choose (nat_lt 0 (item t m).below) refl
           (λ g. let some : 0 < (item t m).below = below_true 0 _ g in record { low = omega arith; high = omega arith; there = omega arith });
@@ -83,7 +83,7 @@ leaves t root m there inside =
         record {
           step_is =
               ap (λ j. from_leave j root part) e ∙ leaves_root t root part (one_there t root there)
-              ∙ ap (λ j. (false, j) ∷ []) (sym e) ∙ ap (λ x. (false, m) ∷ steps_left t root x) (sym done);
+              ∙ ap (λ j. (false, j) ∷ []) (sym e) ∙ ap (λ x. (false, m) ∷ steps_remaining t root x) (sym done);
           within = subst (λ (x : Next). IsNextWithin t root x) (sym done) tt;
         }
 
@@ -114,8 +114,9 @@ leaves t root m there inside =
               ∙ ap (λ x. (false, m) ∷ (if nat_lt (m + 1 + x.below) (q + 1 + (at root h.start h.parent part q).below) then from_enter
               (m + 1 + x.below) root part else from_leave q root part)) (sym i)
               ∙ ap (λ x. (false, m) ∷ (if nat_lt next (q + 1 + x.below) then from_enter next root part else from_leave q root part)) (sym o)
-              ∙ ap (λ x. (false, m) ∷ x) (sym (split_choice (nat_lt next (q + 1 + (item t q).below)) (Enter next) (Leave q) _ _ (steps_left t root) refl refl))
-              ∙ ap (λ x. (false, m) ∷ steps_left t root x) (sym go);
+              ∙ ap (λ x. (false, m) ∷ x)
+              (sym (split_choice (nat_lt next (q + 1 + (item t q).below)) (Enter next) (Leave q) _ _ (steps_remaining t root) refl refl))
+              ∙ ap (λ x. (false, m) ∷ steps_remaining t root x) (sym go);
           within =
               subst (λ (x : Next). IsNextWithin t root x) (sym go)
               (choose (nat_lt next (q + 1 + (item t q).below)) refl next q

@@ -4,10 +4,10 @@ use Rattle.std.{proofs.{Common.{◌∙◌, subst, arith, ◌⊎◌, inl, inr, ap
 use Rattle.{rnix_kinds.specs.declared.kinds.SyntaxKind.SyntaxKind, rnix_green.specs.{Forest.{Forest, empty, leaf, node, text_of, element_count}, Tree.Tree}}
 use Rattle.rnix_green.specs.{Tree.{items_of, item, part_at}, Walk.{Step, Spot, Event, steps_from, event_at, from_leaving, node_events}}
 use Rattle.rnix_green.proofs.{NumberTests.{is_same, is_above}, PartLemmas.{IsPart, IsOne, one_leaf, one_node, part_there, one_there, item_of_part}}
-use Rattle.{rnix_green.proofs.PartLemmas.below_of_part, rnix_tree.specs.Cursor.{from_enter, from_leave, steps_left, events_left, IsInside, IsNextWithin}}
-use Rattle.rnix_tree.{specs.{Cursor.{around, after_skip}, declared.walk.Next.{Next, TheVariants.{Enter, Leave, Done}}}, proofs.WalkRows.{at, at_inside}}
-use Rattle.rnix_tree.proofs.WalkRows.{at_behind, at_next, at_first, enter_inside, enter_behind, enter_next, enter_here, leave_inside, leave_behind, leave_next}
-use Rattle.rnix_tree.proofs.{WalkRows.leave_node, PreorderLemmas.{leaves, whole_walk}}
+use Rattle.{rnix_green.proofs.PartLemmas.below_of_part, rnix_tree.specs.Cursor.{from_enter, from_leave, steps_remaining, events_remaining, IsInside, IsNextWithin}}
+use Rattle.rnix_tree.{specs.{Cursor.{around, after_skip}, declared.walk.Next.{Next, TheVariants.{Enter, Leave, Done}}}, proofs.WalkSiblings.{at, at_inside}}
+use Rattle.rnix_tree.proofs.WalkSiblings.{at_behind, at_next, at_first, enter_inside, enter_behind, enter_next, enter_here, leave_inside, leave_behind, leave_next}
+use Rattle.rnix_tree.proofs.{WalkSiblings.leave_node, PreorderLemmas.{leaves, whole_walk}}
 
 -- the steps of a row leave as many elements as they enter
 balanced : (n : ℕ) (f : Forest) (d : ℕ) (rest : List Step) → from_leaving d (steps_from n f ++ rest) ≡ from_leaving d rest
@@ -55,7 +55,7 @@ node_events-shorter (suc d) ((true, s) ∷ es) = omega (arith, node_events-short
 node_events-shorter (suc d) ((false, s) ∷ es) = omega (arith, node_events-shorter d es, one_more false s es)
 
 -- from an element of a row's first depth all of the row is passed over
-record PassesRow (n s : ℕ) (p : Option ℕ) (f : Forest) (m : ℕ) : Type 0 where
+record PassesSiblings (n s : ℕ) (p : Option ℕ) (f : Forest) (m : ℕ) : Type 0 where
   pub parent : (at n s p f m).parent ≡ p
   pub passes : (d : ℕ) (rest : List Step) → from_leaving d (from_enter m n f ++ rest) ≡ from_leaving d rest
 
@@ -69,7 +69,7 @@ pub record PassesInside (n s : ℕ) (p : Option ℕ) (f : Forest) (m : ℕ) : Ty
 
 -- from an element inside a node
 inside_node : (n s : ℕ) (p : Option ℕ) (k : SyntaxKind) (c f : Forest) (m : ℕ) → n < m → m < n + 1 + element_count c
-    → PassesRow (n + 1) s (Some n) c m ⊎ PassesInside (n + 1) s (Some n) c m → PassesInside n s p (node k c f) m
+    → PassesSiblings (n + 1) s (Some n) c m ⊎ PassesInside (n + 1) s (Some n) c m → PassesInside n s p (node k c f) m
 inside_node n s p k c f m l u (inl h) =
     let tail = (false, n) ∷ steps_from (n + 1 + element_count c) f in
     record {
@@ -101,14 +101,14 @@ inside_node n s p k c f m l u (inr h) =
     }
 
 -- from the first element of a row
-first_of_row : (n s : ℕ) (p : Option ℕ) (f : Forest) (m : ℕ) → m ≡ n → 0 < element_count f → (at n s p f n).parent ≡ p → PassesRow n s p f m
-first_of_row n s p f m e some parent = record {
+first_of_siblings : (n s : ℕ) (p : Option ℕ) (f : Forest) (m : ℕ) → m ≡ n → 0 < element_count f → (at n s p f n).parent ≡ p → PassesSiblings n s p f m
+first_of_siblings n s p f m e some parent = record {
   parent = ap (λ j. (at n s p f j).parent) e ∙ parent;
   passes = λ d rest. ap (λ y. from_leaving d (y ++ rest)) (enter_here m n f e some) ∙ balanced n f d rest;
 }
 
 -- from each element of a row
-passed_from : (n s : ℕ) (p : Option ℕ) (f : Forest) (m : ℕ) → n ≤ m → m < n + element_count f → PassesRow n s p f m ⊎ PassesInside n s p f m
+passed_from : (n s : ℕ) (p : Option ℕ) (f : Forest) (m : ℕ) → n ≤ m → m < n + element_count f → PassesSiblings n s p f m ⊎ PassesInside n s p f m
 passed_from n s p empty m l h = absurd (omega arith)
 passed_from n s p (leaf k t f) m l h =
     elim (cases_lt n m) [
@@ -131,7 +131,7 @@ passed_from n s p (leaf k t f) m l h =
                       ∙ ap (λ y. y ++ rest) (sym (leave_next x.outer n k t f (omega arith)));
                 })
           ]
-      | inr high ↦ inl (first_of_row n s p (leaf k t f) m (omega arith) (omega arith) (ap (λ y. y.parent) (at_first n s p (leaf k t f) _ _ refl)))
+      | inr high ↦ inl (first_of_siblings n s p (leaf k t f) m (omega arith) (omega arith) (ap (λ y. y.parent) (at_first n s p (leaf k t f) _ _ refl)))
     ]
 passed_from n s p (node k c f) m l h =
     elim (cases_lt n m) [
@@ -158,7 +158,7 @@ passed_from n s p (node k c f) m l h =
                       })
                 ]
           ]
-      | inr high ↦ inl (first_of_row n s p (node k c f) m (omega arith) (omega arith) (ap (λ y. y.parent) (at_first n s p (node k c f) _ _ refl)))
+      | inr high ↦ inl (first_of_siblings n s p (node k c f) m (omega arith) (omega arith) (ap (λ y. y.parent) (at_first n s p (node k c f) _ _ refl)))
     ]
 
 -- from an element below the root of a part
@@ -170,7 +170,7 @@ below_root root s p _ m (one_node k c) l h =
 -- the walk goes on inside its root, with what is left
 pub record Skips (t : Tree) (root : ℕ) (here next : Next) : Type 0 where
   pub within : IsNextWithin t root next
-  pub events : from_leaving 0 (events_left t root here) ≡ events_left t root next
+  pub events : from_leaving 0 (events_remaining t root here) ≡ events_remaining t root next
 
 -- where the parent is left
 to_parent : (t : Tree) (root m : ℕ) → root < length (items_of t) → IsInside t root m → root < m → Skips t root (Enter m) (after_skip t root (Enter m))
@@ -191,7 +191,7 @@ to_parent t root m there inside low =
       events =
           by_steps t 0 (from_enter m root part)
           ∙ ap (map (event_at t)) (ap (from_leaving 0) (sym (append-nil (from_enter m root part))) ∙ w.passes [] ∙ append-nil (from_leave w.outer root part))
-          ∙ ap (events_left t root) (sym next);
+          ∙ ap (events_remaining t root) (sym next);
     }
 
 -- at the end, where the walk has only begun
@@ -206,10 +206,10 @@ to_end t root m there e =
     record {
       within = subst (IsNextWithin t root) (sym next) tt;
       events =
-          ap (λ j. from_leaving 0 (events_left t root (Enter j))) e
+          ap (λ j. from_leaving 0 (events_remaining t root (Enter j))) e
           ∙ by_steps t 0 (from_enter root root part)
           ∙ ap (map (event_at t)) (ap (from_leaving 0) (whole_walk t root there ∙ sym (append-nil (steps_from root part))) ∙ balanced root part 0 [])
-          ∙ ap (events_left t root) (sym next);
+          ∙ ap (events_remaining t root) (sym next);
     }
 
 -- from wherever a walk stands
@@ -220,11 +220,11 @@ skips t root (Enter m) there inside =
       | inr high ↦ to_end t root m there (let low : root ≤ m = inside.low in omega arith)
     ]
 skips t root (Leave m) there inside =
-    let left = leaves t root m there inside in
+    let remaining = leaves t root m there inside in
     record {
       within = inside;
       events =
-          by_steps t 0 (steps_left t root (Leave m))
-          ∙ ap (map (event_at t)) (ap (from_leaving 0) left.step_is ∙ sym left.step_is);
+          by_steps t 0 (steps_remaining t root (Leave m))
+          ∙ ap (map (event_at t)) (ap (from_leaving 0) remaining.step_is ∙ sym remaining.step_is);
     }
 skips t root Done there inside = record { within = tt; events = refl }

@@ -1,7 +1,7 @@
 -- How many elements of a tree are left to a chain of calls, each on what the one before returned: what the measures of loops cite.
 use Rattle.std.specs.Prelude.{ℕ, suc, ◌-◌, length, Option, Some, None, option_map}
 use Rattle.rnix_green.specs.Tree.{Located, items_of}
-use Rattle.rnix_tree.specs.Spots.{place_of}
+use Rattle.rnix_tree.specs.Spots.{located_of}
 use Rattle.rnix_tree.specs.declared.element.NodeOrToken.{NodeOrToken}
 
 -- how many elements of its tree come behind an element
@@ -24,4 +24,4 @@ before_if (Some e) = suc (before_count e)
 
 -- the number of a node or token, if there is one
 abbrev pub place_if : Option (NodeOrToken Located Located) → Option Located
-place_if element = option_map place_of element
+place_if element = option_map located_of element

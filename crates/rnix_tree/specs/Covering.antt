@@ -6,8 +6,8 @@ use Rattle.rnix_green.specs.Walk.{Spot, children_of}
 
 -- whether a range lies in another; an empty one strictly between its ends
 abbrev pub holds : Extent → Extent → Bool
-holds range place =
-    (nat_le place.start range.start && nat_le range.end place.end) && (nat_lt place.start range.end && nat_lt range.start place.end)
+holds range outer =
+    (nat_le outer.start range.start && nat_le range.end outer.end) && (nat_lt outer.start range.end && nat_lt range.start outer.end)
 
 -- whether it lies in the range of an element
 abbrev pub holds_at : Extent → Spot → Bool

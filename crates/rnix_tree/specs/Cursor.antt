@@ -25,14 +25,14 @@ from_leave m n (node k c f) =
     else from_leave m (n + 1 + element_count c) f)
 
 -- what is left of a walk from a root
-abbrev pub steps_left : Tree → ℕ → Next → List Step
-steps_left t root (Enter m) = from_enter m root (part_at record { tree = t; number = root })
-steps_left t root (Leave m) = from_leave m root (part_at record { tree = t; number = root })
-steps_left t root Done = []
+abbrev pub steps_remaining : Tree → ℕ → Next → List Step
+steps_remaining t root (Enter m) = from_enter m root (part_at record { tree = t; number = root })
+steps_remaining t root (Leave m) = from_leave m root (part_at record { tree = t; number = root })
+steps_remaining t root Done = []
 
 -- what is left of a walk, as events
-abbrev pub events_left : Tree → ℕ → Next → List Event
-events_left t root next = map (event_at t) (steps_left t root next)
+abbrev pub events_remaining : Tree → ℕ → Next → List Event
+events_remaining t root next = map (event_at t) (steps_remaining t root next)
 
 -- the element is the root or inside it
 pub record IsInside (t : Tree) (root m : ℕ) : Type 0 where

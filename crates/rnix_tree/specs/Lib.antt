@@ -12,4 +12,4 @@ pub mod Covering
 pub mod InsideCounts
 pub mod ChainMeasures
 pub mod WalksAlike
-pub mod AlikeRows
+pub mod AlikeSiblings

@@ -4,14 +4,14 @@ use Rattle.std.specs.List.{repeat}
 use Rattle.std.specs.Fmt.{◌++?◌, debug_str}
 use Rattle.rnix_kinds.specs.declared.kinds.SyntaxKind.{SyntaxKind}
 use Rattle.rnix_kinds.specs.SyntaxKind.{name_of}
-use Rattle.rnix_green.specs.Range.{Extent, place_text}
+use Rattle.rnix_green.specs.Range.{Extent, extent_text}
 use Rattle.rnix_green.specs.Forest.{Forest, empty, leaf, node, text_of, element_count}
 use Rattle.rnix_green.specs.Walk.{Spot, spot_at}
 use Rattle.rnix_green.specs.Tree.{Tree, Located, item_of, extent_of, text_at, part_at}
 
 -- an element's kind and range
 abbrev pub element_text : SyntaxKind → Extent → List ℕ
-element_text kind range = name_of kind ++ codes "@" ++ place_text range
+element_text kind range = name_of kind ++ codes "@" ++ extent_text range
 
 -- a token's text as it is shown: where it has 25 bytes or more, its first 21 and an ellipsis
 abbrev pub shown : List ℕ → List ℕ
@@ -27,7 +27,7 @@ indent depth = repeat depth (codes "  ")
 
 -- the end of an element's line: its range
 abbrev pub range_end : Extent → List ℕ
-range_end range = codes "@" ++ place_text range ++ codes "\n"
+range_end range = codes "@" ++ extent_text range ++ codes "\n"
 
 -- an element's line without its indent: its kind's name, its range
 abbrev pub line_end : Located → List ℕ

@@ -7,7 +7,7 @@ use Rattle.std.proofs.Common.{ap, refl}
 use Rattle.std.proofs.lemmas.Bool.Decides.{Decides-eqb, Decides-like, Decides-and}
 use Rattle.std.proofs.lemmas.Slice.Eq.{bytes_eq-Decides}
 use Rattle.rnix_kinds.specs.declared.kinds.SyntaxKind.{SyntaxKind}
-use Rattle.rnix_kinds.specs.SyntaxKind.{place_of}
+use Rattle.rnix_kinds.specs.SyntaxKind.{discriminant_of}
 use Rattle.rnix_green.specs.Equality.{same_kind, same_kind-decides, equivalence_from}
 use Rattle.rnix_green.specs.Forest.{Forest, empty, leaf, node}
 use Rattle.rnix_green.specs.Tree.{Located, item_of, extent_of}
@@ -26,7 +26,7 @@ same_located a b = a.number == b.number && (same_kind a.tree.kind b.tree.kind &&
 
 -- what is hashed of an element: its number, its kind and its range
 abbrev pub hashed_at : ℕ → SyntaxKind → Extent → List (List ℕ)
-hashed_at number kind range = fed.usize number ++ (fed.usize (place_of kind) ++ (fed.usize range.start ++ fed.usize range.end))
+hashed_at number kind range = fed.usize number ++ (fed.usize (discriminant_of kind) ++ (fed.usize range.start ++ fed.usize range.end))
 
 -- what is hashed of an element
 abbrev pub hashed : Located → List (List ℕ)

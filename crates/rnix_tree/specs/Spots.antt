@@ -23,9 +23,9 @@ token_in (Node n) = None
 token_in (Token t) = Some t
 
 -- the position of an element in its tree
-abbrev pub place_of : NodeOrToken Located Located → Located
-place_of (Node e) = e
-place_of (Token e) = e
+abbrev pub located_of : NodeOrToken Located Located → Located
+located_of (Node e) = e
+located_of (Token e) = e
 
 -- the event that a walk gives
 abbrev pub event_of : WalkEvent (NodeOrToken Located Located) → Event

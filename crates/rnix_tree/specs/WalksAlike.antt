@@ -36,29 +36,29 @@ siblings_before offset (suc d) ((false, e) ∷ es) = (false, e) ∷ siblings_bef
 -- a walk begins with events that show the same as others, of elements that end before an offset
 pub record BeginsAlike (passed : List Event) (offset : ℕ) (b : List Event) : Type 0 where
   pub twins : List Event
-  pub left : List Event
-  pub split : b ≡ twins ++ left
+  pub remaining : List Event
+  pub split : b ≡ twins ++ remaining
   pub alike : map shown_of passed ≡ map shown_of twins
   pub before : All (EndsBefore offset) twins
 
 -- two walks have passed events that show the same: the first one the siblings that it enters next and that end before an offset, and no such siblings are
 -- next; the second one elements that end before another offset
-pub record HavePassed (offset other_offset : ℕ) (a b a_left b_left : List Event) : Type 0 where
+pub record HavePassed (offset other_offset : ℕ) (a b a_remaining b_remaining : List Event) : Type 0 where
   pub passed : List Event
   pub twins : List Event
-  pub first : a ≡ passed ++ a_left
-  pub second : b ≡ twins ++ b_left
+  pub first : a ≡ passed ++ a_remaining
+  pub second : b ≡ twins ++ b_remaining
   pub siblings : passed ≡ siblings_before offset 0 a
   pub some : 0 < length passed
   pub alike : map shown_of passed ≡ map shown_of twins
   pub before : All (EndsBefore offset) passed
   pub other_before : All (EndsBefore other_offset) twins
-  pub done : siblings_before offset 0 a_left ≡ []
+  pub done : siblings_before offset 0 a_remaining ≡ []
 
 -- what comes of comparing the siblings that a walk enters next and that end before an offset with the next ones of another walk: there are none, or they
 -- differ, and both walks stay where they are; or they are alike, and both walks have passed them
 abbrev pub PassesAlike : ℕ → ℕ → Option Bool → List Event → List Event → List Event → List Event → Type 0
-PassesAlike offset other_offset None a b a_left b_left = (siblings_before offset 0 a ≡ []) × (a_left ≡ a) × (b_left ≡ b)
-PassesAlike offset other_offset (Some false) a b a_left b_left =
-    (0 < length (siblings_before offset 0 a)) × ¬ (BeginsAlike (siblings_before offset 0 a) other_offset b) × (a_left ≡ a) × (b_left ≡ b)
-PassesAlike offset other_offset (Some true) a b a_left b_left = HavePassed offset other_offset a b a_left b_left
+PassesAlike offset other_offset None a b a_remaining b_remaining = (siblings_before offset 0 a ≡ []) × (a_remaining ≡ a) × (b_remaining ≡ b)
+PassesAlike offset other_offset (Some false) a b a_remaining b_remaining =
+    (0 < length (siblings_before offset 0 a)) × ¬ (BeginsAlike (siblings_before offset 0 a) other_offset b) × (a_remaining ≡ a) × (b_remaining ≡ b)
+PassesAlike offset other_offset (Some true) a b a_remaining b_remaining = HavePassed offset other_offset a b a_remaining b_remaining

@@ -5,7 +5,7 @@ ghost use Rattle.rnix_green.specs.Range.{bounds_of};
 ghost use Rattle.rnix_green.specs.Relatives.{IsNodeIn};
 ghost use Rattle.rnix_green.specs.Tree.{items_of, item, extent_of};
 ghost use Rattle.rnix_tree.specs.Around.{IsOnWayTo};
-ghost use Rattle.rnix_tree.specs.Spots.{place_of, spot_of};
+ghost use Rattle.rnix_tree.specs.Spots.{located_of, spot_of};
 ghost use Rattle.rnix_tree.specs.Covering.{holds, child_at_range, IsCovering, IsInnermost};
 
 use crate::element::{SyntaxElement, element_at};
@@ -14,11 +14,11 @@ use crate::offset::token_before;
 use rnix_green::{GreenNode, TextRange};
 
 // Returns whether a range is inside another; an empty range is strictly between its ends.
-fn holds(range: TextRange, place: TextRange) -> bool
-    ensures { result ≡ holds (bounds_of range) (bounds_of place) }
+fn holds(range: TextRange, outer: TextRange) -> bool
+    ensures { result ≡ holds (bounds_of range) (bounds_of outer) }
 {
-    (place.start() <= range.start() && range.end() <= place.end())
-        && (place.start() < range.end() && range.start() < place.end())
+    (outer.start() <= range.start() && range.end() <= outer.end())
+        && (outer.start() < range.end() && range.start() < outer.end())
 }
 
 // Returns the range of the element with a number.
@@ -95,7 +95,7 @@ impl<'t> SyntaxNode<'t> {
 
     /// Returns the innermost element that contains the range: the node, or one inside it. Returns `None` if the node does not contain the range.
     pub fn covering_element(&self, range: TextRange) -> Option<SyntaxElement<'t>>
-        ensures { IsCovering (bounds_of range) self.now (option_map place_of result) }
+        ensures { IsCovering (bounds_of range) self.now (option_map located_of result) }
     {
         if self.text_range().contains_range(range) {
             let number = innermost(self.green, self.number, range);

@@ -31,7 +31,7 @@ const START_LEN: usize = 28;
 const TEXT_LEN: usize = 256;
 
 // Prints a kind with its range.
-fn write_place<W: fmt::Write>(
+fn write_kind_range<W: fmt::Write>(
     kind: SyntaxKind,
     range: TextRange,
     f: &mut fmt::Formatter<W>,
@@ -70,7 +70,7 @@ fn write_text<W: fmt::Write>(text: &str, f: &mut fmt::Formatter<W>) -> fmt::Resu
 fn write_token<W: fmt::Write>(token: &SyntaxToken<'_>, f: &mut fmt::Formatter<W>) -> fmt::Result
     ensures { DisplaysOnOk W.write_str_gives f.old result (token_text token.now) f.new }
 {
-    write_place(token.kind(), token.text_range(), f)?;
+    write_kind_range(token.kind(), token.text_range(), f)?;
     f.write_str(" ")?;
     write_text(token.text(), f)
 }
@@ -81,7 +81,7 @@ fn text_of(element: &SyntaxElement<'_>) -> Result<InlineText<TEXT_LEN>, fmt::Err
 {
     let mut f = fmt::Formatter::new(InlineText::<TEXT_LEN>::new());
     match element {
-        NodeOrToken::Node(node) => write_place(node.kind(), node.text_range(), &mut f)?,
+        NodeOrToken::Node(node) => write_kind_range(node.kind(), node.text_range(), &mut f)?,
         NodeOrToken::Token(token) => write_token(token, &mut f)?,
     }
     Ok(f.into_inner())
@@ -135,7 +135,7 @@ impl<'t> fmt::Debug for SyntaxNode<'t> {
         if f.alternate() {
             write_tree(self, f)
         } else {
-            write_place(self.kind(), self.text_range(), f)
+            write_kind_range(self.kind(), self.text_range(), f)
         }
     }
 }

@@ -42,12 +42,12 @@ pub(crate) fn write_digits(number: u64, bytes: &mut [u8], end: usize) -> usize
     ensures start { result + length (decimal number) ≡ end }
     ensures written { drop result bytes.new ≡ decimal number ++ drop end bytes.old }
 {
-    let mut left = number;
+    let mut remaining = number;
     let mut at = end;
-    while left >= 100 {
-        write_pair(left % 100, bytes, at - 2);
-        left /= 100;
+    while remaining >= 100 {
+        write_pair(remaining % 100, bytes, at - 2);
+        remaining /= 100;
         at -= 2;
     }
-    write_first(left, bytes, at)
+    write_first(remaining, bytes, at)
 }

@@ -4,7 +4,7 @@ ghost use Rattle.std.specs.Prelude.{◌≡◌, ◌<◌, length, option_map};
 ghost use Rattle.rnix_green.specs.Range.{bounds_of};
 ghost use Rattle.rnix_green.specs.Tree.{items_of, item_of, extent_of};
 ghost use Rattle.rnix_green.specs.Walk.{spot_at};
-ghost use Rattle.rnix_tree.specs.Spots.{spot_of, place_of, node_in, token_in, element_in, MapsEvent};
+ghost use Rattle.rnix_tree.specs.Spots.{spot_of, located_of, node_in, token_in, element_in, MapsEvent};
 
 use crate::node::SyntaxNode;
 use crate::token::SyntaxToken;
@@ -100,7 +100,7 @@ impl<'t> NodeOrToken<SyntaxNode<'t>, SyntaxToken<'t>> {
 
     /// Returns the element's kind.
     pub fn kind(&self) -> SyntaxKind
-        ensures { result ≡ (item_of (place_of self.now)).kind }
+        ensures { result ≡ (item_of (located_of self.now)).kind }
     {
         match self {
             NodeOrToken::Node(node) => node.kind(),
@@ -110,7 +110,7 @@ impl<'t> NodeOrToken<SyntaxNode<'t>, SyntaxToken<'t>> {
 
     /// Returns the element's range in the text, in bytes.
     pub fn text_range(&self) -> TextRange
-        ensures { bounds_of result ≡ extent_of (place_of self.now) }
+        ensures { bounds_of result ≡ extent_of (located_of self.now) }
     {
         match self {
             NodeOrToken::Node(node) => node.text_range(),
@@ -143,7 +143,7 @@ impl<'t> From<SyntaxToken<'t>> for NodeOrToken<SyntaxNode<'t>, SyntaxToken<'t>> 
 pub(crate) fn element_at<'t>(green: &'t GreenNode, number: usize) -> SyntaxElement<'t>
     requires { number < length (items_of green.now) }
     ensures spot { spot_of result ≡ spot_at green.now number }
-    ensures place { place_of result ≡ record { tree = green.now; number = number } }
+    ensures located { located_of result ≡ record { tree = green.now; number = number } }
 {
     if green.element(number).is_node {
         NodeOrToken::Node(SyntaxNode { green, number })

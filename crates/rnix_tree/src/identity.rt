@@ -13,7 +13,7 @@ use std::fmt;
 use std::hash::{Hash, Hasher};
 
 // Hashes a number with a kind and a range.
-fn hash_place<H: Hasher>(number: usize, kind: SyntaxKind, range: TextRange, state: &mut H)
+fn hash_element<H: Hasher>(number: usize, kind: SyntaxKind, range: TextRange, state: &mut H)
     ensures { state.new ≡ fold H.write state.old (hashed_at number kind (bounds_of range)) }
 {
     number.hash(state);
@@ -49,7 +49,7 @@ impl<'t> Hash for SyntaxNode<'t> {
     ghost respects_eq = { hashed_alike };
 
     fn hash<H: Hasher>(&self, state: &mut H) {
-        hash_place(self.number, self.kind(), self.text_range(), state);
+        hash_element(self.number, self.kind(), self.text_range(), state);
     }
 }
 
@@ -91,7 +91,7 @@ impl<'t> Hash for SyntaxToken<'t> {
     ghost respects_eq = { hashed_alike };
 
     fn hash<H: Hasher>(&self, state: &mut H) {
-        hash_place(self.number, self.kind(), self.text_range(), state);
+        hash_element(self.number, self.kind(), self.text_range(), state);
     }
 }
 
@@ -109,9 +109,9 @@ impl<'t> fmt::Display for SyntaxToken<'t> {
 impl<'t> fmt::Display for NodeOrToken<SyntaxNode<'t>, SyntaxToken<'t>> {
     ghost use Rattle.std.specs.Prelude.{Some};
     ghost use Rattle.rnix_green.specs.Tree.{text_at};
-    ghost use Rattle.rnix_tree.specs.Spots.{place_of};
+    ghost use Rattle.rnix_tree.specs.Spots.{located_of};
 
-    ghost output = { λ element. Some (text_at (place_of element)) };
+    ghost output = { λ element. Some (text_at (located_of element)) };
 
     fn fmt<W: fmt::Write>(&self, f: &mut fmt::Formatter<W>) -> fmt::Result {
         match self {

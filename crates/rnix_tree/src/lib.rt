@@ -16,7 +16,7 @@ mod offset;
 mod pointer;
 mod printing;
 mod relatives;
-mod rows;
+mod sibling_range;
 mod siblings;
 mod token;
 mod walk;

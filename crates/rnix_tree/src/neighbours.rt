@@ -1,7 +1,7 @@
 //! Parents, children, siblings and adjacent tokens.
 
 ghost use Rattle.std.specs.Prelude.{◌≡◌, ◌<◌, ◌^◌, length, option_map, is_some, true};
-ghost use Rattle.rnix_tree.specs.Spots.{place_of};
+ghost use Rattle.rnix_tree.specs.Spots.{located_of};
 ghost use Rattle.rnix_green.specs.Relatives.{located, parent_of, IsFirstChild, IsLastChild, IsFirstChildNode, IsLastChildNode, IsNextSibling, IsPrevSibling, IsNextSiblingNode, IsPrevSiblingNode, IsFirstToken, IsLastToken, IsNextToken, IsPrevToken};
 ghost use Rattle.rnix_tree.specs.Around.{IsThereIfAny, IsNodeIfAny, IsTokenIfAny, parent_ancestors_of, nodes_around, IsFirstTokenOf, IsLastTokenOf};
 
@@ -37,7 +37,7 @@ fn token_if<'t>(green: &'t GreenNode, number: Option<usize>) -> Option<SyntaxTok
 // Returns the element with a number, if there is one.
 fn element_if<'t>(green: &'t GreenNode, number: Option<usize>) -> Option<SyntaxElement<'t>>
     requires { IsThereIfAny green.now number }
-    ensures { option_map place_of result ≡ located green.now number }
+    ensures { option_map located_of result ≡ located green.now number }
 {
     match number {
         Some(number) => Some(element_at(green, number)),
@@ -71,14 +71,14 @@ impl<'t> SyntaxNode<'t> {
 
     /// Returns the first child, node or token.
     pub fn first_child_or_token(&self) -> Option<SyntaxElement<'t>>
-        ensures { IsFirstChild self.now (option_map place_of result) }
+        ensures { IsFirstChild self.now (option_map located_of result) }
     {
         element_if(self.green, relatives::first_child(self.green, self.number))
     }
 
     /// Returns the last child, node or token.
     pub fn last_child_or_token(&self) -> Option<SyntaxElement<'t>>
-        ensures { IsLastChild self.now (option_map place_of result) }
+        ensures { IsLastChild self.now (option_map located_of result) }
     {
         element_if(self.green, relatives::last_child(self.green, self.number))
     }
@@ -101,14 +101,14 @@ impl<'t> SyntaxNode<'t> {
 
     /// Returns the next sibling, node or token.
     pub fn next_sibling_or_token(&self) -> Option<SyntaxElement<'t>>
-        ensures { IsNextSibling self.now (option_map place_of result) }
+        ensures { IsNextSibling self.now (option_map located_of result) }
     {
         element_if(self.green, relatives::next_sibling(self.green, self.number))
     }
 
     /// Returns the previous sibling, node or token.
     pub fn prev_sibling_or_token(&self) -> Option<SyntaxElement<'t>>
-        ensures { IsPrevSibling self.now (option_map place_of result) }
+        ensures { IsPrevSibling self.now (option_map located_of result) }
     {
         element_if(self.green, relatives::prev_sibling(self.green, self.number))
     }
@@ -181,14 +181,14 @@ impl<'t> SyntaxToken<'t> {
 
     /// Returns the next sibling, node or token.
     pub fn next_sibling_or_token(&self) -> Option<SyntaxElement<'t>>
-        ensures { IsNextSibling self.now (option_map place_of result) }
+        ensures { IsNextSibling self.now (option_map located_of result) }
     {
         element_if(self.green, relatives::next_sibling(self.green, self.number))
     }
 
     /// Returns the previous sibling, node or token.
     pub fn prev_sibling_or_token(&self) -> Option<SyntaxElement<'t>>
-        ensures { IsPrevSibling self.now (option_map place_of result) }
+        ensures { IsPrevSibling self.now (option_map located_of result) }
     {
         element_if(self.green, relatives::prev_sibling(self.green, self.number))
     }
@@ -197,7 +197,7 @@ impl<'t> SyntaxToken<'t> {
 impl<'t> NodeOrToken<SyntaxNode<'t>, SyntaxToken<'t>> {
     /// Returns the parent; `None` for the root.
     pub fn parent(&self) -> Option<SyntaxNode<'t>>
-        ensures { result ≡ parent_of (place_of self.now) }
+        ensures { result ≡ parent_of (located_of self.now) }
     {
         match self {
             NodeOrToken::Node(node) => node.parent(),
@@ -238,7 +238,7 @@ impl<'t> NodeOrToken<SyntaxNode<'t>, SyntaxToken<'t>> {
 
     /// Returns the next sibling, node or token.
     pub fn next_sibling_or_token(&self) -> Option<SyntaxElement<'t>>
-        ensures { IsNextSibling (place_of self.now) (option_map place_of result) }
+        ensures { IsNextSibling (located_of self.now) (option_map located_of result) }
     {
         match self {
             NodeOrToken::Node(node) => node.next_sibling_or_token(),
@@ -248,7 +248,7 @@ impl<'t> NodeOrToken<SyntaxNode<'t>, SyntaxToken<'t>> {
 
     /// Returns the previous sibling, node or token.
     pub fn prev_sibling_or_token(&self) -> Option<SyntaxElement<'t>>
-        ensures { IsPrevSibling (place_of self.now) (option_map place_of result) }
+        ensures { IsPrevSibling (located_of self.now) (option_map located_of result) }
     {
         match self {
             NodeOrToken::Node(node) => node.prev_sibling_or_token(),

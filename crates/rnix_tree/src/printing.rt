@@ -4,7 +4,7 @@ ghost use Rattle.std.specs.Prelude.{OnOk};
 ghost use Rattle.std.specs.Io.KnownBytes.{Appends};
 ghost use Rattle.rnix_tree.specs.Lines.{indent, range_end, line_end, element_line, lines_of};
 ghost use Rattle.rnix_green.specs.Range.{bounds_of};
-ghost use Rattle.rnix_tree.specs.Spots.{place_of};
+ghost use Rattle.rnix_tree.specs.Spots.{located_of};
 
 use crate::digits::write_digits;
 use crate::element::{SyntaxElement, WalkEvent};
@@ -26,12 +26,12 @@ const RANGE_LEN: usize = 44;
 fn write_indent<W: Write>(depth: usize, out: &mut W) -> io::Result<()>
     ensures { OnOk result (Appends (W.contents out.old) (W.contents out.new) (indent depth)) }
 {
-    let mut left = depth;
-    while left > LEVELS {
+    let mut remaining = depth;
+    while remaining > LEVELS {
         out.write_all(&SPACES)?;
-        left -= LEVELS;
+        remaining -= LEVELS;
     }
-    out.write_all(&SPACES[..2 * left])?;
+    out.write_all(&SPACES[..2 * remaining])?;
     Ok(())
 }
 
@@ -52,7 +52,7 @@ fn write_range<W: Write>(range: TextRange, out: &mut W) -> io::Result<()>
 /// Prints the kind and the range of an element, and ends the line.
 #[doc(hidden)]
 pub fn write_element<W: Write>(element: &SyntaxElement<'_>, out: &mut W) -> io::Result<()>
-    ensures { OnOk result (Appends (W.contents out.old) (W.contents out.new) (line_end (place_of element.now))) }
+    ensures { OnOk result (Appends (W.contents out.old) (W.contents out.new) (line_end (located_of element.now))) }
 {
     out.write_all(element.kind().name().as_bytes())?;
     write_range(element.text_range(), out)
@@ -60,7 +60,7 @@ pub fn write_element<W: Write>(element: &SyntaxElement<'_>, out: &mut W) -> io::
 
 // Prints the line of an element.
 fn write_line<W: Write>(element: &SyntaxElement<'_>, depth: usize, out: &mut W) -> io::Result<()>
-    ensures { OnOk result (Appends (W.contents out.old) (W.contents out.new) (element_line depth (place_of element.now))) }
+    ensures { OnOk result (Appends (W.contents out.old) (W.contents out.new) (element_line depth (located_of element.now))) }
 {
     write_indent(depth, out)?;
     write_element(element, out)

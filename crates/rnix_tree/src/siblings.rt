@@ -3,7 +3,7 @@
 ghost use Rattle.std.specs.Prelude.{◌≡◌, ◌<◌, ◌^◌, length};
 ghost use Rattle.rnix_green.specs.Tree.{items_of};
 ghost use Rattle.rnix_green.specs.Walk.{nodes_in};
-ghost use Rattle.rnix_tree.specs.Spots.{place_of};
+ghost use Rattle.rnix_tree.specs.Spots.{located_of};
 ghost use Rattle.rnix_tree.specs.Around.{IsThereIfAny};
 ghost use Rattle.rnix_tree.specs.Siblings.{siblings_of, index_of, IsBeside};
 
@@ -196,7 +196,7 @@ impl<'t> SyntaxToken<'t> {
 impl<'t> NodeOrToken<SyntaxNode<'t>, SyntaxToken<'t>> {
     /// Returns the element and its siblings on one side, nodes and tokens, nearest first.
     pub fn siblings_with_tokens(&self, direction: Direction) -> SiblingsWithTokens<'t>
-        ensures siblings { result ≡ siblings_of direction (place_of self.now) }
+        ensures siblings { result ≡ siblings_of direction (located_of self.now) }
         ensures fits { length result < 2 ^ 64 }
     {
         match self {
@@ -207,7 +207,7 @@ impl<'t> NodeOrToken<SyntaxNode<'t>, SyntaxToken<'t>> {
 
     /// Returns the number of siblings, nodes and tokens, before the element.
     pub fn index(&self) -> usize
-        ensures { result ≡ index_of (place_of self.now) }
+        ensures { result ≡ index_of (located_of self.now) }
     {
         match self {
             NodeOrToken::Node(node) => node.index(),

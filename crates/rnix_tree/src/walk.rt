@@ -7,7 +7,7 @@ ghost use Rattle.rnix_tree.specs.WalksAlike.{PassesAlike};
 ghost use Rattle.rnix_tree.specs.Cursor.{after_enter, after_leave, after_skip, IsNextWithin};
 
 use crate::element::{SyntaxElement, WalkEvent, element_at};
-use crate::rows::{after_row, are_rows_alike, end_before, row_at};
+use crate::sibling_range::{after_siblings, are_siblings_alike, end_before, siblings_at};
 use rnix_green::GreenNode;
 use std::marker::Model;
 
@@ -81,9 +81,9 @@ impl<'t> Model for PreorderWithTokens<'t> {
 
     ghost coded = { events_code };
 
-    ghost use Rattle.rnix_tree.specs.Cursor.{events_left, IsWithin};
+    ghost use Rattle.rnix_tree.specs.Cursor.{events_remaining, IsWithin};
 
-    ghost view = { λ w. events_left w.green.now w.root w.next };
+    ghost view = { λ w. events_remaining w.green.now w.root w.next };
 
     ghost invariant = { λ w. IsWithin w.green.now w.root w.next };
 }
@@ -124,20 +124,20 @@ impl<'t> PreorderWithTokens<'t> {
         let Next::Enter(number) = self.next else {
             return None;
         };
-        let row = row_at(self.green, self.root, number);
-        let end = end_before(self.green, row, before);
+        let siblings = siblings_at(self.green, self.root, number);
+        let end = end_before(self.green, siblings, before);
         if end == number {
             return None;
         }
         let Next::Enter(other_number) = other.next else {
             return Some(false);
         };
-        let twin = row_at(other.green, other.root, other_number);
-        if !are_rows_alike(self.green, row, end, other.green, twin, other_before) {
+        let twin = siblings_at(other.green, other.root, other_number);
+        if !are_siblings_alike(self.green, siblings, end, other.green, twin, other_before) {
             return Some(false);
         }
-        self.next = after_row(row, end);
-        other.next = after_row(twin, other_number + (end - number));
+        self.next = after_siblings(siblings, end);
+        other.next = after_siblings(twin, other_number + (end - number));
         Some(true)
     }
 }

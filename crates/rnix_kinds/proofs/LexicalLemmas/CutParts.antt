@@ -228,8 +228,8 @@ search_byte text some first last =
     elim (cases_lt end n) [
       | inl short ↦ angle_ascii (get_or text end 0) (prefix_len_passes (class_test Angle) text end 0 short)
       | inr long ↦ elim (cases_lt n end) [
-        | inl past ↦ (let place : 1 + (n - 1) ≡ n = omega arith in
-            absurd (angle_end (get_or text n 0) last (rw (get_or-drop 1 text (n - 1) 0, place) at
+        | inl past ↦ (let index_is : 1 + (n - 1) ≡ n = omega arith in
+            absurd (angle_end (get_or text n 0) last (rw (get_or-drop 1 text (n - 1) 0, index_is) at
             (prefix_len_passes is_path (drop 1 text) (n - 1) 0 (omega arith)))))
         | inr not_past ↦ (let same : end ≡ n = omega arith in let is = eqb-true (get_or text n 0) 62 last in rw (same, is) (omega arith, omega arith))
       ]

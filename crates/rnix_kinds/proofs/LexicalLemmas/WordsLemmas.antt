@@ -145,8 +145,8 @@ prefix_len-drop p (suc n) [] h = absurd (omega arith)
 prefix_len-drop p (suc n) (x ∷ xs) h = prefix_len_drop_step p (p x) n x xs refl h (prefix_len-drop p n xs)
 
 -- where a run ends stays, whatever is passed of it
-pub IsRunEnd-pass : (class : Class) (left n : ℕ) (text : List ℕ) → IsRunEnd class left text → IsRunEnd class left (drop n text)
-IsRunEnd-pass class left n text ahead inside =
+pub IsRunEnd-pass : (class : Class) (remaining n : ℕ) (text : List ℕ) → IsRunEnd class remaining text → IsRunEnd class remaining (drop n text)
+IsRunEnd-pass class remaining n text ahead inside =
     let size = length-drop n text in
     let is = ahead (omega arith) in
     let more = prefix_len-drop (class_test class) n text (omega arith) in

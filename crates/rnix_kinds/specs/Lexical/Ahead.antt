@@ -8,7 +8,7 @@ use Rattle.rnix_kinds.specs.Lexical.Classes.{class_test}
 
 -- the run at the front ends where `left` bytes of the text are left, unless that is no place inside it
 abbrev pub IsRunEnd : Class → ℕ → List ℕ → Type 0
-IsRunEnd class left text = left < length text → length text - left ≡ prefix_len (class_test class) text
+IsRunEnd class remaining text = remaining < length text → length text - remaining ≡ prefix_len (class_test class) text
 
 pub record IsAhead (runs : Ahead) (text : List ℕ) : Type 0 where
   pub step : IsRunEnd Step runs.step text

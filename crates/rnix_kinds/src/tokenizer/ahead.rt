@@ -16,13 +16,13 @@ pub struct Ahead {
 }
 
 /// Returns the length of the run at the start of the text, which may have been scanned before.
-pub fn looked(text: &str, left: &mut usize, class: Class) -> usize
-    requires { IsRunEnd class left.old text.now }
+pub fn looked(text: &str, remaining: &mut usize, class: Class) -> usize
+    requires { IsRunEnd class remaining.old text.now }
     ensures len { result ≡ prefix_len (class_test class) text.now }
-    ensures left { IsRunEnd class left.new text.now }
+    ensures remaining { IsRunEnd class remaining.new text.now }
 {
-    if *left >= text.len() {
-        *left = text.len() - run_end(text, 0, class);
+    if *remaining >= text.len() {
+        *remaining = text.len() - run_end(text, 0, class);
     }
-    text.len() - *left
+    text.len() - *remaining
 }

@@ -1,6 +1,6 @@
 use Rattle.std.proofs.{Common.{◌≡◌, ◌∙◌, ℕ, ap, subst}, KnownBytes.Appends-trans, lemmas.Result.on_ok_weaker}
 use Rattle.std.specs.Io.KnownBytes.{Appends}
-use Rattle.nix_cli.specs.MessagePlaces.{line_and_column}
+use Rattle.nix_cli.specs.MessageLocations.{line_and_column}
 use Rattle.nix_check.{specs.AsSarif.region, proofs.AppendedPieces.three}
 use Rattle.nix_check.proofs.sarif.write_location.Goals as goal
 
@@ -16,5 +16,5 @@ returns g c =
     (λ e. Appends-trans start third fourth _ (region (line_and_column text c.args.range.start) (line_and_column text c.args.range.end))
     (three start (g.W.Write.contents c.write_all.new.self) (g.W.Write.contents c.write_uri.new.out) third _ _ _ c.in_ok-write_all.ensures.bytes
     c.in_ok-write_uri.ensures c.in_ok-write_all-2.ensures.bytes)
-    (subst (λ (place : ℕ × ℕ). Appends third fourth (region (line_and_column text c.args.range.start) place)) to
-    (subst (λ (place : ℕ × ℕ). Appends third fourth (region place c.position-end.result)) from e))) c.write_region.ensures
+    (subst (λ (location : ℕ × ℕ). Appends third fourth (region (line_and_column text c.args.range.start) location)) to
+    (subst (λ (location : ℕ × ℕ). Appends third fourth (region location c.position-end.result)) from e))) c.write_region.ensures

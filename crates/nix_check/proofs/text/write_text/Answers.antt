@@ -11,8 +11,8 @@ returns g c =
     on_ok_weaker c.write_notes.result
     (λ e. text_printed c.args.is_colored source.name.now source.text.now c.args.diagnostic.now c.severity-severity.result c.as_str.result.now
     c.start-start.result
-    (g.W.Write.contents c.args.out.now) (g.W.Write.contents c.write_place.new.out) (g.W.Write.contents c.write_severe.new.out) third new
-    c.severity-severity.ensures c.as_str.ensures.value c.start-start.ensures c.in_ok-write_place.ensures c.in_ok-write_severe.ensures
+    (g.W.Write.contents c.args.out.now) (g.W.Write.contents c.write_source_location.new.out) (g.W.Write.contents c.write_severe.new.out) third new
+    c.severity-severity.ensures c.as_str.ensures.value c.start-start.ensures c.in_ok-write_source_location.ensures c.in_ok-write_severe.ensures
     c.in_ok-write_excerpt.ensures
     (subst (λ (notes : List Note). Prints (AreNoteTexts c.args.is_colored source.name.now source.text.now notes) third new) c.deref.ensures.value e))
     c.write_notes.ensures

@@ -19,18 +19,18 @@ returns-then-not-has_parts t c =
 pub loop-child-preserved : goal.loop-child-preserved
 loop-child-preserved t c =
     let part = rw c.in-Some-2.is at c.in_ok-part.ensures in
-    let found = rw c.in-Some-3.is at c.in_ok-left.ensures in
+    let found = rw c.in-Some-3.is at c.in_ok-remaining.ensures in
     let node = c.in-Some-2.part.node in
     let means : MeansFirst (c.args.levels - 1) (c.args.depth + 1) (string_bytes c.in-Some-2.part.name) node (map entry_of c.loop-child.rest.now)
-    (map entry_of c.in-Some-3.left.now) =
-    subst (λ n. MeansFirst (c.args.levels - 1) (c.args.depth + 1) n node (map entry_of c.loop-child.rest.now) (map entry_of c.in-Some-3.left.now))
+    (map entry_of c.in-Some-3.remaining.now) =
+    subst (λ n. MeansFirst (c.args.levels - 1) (c.args.depth + 1) n node (map entry_of c.loop-child.rest.now) (map entry_of c.in-Some-3.remaining.now))
     c.as_str-part_name.ensures.value found in
     record {
       next = tt;
       ends = tt;
       used = used_more (c.args.levels - 1) (c.args.depth + 1) (plain_of c.in-Some.head.now.value) (nodes_in (children_of (unwrapped c.args.expr.now)))
           c.loop-child.child-iterator c.next.new.self c.in-Some-child.child c.in-Some-2.part.node (string_bytes c.in-Some-2.part.name)
-          (entry_of c.in-Some.head.now) (map entry_of c.args.items.now) (map entry_of c.loop-child.rest.now) (map entry_of c.in-Some-3.left.now)
+          (entry_of c.in-Some.head.now) (map entry_of c.args.items.now) (map entry_of c.loop-child.rest.now) (map entry_of c.in-Some-3.remaining.now)
           c.in-Some-child.ensures.steps part
           means c.loop-child.invariant.used;
       names = names_more (plain_of c.in-Some.head.now.value) (nodes_in (children_of (unwrapped c.args.expr.now))) c.loop-child.child-iterator

@@ -8,5 +8,5 @@ abbrev pub invariant-loop-element : goal.invariant-loop-element
 invariant-loop-element l = record {
   next : (goal.iterator-loop-element).can_next l.element-iterator;
   ends : (goal.iterator-loop-element).is_finite l.element-iterator;
-  left : list_any is_misread_at l.element-iterator ≡ list_any is_misread_at (elements_of l.root);
+  remaining : list_any is_misread_at l.element-iterator ≡ list_any is_misread_at (elements_of l.root);
 }

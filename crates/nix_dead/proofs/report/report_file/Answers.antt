@@ -1,5 +1,5 @@
 use Rattle.std.proofs.{Common.{ℕ, List, subst, string_bytes}, lemmas.Result.IfOk-weaker}
-use Rattle.nix_cli.specs.MessagePlaces.{shown_name}
+use Rattle.nix_cli.specs.MessageLocations.{shown_name}
 use Rattle.nix_dead.specs.Report.{IsReported, IsFileReported}
 use Rattle.nix_dead.proofs.ReportedNames.{file_reported}
 use Rattle.nix_dead.proofs.report.report_file.Goals as goal

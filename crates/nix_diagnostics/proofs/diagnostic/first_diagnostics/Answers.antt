@@ -63,9 +63,9 @@ loop-number-preserved c =
             (omega (arith, w.len.ensures, w.if-len-most.true)) (sym judged.0 ∙ w.if-folds.false)
             (subst (λ n. IsSingle root n (fault_of e) w.in_ok-alone.alone) counts w.in_ok-alone.ensures) more
         | else-folds+else-len-most+in_ok-add-2 w ↦
-            added_behind root all before _ most old _ (fault_of e) c.place_of-range.result c.loop-number.invariant.first
+            added_behind root all before _ most old _ (fault_of e) c.location_of-range.result c.loop-number.invariant.first
             (subst (λ x. IsCountAdded None old x) (sym w.found-is) w.in_ok-add-2.ensures) c.requires
-            (omega (arith, w.len.ensures, w.if-len-most.false)) (sym judged.0 ∙ w.if-folds.false) c.place_of-range.ensures more
+            (omega (arith, w.len.ensures, w.if-len-most.false)) (sym judged.0 ∙ w.if-folds.false) c.location_of-range.ensures more
       ];
       known = subst (λ faults. Knows root all faults c.folds.new.self) (sym more) judged.1;
       earlier = c.error_node-node.ensures.earlier;

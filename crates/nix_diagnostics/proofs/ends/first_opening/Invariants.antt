@@ -7,5 +7,5 @@ abbrev pub invariant-loop-element : goal.invariant-loop-element
 invariant-loop-element l = record {
   next : (goal.iterator-loop-element).can_next l.element-iterator;
   ends : (goal.iterator-loop-element).is_finite l.element-iterator;
-  left : first_opening l.end l.element-iterator ≡ first_opening l.end (elements_of l.root);
+  remaining : first_opening l.end l.element-iterator ≡ first_opening l.end (elements_of l.root);
 }

@@ -5,10 +5,10 @@ use Rattle.nix_format.proofs.unified.hunks_of.Given as goal
 
 abbrev pub invariant-loop-hunk : goal.invariant-loop-hunk
 invariant-loop-hunk l = record {
-  within : l.place ≤ length l.diff;
-  before : AreCounts (take l.place l.diff) l.before;
-  hunks : (rest : List Hunk) → AreHunks l.diff l.place rest → AreHunks l.diff 0 (l.hunks.items ++ rest);
+  within : l.index ≤ length l.diff;
+  before : AreCounts (take l.index l.diff) l.before;
+  hunks : (rest : List Hunk) → AreHunks l.diff l.index rest → AreHunks l.diff 0 (l.hunks.items ++ rest);
 }
 
 abbrev pub decreases-loop-hunk : goal.decreases-loop-hunk
-decreases-loop-hunk l = length l.diff - l.place
+decreases-loop-hunk l = length l.diff - l.index

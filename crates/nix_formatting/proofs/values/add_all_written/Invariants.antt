@@ -3,4 +3,4 @@ use Rattle.{rnix_base.specs.Normal.borrowed, nix_formatting.specs.Values.with_sy
 use Rattle.nix_formatting.proofs.values.add_all_written.Given as goal
 
 abbrev pub invariant-loop-part : goal.invariant-loop-part
-invariant-loop-part l = l.row.items ≡ fold with_symbols l.initial.row.items (borrowed (take l.part-index l.parts))
+invariant-loop-part l = l.symbols.items ≡ fold with_symbols l.initial.symbols.items (borrowed (take l.part-index l.parts))

@@ -7,8 +7,8 @@ returns-in_ok-push-clause-sees c = λ root n scopes l count h.
     subst (SeesScopes root c.enter.new.bindings.items c.enter.new.self c.push.new.self.items (c.args.node.now.number + 1))
     (sym (cond-true (is_scope c.args.node.now) (c.args.node.now ∷ scopes) scopes (sym c.requires ∙ c.if-binds.true))) (
       c.in_ok-enter.ensures.sees n scopes l h.0,
-      end_added root c.args.left c.saturating_sub.result c.args.ends.now.items c.push.new.self.items c.args.node.now scopes count
-          (c.saturating_sub.ensures ∙ ap (λ k. c.args.left - k) c.inside_count.ensures) c.in_ok-push.ensures.items h.1,
+      end_added root c.args.remaining c.saturating_sub.result c.args.ends.now.items c.push.new.self.items c.args.node.now scopes count
+          (c.saturating_sub.ensures ∙ ap (λ k. c.args.remaining - k) c.inside_count.ensures) c.in_ok-push.ensures.items h.1,
     )
 
 pub returns-else-binds-clause-sees : goal.returns-else-binds-clause-sees

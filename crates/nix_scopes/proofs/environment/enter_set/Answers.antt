@@ -8,8 +8,8 @@ returns-in_ok-push-2 c = λ root sets count h.
     subst (SeesSets root c.push.new.self.items c.push-then-eq.new.self.items) (sym (cond-true (is_set c.args.node.now) (c.args.node.now ∷ sets) sets is)) (
       c.in_ok-push-2.ensures.items ∙ ap (λ b. c.args.scopes.now.items ++ b ∷ []) c.requires
           ∙ ap (λ bs. bs ++ is_scope c.args.node.now ∷ []) h.0,
-      end_added root c.args.left c.saturating_sub.result c.args.ends.now.items c.push.new.self.items c.args.node.now sets count
-          (c.saturating_sub.ensures ∙ ap (λ k. c.args.left - k) c.inside_count.ensures) c.in_ok-push.ensures.items h.1,
+      end_added root c.args.remaining c.saturating_sub.result c.args.ends.now.items c.push.new.self.items c.args.node.now sets count
+          (c.saturating_sub.ensures ∙ ap (λ k. c.args.remaining - k) c.inside_count.ensures) c.in_ok-push.ensures.items h.1,
     )
 
 pub returns-else-eq : goal.returns-else-eq

@@ -3,4 +3,4 @@ use Rattle.nix_scopes.proofs.occurrences.add_referred.Given as goal
 
 abbrev pub invariant-loop-reference : goal.invariant-loop-reference
 invariant-loop-reference l =
-    map bounds_of l.places.items ≡ map bounds_of l.fn.places.items ++ referred_at l.number (take l.reference-index l.references)
+    map bounds_of l.extents.items ≡ map bounds_of l.fn.extents.items ++ referred_at l.number (take l.reference-index l.references)

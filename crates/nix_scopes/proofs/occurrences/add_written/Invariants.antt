@@ -3,4 +3,4 @@ use Rattle.nix_scopes.proofs.occurrences.add_written.Given as goal
 
 abbrev pub invariant-loop-binding : goal.invariant-loop-binding
 invariant-loop-binding l =
-    map bounds_of l.places.items ≡ map bounds_of l.fn.places.items ++ written_at l.number (take l.binding-index l.bindings)
+    map bounds_of l.extents.items ≡ map bounds_of l.fn.extents.items ++ written_at l.number (take l.binding-index l.bindings)

@@ -2,4 +2,4 @@ use Rattle.{std.proofs.Common.{◌≡◌, drop}, rnix_green.specs.Range.bounds_o
 use Rattle.nix_scopes.proofs.resolution.referred_number.Given as goal
 
 abbrev pub invariant-loop-reference : goal.invariant-loop-reference
-invariant-loop-reference l = referred_number (bounds_of l.place) l.references ≡ referred_number (bounds_of l.place) (drop l.reference-index l.references)
+invariant-loop-reference l = referred_number (bounds_of l.extent) l.references ≡ referred_number (bounds_of l.extent) (drop l.reference-index l.references)

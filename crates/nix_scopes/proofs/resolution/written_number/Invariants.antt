@@ -2,4 +2,4 @@ use Rattle.{std.proofs.Common.{◌≡◌, drop}, rnix_green.specs.Range.bounds_o
 use Rattle.nix_scopes.proofs.resolution.written_number.Given as goal
 
 abbrev pub invariant-loop-binding : goal.invariant-loop-binding
-invariant-loop-binding l = written_number (bounds_of l.place) l.bindings ≡ written_number (bounds_of l.place) (drop l.binding-index l.bindings)
+invariant-loop-binding l = written_number (bounds_of l.extent) l.bindings ≡ written_number (bounds_of l.extent) (drop l.binding-index l.bindings)

@@ -19,72 +19,72 @@ loop-rest-init c = (c.utf8.text, subst (λ v. IsReadTo c.args.text.now v c.args.
 pub returns-then-byte-eq34-clause-read : goal.returns-then-byte-eq34-clause-read
 returns-then-byte-eq34-clause-read c =
     let rest = c.loop-rest.rest.now in
-    let left = c.in_ok-behind.behind.now in
-    let run = read_run c.args.text.now (string_bytes c.loop-rest.value) rest (string_bytes c.after_plain.new.value) left c.loop-rest.invariant.1
+    let remaining = c.in_ok-behind.behind.now in
+    let run = read_run c.args.text.now (string_bytes c.loop-rest.value) rest (string_bytes c.after_plain.new.value) remaining c.loop-rest.invariant.1
     c.in_ok-behind.ensures.0 c.in_ok-behind.ensures.1 (prefix_len-le-length is_plain rest) in
-    let empty : (length left == 0) ≡ false = sym c.is_empty-in-loop-rest.ensures ∙ c.if-is_empty.false in
-    let some : 0 < length left = omega (arith, eqb-false (length left) 0 empty) in
-    let first : get_or left 0 0 ≡ 34 = sym (ap (λ l. get_or l 0 0) c.as_bytes.ensures.value) ∙ sym c.byte_at-byte.ensures ∙ c.if-byte-eq34.true in
-    quote_next c.args.text.now (string_bytes c.after_plain.new.value) left run some first
+    let empty : (length remaining == 0) ≡ false = sym c.is_empty-in-loop-rest.ensures ∙ c.if-is_empty.false in
+    let some : 0 < length remaining = omega (arith, eqb-false (length remaining) 0 empty) in
+    let first : get_or remaining 0 0 ≡ 34 = sym (ap (λ l. get_or l 0 0) c.as_bytes.ensures.value) ∙ sym c.byte_at-byte.ensures ∙ c.if-byte-eq34.true in
+    quote_next c.args.text.now (string_bytes c.after_plain.new.value) remaining run some first
 
 pub returns-then-is_empty-clause-read : goal.returns-then-is_empty-clause-read
 returns-then-is_empty-clause-read c =
     let rest = c.loop-rest.rest.now in
-    let left = c.in_ok-behind.behind.now in
-    let run = read_run c.args.text.now (string_bytes c.loop-rest.value) rest (string_bytes c.after_plain.new.value) left c.loop-rest.invariant.1
+    let remaining = c.in_ok-behind.behind.now in
+    let run = read_run c.args.text.now (string_bytes c.loop-rest.value) rest (string_bytes c.after_plain.new.value) remaining c.loop-rest.invariant.1
     c.in_ok-behind.ensures.0 c.in_ok-behind.ensures.1 (prefix_len-le-length is_plain rest) in
-    let zero_len : length left ≡ 0 = eqb-true (length left) 0 (sym c.is_empty-in-loop-rest.ensures ∙ c.if-is_empty.true) in
+    let zero_len : length remaining ≡ 0 = eqb-true (length remaining) 0 (sym c.is_empty-in-loop-rest.ensures ∙ c.if-is_empty.true) in
     refused c.refused.result (content 0 c.args.text.now ≡ None)
-    (end_next c.args.text.now (string_bytes c.after_plain.new.value) left run (nil_from_length left zero_len))
+    (end_next c.args.text.now (string_bytes c.after_plain.new.value) remaining run (nil_from_length remaining zero_len))
 
 pub returns-then-byte-ne92-clause-read : goal.returns-then-byte-ne92-clause-read
 returns-then-byte-ne92-clause-read c =
     let rest = c.loop-rest.rest.now in
-    let left = c.in_ok-behind.behind.now in
-    let run = read_run c.args.text.now (string_bytes c.loop-rest.value) rest (string_bytes c.after_plain.new.value) left c.loop-rest.invariant.1
+    let remaining = c.in_ok-behind.behind.now in
+    let run = read_run c.args.text.now (string_bytes c.loop-rest.value) rest (string_bytes c.after_plain.new.value) remaining c.loop-rest.invariant.1
     c.in_ok-behind.ensures.0 c.in_ok-behind.ensures.1 (prefix_len-le-length is_plain rest) in
-    let empty : (length left == 0) ≡ false = sym c.is_empty-in-loop-rest.ensures ∙ c.if-is_empty.false in
-    let some : 0 < length left = omega (arith, eqb-false (length left) 0 empty) in
-    let first : get_or left 0 0 ≡ c.byte_at-byte.result = sym (ap (λ l. get_or l 0 0) c.as_bytes.ensures.value) ∙ sym c.byte_at-byte.ensures in
+    let empty : (length remaining == 0) ≡ false = sym c.is_empty-in-loop-rest.ensures ∙ c.if-is_empty.false in
+    let some : 0 < length remaining = omega (arith, eqb-false (length remaining) 0 empty) in
+    let first : get_or remaining 0 0 ≡ c.byte_at-byte.result = sym (ap (λ l. get_or l 0 0) c.as_bytes.ensures.value) ∙ sym c.byte_at-byte.ensures in
     refused c.refused-then-byte-ne92.result (content 0 c.args.text.now ≡ None)
-    (control_next c.args.text.now (string_bytes c.after_plain.new.value) rest left run c.in_ok-behind.ensures.0 some
+    (control_next c.args.text.now (string_bytes c.after_plain.new.value) rest remaining run c.in_ok-behind.ensures.0 some
     (λ e. omega (arith, c.if-byte-eq34.false, first, e)) (λ e. omega (arith, c.if-byte-ne92.true, first, e)))
 
 pub split_at-requires : goal.split_at-requires
 split_at-requires c =
-    let left = c.in_ok-behind.behind.now in
-    let first : get_or left 0 0 ≡ 92 = sym (ap (λ l. get_or l 0 0) c.as_bytes.ensures.value) ∙ sym c.byte_at-byte.ensures ∙ c.if-byte-ne92.false in
-    let utf8 : IsUtf8 left = subst IsUtf8 (sym c.in_ok-behind.ensures.0)
+    let remaining = c.in_ok-behind.behind.now in
+    let first : get_or remaining 0 0 ≡ 92 = sym (ap (λ l. get_or l 0 0) c.as_bytes.ensures.value) ∙ sym c.byte_at-byte.ensures ∙ c.if-byte-ne92.false in
+    let utf8 : IsUtf8 remaining = subst IsUtf8 (sym c.in_ok-behind.ensures.0)
     (IsUtf8-drop c.loop-rest.rest.now (prefix_len is_plain c.loop-rest.rest.now) c.loop-rest.invariant.0 (plain_boundary c.loop-rest.rest.now)) in
-    first_boundary left 92 utf8 first (lit< tt) (lit< tt)
+    first_boundary remaining 92 utf8 first (lit< tt) (lit< tt)
 
 pub returns-in-Err-clause-read : goal.returns-in-Err-clause-read
 returns-in-Err-clause-read c =
     let rest = c.loop-rest.rest.now in
-    let left = c.in_ok-behind.behind.now in
+    let remaining = c.in_ok-behind.behind.now in
     let mid : List ℕ = string_bytes c.after_plain.new.value in
-    let run = read_run c.args.text.now (string_bytes c.loop-rest.value) rest mid left c.loop-rest.invariant.1
+    let run = read_run c.args.text.now (string_bytes c.loop-rest.value) rest mid remaining c.loop-rest.invariant.1
     c.in_ok-behind.ensures.0 c.in_ok-behind.ensures.1 (prefix_len-le-length is_plain rest) in
-    let empty : (length left == 0) ≡ false = sym c.is_empty-in-loop-rest.ensures ∙ c.if-is_empty.false in
-    let some : 0 < length left = omega (arith, eqb-false (length left) 0 empty) in
-    let first : get_or left 0 0 ≡ 92 = sym (ap (λ l. get_or l 0 0) c.as_bytes.ensures.value) ∙ sym c.byte_at-byte.ensures ∙ c.if-byte-ne92.false in
+    let empty : (length remaining == 0) ≡ false = sym c.is_empty-in-loop-rest.ensures ∙ c.if-is_empty.false in
+    let some : 0 < length remaining = omega (arith, eqb-false (length remaining) 0 empty) in
+    let first : get_or remaining 0 0 ≡ 92 = sym (ap (λ l. get_or l 0 0) c.as_bytes.ensures.value) ∙ sym c.byte_at-byte.ensures ∙ c.if-byte-ne92.false in
     refused_map c.in-Err.stop (escape_at c.split_at.result.1.now ≡ None) (content 0 c.args.text.now ≡ None)
-    (λ none. no_escape_next c.args.text.now mid left c.split_at.result.1.now run some first c.split_at.ensures.back none) c.in-Err.ensures
+    (λ none. no_escape_next c.args.text.now mid remaining c.split_at.result.1.now run some first c.split_at.ensures.back none) c.in-Err.ensures
 
 pub loop-rest-preserved : goal.loop-rest-preserved
 loop-rest-preserved c =
     let rest = c.loop-rest.rest.now in
-    let left = c.in_ok-behind.behind.now in
+    let remaining = c.in_ok-behind.behind.now in
     let mid : List ℕ = string_bytes c.after_plain.new.value in
-    let run = read_run c.args.text.now (string_bytes c.loop-rest.value) rest mid left c.loop-rest.invariant.1
+    let run = read_run c.args.text.now (string_bytes c.loop-rest.value) rest mid remaining c.loop-rest.invariant.1
     c.in_ok-behind.ensures.0 c.in_ok-behind.ensures.1 (prefix_len-le-length is_plain rest) in
-    let empty : (length left == 0) ≡ false = sym c.is_empty-in-loop-rest.ensures ∙ c.if-is_empty.false in
-    let some : 0 < length left = omega (arith, eqb-false (length left) 0 empty) in
-    let first : get_or left 0 0 ≡ 92 = sym (ap (λ l. get_or l 0 0) c.as_bytes.ensures.value) ∙ sym c.byte_at-byte.ensures ∙ c.if-byte-ne92.false in
+    let empty : (length remaining == 0) ≡ false = sym c.is_empty-in-loop-rest.ensures ∙ c.if-is_empty.false in
+    let some : 0 < length remaining = omega (arith, eqb-false (length remaining) 0 empty) in
+    let first : get_or remaining 0 0 ≡ 92 = sym (ap (λ l. get_or l 0 0) c.as_bytes.ensures.value) ∙ sym c.byte_at-byte.ensures ∙ c.if-byte-ne92.false in
     let e = c.in-Ok.ensures in
     let utf8 : IsUtf8 c.in-Ok.more.now = search rules in (
       utf8,
-      escape_next c.args.text.now mid left c.split_at.result.1.now (string_bytes c.after_escape.new.value) c.in-Ok.more.now e.0 e.1 run some first
+      escape_next c.args.text.now mid remaining c.split_at.result.1.now (string_bytes c.after_escape.new.value) c.in-Ok.more.now e.0 e.1 run some first
           c.split_at.ensures.back e.2 e.3 e.4 e.5,
     )
 

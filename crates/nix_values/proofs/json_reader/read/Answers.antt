@@ -10,12 +10,12 @@ loop-at-init c = record {
   sound = begun_sound c.new-reading.result c.new-reading.ensures.begun;
   placed = c.new-reading.ensures.placed;
   distinct = c.new-reading.ensures.distinct;
-  left = read_begun c.args.text.now c.after_space-at.result c.new-reading.result c.new-reading.ensures.begun c.after_space-at.ensures.same;
+  remaining = read_begun c.args.text.now c.after_space-at.result c.new-reading.result c.new-reading.ensures.begun c.after_space-at.ensures.same;
 }
 
 pub returns-in-Err-clause-read : goal.returns-in-Err-clause-read
 returns-in-Err-clause-read c =
-    read_no_token c.in-Err.stop c.args.text.now c.loop-at.at c.loop-at.reading c.loop-at.invariant.left c.loop-at-test.true
+    read_no_token c.in-Err.stop c.args.text.now c.loop-at.at c.loop-at.reading c.loop-at.invariant.remaining c.loop-at-test.true
     (c.loop-at.invariant.solid c.loop-at-test.true) c.in-Err.ensures
 
 pub loop-at-preserved : goal.loop-at-preserved
@@ -23,7 +23,7 @@ loop-at-preserved c =
     let step : IsReadUpTo c.args.text.now c.after_space-at-in-Ok-take.result c.take.new.self × IsSound c.take.new.self
     × IsPlacedIn c.take.new.self × IsDistinct c.take.new.self =
     read_token (token_of c.in-Ok.cut.token) c.args.text.now c.loop-at.at c.in-Ok.cut.end c.after_space-at-in-Ok-take.result c.loop-at.reading
-    c.take.new.self c.loop-at.invariant.left c.loop-at-test.true (c.loop-at.invariant.solid c.loop-at-test.true) c.in-Ok.ensures.1 c.in-Ok.ensures.0
+    c.take.new.self c.loop-at.invariant.remaining c.loop-at-test.true (c.loop-at.invariant.solid c.loop-at-test.true) c.in-Ok.ensures.1 c.in-Ok.ensures.0
     c.in-Ok-take.ensures c.after_space-at-in-Ok-take.ensures.same in
     record {
       within = c.after_space-at-in-Ok-take.ensures.within;
@@ -31,20 +31,21 @@ loop-at-preserved c =
       sound = step.1;
       placed = step.2;
       distinct = step.3;
-      left = step.0;
+      remaining = step.0;
     }
 
 pub returns-in-Err-take-clause-read : goal.returns-in-Err-take-clause-read
 returns-in-Err-take-clause-read c =
     read_wrong_token (token_of c.in-Ok.cut.token) c.in-Err-take.stop c.args.text.now c.loop-at.at c.in-Ok.cut.end c.loop-at.reading c.take.new.self
-    c.loop-at.invariant.left c.loop-at-test.true (c.loop-at.invariant.solid c.loop-at-test.true) c.in-Ok.ensures.1 c.in-Ok.ensures.0 c.in-Err-take.ensures
+    c.loop-at.invariant.remaining c.loop-at-test.true (c.loop-at.invariant.solid c.loop-at-test.true) c.in-Ok.ensures.1 c.in-Ok.ensures.0 c.in-Err-take.ensures
 
 pub returns-then-not-is_end-clause-read : goal.returns-then-not-is_end-clause-read
 returns-then-not-is_end-clause-read c =
     let more : is_end c.loop-at.reading.state ≡ false = sym c.is_end.ensures ∙ c.if-not-is_end.true in
-    read_cut c.unexpected.result c.args.text.now c.loop-at.at c.loop-at.reading c.loop-at.invariant.left c.loop-at.invariant.sound c.loop-at-test.false more
+    read_cut c.unexpected.result c.args.text.now c.loop-at.at c.loop-at.reading c.loop-at.invariant.remaining c.loop-at.invariant.sound c.loop-at-test.false
+    more
 
 pub returns-clause-read : goal.returns-clause-read
 returns-clause-read c =
     let done : is_end c.loop-at.reading.state ≡ true = sym c.is_end.ensures ∙ c.if-not-is_end.false in
-    read_end c.args.text.now c.loop-at.at c.loop-at.reading c.loop-at.invariant.left c.loop-at.invariant.sound c.loop-at-test.false done
+    read_end c.args.text.now c.loop-at.at c.loop-at.reading c.loop-at.invariant.remaining c.loop-at.invariant.sound c.loop-at-test.false done

@@ -12,7 +12,7 @@ invariant-loop-at l = record {
   sound : IsSound l.reading;
   placed : IsPlacedIn l.reading;
   distinct : IsDistinct l.reading;
-  left : IsReadUpTo l.text l.at l.reading;
+  remaining : IsReadUpTo l.text l.at l.reading;
 }
 
 abbrev pub decreases-loop-at : goal.decreases-loop-at

@@ -4,8 +4,8 @@ use Rattle.rnix_base.proofs.indent.first_line.Goals as goal
 
 pub split_at-requires : goal.split_at-requires
 split_at-requires c =
-    let lost = c.min-lost.ensures ∙ ap (λ n. min n c.args.left) (c.spaces_before.ensures ∙ ap spaces c.as_bytes-bytes.ensures.value) in
-    behind_spaces c.args.text.now c.min-lost.result c.args.left c.utf8.text lost
+    let lost = c.min-lost.ensures ∙ ap (λ n. min n c.args.remaining) (c.spaces_before.ensures ∙ ap spaces c.as_bytes-bytes.ensures.value) in
+    behind_spaces c.args.text.now c.min-lost.result c.args.remaining c.utf8.text lost
 
 pub split_at-requires-then-len-kept : goal.split_at-requires-then-len-kept
 split_at-requires-then-len-kept c =
@@ -14,21 +14,21 @@ split_at-requires-then-len-kept c =
 
 pub returns-then-len-kept : goal.returns-then-len-kept
 returns-then-len-kept c =
-    let lost = c.min-lost.ensures ∙ ap (λ n. min n c.args.left) (c.spaces_before.ensures ∙ ap spaces c.as_bytes-bytes.ensures.value) in
+    let lost = c.min-lost.ensures ∙ ap (λ n. min n c.args.remaining) (c.spaces_before.ensures ∙ ap spaces c.as_bytes-bytes.ensures.value) in
     let run = c.line_len-len.ensures ∙ ap (prefix_len is_inside_line) c.as_bytes.ensures.value in
-    fed_line c.args.least c.args.left c.min-lost.result c.args.text.now c.split_at.result.1.now lost c.split_at.ensures.back c.line_len-len.result run _ _
+    fed_line c.args.least c.args.remaining c.min-lost.result c.args.text.now c.split_at.result.1.now lost c.split_at.ensures.back c.line_len-len.result run _ _
     c.if-len-kept.true c.split_at-then-len-kept.ensures.front c.split_at-then-len-kept.ensures.back
 
 pub returns-then-len-gt0 : goal.returns-then-len-gt0
 returns-then-len-gt0 c =
-    let lost = c.min-lost.ensures ∙ ap (λ n. min n c.args.left) (c.spaces_before.ensures ∙ ap spaces c.as_bytes-bytes.ensures.value) in
+    let lost = c.min-lost.ensures ∙ ap (λ n. min n c.args.remaining) (c.spaces_before.ensures ∙ ap spaces c.as_bytes-bytes.ensures.value) in
     let run = c.line_len-len.ensures ∙ ap (prefix_len is_inside_line) c.as_bytes.ensures.value in
-    last_line c.args.least c.args.left c.min-lost.result c.args.text.now c.split_at.result.1.now lost c.split_at.ensures.back c.line_len-len.result run
+    last_line c.args.least c.args.remaining c.min-lost.result c.args.text.now c.split_at.result.1.now lost c.split_at.ensures.back c.line_len-len.result run
     c.if-len-kept.false c.if-len-gt0.true c.requires
 
 pub returns-else-len-gt0 : goal.returns-else-len-gt0
 returns-else-len-gt0 c =
-    let lost = c.min-lost.ensures ∙ ap (λ n. min n c.args.left) (c.spaces_before.ensures ∙ ap spaces c.as_bytes-bytes.ensures.value) in
+    let lost = c.min-lost.ensures ∙ ap (λ n. min n c.args.remaining) (c.spaces_before.ensures ∙ ap spaces c.as_bytes-bytes.ensures.value) in
     let run = c.line_len-len.ensures ∙ ap (prefix_len is_inside_line) c.as_bytes.ensures.value in
-    no_line c.args.least c.args.left c.min-lost.result c.args.text.now c.split_at.result.1.now lost c.split_at.ensures.back c.line_len-len.result run
+    no_line c.args.least c.args.remaining c.min-lost.result c.args.text.now c.split_at.result.1.now lost c.split_at.ensures.back c.line_len-len.result run
     c.if-len-kept.false c.if-len-gt0.false c.requires

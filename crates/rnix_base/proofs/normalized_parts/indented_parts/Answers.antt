@@ -11,22 +11,22 @@ loop-part-preserved-in-Literal g c =
     let more = into_iter_items c.next.new.self in
     let counted : into_iter_len c.next.new.self ≡ length more =
     omega (arith, c.loop-part.invariant.length, ap length c.in-Some.ensures.items, c.in-Some.ensures.len) in
-    let own : string_bytes c.in_ok-text-in-Literal.text ≡ kept least c.loop-part.left c.in-Literal.text.now = c.in_ok-text-in-Literal.ensures.kept in
-    let last : c.if-len-eq0.text.now ≡ last_text (borrowed more) (kept least c.loop-part.left c.in-Literal.text.now) = elim c.if-len-eq0.branch [
+    let own : string_bytes c.in_ok-text-in-Literal.text ≡ kept least c.loop-part.remaining c.in-Literal.text.now = c.in_ok-text-in-Literal.ensures.kept in
+    let last : c.if-len-eq0.text.now ≡ last_text (borrowed more) (kept least c.loop-part.remaining c.in-Literal.text.now) = elim c.if-len-eq0.branch [
       | then-len-eq0 w ↦ rw w.text-is (w.without_last_spaces-text.ensures ∙ ap without_last_spaces (w.as_str.ensures.value ∙ own)
           ∙ sym (last_at_end more _ (omega (arith, counted, w.if-len-eq0.true, c.len.ensures))))
       | else-len-eq0 w ↦ rw w.text-is (w.as_str-text.ensures.value ∙ own
           ∙ sym (last_before_end more _ (λ e. absurd (omega (arith, counted, e, w.if-len-eq0.false, c.len.ensures)))))
     ] in
     let value : string_bytes c.in_ok-unescape-in-Literal.field-0 ≡ unescaped true
-    (last_text (borrowed more) (kept least c.loop-part.left c.in-Literal.text.now)) = c.in_ok-unescape-in-Literal.ensures ∙ ap (unescaped true) last in
+    (last_text (borrowed more) (kept least c.loop-part.remaining c.in-Literal.text.now)) = c.in_ok-unescape-in-Literal.ensures ∙ ap (unescaped true) last in
     record {
       length = counted;
-      so_far = grown _ _ _ (Literal (unescaped true (last_text (borrowed more) (kept least c.loop-part.left c.in-Literal.text.now)))
+      so_far = grown _ _ _ (Literal (unescaped true (last_text (borrowed more) (kept least c.loop-part.remaining c.in-Literal.text.now)))
           ∷ []) _ _ c.loop-part.invariant.so_far
-          (literal_next least c.loop-part.left _ more _ _ c.in-Some.ensures.items c.in-Literal.is
-          ∙ ap (λ l. Literal (unescaped true (last_text (borrowed more) (kept least c.loop-part.left c.in-Literal.text.now)))
-          ∷ indented_from least l (borrowed more)) (sym c.in_ok-text-in-Literal.ensures.left))
+          (literal_next least c.loop-part.remaining _ more _ _ c.in-Some.ensures.items c.in-Literal.is
+          ∙ ap (λ l. Literal (unescaped true (last_text (borrowed more) (kept least c.loop-part.remaining c.in-Literal.text.now)))
+          ∷ indented_from least l (borrowed more)) (sym c.in_ok-text-in-Literal.ensures.remaining))
           (pushed _ _ _ _ c.in_ok-push-in-Literal.ensures.items (ap Literal value));
     }
 
@@ -44,7 +44,7 @@ returns g c =
     let none : length (into_iter_items c.loop-part.rest) ≡ 0 =
     omega (arith, c.loop-part.invariant.length, c.in_default.ensures.len, c.in_default.ensures.cases) in
     let opens = ap borrowed c.into_iter-rest.ensures.rest ∙ c.opened-parts.ensures in
-    all_read least c.loop-part.left _ _ _ c.loop-part.invariant.so_far none
+    all_read least c.loop-part.remaining _ _ _ c.loop-part.invariant.so_far none
     ∙ ap (indented_from least least) opens
     ∙ indented_parts-from (borrowed c.args.parts.items) least (c.least_indentation-least.ensures
     ∙ ap (λ p. (indent_of no_indent p).least) (ap borrowed c.deref.ensures.value ∙ c.opened-parts.ensures))

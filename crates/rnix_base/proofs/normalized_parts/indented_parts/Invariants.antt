@@ -6,7 +6,7 @@ abbrev pub invariant-loop-part : goal.invariant-loop-part
 invariant-loop-part g l = record {
   length : into_iter_len l.rest ≡ length (into_iter_items l.rest);
   so_far : indented_from l.least l.least (borrowed (into_iter_items l.initial.rest)) ≡ owned l.normal.items
-      ++ indented_from l.least l.left (borrowed (into_iter_items l.rest));
+      ++ indented_from l.least l.remaining (borrowed (into_iter_items l.rest));
 }
 
 abbrev pub decreases-loop-part : goal.decreases-loop-part

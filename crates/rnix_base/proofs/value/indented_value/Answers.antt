@@ -1,6 +1,6 @@
 use Rattle.std.{proofs.Common.{◌≡◌, ◌∙◌, [], ◌∷◌, ap, sym, refl, length, arith, true, string_bytes, map}, specs.Vec.Iter.{into_iter_items, into_iter_len}}
 use Rattle.rnix_base.specs.{declared.parts.InterpolPart.TheVariants.{Literal, Interpolation}, Escapes.unescaped, Normal.{borrowed, with_text}, Value.without_last_line}
-use Rattle.rnix_base.{specs.{Indent.{kept, left_behind, indent_of, no_indent}, Value.without_escapes}, proofs.{UnindentLemmas.grown, NextPartLemmas.pushed}}
+use Rattle.rnix_base.{specs.{Indent.{kept, remaining_behind, indent_of, no_indent}, Value.without_escapes}, proofs.{UnindentLemmas.grown, NextPartLemmas.pushed}}
 use Rattle.rnix_base.proofs.ValuePartLemmas.{value_from, ended_text, interpolation_next, literal_next, ended_at_end, ended_before_end, all_read, indented_value-from}
 use Rattle.rnix_base.proofs.value.indented_value.Goals.{then-len-eq0, else-len-eq0}
 use Rattle.rnix_base.proofs.value.indented_value.Goals as goal
@@ -20,15 +20,16 @@ loop-part-preserved-in-Literal g c =
     let plain : string_bytes c.in_ok-unescaped-in-Literal.unescaped ≡ unescaped true (ended_text (borrowed more) c.in-Literal.text.now) =
     c.in_ok-unescaped-in-Literal.ensures ∙ ap (unescaped true) last in
     let whole = c.as_str.ensures.value ∙ plain in
-    let value : string_bytes c.in_ok-kept-in-Literal.kept ≡ kept least c.loop-part.left (unescaped true (ended_text (borrowed more) c.in-Literal.text.now)) =
-    c.in_ok-kept-in-Literal.ensures.kept ∙ ap (kept least c.loop-part.left) whole in
+    let value : string_bytes c.in_ok-kept-in-Literal.kept
+    ≡ kept least c.loop-part.remaining (unescaped true (ended_text (borrowed more) c.in-Literal.text.now)) =
+    c.in_ok-kept-in-Literal.ensures.kept ∙ ap (kept least c.loop-part.remaining) whole in
     record {
       length = counted;
-      so_far = grown _ _ _ (Literal (kept least c.loop-part.left (unescaped true (ended_text (borrowed more) c.in-Literal.text.now))) ∷ []) _ _
+      so_far = grown _ _ _ (Literal (kept least c.loop-part.remaining (unescaped true (ended_text (borrowed more) c.in-Literal.text.now))) ∷ []) _ _
           c.loop-part.invariant.so_far
-          (literal_next least c.loop-part.left _ more _ _ c.in-Some.ensures.items c.in-Literal.is
-          ∙ ap (λ l. Literal (kept least c.loop-part.left (unescaped true (ended_text (borrowed more) c.in-Literal.text.now)))
-          ∷ value_from least l (borrowed more)) (sym (c.in_ok-kept-in-Literal.ensures.left ∙ ap (left_behind least c.loop-part.left) whole)))
+          (literal_next least c.loop-part.remaining _ more _ _ c.in-Some.ensures.items c.in-Literal.is
+          ∙ ap (λ l. Literal (kept least c.loop-part.remaining (unescaped true (ended_text (borrowed more) c.in-Literal.text.now)))
+          ∷ value_from least l (borrowed more)) (sym (c.in_ok-kept-in-Literal.ensures.remaining ∙ ap (remaining_behind least c.loop-part.remaining) whole)))
           (pushed _ _ _ _ c.in_ok-push-in-Literal.ensures.items (ap Literal value));
     }
 
@@ -46,7 +47,7 @@ returns g c =
     let none : length (into_iter_items c.loop-part.rest) ≡ 0 =
     omega (arith, c.loop-part.invariant.length, c.in_default.ensures.len, c.in_default.ensures.cases) in
     let opens = ap borrowed c.into_iter-rest.ensures.rest ∙ c.opened-parts.ensures in
-    all_read least c.loop-part.left _ _ _ c.loop-part.invariant.so_far none
+    all_read least c.loop-part.remaining _ _ _ c.loop-part.invariant.so_far none
     ∙ ap (value_from least least) opens
     ∙ indented_value-from (borrowed c.args.parts.items) least (c.value_indentation-least.ensures
     ∙ ap (λ p. (indent_of no_indent (map (with_text without_escapes) p)).least) (ap borrowed c.deref.ensures.value ∙ c.opened-parts.ensures))

@@ -11,15 +11,15 @@ loop-element-preserved c =
     record {
       next = tt;
       ends = tt;
-      left = elim c.match-element.branch [
+      remaining = elim c.match-element.branch [
         | in-Node+in_ok-add_string w ↦
             let cut : c.loop-element.element-iterator ≡ (true, w.in-Node.node) ∷ c.next.new.self = rw w.in-Node.is at c.in-Some.ensures.steps in
             let step : with_node before w.in-Node.node ≡ after = cc (w.in_ok-add_string.ensures, w.parts-is, w.text-is) in
-            c.loop-element.invariant.left ∙ ap (fold with_element before) cut ∙ ap (λ f. fold with_element f c.next.new.self) step
+            c.loop-element.invariant.remaining ∙ ap (fold with_element before) cut ∙ ap (λ f. fold with_element f c.next.new.self) step
         | in_default w ↦
             let cut : c.loop-element.element-iterator ≡ (false, w.in_default.field-0) ∷ c.next.new.self = rw w.in_default.is at c.in-Some.ensures.steps in
             let step : before ≡ after = cc (w.parts-is, w.text-is) in
-            c.loop-element.invariant.left ∙ ap (fold with_element before) cut ∙ ap (λ f. fold with_element f c.next.new.self) step
+            c.loop-element.invariant.remaining ∙ ap (fold with_element before) cut ∙ ap (λ f. fold with_element f c.next.new.self) step
       ];
       from = others_follow c.args.green.now c.loop-element.number (spot_of c.in-Some.element) c.next.new.self c.loop-element.element-iterator
           c.in-Some.ensures.steps c.loop-element.invariant.from;

@@ -7,13 +7,13 @@ loop-number-init c = filled-none c.args.room.now
 
 pub loop-number-preserved : goal.loop-number-preserved
 loop-number-preserved c =
-    let place = position_of c.args.index.now.unit c.args.index.now.text in
+    let position = position_of c.args.index.now.unit c.args.index.now.text in
     filled-more c.loop-number.number (positions_of c.args.index.now.unit c.args.index.now.text c.args.offsets.now) c.args.room.now c.loop-number.room _
-    (omega (arith, length-map c.args.offsets.now place)) (omega arith) c.loop-number.invariant
-    (c.position_of.ensures ∙ sym (get_or-map place c.args.offsets.now c.loop-number.number _ _ (omega arith)))
+    (omega (arith, length-map c.args.offsets.now position)) (omega arith) c.loop-number.invariant
+    (c.position_of.ensures ∙ sym (get_or-map position c.args.offsets.now c.loop-number.number _ _ (omega arith)))
 
 pub returns : goal.returns
 returns c =
-    let place = position_of c.args.index.now.unit c.args.index.now.text in
+    let position = position_of c.args.index.now.unit c.args.index.now.text in
     c.loop-number.invariant ∙ filled-all c.loop-number.number (positions_of c.args.index.now.unit c.args.index.now.text c.args.offsets.now) c.args.room.now
-    (omega (arith, length-map c.args.offsets.now place))
+    (omega (arith, length-map c.args.offsets.now position))

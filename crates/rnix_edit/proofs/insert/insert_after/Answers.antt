@@ -1,7 +1,7 @@
 use Rattle.std.proofs.{Common.{rules, ◌≡◌, ◌∙◌, sym, subst, string_bytes}, lemmas.Bool.false≢true}
 use Rattle.rnix.specs.ParseResult.{root_of}
 use Rattle.rnix_edit.specs.declared.edited.Refusal.TheVariants as refusal
-use Rattle.rnix_edit.specs.{Steps.place_of, EditRanges.put_in, Edited.{spliced, IsAfter, IsTreeAfter, IsFilled, IsNotFilled}}
+use Rattle.rnix_edit.specs.{Steps.node_range_of, EditRanges.put_in, Edited.{spliced, IsAfter, IsTreeAfter, IsFilled, IsNotFilled}}
 use Rattle.rnix_edit.specs.Tried.{IsUnread, IfRead, IfNotRead, gap_of}
 use Rattle.rnix_edit.proofs.EditLemmas.{hindered, made_so, otherwise}
 use Rattle.rnix_edit.proofs.insert.insert_after.Goals as goal
@@ -26,8 +26,8 @@ returns-then-is_after-clause-done c =
     let read = subst (IfRead (spliced text gap.start gap.end put)) c.in-Read.is c.in_ok-made.ensures.read in
     let root : c.syntax.result ≡ root_of c.in-Read.read = search rules in
     let holds : so gap c.syntax.result =
-    subst (λ place. IsAfter c.args.root.now (place_of c.args.node.now) c.in_ok-gap.gap.comments c.syntax.result place) c.in_ok-place.ensures
-    (subst (λ old. IsAfter c.args.root.now old c.in_ok-gap.gap.comments c.syntax.result c.in_ok-place.place) c.place_of-old.ensures
+    subst (λ target. IsAfter c.args.root.now (node_range_of c.args.node.now) c.in_ok-gap.gap.comments c.syntax.result target) c.in_ok-target.ensures
+    (subst (λ old. IsAfter c.args.root.now old c.in_ok-gap.gap.comments c.syntax.result c.in_ok-target.target) c.node_range_of-old.ensures
     (c.is_after.ensures.0 c.if-is_after.true)) in
     subst (λ gap. IsFilled so text c.args.new.now gap made) c.in_ok-gap.ensures
     (made_so text gap.start gap.end put (so gap) made c.in-Read.read read.0 read.1 (subst (so gap) root holds))
@@ -41,8 +41,8 @@ returns-clause-refused c =
     let read = subst (IfRead (spliced text gap.start gap.end put)) c.in-Read.is c.in_ok-made.ensures.read in
     let root : c.syntax.result ≡ root_of c.in-Read.read = search rules in
     let fails : ¬ so gap c.syntax.result =
-    subst (λ place. ¬ IsAfter c.args.root.now (place_of c.args.node.now) c.in_ok-gap.gap.comments c.syntax.result place) c.in_ok-place.ensures
-    (subst (λ old. ¬ IsAfter c.args.root.now old c.in_ok-gap.gap.comments c.syntax.result c.in_ok-place.place) c.place_of-old.ensures
+    subst (λ target. ¬ IsAfter c.args.root.now (node_range_of c.args.node.now) c.in_ok-gap.gap.comments c.syntax.result target) c.in_ok-target.ensures
+    (subst (λ old. ¬ IsAfter c.args.root.now old c.in_ok-gap.gap.comments c.syntax.result c.in_ok-target.target) c.node_range_of-old.ensures
     (λ holds. false≢true (sym c.if-is_after.false ∙ c.is_after.ensures.1 holds))) in
     subst (IsNotFilled so refusal.ReadOtherwise text c.args.new.now) c.in_ok-gap.ensures
     (otherwise text gap.start gap.end put (so gap) c.in-Read.read read.1 (subst (λ r. ¬ so gap r) root fails))

@@ -1,6 +1,6 @@
 use Rattle.std.proofs.Common.{◌≡◌, ◌∷◌, refl, sym, ◌∙◌}
 use Rattle.rnix_edit.specs.Steps.{step_of, steps_of, events_before}
-use Rattle.rnix_edit.proofs.StepLemmas.{walks_end, both_passed, both_left, none_tested}
+use Rattle.rnix_edit.proofs.StepLemmas.{walks_end, both_passed, both_remaining, none_tested}
 use Rattle.rnix_edit.proofs.StepsShown.{alike_there, alike_back, other_shorter, fewer, both_before, inside_first, inside_second}
 use Rattle.rnix_edit.proofs.steps.are_same_before.Goals as goal
 
@@ -15,7 +15,7 @@ loop-step-preserved c =
     let same : x ≡ y = c.is_step.ensures.0 c.if-is_step.true in
     record {
       there = λ rests. c.loop-step.invariant.there (both_passed x y a b _ _ first second same rests);
-      back = λ whole. both_left x y a b _ _ first second (c.loop-step.invariant.back whole);
+      back = λ whole. both_remaining x y a b _ _ first second (c.loop-step.invariant.back whole);
       inside = c.in-Some-next_before.ensures.inside ∙ c.loop-step.invariant.inside;
       others = c.in-Some.ensures.inside ∙ c.loop-step.invariant.others;
     }
@@ -46,7 +46,7 @@ loop-step-preserved-then-step c =
     record {
       there = λ rests.
           c.loop-step.invariant.there (both_passed x y a b _ _ first second same (sym (alike_there _ _ _ _ p (sym rests))));
-      back = λ whole. sym (alike_back _ _ _ _ p (sym (both_left x y a b _ _ first second (c.loop-step.invariant.back whole))));
+      back = λ whole. sym (alike_back _ _ _ _ p (sym (both_remaining x y a b _ _ first second (c.loop-step.invariant.back whole))));
       inside = inside_first _ _ _ _ _ _ h c.args.old refl ∙ c.in-Some-next_before.ensures.inside ∙ c.loop-step.invariant.inside;
       others = inside_second _ _ _ _ _ _ h c.args.new refl ∙ c.in-Some.ensures.inside ∙ c.loop-step.invariant.others;
     }

@@ -1,6 +1,6 @@
 use Rattle.std.proofs.Common.{◌≡◌, ◌∷◌}
 use Rattle.rnix_edit.specs.Steps.{step_of, steps_of}
-use Rattle.rnix_edit.proofs.{StepLemmas.{walks_end, both_passed, both_left}, StepsShown.{alike_there, alike_back, passed_alike}}
+use Rattle.rnix_edit.proofs.{StepLemmas.{walks_end, both_passed, both_remaining}, StepsShown.{alike_there, alike_back, passed_alike}}
 use Rattle.rnix_edit.proofs.steps.are_same_walks.Goals as goal
 
 pub loop-step-preserved : goal.loop-step-preserved
@@ -14,7 +14,7 @@ loop-step-preserved c =
     let same : x ≡ y = c.is_step.ensures.0 c.if-is_step.true in
     record {
       there = λ rests. c.loop-step.invariant.there (both_passed x y a b (steps_of c.loop-step.a) (steps_of c.loop-step.b) first second same rests);
-      back = λ whole. both_left x y a b (steps_of c.loop-step.a) (steps_of c.loop-step.b) first second (c.loop-step.invariant.back whole);
+      back = λ whole. both_remaining x y a b (steps_of c.loop-step.a) (steps_of c.loop-step.b) first second (c.loop-step.invariant.back whole);
     }
 
 pub returns : goal.returns
@@ -42,5 +42,5 @@ loop-step-preserved-then-not-step c =
           c.loop-step.invariant.there
           (both_passed x y a b (steps_of c.loop-step.a) (steps_of c.loop-step.b) first second same (alike_there _ _ _ _ p rests));
       back = λ whole.
-          alike_back _ _ _ _ p (both_left x y a b (steps_of c.loop-step.a) (steps_of c.loop-step.b) first second (c.loop-step.invariant.back whole));
+          alike_back _ _ _ _ p (both_remaining x y a b (steps_of c.loop-step.a) (steps_of c.loop-step.b) first second (c.loop-step.invariant.back whole));
     }

@@ -7,6 +7,6 @@ abbrev pub invariant-loop-event : goal.invariant-loop-event
 invariant-loop-event l = record {
   next : (goal.iterator-loop-event).can_next l.events;
   ends : (goal.iterator-loop-event).is_finite l.events;
-  steps : steps_of (events_before l.place l.events) ≡ steps_of (events_before l.place l.fn.events);
-  inside : events_inside l.place l.events ≡ events_inside l.place l.fn.events;
+  steps : steps_of (events_before l.target l.events) ≡ steps_of (events_before l.target l.fn.events);
+  inside : events_inside l.target l.events ≡ events_inside l.target l.fn.events;
 }

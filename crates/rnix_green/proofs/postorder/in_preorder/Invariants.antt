@@ -7,11 +7,11 @@ invariant-elements l =
     let es = l.elements.items in
     record {
       small : length es < limit;
-      few : l.left + length l.frames.items ≤ length es;
+      few : l.todo + length l.frames.items ≤ length es;
       work :
-          IsWork (made l.text l.initial.elements.items) (entries_before l.left es) l.offset (reverse l.frames.items)
-          (drop (l.left + length l.frames.items) es);
+          IsWork (made l.text l.initial.elements.items) (entries_before l.todo es) l.offset (reverse l.frames.items)
+          (drop (l.todo + length l.frames.items) es);
     }
 
 abbrev pub decreases-elements : goal.decreases-elements
-decreases-elements l = 2 * l.left + length l.frames.items
+decreases-elements l = 2 * l.todo + length l.frames.items

@@ -1,10 +1,11 @@
 use Rattle.{std.proofs.Common.{ap, sym, ◌∙◌}, rnix_green.specs.Draft.TextDraft, rnix_reader.specs.{Placed.texts_in, State.state}}
-use Rattle.rnix_reader.proofs.{DocumentLemmas.{opened_root, read_made, rest_marked}, TextLeft.placed_text}
+use Rattle.rnix_reader.proofs.{DocumentLemmas.{opened_root, read_made, rest_marked}, TextRemaining.placed_text}
 use Rattle.rnix_reader.proofs.document.read_tokens.Goals as goal
 
 pub invariant_of-p : goal.invariant_of-p
 invariant_of-p c = record {
-  left = ap (λ (x : TextDraft). x.left) (c.reserve.ensures ∙ c.in_ok-builder.ensures) ∙ sym c.rest-text.ensures.joined ∙ sym (placed_text 0 c.args.tokens)
+  remaining = ap (λ (x : TextDraft). x.remaining) (c.reserve.ensures ∙ c.in_ok-builder.ensures) ∙ sym c.rest-text.ensures.joined
+      ∙ sym (placed_text 0 c.args.tokens)
       ∙ sym (ap texts_in c.in_ok-cursor.ensures);
 }
 

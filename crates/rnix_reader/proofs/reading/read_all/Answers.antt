@@ -57,44 +57,44 @@ finish_node-requires g c =
     let s = with_marks c.pop.new.self.items (state c.loop-mark.p) in
     let t = turn c.loop-mark.invariant (g.T.Turns.counted c.turn.new.self) c.pop.new.self.items c.in-Some.mark
     c.action_in_row-action.result c.in-Some.ensures.items
-    (c.action_in_row-action.ensures ∙ ap (λ q. action_of q s) (sym c.in-Left.is)) in
-    subst (λ x. 0 < length x) (sym c.in_ok-eat_trivia-in-Left.ensures.nodes) (t.root c.in-Finish.is)
+    (c.action_in_row-action.ensures ∙ ap (λ q. action_of q s) (sym c.in-InRow.is)) in
+    subst (λ x. 0 < length x) (sym c.in_ok-eat_trivia-in-InRow.ensures.nodes) (t.root c.in-Finish.is)
 
 pub returns-in-Finish : goal.returns-in-Finish
 returns-in-Finish g c =
     let s = with_marks c.pop.new.self.items (state c.loop-mark.p) in
     let t = turn c.loop-mark.invariant (g.T.Turns.counted c.turn.new.self) c.pop.new.self.items c.in-Some.mark
     c.action_in_row-action.result c.in-Some.ensures.items
-    (c.action_in_row-action.ensures ∙ ap (λ q. action_of q s) (sym c.in-Left.is)) in
+    (c.action_in_row-action.ensures ∙ ap (λ q. action_of q s) (sym c.in-InRow.is)) in
     t.finished (c.turn.ensures _ c.loop-mark.invariant.counted) _
-    c.in-Finish.is (c.in_ok-finish_node-in-Left.ensures ∙ ap ended c.in_ok-eat_trivia-in-Left.ensures.state)
+    c.in-Finish.is (c.in_ok-finish_node-in-InRow.ensures ∙ ap ended c.in_ok-eat_trivia-in-InRow.ensures.state)
 
 pub step-requires-clause-row : goal.step-requires-clause-row
 step-requires-clause-row g c =
     let s = with_marks c.pop.new.self.items (state c.loop-mark.p) in
     (turn c.loop-mark.invariant (g.T.Turns.counted c.turn.new.self) c.pop.new.self.items c.in-Some.mark c.action_in_row-action.result c.in-Some.ensures.items
-    (c.action_in_row-action.ensures ∙ ap (λ q. action_of q s) (sym c.in-Left.is))).row c.in-Left.left c.in-Left.is c.in_default-action.not-Finish
+    (c.action_in_row-action.ensures ∙ ap (λ q. action_of q s) (sym c.in-InRow.is))).row c.in-InRow.index c.in-InRow.is c.in_default-action.not-Finish
 
 pub step-requires-clause-ready : goal.step-requires-clause-ready
 step-requires-clause-ready g c =
     let s = with_marks c.pop.new.self.items (state c.loop-mark.p) in
     (turn c.loop-mark.invariant (g.T.Turns.counted c.turn.new.self) c.pop.new.self.items c.in-Some.mark c.action_in_row-action.result c.in-Some.ensures.items
-    (c.action_in_row-action.ensures ∙ ap (λ q. action_of q s) (sym c.in-Left.is))).ready
+    (c.action_in_row-action.ensures ∙ ap (λ q. action_of q s) (sym c.in-InRow.is))).ready
 
 pub loop-mark-smaller : goal.loop-mark-smaller
 loop-mark-smaller g c =
     let s = with_marks c.pop.new.self.items (state c.loop-mark.p) in
     let t = turn c.loop-mark.invariant (g.T.Turns.counted c.turn.new.self) c.pop.new.self.items c.in-Some.mark
     c.action_in_row-action.result c.in-Some.ensures.items
-    (c.action_in_row-action.ensures ∙ ap (λ q. action_of q s) (sym c.in-Left.is)) in
+    (c.action_in_row-action.ensures ∙ ap (λ q. action_of q s) (sym c.in-InRow.is)) in
     (t.goes (c.turn.ensures _ c.loop-mark.invariant.counted) _ _
-    c.in_default-action.not-Finish c.in_ok-step-in-Left.ensures.state c.in_ok-step-in-Left.ensures.names).1
+    c.in_default-action.not-Finish c.in_ok-step-in-InRow.ensures.state c.in_ok-step-in-InRow.ensures.names).1
 
 pub loop-mark-preserved : goal.loop-mark-preserved
 loop-mark-preserved g c =
     let s = with_marks c.pop.new.self.items (state c.loop-mark.p) in
     let t = turn c.loop-mark.invariant (g.T.Turns.counted c.turn.new.self) c.pop.new.self.items c.in-Some.mark
     c.action_in_row-action.result c.in-Some.ensures.items
-    (c.action_in_row-action.ensures ∙ ap (λ q. action_of q s) (sym c.in-Left.is)) in
+    (c.action_in_row-action.ensures ∙ ap (λ q. action_of q s) (sym c.in-InRow.is)) in
     (t.goes (c.turn.ensures _ c.loop-mark.invariant.counted) _ _
-    c.in_default-action.not-Finish c.in_ok-step-in-Left.ensures.state c.in_ok-step-in-Left.ensures.names).0
+    c.in_default-action.not-Finish c.in_ok-step-in-InRow.ensures.state c.in_ok-step-in-InRow.ensures.names).0

@@ -16,16 +16,17 @@ loop-run-preserved c =
     let i = c.loop-run.run-index in
     let run = c.deref.result.now in
     let rest = edits_of (drop (i + 1) runs) in
-    let left : edits_of (drop i runs) ≡ run ++ rest =
+    let remaining : edits_of (drop i runs) ≡ run ++ rest =
     ap edits_of (drop-cons runs i c.run-item.result c.loop-run-test.true) ∙ ap (λ r. r.items ++ edits_of (drop (suc i) runs)) (sym c.run-item.is)
     ∙ ap (λ r. r ++ edits_of (drop (suc i) runs)) (sym c.deref.ensures.value) ∙ ap (λ k. run ++ edits_of (drop k runs)) (sym (add-one i)) in
-    let parts = in_order_parts text c.loop-run.at run rest (subst (λ es. AreInOrder text c.loop-run.at (map change_of es)) left c.loop-run.invariant.order) in
+    let parts = in_order_parts text c.loop-run.at run rest
+    (subst (λ es. AreInOrder text c.loop-run.at (map change_of es)) remaining c.loop-run.invariant.order) in
     record {
       order = subst (λ k. AreInOrder text k (map change_of rest)) (sym c.in_ok-at.ensures.end) parts.1;
       boundary = c.in_ok-at.ensures.boundary;
       made = c.in_ok-at.ensures.made (map change_of rest)
           ∙ ap (λ z. string_bytes c.loop-run.made ++ z) (sym (changed_parts c.loop-run.at run rest text))
-          ∙ ap (λ es. string_bytes c.loop-run.made ++ changed_from c.loop-run.at (map change_of es) text) (sym left) ∙ c.loop-run.invariant.made;
+          ∙ ap (λ es. string_bytes c.loop-run.made ++ changed_from c.loop-run.at (map change_of es) text) (sym remaining) ∙ c.loop-run.invariant.made;
     }
 
 pub add_changed-requires-clause-order : goal.add_changed-requires-clause-order
@@ -35,7 +36,7 @@ add_changed-requires-clause-order c =
     let i = c.loop-run.run-index in
     let run = c.deref.result.now in
     let rest = edits_of (drop (suc i) runs) in
-    let left : edits_of (drop i runs) ≡ run ++ rest =
+    let remaining : edits_of (drop i runs) ≡ run ++ rest =
     ap edits_of (drop-cons runs i c.run-item.result c.loop-run-test.true) ∙ ap (λ r. r.items ++ rest) (sym c.run-item.is)
     ∙ ap (λ r. r ++ rest) (sym c.deref.ensures.value) in
-    (in_order_parts text c.loop-run.at run rest (subst (λ es. AreInOrder text c.loop-run.at (map change_of es)) left c.loop-run.invariant.order)).0
+    (in_order_parts text c.loop-run.at run rest (subst (λ es. AreInOrder text c.loop-run.at (map change_of es)) remaining c.loop-run.invariant.order)).0

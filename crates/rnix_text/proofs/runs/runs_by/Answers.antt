@@ -1,5 +1,5 @@
 use Rattle.std.proofs.{Common.{rules}, lemmas.List.Sorted.IsPartitionPoint-from_clause}
-use Rattle.rnix_text.{specs.Runs.run_ends_by, proofs.PlaceLemmas.runs_parted}
+use Rattle.rnix_text.{specs.Runs.run_ends_by, proofs.InsertionLemmas.runs_parted}
 use Rattle.rnix_text.proofs.runs.runs_by.Goals as goal
 
 pub returns-clause-parted : goal.returns-clause-parted

@@ -15,12 +15,12 @@ loop-event-preserved-in-Enter g c =
     let line = text_line c.loop-event.depth (spot_of e) in
     let so_far = c.loop-event.invariant in
     let steps = c.in-Some.ensures.steps in
-    let left = deeper c.loop-event.depth _ _ _ e (so_far.3, so_far.4) steps c.in-Enter.is in (
+    let remaining = deeper c.loop-event.depth _ _ _ e (so_far.3, so_far.4) steps c.in-Enter.is in (
       so_far.0 ++? line,
       written_more _ _ _ _ (Ok c.in_ok-write_line-in-Enter.field-0) so_far.0 line so_far.1 c.in_ok-write_line-in-Enter.ensures refl,
       entered so_far.0 _ c.loop-event.depth _ _ _ _ e so_far.2 steps c.in-Enter.is refl,
-      left.0,
-      left.1,
+      remaining.0,
+      remaining.1,
     )
 
 pub returns : goal.returns

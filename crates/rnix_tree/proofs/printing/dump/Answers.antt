@@ -1,5 +1,5 @@
 use Rattle.std.{proofs.{Common.{ℕ, List, [], ◌++◌, subst, ap, ◌∙◌, refl}, KnownBytes.{Appends-nil, Appends-trans}}, specs.Io.KnownBytes.Appends}
-use Rattle.{rnix_green.specs.Tree.{item_of, extent_of}, rnix_tree.{specs.{Spots.place_of, Lines.line_of, Walked.event_lines}, proofs.DumpLemmas.entered}}
+use Rattle.{rnix_green.specs.Tree.{item_of, extent_of}, rnix_tree.{specs.{Spots.located_of, Lines.line_of, Walked.event_lines}, proofs.DumpLemmas.entered}}
 use Rattle.rnix_tree.proofs.DumpLemmas.{deeper, finished, begun}
 use Rattle.rnix_tree.proofs.printing.dump.Goals as goal
 
@@ -12,15 +12,15 @@ loop-event-init g c =
 pub loop-event-preserved-in-Enter : goal.loop-event-preserved-in-Enter
 loop-event-preserved-in-Enter g c =
     let e = c.in-Enter.element in
-    let line : List ℕ = line_of c.loop-event.depth (item_of (place_of e)).kind (extent_of (place_of e)) in
+    let line : List ℕ = line_of c.loop-event.depth (item_of (located_of e)).kind (extent_of (located_of e)) in
     let so_far = c.loop-event.invariant in
     let steps = c.in-Some.ensures.steps in
-    let left = deeper c.loop-event.depth _ _ _ e (so_far.3, so_far.4) steps c.in-Enter.is in (
+    let remaining = deeper c.loop-event.depth _ _ _ e (so_far.3, so_far.4) steps c.in-Enter.is in (
       so_far.0 ++ line,
       Appends-trans _ _ _ so_far.0 line so_far.1 c.in_ok-write_line-in-Enter.ensures,
       entered so_far.0 _ c.loop-event.depth _ _ _ _ e so_far.2 steps c.in-Enter.is refl,
-      left.0,
-      left.1,
+      remaining.0,
+      remaining.1,
     )
 
 pub returns : goal.returns

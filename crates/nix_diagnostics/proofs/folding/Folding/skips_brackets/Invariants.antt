@@ -7,6 +7,6 @@ abbrev pub invariant-loop-element : goal.invariant-loop-element
 invariant-loop-element l = record {
   next : (goal.iterator-loop-element).can_next l.element-iterator;
   ends : (goal.iterator-loop-element).is_finite l.element-iterator;
-  left : is_unbalanced (option_map bounds_of l.self.extra) l.depth l.element-iterator ≡ skips_brackets (option_map bounds_of l.self.extra) l.node;
+  remaining : is_unbalanced (option_map bounds_of l.self.extra) l.depth l.element-iterator ≡ skips_brackets (option_map bounds_of l.self.extra) l.node;
   room : l.depth + length l.element-iterator < 2 ^ 64;
 }

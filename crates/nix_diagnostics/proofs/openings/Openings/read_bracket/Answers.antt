@@ -19,17 +19,17 @@ pub returns-then-opens : goal.returns-then-opens
 returns-then-opens c = λ spots.
     let old = c.args.self.now in
     let kind = c.args.kind in
-    let left = c.closes_none.new.opened.items in
+    let remaining = c.closes_none.new.opened.items in
     read_on old.extra (reverse old.opened.items) (reverse c.push.new.self.items) c.args.token.now kind spots
     (sym c.is_some.ensures ∙ c.if-is_some.false) c.requires (sym c.closes_none.ensures.none ∙ c.if-closes_none.false)
     (ap reverse c.in_ok-push.ensures.items
-    ∙ opened kind (reverse old.opened.items) left (sym c.opens.ensures ∙ c.if-opens.true) c.closes_none.ensures.left)
+    ∙ opened kind (reverse old.opened.items) remaining (sym c.opens.ensures ∙ c.if-opens.true) c.closes_none.ensures.remaining)
 
 pub returns : goal.returns
 returns c = λ spots.
     let old = c.args.self.now in
     let kind = c.args.kind in
-    let left = c.closes_none.new.opened.items in
-    read_on old.extra (reverse old.opened.items) (reverse left) c.args.token.now kind spots
+    let remaining = c.closes_none.new.opened.items in
+    read_on old.extra (reverse old.opened.items) (reverse remaining) c.args.token.now kind spots
     (sym c.is_some.ensures ∙ c.if-is_some.false) c.requires (sym c.closes_none.ensures.none ∙ c.if-closes_none.false)
-    (not_opened kind (reverse old.opened.items) left (sym c.opens.ensures ∙ c.if-opens.false) c.closes_none.ensures.left)
+    (not_opened kind (reverse old.opened.items) remaining (sym c.opens.ensures ∙ c.if-opens.false) c.closes_none.ensures.remaining)

@@ -15,18 +15,18 @@ pub returns-in_ok-insert-in-Crowded-clause-inserted : goal.returns-in_ok-insert-
 returns-in_ok-insert-in-Crowded-clause-inserted g c = λ later more key.
     inserted_crowded (g.V.Values.keys c.args.values.now) later c.args.self.now (record { slots = c.args.self.now.slots; crowded = c.insert.new.self })
     c.args.set c.args.name.now c.args.number c.requires.sound more c.requires.number key
-    (sym c.place.ensures ∙ c.in-Crowded.is) refl c.in_ok-insert-in-Crowded.ensures.inserted
+    (sym c.probe.ensures ∙ c.in-Crowded.is) refl c.in_ok-insert-in-Crowded.ensures.inserted
 
 pub returns-in-Taken-clause-inserted : goal.returns-in-Taken-clause-inserted
 returns-in-Taken-clause-inserted g c = λ later more key.
     inserted_taken (g.V.Values.keys c.args.values.now) later c.args.self.now (record { slots = c.put.new.self; crowded = c.args.self.now.crowded })
     c.args.set c.args.name.now c.args.number c.requires.sound more c.requires.number key
-    c.in-Taken.at _ (sym c.place.ensures ∙ c.in-Taken.is)
+    c.in-Taken.at _ (sym c.probe.ensures ∙ c.in-Taken.is)
     (subst (λ h. IsPut c.args.self.now.slots c.in-Taken.at h c.args.number c.put.new.self) c.hash_of-hash.ensures c.put.ensures) refl
 
 pub returns-in-Free-clause-inserted : goal.returns-in-Free-clause-inserted
 returns-in-Free-clause-inserted g c = λ later more key.
     inserted_free (g.V.Values.keys c.args.values.now) later c.args.self.now (record { slots = c.put-in-Free.new.self; crowded = c.args.self.now.crowded })
     c.args.set c.args.name.now c.args.number c.requires.sound more c.requires.number key
-    c.in-Free.at (sym c.place.ensures ∙ c.in-Free.is)
+    c.in-Free.at (sym c.probe.ensures ∙ c.in-Free.is)
     (subst (λ h. IsPut c.args.self.now.slots c.in-Free.at h c.args.number c.put-in-Free.new.self) c.hash_of-hash.ensures c.put-in-Free.ensures) refl

@@ -3,7 +3,7 @@ use Rattle.std.specs.Prelude.{string_bytes}
 use Rattle.nix_values.specs.Contents.{Entry, plain_of}
 use Rattle.nix_values.specs.FoundKeys.{found_keys}
 use Rattle.nix_values.specs.Attached.{IsAttached}
-use Rattle.nix_values.proofs.JsonPlaceLemmas.{placed_added}
+use Rattle.nix_values.proofs.JsonLocationLemmas.{placed_added}
 use Rattle.nix_values.proofs.json_reader.Reading.add.Goals as goal
 
 pub returns-clause-placed : goal.returns-clause-placed
@@ -14,7 +14,7 @@ returns-clause-placed c =
     let named = subst (λ name. IsAttached (found_keys old.found) old.attributes c.innermost_set-set.result name (length old.found.items.items)
     c.attach.new.attributes)
     c.as_str.ensures.value c.in_ok-attach.ensures in
-    placed_added old.found (record { items = c.push-2.new.self; places = c.push.new.self }) old.attributes c.attach.new.attributes old.frames.items _ _ e
+    placed_added old.found (record { items = c.push-2.new.self; locations = c.push.new.self }) old.attributes c.attach.new.attributes old.frames.items _ _ e
     c.requires c.in_ok-push-2.ensures.items c.in_ok-push.ensures.items refl deep c.innermost_set-set.ensures
     (subst (λ set. IsAttached (found_keys old.found) old.attributes set e.name (length old.found.items.items) c.attach.new.attributes)
     c.innermost_set-set.ensures named)

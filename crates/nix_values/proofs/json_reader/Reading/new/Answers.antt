@@ -1,7 +1,7 @@
 use Rattle.std.proofs.Common.{map, ap, refl}
 use Rattle.nix_values.specs.Contents.{entry_of}
 use Rattle.nix_values.specs.FoundKeys.{found_keys}
-use Rattle.nix_values.proofs.JsonPlaceLemmas.{placed_begun}
+use Rattle.nix_values.proofs.JsonLocationLemmas.{placed_begun}
 use Rattle.nix_values.proofs.JsonDistinctLemmas.{begun_distinct}
 use Rattle.nix_values.proofs.json_reader.Reading.new.Goals as goal
 
@@ -10,7 +10,7 @@ returns-clause-begun c = record { is_state = refl; no_name = refl; no_frames = c
 
 pub returns-clause-placed : goal.returns-clause-placed
 returns-clause-placed c =
-    placed_begun c.new.result c.new-2.result c.new-3.result.items c.new.ensures.items c.new.ensures.places c.new-3.ensures.items
+    placed_begun c.new.result c.new-2.result c.new-3.result.items c.new.ensures.items c.new.ensures.locations c.new-3.ensures.items
     (c.new-2.ensures (found_keys c.new.result)).0
 
 pub returns-clause-distinct : goal.returns-clause-distinct

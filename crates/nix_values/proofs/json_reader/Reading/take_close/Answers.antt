@@ -2,7 +2,7 @@ use Rattle.std.proofs.Common.{◌≡◌, ◌∙◌, true, false, sym, refl, subs
 use Rattle.std.specs.Prelude.{vec_len}
 use Rattle.nix_values.specs.JsonReading.{name_of, is_close_next, IsInside}
 use Rattle.nix_values.specs.Json.{closing}
-use Rattle.nix_values.proofs.JsonPlaceLemmas.{placed_closed}
+use Rattle.nix_values.proofs.JsonLocationLemmas.{placed_closed}
 use Rattle.nix_values.proofs.JsonStateLemmas.{close_wrong}
 use Rattle.nix_values.proofs.JsonDistinctLemmas.{behind_next}
 use Rattle.nix_values.proofs.JsonReadingLemmas.{stopped, takes_close}

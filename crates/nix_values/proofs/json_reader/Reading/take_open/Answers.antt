@@ -2,7 +2,7 @@ use Rattle.std.proofs.Common.{◌≡◌, ◌∙◌, ◌<◌, length, true, false
 use Rattle.nix_values.specs.declared.json_reader.TheConstants.{MOST_DEPTH}
 use Rattle.nix_values.specs.JsonReading.{name_of, is_value_next, opened_plain, IsAdded}
 use Rattle.nix_values.specs.Json.{opening}
-use Rattle.nix_values.proofs.JsonPlaceLemmas.{placed_open}
+use Rattle.nix_values.proofs.JsonLocationLemmas.{placed_open}
 use Rattle.nix_values.proofs.JsonStateLemmas.{open_wrong}
 use Rattle.nix_values.proofs.JsonDistinctLemmas.{distinct_added, opened_next}
 use Rattle.nix_values.proofs.JsonReadingLemmas.{stopped, takes_open}

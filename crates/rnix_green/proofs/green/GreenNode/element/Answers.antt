@@ -28,7 +28,7 @@ returns-clause-is c =
     let below : c.saturating_sub-below.result ≡ size_in c.index.result.now - 1 = c.saturating_sub-below.ensures ∙ ap (λ s. s - 1) c.size-size.ensures in
     let end : c.start_at.result ≡ start_at t (c.args.number + 1 + (size_in c.index.result.now - 1)) =
     c.start_at.ensures ∙ ap (λ b. start_at t (c.args.number + 1 + b)) below in
-    rw (end, below, c.kind.ensures, c.size-size.ensures, c.place.ensures, c.parent_kept.ensures, c.parent.ensures)
+    rw (end, below, c.kind.ensures, c.size-size.ensures, c.len_or_start.ensures, c.parent_kept.ensures, c.parent.ensures)
     (item_read t c.args.number c.index.result.now c.requires is)
 
 pub returns-clause-ordered : goal.returns-clause-ordered
@@ -40,7 +40,7 @@ returns-clause-ordered c =
     let below : c.saturating_sub-below.result ≡ size_in c.index.result.now - 1 = c.saturating_sub-below.ensures ∙ ap (λ s. s - 1) c.size-size.ensures in
     let end : c.start_at.result ≡ start_at t (c.args.number + 1 + (size_in c.index.result.now - 1)) =
     c.start_at.ensures ∙ ap (λ b. start_at t (c.args.number + 1 + b)) below in
-    rw (end, c.place.ensures) (read_in_order t c.args.number c.index.result.now c.requires is)
+    rw (end, c.len_or_start.ensures) (read_in_order t c.args.number c.index.result.now c.requires is)
 
 pub returns-clause-inside : goal.returns-clause-inside
 returns-clause-inside c =

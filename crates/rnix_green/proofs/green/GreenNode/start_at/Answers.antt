@@ -9,4 +9,5 @@ returns-then-number-len c =
     let kept : IsKept t g.elements.items (string_bytes g.text) = rw c.self.view_is at c.self.invariant in
     let there : c.args.number < length (items_of t) =
     omega (arith, c.if-number-len.true, c.len.ensures, g.elements.ok.0, length_kept t g.elements.items (string_bytes g.text) kept) in
-    c.place.ensures ∙ (element_read t _ _ c.args.number c.index.result.now kept there c.index.ensures).place ∙ sym (start_there t c.args.number there)
+    c.len_or_start.ensures ∙ (element_read t _ _ c.args.number c.index.result.now kept there c.index.ensures).len_or_start
+    ∙ sym (start_there t c.args.number there)

@@ -1,6 +1,6 @@
 use Rattle.{std.proofs.{Common.{◌≡◌, List, ℕ, ◌+◌, ◌≤◌, ap, arith, ◌∙◌, map, length, take, drop}, lemmas.List.length-take-le}, rnix_green.specs.Entries.made}
 use Rattle.rnix_green.{specs.{Entries.{IsBuilt, open_pairs}, Draft.{TextDraft, with_leaf}, Forest.Forest, Postorder.entry_of}, proofs.EntriesLemmas.built-token}
-use Rattle.rnix_green.proofs.{EntriesLemmas.{settled, built_is}, TextLemmas.{taken_within, taken_more, left_more}}
+use Rattle.rnix_green.proofs.{EntriesLemmas.{settled, built_is}, TextLemmas.{taken_within, taken_more, remaining_more}}
 use Rattle.rnix_green.proofs.text_builder.TextBuilder.token.Goals as goal
 
 next : (c : goal.After-self-1) → take (length c.args.part.now) (drop c.self.inside.taken c.self.inside.text.now) ≡ c.args.part.now
@@ -36,7 +36,7 @@ returns-clause-ok c =
     rw (← c.self.view_is)
     (ap (λ (f : Forest). let d : TextDraft = record {
       draft = record { finished = f; open_nodes = open_pairs b.pending.items };
-      left = drop (b.taken + length c.args.part.now) b.text.now;
+      remaining = drop (b.taken + length c.args.part.now) b.text.now;
     } in d)
     (built_is _ _ _ _ _ (after c))
     ∙ ap (λ (l : List ℕ). let d : TextDraft = record {
@@ -45,6 +45,6 @@ returns-clause-ok c =
             (made (take b.taken b.text.now) b.entries.items);
         open_nodes = open_pairs b.pending.items;
       };
-      left = l;
+      remaining = l;
     } in d)
-    (left_more b.text.now c.args.part.now b.taken))
+    (remaining_more b.text.now c.args.part.now b.taken))

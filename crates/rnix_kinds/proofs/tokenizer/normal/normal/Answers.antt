@@ -57,11 +57,11 @@ returns-in-33-to-126-clause-cut c =
     let no_slash : (c.byte_at.result == 47) ≡ false = search rules in
     let no_angle : (c.byte_at.result == 60) ≡ false = search rules in
     let no_tilde : (c.byte_at.result == 126) ≡ false = search rules in
-    let no_left : (c.byte_at.result == 123) ≡ false = search rules in
+    let no_remaining : (c.byte_at.result == 123) ≡ false = search rules in
     let no_right : (c.byte_at.result == 125) ≡ false = search rules in
     c.symbol.ensures
     ∙ normal-symbol c.args.top c.args.text.now c.byte_at.result
-    (sym c.byte_at.ensures) low high no_word no_step no_double no_dollar no_quote no_hash no_slash no_angle no_tilde no_left no_right
+    (sym c.byte_at.ensures) low high no_word no_step no_double no_dollar no_quote no_hash no_slash no_angle no_tilde no_remaining no_right
 
 pub returns-in_default-clause-cut : goal.returns-in_default-clause-cut
 returns-in_default-clause-cut c =

@@ -1,9 +1,9 @@
 use Rattle.{std.proofs.Common.{ap, refl, ◌∙◌}, rnix_green.specs.Draft.with_leaf, rnix_reader.specs.{Placed.token_of, State.state}}
-use Rattle.rnix_reader.proofs.{StateLemmas.{first_there, none_there, bumped-item, bumped-end}, TextLeft.next_text}
+use Rattle.rnix_reader.proofs.{StateLemmas.{first_there, none_there, bumped-item, bumped-end}, TextRemaining.next_text}
 use Rattle.rnix_reader.proofs.parser.Parser.bump.Goals as goal
 
 pub token-requires-in-Some : goal.token-requires-in-Some
-token-requires-in-Some c = next_text _ _ (token_of c.in-Some.token) c.eat_trivia.new.self.left (first_there _ _ _ c.token.ensures c.in-Some.is)
+token-requires-in-Some c = next_text _ _ (token_of c.in-Some.token) c.eat_trivia.new.self.remaining (first_there _ _ _ c.token.ensures c.in-Some.is)
 
 pub returns-in_ok-token-clause-state : goal.returns-in_ok-token-clause-state
 returns-in_ok-token-clause-state c =

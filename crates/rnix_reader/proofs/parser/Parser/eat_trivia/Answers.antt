@@ -1,9 +1,9 @@
 use Rattle.{std.proofs.Common.{sym, ap, ◌∙◌, refl}, rnix_reader.{specs.{Placed.token_of, State.state}, proofs.StateLemmas.{eaten-settled, eaten-trivia}}}
-use Rattle.rnix_reader.proofs.TextLeft.{next_text}
+use Rattle.rnix_reader.proofs.TextRemaining.{next_text}
 use Rattle.rnix_reader.proofs.parser.Parser.eat_trivia.Goals as goal
 
 pub token-requires : goal.token-requires
-token-requires c = next_text _ _ (token_of c.in-Some.token) c.loop-token.self.left c.in-Some.ensures.0
+token-requires c = next_text _ _ (token_of c.in-Some.token) c.loop-token.self.remaining c.in-Some.ensures.0
 
 pub loop-token-preserved : goal.loop-token-preserved
 loop-token-preserved c = (

@@ -1,10 +1,10 @@
 use Rattle.{std.proofs.Common.{ap, refl, ◌∙◌}, rnix_green.specs.{Draft.{leaf_added, node_opened, node_closed}, Forest.tree_count}}
-use Rattle.rnix_reader.{specs.{Placed.token_of, State.state}, proofs.{BeginLemmas.leaf_nodes, StateLemmas.{first_there, none_there, leaf_node_made-item, leaf_node_made-end}}}
-use Rattle.rnix_reader.proofs.TextLeft.{next_text}
+use Rattle.rnix_reader.{specs.{Placed.token_of, State.state}, proofs.{OperandStartLemmas.leaf_nodes, StateLemmas.{first_there, none_there, leaf_node_made-item, leaf_node_made-end}}}
+use Rattle.rnix_reader.proofs.TextRemaining.{next_text}
 use Rattle.rnix_reader.proofs.parser.Parser.leaf_node.Goals as goal
 
 pub leaf_node-requires : goal.leaf_node-requires
-leaf_node-requires c = next_text _ _ (token_of c.in-Some.token) c.eat_trivia.new.self.left (first_there _ _ _ c.token.ensures c.in-Some.is)
+leaf_node-requires c = next_text _ _ (token_of c.in-Some.token) c.eat_trivia.new.self.remaining (first_there _ _ _ c.token.ensures c.in-Some.is)
 
 pub returns-in-Some-clause-state : goal.returns-in-Some-clause-state
 returns-in-Some-clause-state c =
