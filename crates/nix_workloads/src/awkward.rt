@@ -107,7 +107,7 @@ fn add_covers(alloc: Global, text: &str, seed: u64, digest: &mut Digest) -> Resu
     add_parse(&read, digest);
     let root = read.syntax();
     let mut numbers = Numbers::new(seed);
-    for _turn in 0..100 {
+    for _place in 0..100 {
         let start = numbers.below(text.len());
         let range = TextRange::new(start, start.saturating_add(2));
         if let Some(element) = root.covering_element(range) {

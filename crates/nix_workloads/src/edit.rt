@@ -21,12 +21,9 @@ fn rename(alloc: Global, text: &str, number: usize, digest: &mut Digest) -> Resu
     let names = resolve(alloc, &read.syntax())?;
     let mut edits = Edits::new(alloc, text);
     if number < names.bindings().len() {
-        for occurrence in names.occurrences(alloc, number)? {
-            add_range(occurrence, digest);
-            add_edit(
-                edits.replace(occurrence.start()..occurrence.end(), "renamed"),
-                digest,
-            );
+        for place in names.occurrences(alloc, number)? {
+            add_range(place, digest);
+            add_edit(edits.replace(place.start()..place.end(), "renamed"), digest);
         }
     }
     let made = edits.apply(alloc)?;
@@ -37,13 +34,13 @@ fn rename(alloc: Global, text: &str, number: usize, digest: &mut Digest) -> Resu
 
 // Returns where the identifiers of a tree stand.
 fn identifiers(alloc: Global, root: &SyntaxNode<'_>) -> Result<Vec<TextRange>, AllocError> {
-    let mut occurrences = Vec::new(alloc);
+    let mut places = Vec::new(alloc);
     for node in root.descendants() {
         if node.kind() == SyntaxKind::NODE_IDENT {
-            occurrences.push(node.text_range())?;
+            places.push(node.text_range())?;
         }
     }
-    Ok(occurrences)
+    Ok(places)
 }
 
 // Replaces each identifier of a text, with the edits in an order without a pattern.
@@ -55,18 +52,15 @@ fn replace_shuffled(
 ) -> Result<(), AllocError> {
     let read = Root::parse(alloc, text)?;
     add_parse(&read, digest);
-    let mut occurrences = identifiers(alloc, &read.syntax())?;
+    let mut places = identifiers(alloc, &read.syntax())?;
     let mut numbers = Numbers::new(seed);
     let mut edits = Edits::new(alloc, text);
-    for _turn in 0..occurrences.len() {
-        let at = numbers.below(occurrences.len());
-        if at < occurrences.len() {
-            let occurrence = occurrences.swap_remove(at);
-            add_range(occurrence, digest);
-            add_edit(
-                edits.replace(occurrence.start()..occurrence.end(), "other"),
-                digest,
-            );
+    for _turn in 0..places.len() {
+        let at = numbers.below(places.len());
+        if at < places.len() {
+            let place = places.swap_remove(at);
+            add_range(place, digest);
+            add_edit(edits.replace(place.start()..place.end(), "other"), digest);
         }
     }
     digest.add_text(edits.apply(alloc)?.as_str());
@@ -75,13 +69,13 @@ fn replace_shuffled(
 
 // Returns the entry of a number, and its value.
 fn entry_at<'t>(root: &SyntaxNode<'t>, number: usize) -> Option<AttrpathValue<'t>> {
-    let mut remaining = number;
+    let mut left = number;
     for node in root.descendants() {
         if let Some(entry) = AttrpathValue::cast(node) {
-            if remaining == 0 {
+            if left == 0 {
                 return Some(entry);
             }
-            remaining = remaining.saturating_sub(1);
+            left = left.saturating_sub(1);
         }
     }
     None

@@ -32,14 +32,14 @@ fn write_name<'t, W: Write>(
 }
 
 // Writes where the node of a name begins, and ends the line.
-fn write_location<W: Write>(
+fn write_place<W: Write>(
     index: &LineIndex<'_>,
     node: &SyntaxNode<'_>,
     out: &mut W,
 ) -> io::Result<()> {
     let start = node.text_range().start();
-    let location = index.position(start).unwrap_or_default();
-    let (line, column) = (location.line, location.column);
+    let place = index.position(start).unwrap_or_default();
+    let (line, column) = (place.line, place.column);
     writeln!(out, ",\"line\":{line},\"column\":{column}}}")
 }
 
@@ -53,7 +53,7 @@ fn write_bindings<'n, W: Write>(
 ) -> io::Result<()> {
     for binding in bindings {
         write_name(numbers, binding.text.as_str(), out)?;
-        write_location(index, &binding.node, out)?;
+        write_place(index, &binding.node, out)?;
         add_node(&binding.scope, digest);
         digest.add_number(binding.first);
     }
@@ -73,7 +73,7 @@ fn write_references<'n, W: Write>(
             Some(number) => write!(out, "{{\"binding\":{number}")?,
             None => write_name(numbers, reference.text.as_str(), out)?,
         }
-        write_location(index, &reference.node, out)?;
+        write_place(index, &reference.node, out)?;
         digest.add_number(usize::from(reference.is_inherited));
         digest.add_number(usize::from(reference.is_open));
     }
@@ -106,9 +106,9 @@ fn add_entry(entry: &AttrpathValue<'_>, digest: &mut Digest) {
 
 // Adds the line and the column of an offset.
 fn add_position(index: &LineIndex<'_>, offset: usize, digest: &mut Digest) {
-    let location = index.position(offset).unwrap_or_default();
-    digest.add_number(location.line);
-    digest.add_number(location.column);
+    let place = index.position(offset).unwrap_or_default();
+    digest.add_number(place.line);
+    digest.add_number(place.column);
 }
 
 // Adds the nodes of a tree, and what those say that have a type. No two strings begin, and no two attributes or selections end in one place, nor does a
@@ -176,13 +176,13 @@ pub fn index(
     digest: &mut Digest,
 ) -> io::Result<()> {
     let seed = mixed(seed);
-    let mut remaining = size;
+    let mut left = size;
     for number in 0..size {
-        if remaining == 0 {
+        if left == 0 {
             return Ok(());
         }
-        let options = (20 + (number % 7) * 25).min(remaining);
-        remaining = remaining.saturating_sub(options);
+        let options = (20 + (number % 7) * 25).min(left);
+        left = left.saturating_sub(options);
         let own = mixed(seed.wrapping_add(number as u64));
         let options_text = module(alloc, words, own, options)?;
         index_text(alloc, options_text.as_str(), digest)?;

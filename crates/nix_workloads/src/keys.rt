@@ -27,7 +27,7 @@ fn key(number: usize) -> &'static str {
 }
 
 // How many places a text is asked about after each key press: one in each part of it, so that none is asked about twice.
-const SAMPLES: usize = 40;
+const PLACES: usize = 40;
 
 // Adds the kinds of the nodes around a token.
 fn add_ancestors(token: &SyntaxToken<'_>, digest: &mut Digest) {
@@ -46,7 +46,7 @@ fn add_token(token: &SyntaxToken<'_>, digest: &mut Digest) {
 }
 
 // Adds what stands at an offset: its tokens, the nodes around the last of them, and what covers a few bytes behind it.
-fn add_sample(root: &SyntaxNode<'_>, offset: usize, len: usize, digest: &mut Digest) {
+fn add_place(root: &SyntaxNode<'_>, offset: usize, len: usize, digest: &mut Digest) {
     match root.token_at_offset(offset) {
         TokenAtOffset::None => digest.add_number(0),
         TokenAtOffset::Single(token) => {
@@ -78,12 +78,12 @@ fn read_again(
     add_names(alloc, &read, digest)?;
     let index = LineIndex::new(alloc, text, ColumnUnit::Utf16)?;
     let root = read.syntax();
-    let part = text.len() / SAMPLES;
-    for sample in 0..SAMPLES {
+    let part = text.len() / PLACES;
+    for place in 0..PLACES {
         let offset = part
-            .saturating_mul(sample)
+            .saturating_mul(place)
             .saturating_add(numbers.below(part));
-        add_sample(&root, offset, numbers.below(30), digest);
+        add_place(&root, offset, numbers.below(30), digest);
         let position = index.position(offset).unwrap_or_default();
         digest.add_number(position.line);
         digest.add_number(position.column);

@@ -30,10 +30,10 @@ pub struct Words {
 // Makes a word that begins with the two syllables of a number, and goes on with others for each further PAIRS.
 fn word(alloc: Global, number: u64) -> Result<String, AllocError> {
     let mut text = String::new(alloc);
-    let mut remaining = number % PAIRS | mixed(number) << 10;
+    let mut left = number % PAIRS | mixed(number) << 10;
     for _syllable in 0..2 + number / PAIRS {
-        text.push_str(SYLLABLES[(remaining % 32) as usize])?;
-        remaining >>= 5;
+        text.push_str(SYLLABLES[(left % 32) as usize])?;
+        left >>= 5;
     }
     Ok(text)
 }
