@@ -12,3 +12,6 @@ pub mod Entries
 pub mod Relatives
 pub mod Equality
 pub mod SameElements
+pub mod Context
+pub mod Splice
+pub mod SplicedElements

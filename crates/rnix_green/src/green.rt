@@ -6,7 +6,7 @@ ghost use Rattle.rnix_green.specs.Kept.{parent_kept};
 
 use crate::packed::Packed;
 use rnix_kinds::SyntaxKind;
-use std::alloc::AllocError;
+use std::alloc::{AllocError, Global};
 use std::marker::Model;
 
 /// An element: a node or a token.
@@ -67,6 +67,17 @@ impl GreenNode {
         ensures { result ≡ tree_from elements.items (string_bytes text) }
     {
         GreenNode { elements, text }
+    }
+
+    /// Returns the elements and the text.
+    pub(crate) fn parts(&self) -> (&[Packed], &str)
+        ensures { IsKept self.now result.0.now result.1.now }
+    {
+        (&self.elements, self.text.as_str())
+    }
+
+    pub(crate) fn allocator(&self) -> Global {
+        *self.elements.allocator()
     }
 
     /// Returns a copy of the tree.

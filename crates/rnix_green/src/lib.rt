@@ -6,6 +6,7 @@ mod green;
 mod packed;
 mod postorder;
 mod range;
+mod splice;
 mod text_builder;
 
 pub use builder::{Checkpoint, GreenNodeBuilder};

@@ -1,9 +1,10 @@
 //! Elements as a tree stores them, in 16 bytes.
 
-ghost use Rattle.std.specs.Prelude.{◌≡◌, ◌+◌, ◌<◌, ◌≤◌, OnOk, OnErr};
+ghost use Rattle.std.specs.Prelude.{◌≡◌, ◌+◌, ◌<◌, ◌≤◌, nat_lt, OnOk, OnErr};
 ghost use Rattle.rnix_green.specs.Equality.{same_kind};
 ghost use Rattle.rnix_green.specs.SameElements.{same_numbers};
 ghost use Rattle.rnix_green.specs.Packed.{limit, word_of, packed, len_or_start_in, parent_in, size_in};
+ghost use Rattle.rnix_green.specs.SplicedElements.{with_size, shifted};
 
 use rnix_kinds::SyntaxKind;
 use std::alloc::AllocError;
@@ -21,6 +22,15 @@ pub(crate) struct Packed {
 }
 
 const _: () = prove!(size_of::<Packed>() == 16);
+
+/// A move of elements: the one at the offset `start` and with the number `number` has a new offset and a new number. Parents with a smaller number stay.
+#[derive(Clone, Copy)]
+pub(crate) struct Shift {
+    pub(crate) start: usize,
+    pub(crate) new_start: usize,
+    pub(crate) number: usize,
+    pub(crate) new_number: usize,
+}
 
 fn word(number: usize) -> u32
     ensures { result ≡ word_of number }
@@ -78,6 +88,44 @@ impl Packed {
         ensures { result ≡ size_in self.now }
     {
         self.size as usize
+    }
+
+    /// Returns whether the element of a number holds one with a later number.
+    pub(crate) fn holds(&self, number: usize, later: usize) -> bool
+        requires { number < limit }
+        ensures { result ≡ nat_lt later (number + size_in self.now) }
+    {
+        later < number + self.size as usize
+    }
+
+    /// Returns the node with `new` elements in place of `old` ones inside.
+    pub(crate) fn with_size(&self, old: usize, new: usize) -> Packed
+        requires { new < limit }
+        ensures { result ≡ with_size old new self.now }
+    {
+        let size = (self.size as usize + new).saturating_sub(old);
+        Packed::new(
+            self.kind,
+            self.len_or_start as usize,
+            self.parent as usize,
+            size,
+        )
+    }
+
+    /// Returns a placed element at its new place.
+    pub(crate) fn shifted(&self, shift: &Shift) -> Packed
+        requires start { shift.now.new_start < limit }
+        requires number { shift.now.new_number < limit }
+        ensures { result ≡ shifted shift.now self.now }
+    {
+        let start = (self.len_or_start as usize + shift.new_start).saturating_sub(shift.start);
+        let parent = self.parent as usize;
+        let parent = if parent < shift.number {
+            parent
+        } else {
+            parent + shift.new_number - shift.number
+        };
+        Packed::new(self.kind, start, parent, self.size as usize)
     }
 }
 

@@ -5,6 +5,7 @@ use Rattle.rnix_kinds.specs.declared.kinds.SyntaxKind.TheVariants.{NODE_ROOT}
 use Rattle.rnix_kinds.specs.SyntaxKind.{is_trivia}
 use Rattle.rnix_kinds.specs.Lexical.Tokens.{Lexeme, tokens_of}
 use Rattle.rnix_green.specs.Forest.{Forest, empty, node, text_of}
+use Rattle.rnix_green.specs.Context.{Context, filled, text_before}
 use Rattle.rnix_grammar.specs.AnnotatedForest.{Token, lexeme_of, AnnotatedForest, blank, branch, tokens_in, forget, without_trivia, placed_from, HaveLeafKinds}
 use Rattle.rnix_grammar.specs.Layout.{items}
 use Rattle.rnix_grammar.specs.Nest.{nest}
@@ -19,7 +20,7 @@ use Rattle.rnix_proof_layout.specs.AlikeItems.{AreAlike}
 use Rattle.rnix_proof_replacement.specs.Replaced.{MayReplace, texts}
 use Rattle.rnix_parser.specs.Significant.{significant}
 use Rattle.rnix_proof_reparse.specs.Bracketed.{IsBracketed}
-use Rattle.rnix_proof_reparse.specs.Context.{Context, filled, text_before, levels_around, between}
+use Rattle.rnix_proof_reparse.specs.Context.{levels_around, between}
 use Rattle.rnix_proof_reparse.specs.Reparsed.{IsReparsed}
 use Rattle.rnix_proof_reparse.proofs.CarriedReadings.{ending}
 use Rattle.rnix_proof_reparse.proofs.ReplacedReadings.{levels, replaces}

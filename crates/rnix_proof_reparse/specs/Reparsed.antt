@@ -5,13 +5,14 @@ use Rattle.rnix_kinds.specs.declared.kinds.SyntaxKind.TheVariants.{NODE_ROOT}
 use Rattle.rnix_kinds.specs.Lexical.Tokens.{tokens_of}
 use Rattle.rnix_green.specs.Forest.{Forest, empty, node, text_of}
 use Rattle.rnix_green.specs.Tree.{Tree}
+use Rattle.rnix_green.specs.Context.{Context, filled, text_before}
 use Rattle.rnix_grammar.specs.Nest.{nest}
 use Rattle.rnix_grammar.specs.Reading.{IsReading}
 use Rattle.rnix_grammar.specs.Tables.{depth_limit}
 use Rattle.rnix_parser.specs.ReadingLaws.{OfRead}
 use Rattle.rnix_parser.specs.Significant.{significant}
 use Rattle.rnix_proof_reparse.specs.Bracketed.{IsBracketed}
-use Rattle.rnix_proof_reparse.specs.Context.{Context, filled, text_before, levels_around, between}
+use Rattle.rnix_proof_reparse.specs.Context.{levels_around, between}
 
 -- the tree below a root
 abbrev pub rooted : Forest → Tree
