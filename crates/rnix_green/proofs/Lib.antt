@@ -16,3 +16,6 @@ pub mod InsideLemmas
 pub mod StartLemmas
 pub mod ElementLemmas
 pub mod FirstFromLemmas
+pub mod ContextLemmas
+pub mod SplicedRows
+pub mod SpliceLemmas

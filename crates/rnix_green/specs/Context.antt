@@ -1,7 +1,7 @@
 -- A tree with a node in it: what is around the node.
 use Rattle.std.specs.Prelude.{ℕ, suc, ◌+◌, List, [], ◌++◌}
 use Rattle.rnix_kinds.specs.declared.kinds.SyntaxKind.{SyntaxKind}
-use Rattle.rnix_green.specs.Forest.{Forest, empty, leaf, node, text_of, element_count}
+use Rattle.rnix_green.specs.Forest.{Forest, leaf, node, text_of, element_count}
 
 -- the node before other trees; behind a leaf; behind another node; inside another node, which is before other trees
 pub data Context : Type 0 where

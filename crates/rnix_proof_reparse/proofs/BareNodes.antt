@@ -18,7 +18,7 @@ use Rattle.rnix_proof_rows.proofs.AttachTriviaLemmas.{HasTree}
 use Rattle.rnix_proof_rows.proofs.WithTriviaEdges.{AreEdged, remapped_is_trivia}
 use Rattle.rnix_parser.specs.Significant.{leaf_unless, significant}
 use Rattle.rnix_proof_reparse.specs.Bracketed.{IsBracketed, set, list, paren, string}
-use Rattle.rnix_proof_reparse.specs.Context.{between}
+use Rattle.rnix_proof_reparse.specs.LevelsAround.{between}
 use Rattle.rnix_proof_reparse.proofs.SwappedNodes.{Swapped, here, past_token, past_branch, past_fault, inside}
 use Rattle.rnix_proof_reparse.proofs.ReplacedReadings.{levels}
 use Rattle.rnix_proof_reparse.proofs.BracketedNodes.{bracketed}

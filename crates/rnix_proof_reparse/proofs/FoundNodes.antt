@@ -6,7 +6,7 @@ use Rattle.rnix_green.specs.Forest.{Forest, empty, leaf, node, text_of}
 use Rattle.rnix_green.specs.Context.{Context, filled, text_before}
 use Rattle.rnix_grammar.specs.Nest.{nests}
 use Rattle.rnix_grammar.specs.AnnotatedForest.{Token, AnnotatedForest, blank, token, branch, fault, tokens_in, forget, HaveLeafKinds}
-use Rattle.rnix_proof_reparse.specs.Context.{levels_around}
+use Rattle.rnix_proof_reparse.specs.LevelsAround.{levels_around}
 use Rattle.rnix_proof_reparse.proofs.SwappedNodes.{Swapped}
 use Rattle.rnix_proof_reparse.proofs.ReplacedReadings.{levels}
 use Rattle.rnix_proof_reparse.proofs.PlacedAgain.{HaveItemEdges}

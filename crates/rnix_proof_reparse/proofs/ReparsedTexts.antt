@@ -20,7 +20,7 @@ use Rattle.rnix_proof_layout.specs.AlikeItems.{AreAlike}
 use Rattle.rnix_proof_replacement.specs.Replaced.{MayReplace, texts}
 use Rattle.rnix_parser.specs.Significant.{significant}
 use Rattle.rnix_proof_reparse.specs.Bracketed.{IsBracketed}
-use Rattle.rnix_proof_reparse.specs.Context.{levels_around, between}
+use Rattle.rnix_proof_reparse.specs.LevelsAround.{levels_around, between}
 use Rattle.rnix_proof_reparse.specs.Reparsed.{IsReparsed}
 use Rattle.rnix_proof_reparse.proofs.CarriedReadings.{ending}
 use Rattle.rnix_proof_reparse.proofs.ReplacedReadings.{levels, replaces}

@@ -24,7 +24,7 @@ use Rattle.rnix_proof_layout.specs.AlikeItems.{AreAlike, AreSameFaults}
 use Rattle.rnix_proof_layout.proofs.AlikeReadings.{alike_readings}
 use Rattle.rnix_parser.proofs.OneReading.{reading_items}
 use Rattle.rnix_proof_reparse.specs.Bracketed.{IsBracketed}
-use Rattle.rnix_proof_reparse.specs.Context.{between}
+use Rattle.rnix_proof_reparse.specs.LevelsAround.{between}
 use Rattle.rnix_proof_reparse.proofs.CarriedReadings.{ending}
 use Rattle.rnix_proof_reparse.proofs.ReplacedReadings.{MayStand}
 use Rattle.rnix_proof_reparse.proofs.BracketedNodes.{starting, bracketed, BeginsItself, may_stand}

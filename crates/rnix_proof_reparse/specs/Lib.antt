@@ -1,3 +1,3 @@
 pub mod Bracketed
-pub mod Context
+pub mod LevelsAround
 pub mod Reparsed

@@ -12,7 +12,7 @@ use Rattle.rnix_grammar.specs.Tables.{depth_limit}
 use Rattle.rnix_parser.specs.ReadingLaws.{OfRead}
 use Rattle.rnix_parser.specs.Significant.{significant}
 use Rattle.rnix_proof_reparse.specs.Bracketed.{IsBracketed}
-use Rattle.rnix_proof_reparse.specs.Context.{levels_around, between}
+use Rattle.rnix_proof_reparse.specs.LevelsAround.{levels_around, between}
 
 -- the tree below a root
 abbrev pub rooted : Forest → Tree

@@ -1,4 +1,4 @@
-use Rattle.std.proofs.Common.{◌≡◌, ◌+◌, ◌++◌, drop, map, length, vec_len, vec_capacity}
+use Rattle.std.proofs.Common.{◌≡◌, ◌+◌, ◌++◌, drop, map, vec_len, vec_capacity}
 use Rattle.rnix_green.specs.SplicedElements.{shifted}
 use Rattle.rnix_green.proofs.splice.push_shifted.Given as goal
 
