@@ -1,7 +1,7 @@
 -- What is around a node of a tree, and where the node is.
 use Rattle.std.proofs.Common.{◌≡◌, ℕ, zero, suc, ◌+◌, ◌-◌, ◌≤◌, ◌<◌, ◌++◌, length, Option, Some, None, true, refl, ap, sym, ◌∙◌}
-use Rattle.std.proofs.{Common.{subst, arith, append_assoc, length-append}}
-use Rattle.{rnix_kinds.specs.declared.kinds.SyntaxKind.SyntaxKind}
+use Rattle.std.proofs.Common.{subst, arith, append_assoc, length-append}
+use Rattle.rnix_kinds.specs.declared.kinds.SyntaxKind.{SyntaxKind}
 use Rattle.rnix_green.specs.Forest.{Forest, empty, leaf, node, text_of, element_count, HasText}
 use Rattle.rnix_green.specs.Tree.{Tree, Item, forest_of, item}
 use Rattle.rnix_green.specs.Relatives.{IsNodeIn}
@@ -118,6 +118,19 @@ placed_in i s p (inside j x f) k c =
 -- where a node is in a tree
 pub placed : (t : Tree) (x : Context) (k : SyntaxKind) (c : Forest) → forest_of t ≡ filled x k c → IsPlaced 0 0 None x k c (item t (elements_before x))
 placed t x k c e = subst (λ f. IsPlaced 0 0 None x k c (at 0 0 None f (elements_before x))) (sym e) (placed_in 0 0 None x k c)
+
+-- what a node shows of its place in a tree
+pub record IsShown (x : Context) (k : SyntaxKind) (c : Forest) (shown : Item) : Type 0 where
+  pub kind : shown.kind ≡ k
+  pub start : shown.start ≡ length (text_before x)
+  pub end : shown.end ≡ length (text_before x) + length (text_of c)
+  pub below : shown.below ≡ element_count c
+
+-- the kind, the range and the size of a node of a tree
+pub shown : (t : Tree) (n : ℕ) (x : Context) (k : SyntaxKind) (c : Forest) → forest_of t ≡ filled x k c → elements_before x ≡ n → IsShown x k c (item t n)
+shown t n x k c e m =
+    let is : IsPlaced 0 0 None x k c (item t n) = subst (λ i. IsPlaced 0 0 None x k c (item t i)) m (placed t x k c e) in
+    record { kind = is.kind; start = omega (arith, is.start); end = omega (arith, is.end); below = is.below }
 
 -- the text of the trees around a node
 pub text_filled : (x : Context) (k : SyntaxKind) (c : Forest) → text_of (filled x k c) ≡ text_before x ++ (text_of c ++ text_after x)

@@ -2,7 +2,7 @@
 use Rattle.std.proofs.Common.{◌≡◌, ℕ, suc, ◌+◌, ◌-◌, ◌<◌, List, [], ◌∷◌, ◌++◌, length, map, take, drop, get_or, Some, None, refl}
 use Rattle.std.proofs.{Common.{ap, sym, ◌∙◌, subst, arith, append_assoc, length-append}, lemmas.List.{append-nil, take_at, drop_at}}
 use Rattle.rnix_kinds.specs.declared.kinds.SyntaxKind.{SyntaxKind}
-use Rattle.rnix_green.specs.declared.packed.{Packed.{Packed}}
+use Rattle.rnix_green.specs.declared.packed.Packed.{Packed}
 use Rattle.rnix_green.specs.Forest.{Forest, empty, leaf, node, text_of, element_count, HasText}
 use Rattle.rnix_green.specs.Tree.{Tree, Item, items_from, forest_of, no_item, item}
 use Rattle.rnix_green.specs.Packed.{limit, packed}

@@ -1,5 +1,5 @@
 -- Trees as a list in which each node follows its children, and what is left to do when that list is read from its end.
-use Rattle.std.specs.Prelude.{◌≡◌, ◌≢◌, ℕ, zero, suc, ◌+◌, ◌-◌, List, [], ◌∷◌, ◌++◌, length, reverse, take, Option, Some, None}
+use Rattle.std.specs.Prelude.{◌≡◌, ◌≢◌, ℕ, zero, suc, ◌+◌, ◌-◌, List, [], ◌∷◌, ◌++◌, length, reverse, take, Option, Some, None, true}
 use Rattle.rnix_kinds.specs.declared.kinds.SyntaxKind.{SyntaxKind}
 use Rattle.rnix_green.specs.declared.packed.Packed.{Packed}
 use Rattle.rnix_green.specs.declared.postorder.Frame.{Frame}

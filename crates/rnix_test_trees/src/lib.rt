@@ -34,6 +34,8 @@ mod ranges;
 #[cfg(test)]
 mod skipping;
 #[cfg(test)]
+mod splices;
+#[cfg(test)]
 mod texts;
 #[cfg(test)]
 mod tree_printing;

@@ -26,6 +26,11 @@ impl Parsed {
         SyntaxNode::new_root(&self.green)
     }
 
+    /// The tree as data.
+    pub fn green(&self) -> &GreenNode {
+        &self.green
+    }
+
     /// The errors.
     pub fn errors(&self) -> &[ParseError] {
         &self.errors

@@ -1,4 +1,4 @@
-use Rattle.{std.{proofs.Common.{ap, arith, ◌∙◌, map}, specs.String.string_bytes}, rnix_green.specs.{Entries.{made, IsBuilt, open_pairs}, Draft.Draft}}
+use Rattle.{std.{proofs.Common.{ap, arith, ◌∙◌, map, length}, specs.String.string_bytes}, rnix_green.specs.{Entries.{made, IsBuilt, open_pairs}, Draft.Draft}}
 use Rattle.rnix_green.{specs.{Draft.with_leaf, Forest.Forest, Postorder.entry_of}, proofs.EntriesLemmas.{built-token, settled, built_is}}
 use Rattle.rnix_green.proofs.builder.GreenNodeBuilder.token.Goals as goal
 
