@@ -1,4 +1,4 @@
-//! What is found in one text: finding and printing its diagnostics.
+//! Finding and printing the diagnostics of one text.
 
 ghost use Rattle.std.specs.Prelude.{◌≡◌, ◌+◌, ◌==◌, ◌<◌, ◌≤◌, List, take, length, IfOk, OnOk};
 ghost use Rattle.std.specs.Io.KnownBytes.{Appends};
@@ -21,7 +21,7 @@ use rnix_text::{ColumnUnit, LineIndex};
 use std::alloc::{AllocError, Global};
 use std::io::{self, Write};
 
-// A number, or 1 in place of 0.
+// Returns the number, or 1 if it is 0.
 fn at_least_one(number: usize) -> usize
     ensures some { 0 < result }
     ensures least { number ≤ result }
@@ -29,7 +29,7 @@ fn at_least_one(number: usize) -> usize
     if number == 0 { 1 } else { number }
 }
 
-// The first diagnostics of the errors of a parsed text, at least up to a limit: of each error, or of each mistake.
+// Returns the first diagnostics of the errors of a parsed text, at least up to a limit: one for each error if `is_each`, otherwise one for each mistake.
 fn find_errors(
     alloc: Global,
     read: &Parse,
@@ -49,7 +49,7 @@ fn find_errors(
     Ok(found)
 }
 
-// The first diagnostics of a parsed text, at least up to a limit: of its errors, or if it has none, of the attributes that are defined again.
+// Returns the first diagnostics of a parsed text, at least up to a limit: of its errors, or, if it has none, of the attributes that are defined again.
 fn find(
     alloc: Global,
     read: &Parse,
@@ -66,7 +66,7 @@ fn find(
     Ok(errors)
 }
 
-// Writes a diagnostic that follows a number of others.
+// Writes a diagnostic in the format of the style.
 fn write_diagnostic<W: Write>(
     source: &Source<'_>,
     diagnostic: &Diagnostic,
@@ -85,7 +85,7 @@ fn write_diagnostic<W: Write>(
     }
 }
 
-// Whether a diagnostic is the first one of all: none precede it in its text or in others.
+// Returns whether a diagnostic is the first one of all: none precede it in its text or in others.
 fn is_first_of_all(earlier: usize, number: usize) -> bool
     ensures { result ≡ (earlier + number == 0) }
 {

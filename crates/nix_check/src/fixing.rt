@@ -6,7 +6,7 @@ use nix_cli::{FAILED, FOUND, Files, Program, read_text, replace_text, shown_name
 use nix_fixes::{FixedText, fixed};
 use std::io::{self, Write};
 
-// The most diagnostics of a file for which a fix is tried. Each attempt takes about as long as checking the file.
+// The greatest number of diagnostics of a file for which fixes are tried. Each attempt takes about as long as checking the file.
 const MOST_TRIED: usize = 1000;
 
 // Writes a fixed text: to its file if it has fixes, or to standard output if it was read from standard input. Reports what fails.
@@ -41,8 +41,8 @@ fn write_fixes<W: Write>(name: &str, fixes: usize, out: &mut W) -> io::Result<()
     }
 }
 
-// Fixes a file, or the text of standard input for `-`, which is printed. Writes the number of fixes and the errors that are left, and returns their
-// number, None if something could not be read or written.
+// Fixes a file, or for `-` prints the fixed text of standard input. Writes the number of fixes and the errors that are left, and returns the number of these
+// errors, or `None` if something could not be read or written.
 fn fix_file<W: Write>(
     rt: &HostRuntime,
     program: &Program,
@@ -64,7 +64,7 @@ fn fix_file<W: Write>(
     Ok(Some(remaining))
 }
 
-// Writes the last line, the number of errors that are left. Without errors there is none if some files could not be read or written.
+// Writes the last line, the number of errors that are left. There is no such line if no errors are left but some files could not be read or written.
 fn write_remaining<W: Write>(errors: usize, failed: usize, out: &mut W) -> io::Result<()> {
     match (errors, failed) {
         (0, 0) => writeln!(out, "no errors are left"),

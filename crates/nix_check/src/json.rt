@@ -11,14 +11,14 @@ use nix_diagnostics::{Code, Diagnostic, Note};
 use rnix::TextRange;
 use std::io::{self, Write};
 
-/// Writes the comma in front of a value, if others precede it.
+/// Writes a comma before a value, if others precede it.
 pub fn write_comma<W: Write>(number: usize, out: &mut W) -> io::Result<()>
     ensures { OnOk result (Appends (W.contents out.old) (W.contents out.new) (comma number)) }
 {
     out.write_all(if number == 0 { b"" } else { b"," })
 }
 
-// Writes a range and a message: the line and column, both from 1, the latter in characters, and the bounds in bytes from 0.
+// Writes a range and a message: the line and the column in characters, both from 1, and the bounds in bytes from 0.
 fn write_message<W: Write>(
     source: &Source<'_>,
     range: TextRange,
@@ -70,7 +70,7 @@ fn write_notes<W: Write>(
     Ok(())
 }
 
-// Writes what a diagnostic reports, how serious that is, and the number of its errors, before its notes.
+// Writes the code and the severity of a diagnostic and the number of its errors, before its notes.
 fn write_errors<W: Write>(code: Code, errors: usize, out: &mut W) -> io::Result<()>
     ensures { OnOk result (Appends (W.contents out.old) (W.contents out.new) (errors_member code errors)) }
 {

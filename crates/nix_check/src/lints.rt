@@ -1,4 +1,4 @@
-//! What Nix refuses in a text without syntax errors, as diagnostics.
+//! Diagnostics for what Nix refuses in a text without syntax errors.
 
 ghost use Rattle.std.specs.Prelude.{◌≡◌, ◌<◌, IfOk};
 ghost use Rattle.nix_lints.specs.Repeated.{repetition_of};
@@ -9,7 +9,7 @@ use nix_lints::{Repeated, repeated_attributes};
 use rnix::SyntaxNode;
 use std::alloc::{AllocError, Global};
 
-// A repetition as a diagnostic. It covers no errors of the parse.
+// Returns a repetition as a diagnostic, which covers no syntax errors.
 fn diagnostic_of(alloc: Global, repeated: Repeated) -> Result<Diagnostic, AllocError>
     ensures { IfOk result (λ d. finding_of d ≡ finding_at (repetition_of repeated)) }
 {
@@ -29,8 +29,8 @@ fn diagnostic_of(alloc: Global, repeated: Repeated) -> Result<Diagnostic, AllocE
     })
 }
 
-/// Returns the first diagnostics of attributes of a text without errors that are defined again, at most so many, and the number of all. None is made
-/// for what is only counted.
+/// Returns the first diagnostics, at most `most`, of attributes that are defined again in a text without errors, and the number of all. No messages are made
+/// for diagnostics that are only counted.
 pub fn repetitions(
     alloc: Global,
     root: &SyntaxNode<'_>,

@@ -21,7 +21,7 @@ use std::io::{BufWriter, Write};
 use std::process::ExitCode;
 use style::{Format, Style};
 
-// The most diagnostics of a file that are printed without `--all`.
+// The greatest number of diagnostics of a file that are printed without `--all`.
 const LIMIT: usize = 20;
 
 const PROGRAM: Program = Program {
@@ -50,7 +50,7 @@ Ends with 0 if there are no errors, or none are left, 1 if there are some, 2 if 
     most: usize::MAX,
 };
 
-// The format that the options ask for.
+// Returns the format that the options ask for.
 fn format_of(arguments: &Arguments) -> Format {
     if arguments.has("--json") {
         Format::Json
@@ -61,7 +61,7 @@ fn format_of(arguments: &Arguments) -> Format {
     }
 }
 
-// How the options ask for diagnostics to be printed.
+// Returns how the options ask for diagnostics to be printed.
 fn style_of(rt: &HostRuntime, arguments: &Arguments, format: Format) -> Style {
     let is_text = format == Format::Text;
     Style {
@@ -80,7 +80,7 @@ fn style_of(rt: &HostRuntime, arguments: &Arguments, format: Format) -> Style {
 fn check_all(rt: &HostRuntime, arguments: &Arguments, format: Format) -> io::Result<u8> {
     let style = style_of(rt, arguments, format);
     let mut out = BufWriter::new(rt.alloc(), rt.stdout())?;
-    // Folders are read, and those that cannot be are reported, before anything is written.
+    // Before anything is written, folders are read, and those that cannot be read are reported.
     let inputs = find_inputs(rt, &PROGRAM, &arguments.words)?;
     let status = report_files(rt, &inputs, style, &mut out)?;
     out.flush()?;
@@ -95,7 +95,7 @@ fn fix_all(rt: &HostRuntime, arguments: &Arguments) -> io::Result<u8> {
     fix_files(rt, &PROGRAM, &files, style, &mut out)
 }
 
-// Returns why the options exclude each other, if they do.
+// Returns the reason why the options exclude each other, if they do.
 fn wrong_with(arguments: &Arguments) -> Option<&'static str> {
     let is_other = arguments.has("--json") || arguments.has("--sarif");
     if arguments.has("--json") && arguments.has("--sarif") {

@@ -22,7 +22,7 @@ struct Tally {
 }
 
 impl Tally {
-    // The counts with more errors.
+    // Returns the counts with more errors.
     fn with_errors(self, count: usize) -> Tally
         ensures { result ≡ with_errors self count }
     {
@@ -32,7 +32,7 @@ impl Tally {
         }
     }
 
-    // The counts with a file that is not read.
+    // Returns the counts with one more file that could not be read.
     fn with_unread(self) -> Tally
         ensures { result ≡ with_unread self }
     {
@@ -42,7 +42,7 @@ impl Tally {
         }
     }
 
-    // The exit status.
+    // Returns the exit status.
     fn status(self) -> u8
         ensures { result ≡ status_of self }
     {
@@ -93,7 +93,7 @@ fn check_file<W: Write>(
     }
 }
 
-// Checks a file as `check_file` does. Errors are visible at once.
+// Checks a file as `check_file` does. If it has errors, clears the progress bar and flushes the output.
 fn check_next<W: Write>(
     rt: &HostRuntime,
     inputs: &Inputs,
@@ -148,7 +148,7 @@ fn write_start<W: Write>(format: Format, out: &mut W) -> io::Result<()>
     }
 }
 
-// Writes the last line, the number of errors. Without errors there is none if some files could not be read.
+// Writes the last line, the number of errors. There is no such line if there are no errors but some files could not be read.
 fn write_count<W: Write>(tally: Tally, out: &mut W) -> io::Result<()>
     ensures { OnOk result (Appends (W.contents out.old) (W.contents out.new) (count_line tally)) }
 {

@@ -25,7 +25,7 @@ const DEPTH_RULE: &[u8] =
 
 const REPETITION_RULE: &[u8] =
     b"{\"id\":\"repeated-attribute\",\"shortDescription\":{\"text\":\"An attribute that is defined again\"}}]";
-// What follows the rules, up to the first result.
+// The part after the rules, up to the first result.
 const RESULTS: &[u8] = b"}},\"columnKind\":\"unicodeCodePoints\",\"results\":[";
 
 // Writes the rules.
@@ -65,14 +65,14 @@ pub fn write_tail<W: Write>(is_complete: bool, out: &mut W) -> io::Result<()>
     out.write_all(b"}]}]}\n")
 }
 
-// Whether a byte needs no escape in a URI.
+// Returns whether a byte needs no escape in a URI.
 fn is_unreserved(byte: u8) -> bool
     ensures { result ≡ is_unreserved byte }
 {
     byte.is_ascii_alphanumeric() || matches!(byte, b'/' | b'.' | b'-' | b'_' | b'~')
 }
 
-// The hexadecimal digit of a number below 16.
+// Returns the hexadecimal digit of a number below 16.
 fn upper_digit(number: u8) -> u8
     ensures { number < 16 → result ≡ upper_digit number }
 {
@@ -83,7 +83,7 @@ fn upper_digit(number: u8) -> u8
     }
 }
 
-// Writes a byte as a URI has it.
+// Writes a byte of a URI, percent-encoded if necessary.
 fn write_uri_byte<W: Write>(byte: u8, out: &mut W) -> io::Result<()>
     ensures { OnOk result (Appends (W.contents out.old) (W.contents out.new) (uri_byte byte)) }
 {
@@ -94,7 +94,7 @@ fn write_uri_byte<W: Write>(byte: u8, out: &mut W) -> io::Result<()>
     }
 }
 
-// Writes bytes as a URI has them.
+// Writes bytes of a URI, percent-encoded where necessary.
 fn write_uri_bytes<W: Write>(bytes: &[u8], out: &mut W) -> io::Result<()>
     ensures { OnOk result (Appends (W.contents out.old) (W.contents out.new) (flat_map uri_byte bytes.now)) }
 {
@@ -183,14 +183,14 @@ fn write_all_related<W: Write>(
     Ok(())
 }
 
-// Writes what separates a result from what precedes it.
+// Writes the separator before a result.
 fn write_separator<W: Write>(is_first: bool, out: &mut W) -> io::Result<()>
     ensures { OnOk result (Appends (W.contents out.old) (W.contents out.new) (separator is_first)) }
 {
     out.write_all(if is_first { b"\n" } else { b",\n" })
 }
 
-// Writes what a result reports, and how serious that is.
+// Writes the code and the severity of a result.
 fn write_rule<W: Write>(code: Code, out: &mut W) -> io::Result<()>
     ensures { OnOk result (Appends (W.contents out.old) (W.contents out.new) (rule_members code)) }
 {
@@ -218,7 +218,7 @@ fn write_result<W: Write>(
     out.write_all(b"]}")
 }
 
-/// Writes a diagnostic as a result, with its notes as related locations, after what separates it from what precedes it.
+/// Writes a separator, and a diagnostic as a result, with its notes as related locations.
 pub fn write_separated<W: Write>(
     source: &Source<'_>,
     diagnostic: &Diagnostic,

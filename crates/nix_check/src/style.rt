@@ -1,4 +1,4 @@
-//! How diagnostics are printed.
+//! Options for printing diagnostics.
 
 /// The form in which a diagnostic is printed.
 #[derive(Clone, Copy, PartialEq, Eq)]
@@ -11,10 +11,10 @@ pub enum Format {
     Sarif,
 }
 
-/// How diagnostics are printed.
+/// Options for printing diagnostics.
 #[derive(Clone, Copy)]
 pub struct Style {
-    /// The most diagnostics of a file that are printed.
+    /// The greatest number of diagnostics of a file that are printed.
     pub limit: usize,
     /// Whether each error has its own diagnostic. Otherwise errors that follow from the same mistake share one.
     pub is_each: bool,

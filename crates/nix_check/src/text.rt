@@ -1,4 +1,4 @@
-//! Diagnostics as text for people.
+//! Diagnostics as text for people to read.
 
 ghost use Rattle.std.specs.Prelude.{OnOk};
 ghost use Rattle.std.specs.Io.KnownBytes.{Appends};

@@ -23,9 +23,9 @@ const COMMON: &str = "    --help     print this
 pub struct Program {
     /// The name in messages.
     pub name: &'static str,
-    /// What `--help` prints before the options that every program has.
+    /// The part of the help before the options that every program has.
     pub help: &'static str,
-    /// What `--help` prints after them.
+    /// The part of the help after these options.
     pub statuses: &'static str,
     /// The options without a value.
     pub flags: &'static [&'static str],
@@ -37,13 +37,13 @@ pub struct Program {
     pub most: usize,
 }
 
-// What a command line asks for.
+// The task that a command line asks for.
 #[derive(Drop)]
 enum Task {
     Run,
     Help,
     Version,
-    // A reason, and the argument that is refused for it.
+    // A refusal: the reason, and the argument that is refused.
     Refuse(&'static str, String),
 }
 
@@ -54,7 +54,7 @@ pub struct Arguments {
     flags: Vec<String>,
     /// The arguments that are not options.
     pub words: Vec<String>,
-    /// The value of `--color`, if it is given.
+    /// The value of `--color`, if given.
     pub color: Option<String>,
     // Whether `--` ended the options, and whether the next argument is the value of `--color`.
     only_words: bool,
@@ -66,11 +66,11 @@ pub struct Arguments {
 pub enum Start {
     /// Run with these arguments.
     Run(Arguments),
-    /// End with this outcome: the help or the version is printed, or the command line is refused.
+    /// End with this outcome: the help or the version was printed, or the command line was refused.
     End(io::Result<u8>),
 }
 
-// Whether a list contains a text.
+// Returns whether a list contains a text.
 fn is_among(texts: &[&'static str], text: &str) -> bool
     ensures { result ≡ list_any (λ own. bytes_eq own text.now) (map (λ own. own.now) texts.now) }
 {
@@ -82,14 +82,14 @@ fn is_among(texts: &[&'static str], text: &str) -> bool
     false
 }
 
-// Whether an argument is an option. `-` alone is a name.
+// Returns whether an argument is an option. `-` alone is a name.
 fn is_option(text: &str) -> bool
     ensures { result ≡ is_option text.now }
 {
     text.len() > 1 && text.starts_with('-')
 }
 
-// The value in `--color=VALUE`, if the program has this option.
+// Returns the value in `--color=VALUE`, if the program has this option.
 fn color_in<'a>(program: &Program, option: &'a str) -> Option<&'a str>
     ensures { option_map (λ when. when.now) result ≡ color_in (options_of program.now) option.now }
 {
@@ -100,7 +100,7 @@ fn color_in<'a>(program: &Program, option: &'a str) -> Option<&'a str>
 }
 
 impl Arguments {
-    // The command line without arguments.
+    // Returns the command line without arguments.
     fn new(alloc: Global) -> Arguments
         ensures { parsed_of result ≡ nothing }
     {
@@ -114,7 +114,7 @@ impl Arguments {
         }
     }
 
-    /// Whether an option is given.
+    /// Returns whether an option is given.
     pub fn has(&self, flag: &str) -> bool
         ensures { result ≡ list_any (λ own. bytes_eq own flag.now) (map string_bytes self.now.flags.items) }
     {
@@ -176,7 +176,7 @@ impl Arguments {
         Ok(())
     }
 
-    // Reads the next argument, if the task is still to run.
+    // Reads the next argument while the task is to run.
     fn add_argument(&mut self, program: &Program, argument: String) -> Result<(), AllocError>
         ensures { OnOk result (parsed_of self.new ≡ with_argument (options_of program.now) (string_bytes argument) (parsed_of self.old)) }
     {
@@ -199,7 +199,7 @@ impl Arguments {
         Ok(())
     }
 
-    // Reads the next argument. Once the task is not to run, the others are ignored.
+    // Reads the next argument, or ignores it once the task is another one.
     fn add(&mut self, program: &Program, argument: String) -> Result<(), AllocError>
         ensures { OnOk result (parsed_of self.new ≡ and_argument (options_of program.now) (string_bytes argument) (parsed_of self.old)) }
     {
@@ -262,7 +262,7 @@ fn parsed(rt: &HostRuntime, program: &Program) -> io::Result<Start> {
     Ok(Start::End(Ok(FAILED)))
 }
 
-/// Parses the command line of the process. Prints the help or the version, or refuses what is wrong on standard error.
+/// Parses the command line of the process. Prints the help or the version, or reports on standard error what is wrong.
 pub fn read_arguments(rt: &HostRuntime, program: &Program) -> Start {
     match parsed(rt, program) {
         Ok(start) => start,

@@ -4,7 +4,7 @@ use crate::arguments::Arguments;
 use std::env;
 use std::io::IsTerminal;
 
-/// Whether standard output is colored: as `--color` says; by default if it is a terminal and the variable NO_COLOR is unset or empty.
+/// Returns whether to color standard output: as `--color` says; by default if it is a terminal and the variable NO_COLOR is unset or empty.
 pub fn is_colored(rt: &HostRuntime, arguments: &Arguments) -> bool {
     match arguments.color.as_ref().map(|when| when.as_str()) {
         Some("always") => true,

@@ -11,13 +11,12 @@ pub const FOUND: u8 = 1;
 /// The exit status if something could not be done.
 pub const FAILED: u8 = 2;
 
-/// Reports on standard error why something is refused.
+/// Reports on standard error why something was refused.
 pub fn refuse(rt: &HostRuntime, program: &Program, reason: &str) -> io::Result<()> {
     eprintln!(rt; "{}: {reason}", program.name)
 }
 
-/// Reports on standard error what is wrong at the line and column of a file, after the output that is gathered in `out`: it is flushed
-/// first. The message is also written if that fails.
+/// Flushes `out`, and then reports on standard error what is wrong at a line and column of a file. The message is written even if the flush fails.
 pub fn refuse_after_output<W: Write>(
     rt: &HostRuntime,
     program: &Program,
@@ -39,7 +38,7 @@ pub fn end(rt: &HostRuntime, program: &Program, outcome: io::Result<u8>) -> Exit
     match outcome {
         Ok(status) => ExitCode::from(status),
         Err(error) => {
-            // If this cannot be written either, nothing is left to do.
+            // If writing this fails too, there is nothing else to do.
             let _said = eprintln!(rt; "{}: {error}", program.name);
             ExitCode::from(FAILED)
         }

@@ -9,20 +9,20 @@ ghost use Rattle.nix_cli.specs.Excerpt.{is_simple, printed, shown, columns_of, s
 use std::io::{self, Write};
 use std::ops::Range;
 
-// The most columns of a line that are printed before the first caret.
+// The greatest number of columns that are printed before the first caret.
 const COLUMNS_BEFORE: usize = 60;
-// The most columns that are printed from the first caret on.
+// The greatest number of columns that are printed from the first caret on.
 const COLUMNS_AFTER: usize = 60;
 // Printed where a line is cut.
 const CUT: &str = "…";
 // Printed in place of characters that a terminal would act on.
 const REPLACEMENT: char = '\u{fffd}';
-// Spaces and carets below simple characters.
+// Spaces and carets that are printed below simple characters.
 static SPACES: [u8; 60] = [b' '; 60];
 
 static CARETS: [u8; 60] = [b'^'; 60];
 
-// The width of a character in columns of a terminal. A tab counts as one, since it is printed in both lines alike.
+// Returns the width of a character in columns of a terminal. A tab counts as one, because both lines contain it.
 #[tactic(auto, unfolding(crate::specs::Excerpt::columns_of))]
 fn columns_of(letter: char) -> usize
     ensures { result ≡ columns_of letter }
@@ -44,7 +44,7 @@ fn columns_of(letter: char) -> usize
     }
 }
 
-// The character that is printed for another: the picture of a control character, a replacement for one that changes the direction of text.
+// Returns the character to print in place of another: a visible one for control characters and for those that change the direction of text.
 fn printed(letter: char) -> char
     ensures { result ≡ printed letter }
 {
@@ -56,7 +56,7 @@ fn printed(letter: char) -> char
     }
 }
 
-// The start of the part of a line that is printed before an offset.
+// Returns the start of the part of a line that is printed before an offset.
 fn start_of_part(text: &str, offset: usize) -> usize {
     let mut start = offset;
     let mut columns: usize = 0;
@@ -70,7 +70,7 @@ fn start_of_part(text: &str, offset: usize) -> usize {
     start
 }
 
-// The end of the part of a line that is printed from an offset on.
+// Returns the end of the part of a line that is printed from an offset on.
 fn end_of_part(text: &str, offset: usize) -> usize {
     let mut end = offset;
     let mut columns: usize = 0;
@@ -84,7 +84,7 @@ fn end_of_part(text: &str, offset: usize) -> usize {
     end
 }
 
-// Whether a byte is a simple character: of ASCII, and no control character.
+// Returns whether a byte is a simple character: an ASCII character that is not a control character.
 #[inline(always)]
 fn is_simple(byte: u8) -> bool
     ensures { result ≡ is_simple byte }
@@ -92,14 +92,14 @@ fn is_simple(byte: u8) -> bool
     byte >= b' ' && byte < b'\x7f'
 }
 
-// The number of simple characters that come first.
+// Returns the number of simple characters at the start.
 fn simple_len(bytes: &[u8]) -> usize
     ensures { result ≡ prefix_len is_simple bytes.now }
 {
     bytes.iter().take_while(|byte| is_simple(**byte)).count()
 }
 
-// Whether all characters of a text are simple.
+// Returns whether all characters of a text are simple.
 fn are_simple(part: &str) -> bool
     ensures { IsTrue result → prefix_len is_simple part.now ≡ length part.now }
 {

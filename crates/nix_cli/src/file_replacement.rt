@@ -11,7 +11,7 @@ fn write_new(file: &mut File, text: &str, rights: Permissions) -> io::Result<()>
     file.sync_all()
 }
 
-// The name of the file itself: that of the file that a symbolic link leads to, and otherwise the same name.
+// Returns the name of a symbolic link's target, or the same name for any other file.
 fn target_of(rt: &HostRuntime, name: &str) -> io::Result<String> {
     if !fs::symlink_metadata(rt, name)?.is_symlink() {
         return Ok(String::from_str(rt.alloc(), name)?);
@@ -24,7 +24,7 @@ fn target_of(rt: &HostRuntime, name: &str) -> io::Result<String> {
 ///
 /// # Errors
 ///
-/// The system's error, or `InvalidInput` if this is no regular file.
+/// The system's error, or `InvalidInput` if the file is not a regular one.
 pub fn replaceable(rt: &HostRuntime, name: &str) -> io::Result<Permissions> {
     let data = fs::metadata(rt, name)?;
     if data.is_file() {
@@ -37,8 +37,8 @@ pub fn replaceable(rt: &HostRuntime, name: &str) -> io::Result<Permissions> {
     }
 }
 
-/// Replaces the text of a regular file: writes it to a new file `NAME.new` with the same permissions, which is then renamed. If that fails, the
-/// file is unchanged. An existing `NAME.new` is an error and is left alone. A symbolic link stays as it is, and the file that it leads to is replaced.
+/// Replaces the text of a regular file: writes it to a new file `NAME.new` with the same permissions, and then renames that file. If this fails, the
+/// file is unchanged. If `NAME.new` exists, it is left alone, and an error is returned. A symbolic link stays as it is, and its target is replaced.
 pub fn replace_text(rt: &HostRuntime, name: &str, text: &str) -> io::Result<()> {
     let target = target_of(rt, name)?;
     let rights = replaceable(rt, target.as_str())?;

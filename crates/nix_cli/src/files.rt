@@ -31,7 +31,7 @@ impl Files {
     }
 }
 
-/// The files that the arguments name, for a program that gathers its output.
+/// The files that the arguments name, for a program that buffers its output.
 #[derive(Drop)]
 pub struct Inputs {
     /// The files.
@@ -40,16 +40,16 @@ pub struct Inputs {
     are_regular: bool,
 }
 
-// What a name refers to.
+// The kind of file that a name refers to.
 #[derive(Clone, Copy, PartialEq, Eq)]
 enum Kind {
     Folder,
     Regular,
-    // Anything else, also if it cannot be found out: reading it then fails.
+    // Anything else, or unknown; reading it then fails.
     Other,
 }
 
-// What a name on the command line refers to.
+// Returns the kind of file that a name on the command line refers to.
 fn kind_of(rt: &HostRuntime, name: &str) -> Kind {
     match fs::metadata(rt, name) {
         Ok(data) if data.is_dir() => Kind::Folder,
@@ -58,23 +58,23 @@ fn kind_of(rt: &HostRuntime, name: &str) -> Kind {
     }
 }
 
-// Which symbolic links in folders count as files.
+// The symbolic links in folders that count as files.
 #[derive(Clone, Copy, PartialEq, Eq)]
 enum Links {
-    // Those that lead to regular files, or nowhere.
+    // Links to regular files, and links to nothing.
     Read,
-    // None.
+    // No links.
     PassedOver,
 }
 
-// What is found in a folder and below.
+// The contents of a folder and the folders in it.
 #[derive(Drop)]
 struct Found {
     // The files whose names end with `.nix`.
     names: Vec<String>,
     // The folders that are still to be read.
     folders: Vec<String>,
-    // What was passed over although its name ends with `.nix`, each with the reason.
+    // The names ending with `.nix` that were skipped, each with the reason.
     passed_over: Vec<String>,
     // Which symbolic links count as files.
     links: Links,
@@ -82,7 +82,7 @@ struct Found {
     are_regular: bool,
 }
 
-// Why a file in a folder is passed over, if it is. Reading anything but a regular file might wait forever.
+// Returns the reason for skipping a file in a folder, if there is one. Reading anything but a regular file might wait forever.
 fn reason_of(rt: &HostRuntime, name: &str, kind: FileType, links: Links) -> Option<&'static str> {
     if kind.is_file() {
         return None;
@@ -96,7 +96,7 @@ fn reason_of(rt: &HostRuntime, name: &str, kind: FileType, links: Links) -> Opti
     }
 }
 
-// Adds a file in a folder, unless it is passed over.
+// Adds a file in a folder, unless it is skipped.
 fn add_file(
     rt: &HostRuntime,
     name: String,
@@ -116,7 +116,7 @@ fn add_file(
     Ok(())
 }
 
-// Adds what is in a folder. Links to folders are not followed.
+// Adds the contents of a folder. Links to folders are not followed.
 fn list(rt: &HostRuntime, folder: &str, found: &mut Found) -> io::Result<()> {
     for entry in fs::read_dir(rt, folder)? {
         let entry = entry?;
@@ -131,7 +131,7 @@ fn list(rt: &HostRuntime, folder: &str, found: &mut Found) -> io::Result<()> {
     Ok(())
 }
 
-// What is found in a folder and below, sorted.
+// Returns the contents of a folder and the folders in it, sorted.
 fn files_below(rt: &HostRuntime, folder: &str, links: Links) -> io::Result<Found> {
     let mut found = Found {
         names: Vec::new(rt.alloc()),
@@ -152,7 +152,7 @@ fn files_below(rt: &HostRuntime, folder: &str, links: Links) -> io::Result<Found
     Ok(found)
 }
 
-// Adds the files in a folder and below, and reports what is passed over there. A folder that cannot be read is reported and counted.
+// Adds the files in a folder and the folders in it, and reports what is skipped there. A folder that cannot be read is reported and counted.
 fn add_folder(
     rt: &HostRuntime,
     program: &Program,
@@ -175,14 +175,14 @@ fn add_folder(
     Ok(())
 }
 
-/// Returns the files that a program replaces: those of [`find_inputs`], except that symbolic links in folders are passed over, and reported.
+/// Returns the files that a program replaces: those of [`find_inputs`], except that symbolic links in folders are skipped and reported.
 pub fn find_files(rt: &HostRuntime, program: &Program, names: &[String]) -> io::Result<Files> {
     Ok(inputs_of(rt, program, names, Links::PassedOver)?.files)
 }
 
-/// Returns the files that the arguments name, for [`Inputs::read_text`]: `-` is standard input, a folder means all regular files in it and below
-/// that end with `.nix`, with symbolic links to such files, and any other name is a file. No names mean standard input. Anything else in a folder
-/// that ends with `.nix` is passed over, and reported. A folder that cannot be read is reported and counted.
+/// Returns the files that the arguments name, for [`Inputs::read_text`]. `-` and no names mean standard input. A folder means all regular files in it and
+/// the folders in it whose names end with `.nix`, and symbolic links to regular files; anything else with such a name is skipped and reported. Any other name
+/// is a file. A folder that cannot be read is reported and counted.
 pub fn find_inputs(rt: &HostRuntime, program: &Program, names: &[String]) -> io::Result<Inputs> {
     inputs_of(rt, program, names, Links::Read)
 }
@@ -217,14 +217,14 @@ fn inputs_of(
     Ok(inputs)
 }
 
-/// The name of a file in messages.
+/// Returns the name of a file in messages.
 pub fn shown_name(name: &str) -> &str
     ensures { result.now ≡ shown_name name.now }
 {
     if name == "-" { "<stdin>" } else { name }
 }
 
-// The line and the column, in characters and both from 1, at the end of a text.
+// Returns the line and the column at the end of a text, both from 1. Columns count characters.
 fn end_location(text: &str) -> (usize, usize) {
     let line = text.bytes().filter(|byte| *byte == b'\n').count();
     let own = match text.rsplit_once('\n') {
@@ -237,12 +237,12 @@ fn end_location(text: &str) -> (usize, usize) {
     )
 }
 
-/// The line and the column, in characters and both from 1, at a byte offset.
+/// Returns the line and the column of a byte offset, both from 1. Columns count characters.
 pub fn location_of(text: &str, offset: usize) -> (usize, usize) {
     end_location(text.get(..offset).unwrap_or(text))
 }
 
-// Why a text could not be read, as messages say it after the name of the file.
+// The reason why a text could not be read, as messages print it after the name of the file.
 #[derive(Drop)]
 enum Unread {
     // The file or standard input could not be read.
@@ -298,8 +298,7 @@ pub fn read_text(rt: &HostRuntime, program: &Program, name: &str) -> io::Result<
 }
 
 impl Inputs {
-    // Whether reading one of the files may wait: it is standard input, or no regular file. False if that cannot be found out: reading it
-    // then fails.
+    // Returns whether reading one of the files may wait: it is standard input, or not a regular file. Returns false if this is unknown; reading then fails.
     fn may_wait(&self, rt: &HostRuntime, name: &str) -> bool {
         if name == "-" || self.are_regular {
             return name == "-";
@@ -310,8 +309,8 @@ impl Inputs {
         }
     }
 
-    /// Reads the text of one of the files as [`read_text`] does, after output that is gathered in `out`: it is flushed before standard input
-    /// or anything but a regular file is read, and before a message, which is also written if that fails.
+    /// Reads the text of one of the files as [`read_text`] does. Flushes `out` before it reads standard input or anything but a regular file, and before a
+    /// message. The message is written even if the flush fails.
     pub fn read_text<W: Write>(
         &self,
         rt: &HostRuntime,

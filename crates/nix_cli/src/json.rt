@@ -8,7 +8,7 @@ ghost use Rattle.nix_cli.specs.JsonString.{is_plain, escape, json_string, shown_
 
 use std::io::{self, Write};
 
-// Whether a byte needs no escape in a JSON string.
+// Returns whether a byte needs no escape in a JSON string.
 #[inline(always)]
 fn is_plain(byte: u8) -> bool
     ensures { result ≡ is_plain byte }
@@ -16,7 +16,7 @@ fn is_plain(byte: u8) -> bool
     byte >= b' ' && byte != b'"' && byte != b'\\'
 }
 
-// The number of plain bytes that come first.
+// Returns the number of bytes at the start that need no escape.
 fn plain_len(bytes: &[u8]) -> usize
     ensures len { result ≡ prefix_len is_plain bytes.now }
     ensures within { result ≤ length bytes.now }
@@ -24,7 +24,7 @@ fn plain_len(bytes: &[u8]) -> usize
     bytes.iter().take_while(|byte| is_plain(**byte)).count()
 }
 
-// The hexadecimal digit of a number below 16.
+// Returns the hexadecimal digit of a number below 16.
 fn digit(number: u8) -> u8
     ensures { number < 16 → result ≡ digit_char number }
 {
@@ -35,7 +35,7 @@ fn digit(number: u8) -> u8
     }
 }
 
-// The escape of a control character below 32.
+// Returns the escape of a control character below 32.
 #[tactic(auto, unfolding(crate::specs::JsonString::escape))]
 fn control_escape(byte: u8) -> [u8; 6]
     ensures { byte < 32 → result ≡ escape byte }
@@ -76,7 +76,7 @@ pub fn write_json_string<W: Write>(text: &str, out: &mut W) -> io::Result<()>
     out.write_all(b"\"")
 }
 
-// Whether no byte of a text needs an escape in a JSON string.
+// Returns whether no byte of a text needs an escape in a JSON string.
 fn is_plain_text(text: &str) -> bool
     ensures { result ≡ list_all is_plain text.now }
 {
@@ -87,7 +87,7 @@ fn is_plain_text(text: &str) -> bool
     )
 }
 
-/// Writes a name for people, without line breaks: as it is, or as a JSON string if that has escapes.
+/// Writes a name for people to read, on one line: as it is, or as a JSON string if that has escapes.
 pub fn write_shown<W: Write>(name: &str, out: &mut W) -> io::Result<()>
     ensures { OnOk result (Appends (W.contents out.old) (W.contents out.new) (shown_text name.now)) }
 {

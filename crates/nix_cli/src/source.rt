@@ -1,4 +1,4 @@
-//! A text for messages on locations in it.
+//! A text, for messages about locations in it.
 
 ghost use Rattle.std.specs.Prelude.{◌≡◌, OnOk};
 ghost use Rattle.std.specs.Io.KnownBytes.{Appends};
@@ -7,7 +7,7 @@ ghost use Rattle.nix_cli.specs.MessageLocations.{line_and_column, location_text,
 use rnix_text::LineIndex;
 use std::io::{self, Write};
 
-/// A text with its name in messages and its lines.
+/// A text, its name in messages, and its lines.
 #[derive(Clone, Copy)]
 pub struct Source<'a> {
     /// The name of the text.
@@ -19,7 +19,7 @@ pub struct Source<'a> {
 }
 
 impl<'a> Source<'a> {
-    /// Returns the line and the column of a byte offset, both from 1. An offset inside a character or beyond the text has those of the start.
+    /// Returns the line and the column of a byte offset, both from 1. For an offset inside a character or beyond the text, these are those of the start.
     pub fn position(&self, offset: usize) -> (usize, usize)
         requires { IsIndexed self.now }
         ensures { result ≡ line_and_column self.now.text.now offset }
@@ -31,7 +31,7 @@ impl<'a> Source<'a> {
     }
 }
 
-/// Writes how a message on a byte offset begins: the name of the text, the line and the column, as in `a.nix:1:1: `.
+/// Writes the beginning of a message about a byte offset: the name of the text, the line and the column, as in `a.nix:1:1: `.
 pub fn write_source_location<W: Write>(
     source: &Source<'_>,
     offset: usize,

@@ -23,7 +23,7 @@ use std::collections::BTreeSet;
 // The least number above the integers that Nix can write.
 const INTEGERS_END: u64 = 1 << 63;
 
-// The value of an expression that is a string without interpolations, unless Nix changes it.
+// Returns the value of an expression that is a string without interpolations, unless Nix changes it.
 fn expression_text(alloc: Global, node: &SyntaxNode<'_>) -> Result<Option<String>, AllocError>
     ensures { IfOk result (λ found. option_map string_bytes found ≡ expression_text node.now) }
 {
@@ -36,7 +36,7 @@ fn expression_text(alloc: Global, node: &SyntaxNode<'_>) -> Result<Option<String
     }
 }
 
-// The operand of an operation in front of it; any other expression is its own.
+// Returns the operand of an operation in front of it; any other expression is its own.
 fn unsigned<'t>(node: &SyntaxNode<'t>) -> SyntaxNode<'t>
     ensures { result ≡ unsigned node.now }
 {
@@ -49,7 +49,7 @@ fn unsigned<'t>(node: &SyntaxNode<'t>) -> SyntaxNode<'t>
     }
 }
 
-// The literal that an expression is, without a sign.
+// Returns the literal that an expression is, without a sign.
 fn literal_of<'t>(node: &SyntaxNode<'t>) -> Option<LiteralKind<'t>>
     ensures { IfSome result (λ found. HasKind k.NODE_LITERAL (unsigned node.now) × (first_literal (unsigned node.now) ≡ Some found)) }
 {
@@ -59,7 +59,7 @@ fn literal_of<'t>(node: &SyntaxNode<'t>) -> Option<LiteralKind<'t>>
     }
 }
 
-// Whether an expression is an integer, perhaps with a sign.
+// Returns whether an expression is an integer, perhaps with a sign.
 fn is_integer(node: &SyntaxNode<'_>) -> bool
     ensures { IsTrue result → IsNumber is_integer node.now }
 {
@@ -69,7 +69,7 @@ fn is_integer(node: &SyntaxNode<'_>) -> bool
     }
 }
 
-// Whether an expression is a float, perhaps with a sign.
+// Returns whether an expression is a float, perhaps with a sign.
 fn is_float(node: &SyntaxNode<'_>) -> bool
     ensures { IsTrue result → IsNumber is_float node.now }
 {
@@ -79,21 +79,21 @@ fn is_float(node: &SyntaxNode<'_>) -> bool
     }
 }
 
-// Whether a node is an identifier with this text.
+// Returns whether a node is an identifier with this text.
 fn is_word(node: &SyntaxNode<'_>, word: &str) -> bool
     ensures { IsTrue result → HasKind k.NODE_IDENT node.now × (text_at node.now ≡ word.now) }
 {
     Ident::can_cast(node.kind()) && node.text() == word
 }
 
-// The word for a truth value.
+// Returns the word for a truth value.
 fn word_of(is_true: bool) -> &'static str
     ensures { result.now ≡ word_of is_true }
 {
     if is_true { "true" } else { "false" }
 }
 
-// Whether a node is a set without `rec`.
+// Returns whether a node is a set without `rec`.
 fn is_plain_set(node: &SyntaxNode<'_>) -> bool
     ensures { IsTrue result → HasKind k.NODE_ATTR_SET node.now × (token_of (same_kind k.TOKEN_REC) node.now ≡ None) }
 {
@@ -103,7 +103,7 @@ fn is_plain_set(node: &SyntaxNode<'_>) -> bool
     }
 }
 
-// Whether an expression has a value that Nix can hold, not counting the values inside it.
+// Returns whether an expression has a value that Nix can hold, not counting the values inside it.
 fn has_value(alloc: Global, node: &SyntaxNode<'_>, value: &Value) -> Result<bool, AllocError>
     ensures { IfOk result (λ has_value. IsTrue has_value → HasValue node.now (plain_of value.now)) }
 {
@@ -129,7 +129,7 @@ fn has_value(alloc: Global, node: &SyntaxNode<'_>, value: &Value) -> Result<bool
     }
 }
 
-// The name that an attribute is: an identifier, or a string without interpolations.
+// Returns the name that an attribute is: an identifier, or a string without interpolations.
 fn name_of(alloc: Global, attribute: &SyntaxNode<'_>) -> Result<Option<String>, AllocError>
     ensures { IfOk result (λ found. option_map string_bytes found ≡ name_of attribute.now) }
 {
@@ -140,7 +140,7 @@ fn name_of(alloc: Global, attribute: &SyntaxNode<'_>) -> Result<Option<String>, 
     }
 }
 
-// The name that a path is, if it is a single name.
+// Returns the name that a path is, if it is a single name.
 fn path_name(alloc: Global, path: Option<Attrpath<'_>>) -> Result<Option<String>, AllocError>
     ensures { IfOk result (λ found. option_map string_bytes found ≡ path_name path.entry) }
 {
@@ -164,7 +164,7 @@ struct Part<'t> {
     node: SyntaxNode<'t>,
 }
 
-// The value of an entry of a set.
+// Returns the value of an entry of a set.
 fn attribute<'t>(alloc: Global, child: SyntaxNode<'t>) -> Result<Option<Part<'t>>, AllocError>
     ensures { IfOk result (λ found. IfSome found (λ part. IsPart set child.entry (string_bytes part.name) part.node)) }
 {
@@ -181,7 +181,7 @@ fn attribute<'t>(alloc: Global, child: SyntaxNode<'t>) -> Result<Option<Part<'t>
     }
 }
 
-// The value that a child node of a list or a set has.
+// Returns the value that a child node of a list or a set has.
 fn part_in<'t>(
     alloc: Global,
     around: &Value,
@@ -198,7 +198,7 @@ fn part_in<'t>(
     }
 }
 
-// An expression without the parentheses around it.
+// Returns an expression without the parentheses around it.
 fn unwrapped<'t>(expr: &SyntaxNode<'t>) -> SyntaxNode<'t>
     ensures { result ≡ unwrapped expr.now }
 {
@@ -211,7 +211,7 @@ fn unwrapped<'t>(expr: &SyntaxNode<'t>) -> SyntaxNode<'t>
     }
 }
 
-// Whether an item has a depth, a name, and the value of a node, not counting the values inside it.
+// Returns whether an item has a depth, a name, and the value of a node, not counting the values inside it.
 fn is_head(
     alloc: Global,
     depth: usize,

@@ -8,14 +8,14 @@ ghost use Rattle.nix_data.specs.Misread.{is_blank, has_text_after_return, ends_e
 use crate::no_data::{NoData, Reason};
 use rnix::{SyntaxKind, SyntaxToken, TextRange};
 
-// Whether a byte is white space for Nix.
+// Returns whether a byte is white space for Nix.
 fn is_blank(byte: u8) -> bool
     ensures { result ≡ is_blank byte }
 {
     byte == b' ' || byte == b'\n' || byte == b'\t' || byte == b'\r'
 }
 
-// The number of the first byte that is not white space for Nix.
+// Returns the number of the first byte that is not white space for Nix.
 fn foreign(text: &[u8]) -> Option<usize>
     ensures { is_some result ≡ not (list_all is_blank text.now) }
 {
@@ -27,7 +27,7 @@ fn foreign(text: &[u8]) -> Option<usize>
     None
 }
 
-// The number of the first carriage return, if something other than white space follows it.
+// Returns the number of the first carriage return, if something other than white space follows it.
 fn early_return(text: &[u8]) -> Option<usize>
     ensures { is_some result ≡ has_text_after_return false text.now }
 {
@@ -44,7 +44,7 @@ fn early_return(text: &[u8]) -> Option<usize>
     None
 }
 
-// The byte with a number, 0 if there is none.
+// Returns the byte with a number, 0 if there is none.
 fn byte_at(text: &[u8], index: usize) -> u8
     ensures { result ≡ slice_index text.now index }
 {
@@ -54,7 +54,7 @@ fn byte_at(text: &[u8], index: usize) -> u8
     }
 }
 
-// The offset of the carriage return at which a `#` comment ends for Nix, if the comment continues after it.
+// Returns the offset of the carriage return at which a `#` comment ends for Nix, if the comment continues after it.
 fn early_end(text: &[u8]) -> Option<usize>
     ensures { is_some result ≡ ends_early text.now }
 {
@@ -65,14 +65,14 @@ fn early_end(text: &[u8]) -> Option<usize>
     }
 }
 
-// Whether a float begins with `0.`, and no digit follows.
+// Returns whether a float begins with `0.`, and no digit follows.
 fn lacks_digit(text: &[u8]) -> bool
     ensures { result ≡ lacks_digit text.now }
 {
     byte_at(text, 0) == b'0' && byte_at(text, 1) == b'.' && !byte_at(text, 2).is_ascii_digit()
 }
 
-// Whether a byte is in a text.
+// Returns whether a byte is in a text.
 fn has_byte(text: &[u8], wanted: u8) -> bool
     ensures { result ≡ list_any (λ b. b == wanted) text.now }
 {
@@ -87,7 +87,7 @@ pub fn is_altered(source: &str) -> bool
     has_byte(bytes, 0) || (byte_at(bytes, 0) == b'"' && has_byte(bytes, b'\r'))
 }
 
-// The number of the byte from which Nix reads a token otherwise, if it does.
+// Returns the number of the byte from which Nix reads a token otherwise, if it does.
 fn misread_from(kind: SyntaxKind, text: &[u8]) -> Option<usize>
     ensures { is_some result ≡ is_misread kind text.now }
 {
@@ -99,7 +99,7 @@ fn misread_from(kind: SyntaxKind, text: &[u8]) -> Option<usize>
     }
 }
 
-// Why Nix reads a token of a kind otherwise, and how many bytes of a text are to be shown for that.
+// Returns why Nix reads a token of a kind otherwise, and how many bytes of a text are to be shown for that.
 fn reason_for(kind: SyntaxKind, text: &str) -> (Reason, usize) {
     let first = text.chars().next().map_or(0, |letter| letter.len_utf8());
     match kind {

@@ -8,12 +8,12 @@ const KEYWORDS: [&str; 10] = [
     "assert", "else", "if", "in", "inherit", "let", "or", "rec", "then", "with",
 ];
 
-// Whether an identifier may contain a byte after its first.
+// Returns whether an identifier may contain a byte after its first.
 fn is_in_name(byte: u8) -> bool {
     byte.is_ascii_alphanumeric() || matches!(byte, b'_' | b'-' | b'\'')
 }
 
-// Whether a text is a keyword.
+// Returns whether a text is a keyword.
 fn is_keyword(text: &str) -> bool {
     for keyword in &KEYWORDS {
         if *keyword == text {

@@ -72,7 +72,7 @@ impl Reading {
         }
     }
 
-    // The text of a computed name, if it is a string and nothing else.
+    // Returns the text of a computed name, if it is a string and nothing else.
     fn dynamic(&self, name: &Dynamic<'_>) -> Result<String, Stop> {
         match name.expr() {
             Some(Expr::Str(string)) if name.syntax().children().count() == 1 => {
@@ -85,7 +85,7 @@ impl Reading {
         }
     }
 
-    // The text of a name.
+    // Returns the text of a name.
     fn name_text(&self, attr: &Attr<'_>) -> Result<String, Stop> {
         match attr {
             Attr::Ident(ident) => Ok(String::from_str(self.alloc, ident.syntax().text())?),
@@ -97,7 +97,7 @@ impl Reading {
         }
     }
 
-    // A name with its range.
+    // Returns a name with its range.
     fn name(&self, attr: &Attr<'_>) -> Result<Name, Stop> {
         Ok(Name {
             text: self.or_source(attr.syntax(), self.name_text(attr))?,
@@ -105,7 +105,7 @@ impl Reading {
         })
     }
 
-    // The error for an attribute that is defined twice.
+    // Returns the error for an attribute that is defined twice.
     fn repeated(&self, name_range: TextRange, first: usize) -> Stop {
         Stop::NoData(NoData {
             reason: Reason::Repeated,
@@ -126,7 +126,7 @@ impl Reading {
         Ok(self.builder.add(self.alloc, parent, name, value)?)
     }
 
-    // The set that is the value of an attribute, which is added if there is none. A set with a number below `first` comes from elsewhere in the text.
+    // Returns the set that is the value of an attribute, which is added if there is none. A set with a number below `first` comes from elsewhere in the text.
     fn set_of(&mut self, set: usize, name: Name, first: usize) -> Result<usize, Stop> {
         match self.builder.attribute(set, name.text.as_str()) {
             Some(found) if found >= first && self.builder.is_set(found) => Ok(found),
@@ -135,7 +135,7 @@ impl Reading {
         }
     }
 
-    // The innermost list or set, if there is one.
+    // Returns the innermost list or set, if there is one.
     fn frame(&self) -> Option<Frame> {
         self.frames.last().copied()
     }
@@ -213,7 +213,7 @@ impl Reading {
         Ok(())
     }
 
-    // The value of a name of an `inherit`: for the first one its source, for any other an `inherit` of that name, with `..` in place of what it
+    // Returns the value of a name of an `inherit`: for the first one its source, for any other an `inherit` of that name, with `..` in place of what it
     // inherits from.
     fn inherited(
         &self,

@@ -24,7 +24,7 @@ struct Writing {
     open: Vec<bool>,
 }
 
-// Whether a value begins with a sign.
+// Returns whether a value begins with a sign.
 fn is_negative(value: &Value) -> bool {
     match value {
         Value::Integer(number) => *number < 0,
@@ -120,7 +120,7 @@ fn written(alloc: Global, data: &Data) -> Result<String, AllocError> {
     Ok(writing.text)
 }
 
-// Whether the expression of a tree means some data.
+// Returns whether the expression of a tree means some data.
 #[tactic(auto, using(crate::proofs::WrittenLemmas::meant))]
 fn is_meant(alloc: Global, root: &Root<'_>, whole: &Data) -> Result<bool, AllocError>
     ensures { IfOk result (λ is_meant. IsTrue is_meant → IsMeant root.now (contents whole.now)) }

@@ -42,7 +42,7 @@ pub struct NoData {
     pub first: Option<TextRange>,
 }
 
-// The message for an expression of a kind.
+// Returns the message for an expression of a kind.
 fn expression(kind: SyntaxKind) -> &'static str {
     match kind {
         SyntaxKind::NODE_APPLY => "a call is not data",

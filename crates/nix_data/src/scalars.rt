@@ -39,7 +39,7 @@ pub fn no_data(reason: Reason, range: TextRange) -> Stop {
     })
 }
 
-// The range of the first interpolation of a string, or else of the string.
+// Returns the range of the first interpolation of a string, or else of the string.
 fn interpolation(string: &Str<'_>) -> TextRange {
     for part in string.parts() {
         if let InterpolPart::Interpolation(found) = part {
@@ -67,7 +67,7 @@ pub fn string_value(alloc: Global, string: &Str<'_>) -> Result<String, Stop> {
     Ok(text)
 }
 
-// The value of an integer, negated or not.
+// Returns the value of an integer, negated or not.
 fn integer(number: &Integer<'_>, is_negative: bool) -> Result<Value, Stop> {
     match number.value() {
         Ok(number) => Ok(Value::Integer(if is_negative {
@@ -79,7 +79,7 @@ fn integer(number: &Integer<'_>, is_negative: bool) -> Result<Value, Stop> {
     }
 }
 
-// The value of a float, negated or not.
+// Returns the value of a float, negated or not.
 fn float(alloc: Global, number: &Float<'_>, is_negative: bool) -> Result<Value, Stop> {
     let sign = if is_negative { "-" } else { "" };
     let digits = number.syntax().text();
@@ -90,7 +90,7 @@ fn float(alloc: Global, number: &Float<'_>, is_negative: bool) -> Result<Value, 
     }
 }
 
-// The value of a URI: its text. It cannot be negated.
+// Returns the value of a URI: its text. It cannot be negated.
 fn uri(alloc: Global, address: &Uri<'_>, is_negative: bool) -> Result<Value, Stop> {
     if is_negative {
         return Err(no_data(
@@ -101,7 +101,7 @@ fn uri(alloc: Global, address: &Uri<'_>, is_negative: bool) -> Result<Value, Sto
     Ok(Value::Text(String::from_str(alloc, address.syntax().text())?))
 }
 
-// The value of a number or a URI, negated or not.
+// Returns the value of a number or a URI, negated or not.
 fn literal(alloc: Global, literal: &Literal<'_>, is_negative: bool) -> Result<Value, Stop> {
     match literal.kind() {
         Some(LiteralKind::Integer(number)) => integer(&number, is_negative),
@@ -114,7 +114,7 @@ fn literal(alloc: Global, literal: &Literal<'_>, is_negative: bool) -> Result<Va
     }
 }
 
-// The value of a prefix operation: a negative number.
+// Returns the value of a prefix operation: a negative number.
 fn negative(alloc: Global, operation: &UnaryOp<'_>) -> Result<Value, Stop> {
     match (operation.operator(), operation.expr()) {
         (Some(UnaryOpKind::Negate), Some(Expr::Literal(number))) => literal(alloc, &number, true),
@@ -125,7 +125,7 @@ fn negative(alloc: Global, operation: &UnaryOp<'_>) -> Result<Value, Stop> {
     }
 }
 
-// The value of an identifier: `null`, `true` or `false`.
+// Returns the value of an identifier: `null`, `true` or `false`.
 fn named(node: &SyntaxNode<'_>) -> Result<Value, Stop> {
     match node.text() {
         "null" => Ok(Value::Null),
@@ -135,7 +135,7 @@ fn named(node: &SyntaxNode<'_>) -> Result<Value, Stop> {
     }
 }
 
-// The value of a path: its text, if it has no interpolation.
+// Returns the value of a path: its text, if it has no interpolation.
 fn path(alloc: Global, node: &SyntaxNode<'_>) -> Result<Value, Stop> {
     match node.first_child() {
         Some(inside) => Err(no_data(Reason::Evaluated(inside.kind()), inside.text_range())),

@@ -16,20 +16,20 @@ use std::collections::BTreeSet;
 /// A name that is bound.
 #[derive(Drop)]
 pub struct Name<'t> {
-    /// What the name is: without quotes and `${}`, and with escapes replaced.
+    /// The name as Nix reads it: without quotes and `${}`, and with escapes replaced.
     pub text: CowStr<'t>,
-    /// The offset in bytes where the binding writes it.
+    /// The offset in bytes of the name in its binding.
     pub start: usize,
 }
 
-// Whether a name is marked as unused on purpose: it starts with `_`.
+// Returns whether a name is marked as unused on purpose: it starts with `_`.
 fn is_unmeant(name: &str) -> bool
     ensures { result ≡ is_unmeant name.now }
 {
     name.as_bytes().starts_with(b"_")
 }
 
-// Whether a binding is reported if it is unused. The names of a `rec` set are its attributes, and the value of a legacy `let` is its `body`.
+// Returns whether to report a binding if it is unused. The names of a `rec` set are attributes, and the `body` of a legacy `let` is its value.
 fn is_judged(binding: &Binding<'_>) -> bool
     ensures { result ≡ is_judged (bound_of binding.now) }
 {
@@ -38,7 +38,7 @@ fn is_judged(binding: &Binding<'_>) -> bool
     scope != SyntaxKind::NODE_ATTR_SET && !is_body && !is_unmeant(binding.text.as_str())
 }
 
-// Marks a number, if the list is longer.
+// Marks the item with a number as used, if the list has one.
 fn mark(is_used: &mut Vec<bool>, number: usize)
     ensures { is_used.new.items ≡ marked is_used.old.items number }
 {
@@ -47,7 +47,7 @@ fn mark(is_used: &mut Vec<bool>, number: usize)
     }
 }
 
-// Returns for each binding, by its number, whether a reference refers to it.
+// Returns, for each binding by its number, whether a reference refers to it.
 fn used_bindings(
     alloc: Global,
     count: usize,
@@ -65,7 +65,7 @@ fn used_bindings(
     Ok(is_used)
 }
 
-// Whether a binding is the name of a whole pattern, as `args` in `args@{ a }`.
+// Returns whether a binding is the name of a whole pattern, as `args` in `args@{ a }`.
 fn is_whole(binding: &Binding<'_>) -> bool
     ensures { result ≡ is_whole (bound_of binding.now) }
 {
@@ -75,7 +75,7 @@ fn is_whole(binding: &Binding<'_>) -> bool
     }
 }
 
-// Adds where a function starts, if the binding is the name of its whole pattern and is used.
+// Adds the start of a function, if the binding is the name of its whole pattern and is used.
 fn add_whole(
     number: usize,
     binding: &Binding<'_>,
@@ -92,7 +92,7 @@ fn add_whole(
     Ok(())
 }
 
-// Returns where the functions start the name of whose whole pattern is used.
+// Returns the starts of the functions whose pattern has a name of its own that is used.
 fn used_wholes(
     alloc: Global,
     bindings: &[Binding<'_>],
@@ -107,14 +107,14 @@ fn used_wholes(
     Ok(wholes)
 }
 
-// Whether a binding is in the scope of a pattern whose own name is used.
+// Returns whether a binding is in the scope of a pattern whose own name is used.
 fn is_in_whole(binding: &Binding<'_>, wholes: &BTreeSet<usize>) -> bool
     ensures { result ≡ has_offset wholes.now (scope_start (bound_of binding.now)) }
 {
     wholes.contains(&binding.scope.text_range().start())
 }
 
-// Adds a binding if it is the first of its name, to be reported, and unused.
+// Adds a binding if it is the first part of its name, is unused, and is to be reported.
 fn add_unused<'t>(
     number: usize,
     binding: &Binding<'t>,
@@ -150,8 +150,8 @@ fn unused<'t>(
     Ok(dead)
 }
 
-/// Returns the names bound by `let` and the parameters that nothing refers to, except those that start with `_` and the arguments of a pattern
-/// whose own name is used, as in `args@{ a }: args.a`, in the order of the text.
+/// Returns the names of `let` and the parameters that nothing refers to, in the order of the text. Leaves out names that start with `_`, and arguments of a
+/// pattern whose own name is used, as in `args@{ a }: args.a`.
 pub fn dead_names<'t>(alloc: Global, root: &SyntaxNode<'t>) -> Result<Vec<Name<'t>>, AllocError>
     ensures exactly { IfOk result (λ names. IsPermutation (dead_in root.now) (map listed_name names.items)) }
     ensures order { IfOk result (λ names. IsNonDecreasingBy (λ (name : Dead). name.start) names.items) }

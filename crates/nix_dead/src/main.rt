@@ -1,4 +1,4 @@
-//! Names the bindings that nothing uses: `nix-dead [OPTION..] [FILE..]`, or with no file in the text on standard input.
+//! Prints the bindings that nothing uses: `nix-dead [OPTION..] [FILE..]`, by default those of standard input.
 #![tactic(auto)]
 
 mod dead;

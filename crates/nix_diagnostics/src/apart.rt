@@ -18,14 +18,14 @@ pub struct Semicolon {
     pub set: usize,
 }
 
-// Whether a node of the kind is an entry or an `inherit`.
+// Returns whether a node of the kind is an entry or an `inherit`.
 fn is_entry_kind(kind: SyntaxKind) -> bool
     ensures { result ≡ is_entry_kind kind }
 {
     matches!(kind, NODE_ATTRPATH_VALUE | NODE_INHERIT)
 }
 
-// Whether a node is an entry or an `inherit`.
+// Returns whether a node is an entry or an `inherit`.
 fn is_entry(node: &Option<SyntaxNode<'_>>) -> bool
     ensures { result ≡ is_entry node.now }
 {
@@ -35,7 +35,7 @@ fn is_entry(node: &Option<SyntaxNode<'_>>) -> bool
     }
 }
 
-// The start of the node around a node, if there is one.
+// Returns the start of the node around a node, if there is one.
 fn start_around(node: &Option<SyntaxNode<'_>>) -> usize
     ensures { result ≡ start_around node.now }
 {
@@ -48,7 +48,7 @@ fn start_around(node: &Option<SyntaxNode<'_>>) -> usize
     }
 }
 
-// Whether a token of the given kind is the `;` of an entry or of an `inherit`.
+// Returns whether a token of the given kind is the `;` of an entry or of an `inherit`.
 fn ends_entry(token: &SyntaxToken<'_>, kind: SyntaxKind) -> bool
     requires { kind ≡ (item_of token.now).kind }
     ensures { result ≡ ends_entry token.now }
@@ -76,7 +76,7 @@ pub fn add_semicolon(
     Ok(())
 }
 
-/// Returns the number of the first `;` from a given one on that does not start before an offset.
+/// Returns the index of the first `;`, from a given index on, that does not start before an offset.
 pub fn first_since(semicolons: &[Semicolon], from: usize, offset: usize) -> usize
     ensures { drop result semicolons.now ≡ since offset (drop from semicolons.now) }
 {
@@ -88,7 +88,7 @@ pub fn first_since(semicolons: &[Semicolon], from: usize, offset: usize) -> usiz
     semicolons.len()
 }
 
-/// Whether an entry ends from a given `;` on and before an offset, and the set or `let` around it starts before another offset.
+/// Returns whether one of the `;`, from a given index on, ends an entry before an offset, in a set or `let` that starts before another offset.
 pub fn ends_between(semicolons: &[Semicolon], from: usize, set_before: usize, offset: usize) -> bool
     ensures { result ≡ ends_between set_before offset (drop from semicolons.now) }
 {

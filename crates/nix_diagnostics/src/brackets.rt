@@ -11,7 +11,7 @@ use SyntaxKind::*;
 use rnix::{NodeOrToken, SyntaxKind, SyntaxNode, SyntaxToken, TextRange};
 use std::alloc::{AllocError, Global};
 
-// How many openings are kept. The parser gives up at expressions that are nested more than 512 deep.
+// The greatest number of openings that are stored. The parser stops at expressions nested more than 512 deep.
 const MOST_OPEN: usize = 2048;
 
 /// A token that opens something.
@@ -32,7 +32,7 @@ pub struct Opening {
     kinds: u8,
 }
 
-// The bit of a kind that opens something.
+// Returns the bit of a kind that opens something.
 fn bit_of(opener: SyntaxKind) -> u8 {
     match opener {
         TOKEN_L_BRACE => 1,
@@ -50,10 +50,10 @@ fn bit_of(opener: SyntaxKind) -> u8 {
 // The state while the tokens of a text are read.
 #[derive(Drop)]
 struct Brackets {
-    // What is open, the innermost last, and how many openings inside it are not kept.
+    // The open openings, innermost last, and the number of openings inside them that are not stored.
     open: Vec<Opening>,
     deeper: usize,
-    // The first opening whose closing token is missing, since a token closes something around it.
+    // The first opening whose closing token is missing: another token closes something around it.
     unclosed: Option<Opening>,
     // The first opening that is closed by the first token of a line that is indented less.
     suspect: Option<Opening>,
@@ -63,18 +63,18 @@ struct Brackets {
     patterns: Vec<usize>,
     // The start of the braces that the last token other than trivia closes.
     closed: Option<usize>,
-    // The last `inherit` that no `;` follows.
+    // The last `inherit`, if no `;` follows it.
     inherit: Option<TextRange>,
     // The kind of the last token other than trivia.
     last: Option<SyntaxKind>,
-    // The number of the line, its indentation in bytes, and whether it has no token but trivia so far.
+    // The number of the line, its indentation in bytes, and whether it has had only trivia so far.
     line: usize,
     indent: usize,
     is_first: bool,
 }
 
 impl Brackets {
-    // The state before the first token.
+    // Returns the state before the first token.
     fn new(alloc: Global) -> Brackets {
         Brackets {
             open: Vec::new(alloc),
@@ -92,7 +92,7 @@ impl Brackets {
         }
     }
 
-    // Reads trivia or the content of a string: keeps count of lines, and notes a string that spans several.
+    // Reads trivia or the content of a string: counts lines, and records a string that spans several.
     fn skip(&mut self, kind: SyntaxKind, text: &[u8]) {
         let Some(feed) = text.iter().rposition(|byte| *byte == b'\n') else {
             return;
@@ -130,7 +130,7 @@ impl Brackets {
         Ok(())
     }
 
-    // Forgets the innermost opening.
+    // Removes the innermost opening.
     fn forget(&mut self) {
         if self.deeper > 0 {
             self.deeper -= 1;
@@ -139,7 +139,7 @@ impl Brackets {
         }
     }
 
-    // The number of the innermost opening of a kind. It is searched for only if there is one.
+    // Returns the index of the innermost opening of a kind. Searches only if there is one.
     fn innermost(&self, kind: SyntaxKind) -> Option<usize> {
         let inner = self.open.last()?;
         if inner.kinds & bit_of(kind) == 0 {
@@ -170,7 +170,7 @@ impl Brackets {
         self.open.truncate(number);
     }
 
-    // Closes what a token closes. What is nested too deep to be kept is closed by any token.
+    // Closes what a token of the kind closes. An opening that is nested too deep to be stored is closed by any closing token.
     fn close_with(&mut self, kind: SyntaxKind) {
         match opener_of(kind) {
             Some(_) if self.deeper > 0 => self.forget(),
@@ -179,7 +179,7 @@ impl Brackets {
         }
     }
 
-    // Notes the braces before a token if it shows that they are those of a pattern.
+    // Records the braces before a token, if the token shows that they are those of a pattern.
     fn end_braces(&mut self, next: SyntaxKind) -> Result<(), AllocError> {
         if matches!(next, TOKEN_COLON | TOKEN_AT) {
             self.patterns.extend(self.closed)?;
@@ -225,8 +225,8 @@ impl Brackets {
         Ok(())
     }
 
-    // The opening that is never closed, by the best guess. If the innermost one at the end is a string, this is the first string that spans
-    // several lines. Otherwise it is one inside something that is closed, one that the indentation shows, or the innermost at the end.
+    // Returns the best guess at the opening that is never closed. If the innermost one at the end is a string, this is the first string that spans several
+    // lines. Otherwise it is the first one inside something that is closed, the first one that the indentation shows, or the innermost one at the end.
     fn unclosed(&self) -> Option<Opening> {
         let innermost = self.open.last().copied();
         match (self.unclosed, innermost) {
@@ -243,7 +243,7 @@ impl Brackets {
         }
     }
 
-    // The brackets that do not match, of which the first token that closes nothing is given.
+    // Returns the brackets that do not match, given the first token that closes nothing.
     fn mismatch(&self, extra: Option<TextRange>) -> Mismatch
         ensures { result.extra ≡ extra }
     {
@@ -254,7 +254,7 @@ impl Brackets {
         }
     }
 
-    // The starts of the braces that `:` or `@` follows, sorted.
+    // Returns the starts of the braces that `:` or `@` follows, sorted.
     fn into_patterns(self) -> Result<Vec<usize>, AllocError> {
         let mut patterns = self.patterns;
         patterns.sort()?;
@@ -265,7 +265,7 @@ impl Brackets {
 /// The brackets of a text that do not match.
 #[derive(Clone, Copy)]
 pub struct Mismatch {
-    /// The opening that is never closed, by the best guess.
+    /// The best guess at the opening that is never closed.
     pub unclosed: Option<Opening>,
     /// The first token that closes nothing.
     pub extra: Option<TextRange>,
@@ -273,7 +273,7 @@ pub struct Mismatch {
     pub inherit: Option<TextRange>,
 }
 
-/// What is known of the brackets of a text.
+/// The brackets of a text.
 #[derive(Drop)]
 pub struct Matching {
     /// Those that do not match.
@@ -287,7 +287,7 @@ pub struct Matching {
 }
 
 impl Matching {
-    /// That of an empty text.
+    /// Returns the brackets of an empty text.
     pub fn none(alloc: Global) -> Matching {
         Matching {
             mismatch: Mismatch {
@@ -301,13 +301,13 @@ impl Matching {
         }
     }
 
-    /// Whether the braces that start at an offset are those of a pattern, since `:` or `@` follows them.
+    /// Returns whether the braces that start at an offset are those of a pattern, since `:` or `@` follows them.
     pub fn is_pattern(&self, start: usize) -> bool {
         self.patterns.binary_search(&start).is_ok()
     }
 }
 
-// Whether a token of the kind is trivia.
+// Returns whether a token of the kind is trivia.
 #[inline(always)]
 fn is_trivia(kind: SyntaxKind) -> bool
     ensures { result ≡ is_trivia kind }

@@ -1,4 +1,4 @@
-//! The replacements that close what is open.
+//! Replacements that close what is open.
 
 use crate::brackets::Opening;
 use crate::near::{first_part, indentation, line_start, text_before};
@@ -7,7 +7,7 @@ use crate::unwanted::Unwanted;
 use SyntaxKind::*;
 use rnix::{SyntaxKind, TextRange};
 
-// The closing bracket for an opening one, after white space where that is usual.
+// Returns the closing bracket for an opening one, after white space where that is usual.
 fn closing_bracket(opener: SyntaxKind, is_spaced: bool) -> Option<&'static str> {
     match (opener, is_spaced) {
         (TOKEN_L_BRACE, false) => Some("}"),
@@ -20,7 +20,7 @@ fn closing_bracket(opener: SyntaxKind, is_spaced: bool) -> Option<&'static str> 
     }
 }
 
-// The keyword that follows what another one opens, before an expression.
+// Returns the keyword that follows what another one opens, before an expression.
 fn next_keyword(opener: SyntaxKind) -> Option<&'static str> {
     match opener {
         TOKEN_LET => Some("in "),
@@ -30,7 +30,7 @@ fn next_keyword(opener: SyntaxKind) -> Option<&'static str> {
     }
 }
 
-// The closing bracket at the end of a text.
+// Returns the closing bracket at the end of a text.
 fn last_bracket(opener: SyntaxKind) -> Option<&'static str> {
     match opener {
         TOKEN_L_BRACE => Some("\n}"),
@@ -73,7 +73,7 @@ fn closing_quote(opening: Opening, text: &str) -> Option<Replacement> {
     Some(Replacement::insertion(end, "\""))
 }
 
-// For a quote at the end of a line that is meant to end a string: closes the interpolation before it, or opens the string before its last word.
+// Repairs a line that ends with the closing quote of a string: closes the interpolation before the quote, or opens the string before the last word.
 fn opening_quote(quote: usize, line: &str) -> Option<Replacement> {
     if line.contains("${") {
         return Some(Replacement::insertion(quote, "}"));
@@ -82,7 +82,7 @@ fn opening_quote(quote: usize, line: &str) -> Option<Replacement> {
     Some(Replacement::insertion(quote.saturating_sub(word.len()), "\""))
 }
 
-// Closes braces that contain the rest of the text by mistake: after the lines that follow and are indented more than the line of the braces.
+// Closes braces that contain the rest of the text by mistake, after the next lines that are indented more than their own.
 fn closing_braces(opening: Opening, text: &str) -> Option<Replacement> {
     let first = line_start(text, opening.range.start())?;
     let own = indentation(text.get(first..)?);
@@ -103,7 +103,7 @@ fn closing_braces(opening: Opening, text: &str) -> Option<Replacement> {
     None
 }
 
-// Ends an entry at an offset, indented as the next line, which starts at another one and closes nothing.
+// Ends an entry at an offset, with the indentation of the next line, which closes nothing and starts at another offset.
 fn end_entry(end: usize, next: usize, indent: usize, content: &str) -> Option<Replacement> {
     if content.starts_with(['}', ']', ')']) {
         return None;
@@ -124,7 +124,8 @@ fn closing_at_end(opening: Opening, end: usize, text: &str) -> Option<Replacemen
     }
 }
 
-/// Returns what closes an opening at an error: before its unexpected token, or at the location where it is shown, the end of the text.
+/// Returns the replacement that closes an opening: a string on its first line, anything else before the unexpected token or, without one, at the end of the
+/// text.
 pub fn closing(
     opening: Opening,
     unwanted: Option<&Unwanted<'_>>,

@@ -1,4 +1,4 @@
-//! What diagnostics report and how serious that is, by names for tools.
+//! Codes and severities of diagnostics, with names for tools.
 
 ghost use Rattle.std.specs.Prelude.{◌≡◌};
 ghost use Rattle.rnix_grammar.specs.Fault.{fault_of};
@@ -9,9 +9,9 @@ use rnix::ParseError;
 /// How serious something is that a diagnostic reports.
 #[derive(Clone, Copy, Debug, PartialEq, Eq)]
 pub enum Severity {
-    /// Nix refuses the text, or this library does not read all of it.
+    /// Nix refuses the text, or this library does not parse all of it.
     Error,
-    /// Nix accepts the text, but it hardly means what was meant. No code has this severity so far.
+    /// Nix accepts the text, but it is probably a mistake. No code has this severity so far.
     Warning,
 }
 
@@ -32,9 +32,9 @@ impl Severity {
 pub enum Code {
     /// A syntax error.
     SyntaxError,
-    /// Expressions that are nested deeper than the parser reads.
+    /// Expressions that are nested deeper than the parser allows.
     NestedTooDeep,
-    /// An attribute that is defined again, which Nix refuses. It is no error of a parse, so no call of this crate returns it.
+    /// An attribute that is defined again, which Nix refuses. This is not a syntax error, so no call of this crate returns it.
     RepeatedAttribute,
 }
 

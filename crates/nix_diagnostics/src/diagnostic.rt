@@ -1,4 +1,4 @@
-//! Diagnostics: where errors are shown, and what is reported of them.
+//! Diagnostics: where errors are shown, and what is reported about them.
 
 ghost use Rattle.std.specs.Prelude.{◌≡◌, ◌+◌, ◌^◌, ◌<◌, length, map, option_map, true, IfOk, OnOk};
 ghost use Rattle.std.specs.List.{list_all};
@@ -23,20 +23,20 @@ use std::alloc::{AllocError, Global};
 /// A mistake in a text: the bytes to underline, none if something is missing at the end, and a message such as
 /// `expected ";" after the value of "a", found the name "b"`.
 ///
-/// It covers a run of errors in `Parse::errors`: it is shown at the first of them, from which the others follow.
+/// It covers a run of errors in `Parse::errors`, and is shown at the first of them. The others follow from that one.
 #[derive(Drop)]
 pub struct Diagnostic {
-    /// What it reports.
+    /// The code of what it reports.
     pub code: Code,
     /// The bytes to underline.
     pub range: TextRange,
     /// The message, in one line.
     pub message: String,
-    /// The number of the first error that it covers.
+    /// The index of the first error that it covers.
     pub first_error: usize,
-    /// The number after that of the last error that it covers.
+    /// The index after that of the last error that it covers.
     pub end_error: usize,
-    /// Notes that may help: what is not closed, where something is missing, what was meant.
+    /// Notes that may help: what is not closed, where something is missing, and what may be meant.
     pub notes: Vec<Note>,
 }
 
@@ -49,7 +49,7 @@ pub struct FirstDiagnostics {
     pub count: usize,
 }
 
-// The range of the first error node that ends at an offset: it holds the expressions that are nested too deep.
+// Returns the range of the first error node that ends at an offset: it holds the expressions that are nested too deep.
 fn too_deep(root: &SyntaxNode<'_>, end: usize) -> Option<TextRange>
     ensures { option_map bounds_of result ≡ error_range end root.now }
 {
@@ -61,7 +61,7 @@ fn too_deep(root: &SyntaxNode<'_>, end: usize) -> Option<TextRange>
     None
 }
 
-// The range of an error, None if something is missing at the end.
+// Returns the range of an error, or `None` if something is missing at the end.
 fn own_range(error: &ParseError, root: &SyntaxNode<'_>, end: usize) -> Option<TextRange>
     requires { end ≡ end_of_items root.now }
     ensures { option_map bounds_of result ≡ own_range root.now (fault_of error.now) }
@@ -72,7 +72,7 @@ fn own_range(error: &ParseError, root: &SyntaxNode<'_>, end: usize) -> Option<Te
     }
 }
 
-// Where an error is shown: at its range, or else at the end of the last token other than trivia.
+// Returns where an error is shown: at its range, or else at the end of the last token other than trivia.
 fn location_of(error: &ParseError, root: &SyntaxNode<'_>, end: usize) -> TextRange
     requires { end ≡ end_of_items root.now }
     ensures { bounds_of result ≡ location_of root.now (fault_of error.now) }
@@ -95,7 +95,7 @@ fn fold(found: &mut Vec<Diagnostic>, number: usize) -> Result<(), AllocError>
     Ok(())
 }
 
-// The diagnostic of an error alone.
+// Returns a diagnostic that covers one error.
 fn single<'t>(
     alloc: Global,
     number: usize,
@@ -155,7 +155,7 @@ impl FirstDiagnostics {
         Ok(())
     }
 
-    // Counts one more diagnostic, which is among the first if it was made.
+    // Counts one more diagnostic, and adds it if it was made.
     fn add(&mut self, alone: Option<Diagnostic>) -> Result<(), AllocError>
         requires { self.old.count + 1 < 2 ^ 64 }
         ensures { OnOk result (IsCountAdded alone self.old self.new) }
@@ -168,8 +168,8 @@ impl FirstDiagnostics {
     }
 }
 
-// The first diagnostics of errors that are all about repeated names, at most so many, and their number. None of these follows from another, and no
-// note on them needs the brackets of the text. Not matching these saves a sixth of the instructions of `nix-check` on a pattern of a million names.
+// Returns the first diagnostics, at most `most`, of errors that are all about repeated names, and the number of all. None of these errors follows from another,
+// and no note on them needs the brackets of the text. Not matching brackets saves `nix-check` a sixth of the instructions on a pattern of a million names.
 fn first_repeated_names(
     alloc: Global,
     root: &SyntaxNode<'_>,
@@ -195,8 +195,8 @@ fn first_repeated_names(
     Ok(found)
 }
 
-/// Returns the first diagnostics of a text, at most so many, and the number of all. Errors that follow from an earlier one share its diagnostic. No
-/// message is made for what is only counted.
+/// Returns the first diagnostics of a text, at most `most`, and the number of all. Errors that follow from an earlier one share its diagnostic. No messages
+/// are made for diagnostics that are only counted.
 pub fn first_diagnostics(
     alloc: Global,
     read: &Parse,

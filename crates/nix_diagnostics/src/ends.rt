@@ -1,4 +1,4 @@
-//! How a text ends, and what goes on to its end.
+//! How a text ends, and what is still open there.
 
 ghost use Rattle.std.specs.Prelude.{◌≡◌, map};
 ghost use Rattle.rnix_green.specs.Walk.{elements_of};
@@ -11,14 +11,14 @@ use crate::openings::{closes, opens};
 use SyntaxKind::*;
 use rnix::{NodeOrToken, ParseError, SyntaxKind, SyntaxNode};
 
-// Whether a token begins a string or is in one.
+// Returns whether a token begins a string or is in one.
 fn is_of_string(kind: SyntaxKind) -> bool
     ensures { result ≡ is_of_string kind }
 {
     matches!(kind, TOKEN_STRING_START | TOKEN_STRING_CONTENT)
 }
 
-/// Whether a text ends inside a string, by the kind of its last token other than trivia.
+/// Returns whether a text ends inside a string, by the kind of its last token other than trivia.
 pub fn ends_in_string(last: Option<SyntaxKind>) -> bool
     ensures { result ≡ passes is_of_string last }
 {
@@ -28,7 +28,7 @@ pub fn ends_in_string(last: Option<SyntaxKind>) -> bool
     }
 }
 
-/// Whether a text ends with what closes something, by the kind of its last token other than trivia.
+/// Returns whether a text ends with a token that closes something, by the kind of its last token other than trivia.
 pub fn ends_closed(last: Option<SyntaxKind>) -> bool
     ensures { result ≡ passes closes last }
 {
@@ -38,7 +38,7 @@ pub fn ends_closed(last: Option<SyntaxKind>) -> bool
     }
 }
 
-// Whether an error is at the end of the text.
+// Returns whether an error is at the end of the text.
 fn is_at_end(error: &ParseError) -> bool
     ensures { result ≡ is_at_end (fault_of error.now) }
 {
@@ -48,7 +48,7 @@ fn is_at_end(error: &ParseError) -> bool
     )
 }
 
-// Whether a text ends too early.
+// Returns whether a text ends too early, by its errors.
 fn ends_early(errors: &[ParseError]) -> bool
     ensures { result ≡ ends_early (map fault_of errors.now) }
 {
@@ -60,7 +60,7 @@ fn ends_early(errors: &[ParseError]) -> bool
     false
 }
 
-// Whether a node reaches an offset, if there is one.
+// Returns whether a node is given and ends at an offset or after it.
 fn reaches(node: &Option<SyntaxNode<'_>>, end: usize) -> bool
     ensures { result ≡ reaches end node.now }
 {
@@ -70,7 +70,7 @@ fn reaches(node: &Option<SyntaxNode<'_>>, end: usize) -> bool
     }
 }
 
-// The start of the first token that opens something in a node that reaches an offset.
+// Returns the start of the first token that opens something in a node that ends at an offset or after it.
 fn first_opening(root: &SyntaxNode<'_>, end: usize) -> Option<usize>
     ensures { result ≡ first_opening end (elements_of root.now) }
 {
@@ -84,7 +84,7 @@ fn first_opening(root: &SyntaxNode<'_>, end: usize) -> Option<usize>
     None
 }
 
-/// The offset from which errors count as following what is never closed, in a text that ends too early.
+/// Returns the offset from which on errors follow from what is never closed, if the text ends too early.
 pub fn lost_from(root: &SyntaxNode<'_>, errors: &[ParseError], end: usize) -> Option<usize>
     requires { end ≡ end_of_items root.now }
     ensures { result ≡ lost_from root.now (map fault_of errors.now) }
@@ -96,7 +96,7 @@ pub fn lost_from(root: &SyntaxNode<'_>, errors: &[ParseError], end: usize) -> Op
     }
 }
 
-/// Whether an offset is not before another, if there is another.
+/// Returns whether `start` is given, and `offset` is not before it.
 pub fn is_from(start: Option<usize>, offset: usize) -> bool
     ensures { result ≡ is_from start offset }
 {

@@ -10,12 +10,12 @@ ghost use Rattle.nix_diagnostics.specs.FaultNodes.{IsFrom, token_from, if_error,
 
 use rnix::{ParseError, SyntaxKind, SyntaxNode, SyntaxToken, TextRange};
 
-// How many tokens are passed before the token of an error is searched for in the whole tree.
+// The number of tokens that are looked at before the token of an error is searched for in the whole tree.
 const MOST_STEPS: usize = 32;
-// How many trivia are skipped to find the previous token.
+// The number of trivia that are skipped to find the previous token.
 const MOST_TRIVIA: usize = 64;
 
-// Returns the token that starts at an offset, if it is among the next from a token on.
+// Returns the token that starts at an offset, if it is among the next few tokens from `from` on.
 fn near_token<'t>(from: &SyntaxToken<'t>, offset: usize) -> Option<SyntaxToken<'t>>
     requires { IsTokenAt from.now }
     ensures { IfSome result (IsFrom from.now offset) }
@@ -47,7 +47,7 @@ fn if_from<'t>(token: SyntaxToken<'t>, offset: usize) -> Option<SyntaxToken<'t>>
     }
 }
 
-// Returns the token that starts at an offset, if it is among the first of a node or behind them.
+// Returns the token that starts at an offset, if it is among the first few tokens from the start of a node on.
 fn near_node<'t>(earlier: &SyntaxNode<'t>, offset: usize) -> Option<SyntaxToken<'t>>
     ensures { IfSome result (IsFrom earlier.now offset) }
 {
@@ -69,7 +69,7 @@ fn token_from<'t>(root: &SyntaxNode<'t>, offset: usize) -> Option<SyntaxToken<'t
     }
 }
 
-// The same, if an earlier node is known, after whose beginning the token is first searched for.
+// Returns the token that starts at an offset. Looks first from the start of an earlier node on.
 fn token_after<'t>(
     root: &SyntaxNode<'t>,
     earlier: &SyntaxNode<'t>,
@@ -86,7 +86,7 @@ fn token_after<'t>(
     }
 }
 
-// Whether a node is an error node with a range.
+// Returns whether a node is an error node with a range.
 fn is_error(node: &SyntaxNode<'_>, range: TextRange) -> bool
     ensures { result ≡ (is_error_node (item_of node.now).kind && same_extent (extent_of node.now) (bounds_of range)) }
 {
@@ -106,7 +106,7 @@ fn if_error<'t>(node: Option<SyntaxNode<'t>>, range: TextRange) -> Option<Syntax
     }
 }
 
-// Returns the error node with a range. It is searched for after an earlier node.
+// Returns the error node with a range. Looks first from the start of an earlier node on.
 fn error_with<'t>(
     root: &SyntaxNode<'t>,
     earlier: &SyntaxNode<'t>,
@@ -123,7 +123,7 @@ fn error_with<'t>(
     }
 }
 
-// The same, if there is a range.
+// Returns the error node with a range, if a range is given.
 fn error_at<'t>(
     root: &SyntaxNode<'t>,
     earlier: &SyntaxNode<'t>,
@@ -140,7 +140,7 @@ fn error_at<'t>(
     }
 }
 
-// The range of an error, unless it is about a repeated name, which is no error node.
+// Returns the range of an error, unless the error is about a repeated name, which has no error node.
 fn node_range(error: &ParseError) -> Option<TextRange>
     ensures { option_map bounds_of result ≡ node_range (fault_of error.now) }
 {
@@ -150,7 +150,7 @@ fn node_range(error: &ParseError) -> Option<TextRange>
     }
 }
 
-/// Returns the error node of an error, if it has one. It is searched for after that of an earlier error, and replaces it.
+/// Returns the error node of an error, if it has one. Looks first from the start of `earlier` on, the node of an earlier error, and replaces it.
 pub fn error_node<'t>(
     root: &SyntaxNode<'t>,
     earlier: &mut SyntaxNode<'t>,

@@ -23,15 +23,15 @@ use crate::slips::is_slip;
 use SyntaxKind::*;
 use rnix::{NodeOrToken, ParseError, SyntaxKind, SyntaxNode, SyntaxToken, TextRange};
 
-/// What is known of the errors so far.
+/// The state after some errors, from which the next one is judged.
 #[derive(Drop)]
 pub struct Folding {
     // The `;` of the entries and `inherit`s, in order.
     semicolons: Vec<Semicolon>,
-    // How far the errors about unexpected or missing tokens reach, and the number of the first `;` that does not start before that.
+    // The largest end of the errors about unexpected or missing tokens so far, and the index of the first `;` that does not start before it.
     reach: usize,
     passed: usize,
-    // Whether the text ends inside a string, and whether it ends with what closes something.
+    // Whether the text ends inside a string, and whether it ends with a token that closes something.
     in_string: bool,
     ends_closed: bool,
     // Whether an error node skipped brackets.
@@ -44,13 +44,13 @@ pub struct Folding {
     end: usize,
     // The end of the last error about an unexpected or a missing token.
     last: Option<usize>,
-    // The range of the list, pattern, .. around it.
+    // The range of the list, pattern, .. around that error.
     group: Option<TextRange>,
-    // Whether the parser lost its way, so that later errors may follow from it.
+    // Whether the parser lost track, so that later errors may follow from that.
     is_lost: bool,
 }
 
-// Whether one mistake often leads to several errors in a node of the kind.
+// Returns whether one mistake often leads to several errors in a node of the kind.
 fn is_group(kind: SyntaxKind) -> bool
     ensures { result ≡ is_group kind }
 {
@@ -60,7 +60,7 @@ fn is_group(kind: SyntaxKind) -> bool
     )
 }
 
-// The range of the list, pattern, string or entry that a node is right below.
+// Returns the range of the list, pattern, string or entry that is a node's parent.
 fn group(node: &SyntaxNode<'_>) -> Option<TextRange>
     ensures { option_map bounds_of result ≡ range_if_group (parent_of node.now) }
 {
@@ -72,7 +72,7 @@ fn group(node: &SyntaxNode<'_>) -> Option<TextRange>
     }
 }
 
-// The same for the error node of an error, if it has one.
+// Returns the same for the error node of an error, if it has one.
 fn group_of(node: &Option<SyntaxNode<'_>>) -> Option<TextRange>
     ensures { option_map bounds_of result ≡ group_around node.now }
 {
@@ -82,7 +82,7 @@ fn group_of(node: &Option<SyntaxNode<'_>>) -> Option<TextRange>
     }
 }
 
-// Whether there are two ranges, and they are equal.
+// Returns whether both ranges are given and equal.
 fn are_one(own: Option<TextRange>, last: Option<TextRange>) -> bool
     ensures { result ≡ are_one (option_map bounds_of own) (option_map bounds_of last) }
 {
@@ -92,14 +92,14 @@ fn are_one(own: Option<TextRange>, last: Option<TextRange>) -> bool
     }
 }
 
-// The larger of two numbers.
+// Returns the larger of two numbers.
 fn larger(one: usize, two: usize) -> usize
     ensures { result ≡ larger one two }
 {
     if one < two { two } else { one }
 }
 
-// Whether a token has a range, if there is one.
+// Returns whether a range is given and is the token's.
 fn has_range(range: Option<TextRange>, token: &SyntaxToken<'_>) -> bool
     ensures { result ≡ has_range (option_map bounds_of range) token.now }
 {
@@ -110,7 +110,7 @@ fn has_range(range: Option<TextRange>, token: &SyntaxToken<'_>) -> bool
     }
 }
 
-// How much is open after a token of the kind. `then` closes `if`, and opens what `else` closes.
+// Returns the number of open tokens after a token of the kind. `then` closes `if`, and opens what `else` closes.
 fn depth_after(depth: usize, kind: SyntaxKind) -> usize
     requires { depth + 1 < 2 ^ 64 }
     ensures depth { result ≡ depth_after depth kind }
@@ -124,7 +124,7 @@ fn depth_after(depth: usize, kind: SyntaxKind) -> usize
     if opens(kind) { rest + 1 } else { rest }
 }
 
-// Whether an error has no range.
+// Returns whether an error has no range.
 fn has_no_range(error: &ParseError) -> bool
     ensures { result ≡ is_none (range_in (fault_of error.now)) }
 {
@@ -134,7 +134,7 @@ fn has_no_range(error: &ParseError) -> bool
     }
 }
 
-// Whether an error says that tokens follow the expression.
+// Returns whether an error says that tokens follow the expression.
 fn is_extra(error: &ParseError) -> bool
     ensures { result ≡ is_extra (fault_of error.now) }
 {
@@ -142,7 +142,7 @@ fn is_extra(error: &ParseError) -> bool
 }
 
 impl Folding {
-    /// The state before the first error of a text whose brackets are matched, and the `;` of whose entries are given.
+    /// Returns the state before the first error of a text, given its matched brackets and the `;` of its entries.
     pub fn new(
         root: &SyntaxNode<'_>,
         errors: &[ParseError],
@@ -169,14 +169,14 @@ impl Folding {
         }
     }
 
-    // Whether a token closes something that is open before a walk in which so much is open.
+    // Returns whether a token closes something that was opened before a walk, where `depth` is the number of tokens that the walk opened.
     fn closes_around(&self, depth: usize, token: &SyntaxToken<'_>) -> bool
         ensures { result ≡ closes_around (option_map bounds_of self.now.extra) depth token.now }
     {
         closes(token.kind()) && depth == 0 && !has_range(self.extra, token)
     }
 
-    // Whether the tokens of a node close something that is open before it, or leave something open.
+    // Returns whether the tokens of a node close something that was opened before it, or leave something open.
     fn skips_brackets(&self, node: &SyntaxNode<'_>) -> bool
         ensures { result ≡ skips_brackets (option_map bounds_of self.now.extra) node.now }
     {
@@ -192,7 +192,7 @@ impl Folding {
         depth > 0
     }
 
-    // The same for an error node, if there is one.
+    // Returns the same for an error node, if there is one.
     fn skips_if(&self, node: &Option<SyntaxNode<'_>>) -> bool
         ensures { result ≡ skips_if (option_map bounds_of self.now.extra) node.now }
     {
@@ -202,7 +202,7 @@ impl Folding {
         }
     }
 
-    // Whether the parser loses its way at an error, whose node skips brackets or does not.
+    // Returns whether the parser loses track at an error. `skips` says whether its node skips brackets.
     fn loses(&self, error: &ParseError, skips: bool, location: TextRange) -> bool
         ensures { result ≡ loses_in self.now (fault_of error.now) skips location }
     {
@@ -212,7 +212,7 @@ impl Folding {
             || skips
     }
 
-    // Whether the parser has lost its way at an error, or before it and the error is not apart from those before it.
+    // Returns whether the parser has lost track after an error: at this error, or before it if the error is not apart from the earlier ones.
     fn is_lost_at(
         &self,
         is_apart: bool,
@@ -225,14 +225,14 @@ impl Folding {
         self.is_lost && !is_apart || self.loses(error, skips, location)
     }
 
-    // Whether brackets were skipped at an error, whose node skips some or does not, or before it.
+    // Returns whether brackets were skipped at an error or before it. `skips` says whether its node skips some.
     fn is_unbalanced_at(&self, skips: bool) -> bool
         ensures { result ≡ (self.now.is_unbalanced || skips) }
     {
         self.is_unbalanced || skips
     }
 
-    // Whether an error is apart from the earlier ones: between them an entry ends, in a set or `let` that starts before their end.
+    // Returns whether an error is apart from the earlier ones: between them an entry ends, in a set or `let` that starts before their end.
     fn is_apart(&self, location: TextRange) -> bool
         ensures { result ≡ is_apart_in self.now location }
     {
@@ -244,8 +244,8 @@ impl Folding {
         )
     }
 
-    // Whether an error shares the diagnostic of the earlier ones, from which it is not apart, where the last one ends at an offset: the parser has
-    // lost its way, or the error shares a list, pattern, .. with the last one or is near it.
+    // Returns whether an error that is not apart from the earlier ones shares their diagnostic: the parser has lost track, or the error is in the same list,
+    // pattern, .. as the last one, or near its end `last`.
     fn is_joined(
         &self,
         root: &SyntaxNode<'_>,
@@ -262,7 +262,7 @@ impl Folding {
         are_close(root.text().as_bytes(), last, location.start())
     }
 
-    // Whether an error, which is apart from the earlier ones or not, follows from them.
+    // Returns whether an error follows from the earlier ones. `is_apart` says whether it is apart from them.
     fn follows(
         &self,
         root: &SyntaxNode<'_>,
@@ -284,14 +284,14 @@ impl Folding {
         self.is_joined(root, group, last, location)
     }
 
-    // Whether the text ends inside a string, and there was an error about an unexpected or a missing token.
+    // Returns whether the text ends inside a string, and there was an error about an unexpected or a missing token.
     fn is_inside(&self) -> bool
         ensures { result ≡ (self.now.in_string && is_some self.now.last) }
     {
         self.in_string && self.last.is_some()
     }
 
-    // Notes how far an error reaches.
+    // Takes the end of an error into account.
     fn reach_to(&mut self, end: usize)
         ensures { HasReached self.old self.new end }
     {
@@ -299,7 +299,7 @@ impl Folding {
         self.passed = first_since(self.semicolons.as_slice(), self.passed, self.reach);
     }
 
-    // Whether an error about an unexpected or a missing token follows from earlier ones. It is the last one then.
+    // Adds an error about an unexpected or a missing token, and returns whether it follows from earlier ones.
     fn add_slip(
         &mut self,
         root: &SyntaxNode<'_>,

@@ -76,7 +76,7 @@ impl Hint {
     }
 }
 
-// Whether a token is a keyword.
+// Returns whether a token is a keyword.
 fn is_keyword(kind: SyntaxKind) -> bool {
     matches!(
         kind,
@@ -92,7 +92,7 @@ fn is_keyword(kind: SyntaxKind) -> bool {
     )
 }
 
-// The hint for a text that is not a token.
+// Returns the hint for a text that is not a token.
 fn unknown(text: &str) -> Option<Hint> {
     match text.chars().next() {
         Some('\'' | '`' | '\u{2018}'..='\u{201f}' | '\u{ab}' | '\u{bb}') => Some(Hint::Quotes),
@@ -106,7 +106,7 @@ fn unknown(text: &str) -> Option<Hint> {
     }
 }
 
-// The hint for a token in a pattern, or in braces that were read as a set.
+// Returns the hint for a token in a pattern, or in braces that were read as a set.
 fn in_pattern(unwanted: &Unwanted<'_>) -> Option<Hint> {
     match unwanted.token.kind() {
         TOKEN_ASSIGN => Some(Hint::DefaultValue),
@@ -118,7 +118,7 @@ fn in_pattern(unwanted: &Unwanted<'_>) -> Option<Hint> {
     }
 }
 
-// The hint for a token where another is expected.
+// Returns the hint for a token where another is expected.
 fn instead_of(wanted: SyntaxKind, unwanted: &Unwanted<'_>) -> Option<Hint> {
     match (unwanted.token.kind(), wanted) {
         (TOKEN_EQUAL | TOKEN_COLON, TOKEN_ASSIGN) => Some(Hint::Binding),

@@ -7,7 +7,7 @@ use rnix::ast::{AstNode, Attrpath, AttrpathValue};
 use rnix::{ParseError, SyntaxKind, SyntaxNode};
 use std::alloc::{AllocError, Global};
 
-// The words for where in its node a token is missing.
+// Returns the words that say where in its node a token is missing.
 fn context(wanted: SyntaxKind, parent: SyntaxKind) -> &'static str {
     match (wanted, parent) {
         (SyntaxKind::TOKEN_SEMICOLON, SyntaxKind::NODE_WITH) => " after the set of \"with\"",
@@ -72,7 +72,7 @@ fn add_unwanted(
     Ok(())
 }
 
-// The first words of the message of an error.
+// Returns the first words of the message of an error.
 fn headline(error: &ParseError) -> &'static str
     ensures { 0 < length result.now }
 {
@@ -90,7 +90,7 @@ fn headline(error: &ParseError) -> &'static str
 // Initial capacity of the rest of a message, in bytes: most are shorter.
 const ROOM: usize = 80;
 
-// The rest of the message: what was expected, where, and what was found.
+// Returns the rest of the message: what was expected, where, and what was found.
 fn details(
     alloc: Global,
     error: &ParseError,
@@ -118,7 +118,7 @@ fn details(
     Ok(text)
 }
 
-// A headline with a name in quotes after it.
+// Returns a headline followed by a name in quotes.
 fn with_name(alloc: Global, headline: &str, name: &str) -> Result<String, AllocError>
     ensures { IfOk result (λ text. 0 < length (string_bytes text)) }
 {

@@ -3,19 +3,19 @@
 ghost use Rattle.std.specs.Prelude.{◌≡◌, false, nat_lt};
 ghost use Rattle.nix_diagnostics.specs.Following.{is_blank, words, are_close};
 
-// How many characters are searched for another one.
+// The number of characters that are searched for another one.
 const MOST_SEARCHED: usize = 200;
-// The most bytes of what is searched line by line.
+// The greatest number of bytes that are searched line by line.
 const MOST_BYTES: usize = 20_000;
 
-// Whether a byte is white space.
+// Returns whether a byte is white space.
 fn is_blank(byte: u8) -> bool
     ensures { result ≡ is_blank byte }
 {
     byte == b' ' || byte == b'\n' || byte == b'\t' || byte == b'\r'
 }
 
-// Whether a text has at most two words.
+// Returns whether a text has at most two words.
 fn has_few_words(text: &[u8]) -> bool
     ensures { result ≡ nat_lt (words false text.now) 3 }
 {
@@ -34,7 +34,7 @@ fn has_few_words(text: &[u8]) -> bool
     true
 }
 
-/// Whether there is no line feed, or at most two words, between two offsets.
+/// Returns whether there is no line feed, or at most two words, between two offsets.
 pub fn are_close(text: &[u8], from: usize, to: usize) -> bool
     ensures { result ≡ are_close text.now from to }
 {

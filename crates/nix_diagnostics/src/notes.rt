@@ -1,4 +1,4 @@
-//! Notes on errors: what is not closed, where something is missing, what was meant.
+//! Notes on errors: what is not closed, where something is missing, and what may be meant.
 
 use crate::brackets::{Matching, Opening};
 use crate::closings::closing;
@@ -12,7 +12,7 @@ use rnix::ast::{AstNode, Pattern};
 use rnix::{ParseError, SyntaxKind, SyntaxNode, TextRange};
 use std::alloc::{AllocError, Global};
 
-// How many entries of patterns are searched for first declarations, over all errors of a text.
+// The greatest number of entries of patterns that are searched for first declarations, for all errors of a text together.
 const MOST_ENTRIES: usize = 100_000;
 
 /// A note that may help with an error.
@@ -22,11 +22,11 @@ pub struct Note {
     pub range: Option<TextRange>,
     /// The message, in one line.
     pub message: &'static str,
-    /// What to write instead, if there is a guess. It may leave as many errors, or make others.
+    /// A guess at what to write instead, if there is one. The text may have as many errors with it, or other ones.
     pub replacement: Option<Replacement>,
 }
 
-// The message for a token that opens something and is not closed.
+// Returns the message for a token that opens something and is not closed.
 fn opened(opening: Opening) -> &'static str {
     match opening.kind {
         TOKEN_STRING_START if opening.is_long => {
@@ -43,7 +43,7 @@ fn opened(opening: Opening) -> &'static str {
     }
 }
 
-// The range of the first argument of a pattern with a name. The number of entries that may still be searched falls.
+// Returns the range of the first argument of a pattern with a name. Decreases the number of entries that may still be searched.
 fn argument_in(
     pattern: &Pattern<'_>,
     name: &str,
@@ -63,7 +63,7 @@ fn argument_in(
     None
 }
 
-// The note on the first argument with a name, in the pattern that has it again at a range.
+// Returns the note on the first argument with a name, in the pattern that repeats the name at a range.
 fn first_argument(
     root: &SyntaxNode<'_>,
     range: TextRange,
@@ -86,7 +86,7 @@ fn first_argument(
     None
 }
 
-// The place before an unexpected token where a ";" is missing.
+// Returns the place before an unexpected token where a ";" is missing.
 fn missing_semicolon(unwanted: &Unwanted<'_>) -> Option<Note> {
     let offset = match unwanted.parent.kind() {
         NODE_INHERIT if unwanted.token.kind() == TOKEN_ASSIGN => {
@@ -103,7 +103,7 @@ fn missing_semicolon(unwanted: &Unwanted<'_>) -> Option<Note> {
     })
 }
 
-// The note on an `inherit` whose `;` is missing at the end of the text, where the error is shown.
+// Returns the note on an `inherit` whose `;` is missing at the end of the text, where the error is shown.
 fn open_inherit(
     error: &ParseError,
     inherit: Option<TextRange>,
@@ -124,7 +124,8 @@ fn open_inherit(
     })
 }
 
-// The hint for an unexpected token, or the place where a ";" is missing. There is none if something is not closed, which explains the error.
+// Returns the note on an unexpected token: a hint, or the place where a `;` is missing. If `is_explained`, an unclosed opening explains the error, and only
+// hints are returned.
 fn remark(
     unwanted: &Unwanted<'_>,
     is_explained: bool,
@@ -152,7 +153,7 @@ fn remark(
     }
 }
 
-// Returns a list of a note, if there is one, without room for more: a text may have many of these lists.
+// Returns a list of at most one note, without spare capacity, because a text may have many such lists.
 fn alone(alloc: Global, note: Option<Note>) -> Result<Vec<Note>, AllocError> {
     let mut notes = Vec::new(alloc);
     if let Some(note) = note {
@@ -166,7 +167,7 @@ fn alone(alloc: Global, note: Option<Note>) -> Result<Vec<Note>, AllocError> {
 #[derive(Drop)]
 pub struct NoteFinder {
     matching: Matching,
-    // How many more entries of patterns are searched.
+    // The number of entries of patterns that may still be searched.
     entries_remaining: usize,
 }
 

@@ -11,8 +11,8 @@ use SyntaxKind::*;
 use rnix::{SyntaxKind, SyntaxToken, TextRange};
 use std::alloc::{AllocError, Global};
 
-/// Whether a token opens something.
-// This and the next three are asked of each token: as calls they took 4 million instructions of `keys 1 10`.
+/// Returns whether a token opens something.
+// This function and the next three run for each token; without inlining they took 4 million instructions of `keys 1 10`.
 #[inline(always)]
 pub fn opens(kind: SyntaxKind) -> bool
     ensures { result ≡ opens kind }
@@ -30,7 +30,7 @@ pub fn opens(kind: SyntaxKind) -> bool
     )
 }
 
-/// Whether a token closes something.
+/// Returns whether a token closes something.
 #[inline(always)]
 pub fn closes(kind: SyntaxKind) -> bool
     ensures { result ≡ closes kind }
@@ -48,7 +48,7 @@ pub fn closes(kind: SyntaxKind) -> bool
     )
 }
 
-/// Whether a token opens or closes something.
+/// Returns whether a token opens or closes something.
 #[inline(always)]
 pub fn is_bracket(kind: SyntaxKind) -> bool
     ensures { result ≡ (opens kind || closes kind) }
@@ -56,7 +56,7 @@ pub fn is_bracket(kind: SyntaxKind) -> bool
     opens(kind) || closes(kind)
 }
 
-/// The kind of the token that a token closes, if it closes one.
+/// Returns the kind of token that a token of the kind closes, if it closes one.
 #[inline(always)]
 pub fn opener_of(closing: SyntaxKind) -> Option<SyntaxKind>
     ensures { result ≡ opener_of closing }
@@ -74,16 +74,16 @@ pub fn opener_of(closing: SyntaxKind) -> Option<SyntaxKind>
     }
 }
 
-/// What is open after some tokens of a text, up to the first that closes nothing.
+/// The openings that are not yet closed after some tokens of a text, up to the first token that closes nothing.
 #[derive(Drop)]
 pub struct Openings {
     // The kinds of the tokens that opened it, the innermost last.
     opened: Vec<SyntaxKind>,
-    /// The first token that closes nothing. None is read after it.
+    /// The first token that closes nothing. No token after it is read.
     pub extra: Option<TextRange>,
 }
 
-// Whether two kinds are the same.
+// Returns whether two kinds are the same.
 fn same_kind(a: SyntaxKind, b: SyntaxKind) -> bool
     ensures { result ≡ same_kind a b }
 {
@@ -103,7 +103,7 @@ fn close(opened: &mut Vec<SyntaxKind>, kind: SyntaxKind) -> bool
     false
 }
 
-// Closes what a token of the kind closes. Returns whether it closes one of a kind of which none is open.
+// Closes what a token of the kind closes. Returns whether the token closes something, but nothing of that kind is open.
 fn closes_none(opened: &mut Vec<SyntaxKind>, kind: SyntaxKind) -> bool
     ensures none { result ≡ closes_none (opener_of kind) (reverse opened.old.items) }
     ensures remaining { reverse opened.new.items ≡ after_closing (opener_of kind) (reverse opened.old.items) }
@@ -115,7 +115,7 @@ fn closes_none(opened: &mut Vec<SyntaxKind>, kind: SyntaxKind) -> bool
 }
 
 impl Openings {
-    /// What is open before the first token.
+    /// Returns the state before the first token: nothing is open.
     pub fn new(alloc: Global) -> Openings
         ensures { (spots : List Spot) → unmatched_after result spots ≡ unmatched_in [] spots }
     {

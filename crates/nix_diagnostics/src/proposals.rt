@@ -1,4 +1,4 @@
-//! The replacements that hints propose.
+//! Replacements that hints propose.
 
 use crate::hints::Hint;
 use crate::near::text_before;
@@ -8,7 +8,7 @@ use SyntaxKind::*;
 use rnix::ast::{AstNode, AttrpathValue, BinOp, BinOpKind};
 use rnix::{SyntaxKind, SyntaxNode, SyntaxToken, TextRange};
 
-// In how many nodes the comparison before another operator is searched for.
+// The number of nodes in which the comparison before another operator is searched for.
 const MOST_AROUND: usize = 64;
 
 // Writes a text for a token.
@@ -50,7 +50,7 @@ fn comma(unwanted: &Unwanted<'_>) -> Option<Replacement> {
     Some(Replacement::insertion(before.text_range().end(), ","))
 }
 
-// Writes `=` for the `=>` that binds a name, and `:` for that of a function.
+// Writes `=` for a `=>` that binds a name, and `:` for the `=>` of a function.
 fn arrow(unwanted: &Unwanted<'_>) -> Option<Replacement> {
     let range = unwanted.token.text_range();
     if unwanted.token.kind() == TOKEN_MORE {
@@ -74,7 +74,7 @@ fn interpolation(unwanted: &Unwanted<'_>) -> Option<Replacement> {
     })
 }
 
-// Whether a node compares two values.
+// Returns whether a node compares two values.
 fn is_comparison(node: &SyntaxNode<'_>) -> bool {
     let operator = BinOp::cast(node.clone()).and_then(|operation| operation.operator());
     matches!(
@@ -108,7 +108,7 @@ fn parentheses(unwanted: &Unwanted<'_>) -> Option<Replacement> {
     None
 }
 
-// The quote that closes what another one opens.
+// Returns the quote that closes what another one opens.
 fn closing_quote(quote: char) -> char {
     match quote {
         '\u{2018}' => '\u{2019}',
@@ -118,7 +118,7 @@ fn closing_quote(quote: char) -> char {
     }
 }
 
-// Whether a text means itself in a string.
+// Returns whether a text needs no escapes in a string.
 fn is_plain(text: &str) -> bool {
     !text.contains('\n') && !text.contains('"') && !text.contains('\\') && !text.contains('$')
 }
@@ -139,18 +139,18 @@ fn quotes(token: &SyntaxToken<'_>, text: &str) -> Option<Replacement> {
     })
 }
 
-// Writes a space for one that does not break the line, and nothing for other invisible characters.
+// Writes a space for a no-break space, and nothing for other invisible characters.
 fn visible(token: &SyntaxToken<'_>) -> Replacement {
     let is_space = token.text().starts_with('\u{a0}');
     Replacement::new(token.text_range(), if is_space { " " } else { "" })
 }
 
-/// Returns what a hint about an unexpected token proposes to write.
+/// Returns the replacement that a hint about an unexpected token proposes.
 pub fn proposal(hint: Hint, unwanted: &Unwanted<'_>, text: &str) -> Option<Replacement> {
     let token = &unwanted.token;
     match hint {
         Hint::List => Some(removal(unwanted)),
-        // After a call the `=` may as well be that of the next entry.
+        // After a call, the `=` may also be that of the next entry.
         Hint::Comparison if unwanted.call_in_value().is_some() => None,
         Hint::Comparison => instead(token, "=="),
         Hint::Binding => binding(unwanted),

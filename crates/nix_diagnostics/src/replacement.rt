@@ -2,21 +2,21 @@
 
 use rnix::TextRange;
 
-/// What is to be written in place of some bytes of a text: `before`, a copy of the bytes `kept` of the text, and `after`.
+/// A replacement for some bytes of a text: `before`, a copy of the bytes `kept` of the text, and `after`.
 #[derive(Clone, Copy)]
 pub struct Replacement {
-    /// The bytes that are replaced: none where something is inserted.
+    /// The bytes that are replaced; empty for an insertion.
     pub range: TextRange,
     /// The new text before the copy.
     pub before: &'static str,
-    /// The bytes that are copied: none if all of the text is new.
+    /// The bytes that are copied; empty if all of the replacement is new.
     pub kept: TextRange,
     /// The new text after the copy.
     pub after: &'static str,
 }
 
 impl Replacement {
-    /// The replacement of a range by a text.
+    /// Returns the replacement of a range by a text.
     pub fn new(range: TextRange, text: &'static str) -> Replacement {
         Replacement {
             range,
@@ -26,7 +26,7 @@ impl Replacement {
         }
     }
 
-    /// The insertion of a text at an offset.
+    /// Returns the insertion of a text at an offset.
     pub fn insertion(offset: usize, text: &'static str) -> Replacement {
         Replacement::new(TextRange::empty(offset), text)
     }

@@ -1,4 +1,4 @@
-//! What errors are about.
+//! Kinds of errors.
 
 ghost use Rattle.std.specs.Prelude.{◌≡◌};
 ghost use Rattle.std.specs.List.{list_all};
@@ -7,7 +7,7 @@ ghost use Rattle.nix_diagnostics.specs.Slips.{is_slip, is_repeated_name};
 
 use rnix::ParseError;
 
-/// Whether an error is about an unexpected or a missing token.
+/// Returns whether an error is about an unexpected or a missing token.
 pub fn is_slip(error: &ParseError) -> bool
     ensures { result ≡ is_slip (fault_of error.now) }
 {
@@ -17,7 +17,7 @@ pub fn is_slip(error: &ParseError) -> bool
     )
 }
 
-/// Whether all errors are about names that a pattern repeats.
+/// Returns whether all errors are about names that a pattern repeats.
 pub fn are_repeated_names(errors: &[ParseError]) -> bool
     ensures { result ≡ list_all (λ error. is_repeated_name (fault_of error)) errors.now }
 {

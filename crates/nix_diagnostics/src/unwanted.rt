@@ -15,14 +15,14 @@ pub struct Unwanted<'t> {
     pub before: Option<SyntaxToken<'t>>,
     /// The node around its error node.
     pub parent: SyntaxNode<'t>,
-    /// The first kind that is expected in its place, if one is.
+    /// The first kind that is expected in its place, if any.
     pub wanted: Option<SyntaxKind>,
     /// Whether it is in braces that are followed by `:` or `@`, which shows that they are those of a pattern.
     pub is_in_pattern: bool,
 }
 
 impl<'t> Unwanted<'t> {
-    /// The unexpected token of an error: the first of its error node.
+    /// Returns the unexpected token of an error: the first of its error node.
     pub fn of(
         error: &ParseError,
         node: Option<SyntaxNode<'t>>,
@@ -44,34 +44,35 @@ impl<'t> Unwanted<'t> {
         })
     }
 
-    /// The kind of the previous token other than trivia.
+    /// Returns the kind of the previous token other than trivia.
     pub fn kind_before(&self) -> Option<SyntaxKind> {
         self.before.as_ref().map(|token| token.kind())
     }
 
-    /// The kind of the next token, trivia included.
+    /// Returns the kind of the next token, trivia included.
     pub fn kind_after(&self) -> Option<SyntaxKind> {
         self.token.next_token().map(|token| token.kind())
     }
 
-    /// Whether an expression is expected.
+    /// Returns whether an expression is expected.
     pub fn wants_expression(&self) -> bool {
         self.wanted == Some(TOKEN_L_PAREN)
     }
 
-    /// Whether a name is expected.
+    /// Returns whether a name is expected.
     pub fn wants_name(&self) -> bool {
         self.wanted == Some(TOKEN_IDENT)
     }
 
-    /// Returns the call in the value of an entry that ends before it, if there is one.
+    /// Returns the outermost call at the end of the value of an entry, if the value ends before this token.
     pub fn call_in_value(&self) -> Option<SyntaxNode<'t>> {
         let value = AttrpathValue::cast(self.parent.clone())?.value()?;
         call_before(self.before.as_ref()?, value.syntax())
     }
 
-    /// The end of the value before it. If that is a call of which the last argument is followed by `=`, and the argument is on a line of its own or what is
-    /// called is no function, the argument is the name of the next entry.
+    /// Returns the end of the value before this token. If the token is `=`, the last argument of a call before it may be the name of the next entry. It is
+    /// if it is on another line than the function, or if the function is a literal, a string or a list; the value then ends before it. Returns `None`
+    /// otherwise.
     pub fn end_of_value(&self) -> Option<usize> {
         if self.token.kind() != TOKEN_ASSIGN {
             return Some(self.before.as_ref()?.text_range().end());
@@ -92,12 +93,12 @@ impl<'t> Unwanted<'t> {
     }
 }
 
-// Whether a node of a kind is never a function.
+// Returns whether a node of a kind is never a function.
 fn is_data(kind: SyntaxKind) -> bool {
     matches!(kind, NODE_LITERAL | NODE_STRING | NODE_LIST)
 }
 
-// The outermost call in a value that ends with a token.
+// Returns the outermost call in a value that ends with a token.
 fn call_before<'t>(token: &SyntaxToken<'t>, value: &SyntaxNode<'t>) -> Option<SyntaxNode<'t>> {
     let end = token.text_range().end();
     let mut call = None;
@@ -112,7 +113,7 @@ fn call_before<'t>(token: &SyntaxToken<'t>, value: &SyntaxNode<'t>) -> Option<Sy
     call
 }
 
-// Whether a node is a pattern, or part of one that was read as a set.
+// Returns whether a node is in a pattern, or in braces that were parsed as a set but are those of a pattern.
 fn is_in_pattern(node: &SyntaxNode<'_>, matching: &Matching) -> bool {
     for node in node.ancestors() {
         match node.kind() {

@@ -8,7 +8,7 @@ pub const LONGEST: usize = 40;
 // Shown in place of characters that a terminal would act on.
 const REPLACEMENT: char = '\u{fffd}';
 
-// The word for a missing token.
+// Returns the word for a missing token.
 fn word(kind: SyntaxKind) -> &'static str {
     match kind {
         SyntaxKind::TOKEN_R_PAREN => "\")\"",
@@ -46,7 +46,7 @@ pub fn add_wanted(wanted: &[SyntaxKind], text: &mut String) -> Result<(), AllocE
     Ok(())
 }
 
-// The word for a kind whose tokens have different texts.
+// Returns the word for a kind whose tokens have different texts.
 fn category(kind: SyntaxKind) -> Option<&'static str> {
     match kind {
         SyntaxKind::TOKEN_IDENT => Some("the name"),
@@ -61,7 +61,7 @@ fn category(kind: SyntaxKind) -> Option<&'static str> {
     }
 }
 
-// The picture of a control character, a replacement for one that changes the direction of text, and any other character itself.
+// Returns a visible character for a control character and for one that changes the direction of text, and any other character itself.
 fn shown(letter: char) -> char {
     match letter {
         '\0'..='\u{1f}' => char::from_u32(0x2400 | u32::from(letter)).unwrap_or(REPLACEMENT),
@@ -71,7 +71,7 @@ fn shown(letter: char) -> char {
     }
 }
 
-// Whether a text has nothing but spaces and visible characters of ASCII.
+// Returns whether a text contains only spaces and visible ASCII characters.
 fn is_plain(text: &str) -> bool {
     text.bytes().all(|byte| matches!(byte, b' '..=b'~'))
 }

@@ -21,7 +21,7 @@ pub struct FixedText {
     pub errors: usize,
 }
 
-// Returns the first fix of some diagnostics. The number of diagnostics that may still be tried falls.
+// Returns the first fix of some diagnostics. Decreases the number of diagnostics that may still be tried.
 fn first_fix(
     alloc: Global,
     text: &str,
@@ -43,7 +43,7 @@ fn first_fix(
     Ok(None)
 }
 
-// A text so far, with its tree and the number of its fixes.
+// The text so far, with its tree and the number of fixes in it.
 #[derive(Drop)]
 struct Progress {
     made: String,
@@ -78,11 +78,11 @@ fn next_fix(
     first_fix(alloc, progress.made.as_str(), errors, &found, remaining)
 }
 
-/// Fixes a text again and again, by the first diagnostic of each text that has a fix, until none has one or so many diagnostics were tried.
-/// Takes time for each of these in proportion to the length of the text.
+/// Fixes a text repeatedly, each time by the first diagnostic that has a fix, until no diagnostic has one or the limit of diagnostics is reached.
+/// Takes time proportional to the length of the text for each diagnostic that is tried.
 #[tactic(auto, using(crate::proofs::FixLemmas::advanced))]
 pub fn fixed(alloc: Global, text: &str, most: usize) -> Result<FixedText, AllocError>
-    // The new text is the old one with so many fixes, after each of which it had fewer errors.
+    // The new text is the old one with this number of fixes, each of which left fewer errors.
     ensures fixes { IfOk result (λ made. IsFixed text.now made.fixes (string_bytes made.text)) }
     // It has this number of errors.
     ensures errors { IfOk result (λ made. IsReadWith (string_bytes made.text) made.errors) }

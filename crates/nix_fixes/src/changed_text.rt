@@ -7,7 +7,7 @@ use nix_diagnostics::Replacement;
 use rnix::TextRange;
 use std::alloc::{AllocError, Global};
 
-// Returns the bytes of a range, if it begins and ends between characters of the text.
+// Returns the bytes of a range, if the range is in the text and at character boundaries.
 fn bytes_of(text: &str, range: TextRange) -> Option<&str>
     ensures bytes { IfSome result (λ bytes. bytes.now ≡ bytes_between range.start range.end text.now) }
     ensures none { IfNone result (¬ IsOfCharacters text.now range) }
@@ -15,7 +15,7 @@ fn bytes_of(text: &str, range: TextRange) -> Option<&str>
     text.get(range.start()..range.end())
 }
 
-/// Returns the new text that a replacement proposes, if the bytes that it keeps are characters of the text.
+/// Returns the new text of a replacement, if the bytes that it keeps are in the text and at character boundaries.
 pub fn new_text(
     alloc: Global,
     text: &str,
@@ -33,7 +33,7 @@ pub fn new_text(
     Ok(Some(new))
 }
 
-/// Returns the text with new bytes in place of those of a range, if these are characters of the text.
+/// Returns the text with new bytes in place of those of a range, if the range is in the text and at character boundaries.
 pub fn spliced(
     alloc: Global,
     text: &str,

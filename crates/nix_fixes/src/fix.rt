@@ -8,17 +8,17 @@ use nix_diagnostics::Diagnostic;
 use rnix::{Parse, TextRange};
 use std::alloc::{AllocError, Global};
 
-/// A range of a text, and what to write instead.
+/// A range of a text, and the text to write in its place.
 #[derive(Drop)]
 pub struct Fix {
-    /// The bytes that are replaced: none where something is inserted.
+    /// The bytes that are replaced; empty for an insertion.
     pub range: TextRange,
     /// The new text.
     pub text: String,
 }
 
-/// Returns a fix of a text that was read with this diagnostic: the first replacement of its notes with which the text has fewer errors.
-/// Parses the text with each replacement, up to that one; a diagnostic of `nix_diagnostics` has at most three.
+/// Returns the fix of a diagnostic of a text: the first replacement of its notes that leaves fewer errors. Parses the text once for each replacement that
+/// is tried; a diagnostic of `nix_diagnostics` has at most three.
 pub fn fix_of(
     alloc: Global,
     read: &Parse,

@@ -1,4 +1,4 @@
-//! Fixes of syntax errors: what a diagnostic proposes, tried by parsing the new text, which must have fewer errors.
+//! Fixes of syntax errors: the replacements that diagnostics propose, each tried by parsing the new text, which must have fewer errors.
 #![tactic(auto)]
 
 mod all_fixes;

@@ -19,21 +19,21 @@ pub enum DiffLine<'t> {
 }
 
 impl<'t> DiffLine<'t> {
-    /// Whether it is a line of both texts.
+    /// Returns whether it is a line of both texts.
     pub fn is_common(&self) -> bool
         ensures { result ≡ is_common self.now }
     {
         matches!(self, DiffLine::Common(_))
     }
 
-    /// Whether it is a line of the old text.
+    /// Returns whether it is a line of the old text.
     pub fn is_old(&self) -> bool
         ensures { result ≡ is_old self.now }
     {
         !matches!(self, DiffLine::Added(_))
     }
 
-    /// Whether it is a line of the new text.
+    /// Returns whether it is a line of the new text.
     pub fn is_new(&self) -> bool
         ensures { result ≡ is_new self.now }
     {
@@ -41,8 +41,8 @@ impl<'t> DiffLine<'t> {
     }
 }
 
-// A line of a text, and the numbers of bytes other than white space before it and up to its end. Two texts that differ in white space alone have the
-// same such bytes, so these numbers say which lines correspond.
+// A line of a text, and the numbers of bytes other than white space before it and up to its end. Two texts that differ only in white space have the
+// same such bytes, so lines correspond if these numbers are equal.
 #[derive(Clone, Copy)]
 struct Line<'t> {
     text: &'t str,
@@ -50,14 +50,14 @@ struct Line<'t> {
     end: usize,
 }
 
-// The number of bytes of a line that are not white space.
+// Returns the number of bytes of a line that are not white space.
 fn weight(line: &str) -> usize {
     line.bytes()
         .filter(|byte| !byte.is_ascii_whitespace())
         .count()
 }
 
-// The lines of a text.
+// Returns the lines of a text.
 fn lines_of<'t>(alloc: Global, text: &'t str) -> Result<Vec<Line<'t>>, AllocError>
     ensures { IfOk result (λ lines. texts_of lines.items ≡ lines_of text.now) }
 {
@@ -76,12 +76,12 @@ fn lines_of<'t>(alloc: Global, text: &'t str) -> Result<Vec<Line<'t>>, AllocErro
 }
 
 impl<'t> Line<'t> {
-    // Whether the line comes before a line of the other text.
+    // Returns whether the line comes before a line of the other text.
     fn precedes(&self, other: &Line<'_>) -> bool {
         self.start < other.start || (self.start == other.start && self.end < other.end)
     }
 
-    // Whether the line is the same as a line of the other text, and at the same place.
+    // Returns whether the line equals a line of the other text, with the same number of bytes other than white space before it.
     fn is_same(&self, other: &Line<'_>) -> bool
         ensures { result ≡ true → self.now.text.now ≡ other.now.text.now }
     {
@@ -89,7 +89,7 @@ impl<'t> Line<'t> {
     }
 }
 
-// How many of the lines come before a line of the other text.
+// Returns the number of lines that come before a line of the other text.
 fn count_before(lines: &[Line<'_>], other: &Line<'_>) -> usize
     ensures { result ≤ length lines.now }
 {
@@ -108,8 +108,8 @@ fn add_new<'t>(diff: &mut Vec<DiffLine<'t>>, news: &[Line<'t>]) -> Result<(), Al
     Ok(())
 }
 
-// Adds a line of the old text to a diff: as a common line, after the lines of the new text before it, or as a removed one. Returns how many lines of the
-// new text it added.
+// Adds a line of the old text to a diff: as a common line, after the lines of the new text before it, or as a removed one. Returns the number of lines of
+// the new text that were added.
 fn add_old<'t>(
     diff: &mut Vec<DiffLine<'t>>,
     line: &Line<'t>,
@@ -146,8 +146,8 @@ fn diff_of<'t>(alloc: Global, old: &'t str, new: &'t str) -> Result<Vec<DiffLine
 
 /// Returns the difference of two texts. In each run of lines that differ, the removed ones come before the added ones.
 ///
-/// Lines correspond if they are equal and the same number of bytes other than white space precedes them. So the difference is short if the texts
-/// differ in white space alone, and right for any two texts.
+/// Lines are common if they are equal and the same number of bytes other than white space precedes them. The difference is right for any two texts, and
+/// short if they differ only in white space.
 #[tactic(auto, using(crate::proofs::AppliedDiffs::diff_applies, crate::proofs::AppliedDiffs::diff_reverses))]
 pub fn line_diff<'t>(
     alloc: Global,

@@ -12,24 +12,24 @@ use rnix::Root;
 use std::alloc::Global;
 use std::io::{self, Write};
 
-// The most errors of a file that are printed.
+// The greatest number of errors of a file that are printed.
 const LIMIT: usize = 3;
 
-/// What the program does with the formatted text of a file.
+/// The program's task for the formatted text of a file.
 #[derive(Clone, Copy, PartialEq, Eq)]
 pub enum Task {
     /// Write it to the file.
     Write,
     /// Print the name of the file if the text differs.
     Check,
-    /// Print how the text differs.
+    /// Print a diff of the texts.
     Diff,
-    /// Print it.
+    /// Print the formatted text.
     Print,
 }
 
 impl Task {
-    // Whether the formatted text is written to the file.
+    // Returns whether the formatted text is written to the file.
     fn writes(self) -> bool
         ensures { result ≡ writes self }
     {
@@ -45,7 +45,7 @@ impl Task {
 pub enum Outcome {
     /// The formatted text differs.
     Changed,
-    /// The file is formatted already.
+    /// The file is already formatted.
     Same,
     /// The file could not be read, formatted or written.
     Failed,
@@ -113,7 +113,7 @@ fn write_name<W: Write>(name: &str, is_same: bool, out: &mut W) -> io::Result<()
     }
 }
 
-// Prints how a text differs.
+// Prints the diff of a text.
 fn write_diff<W: Write>(
     alloc: Global,
     change: Change<'_>,
@@ -140,7 +140,7 @@ fn write_input<W: Write>(name: &str, made: &str, out: &mut W) -> io::Result<()>
     }
 }
 
-// Prints the formatted text, or how it differs, as the task asks.
+// Prints the formatted text, its diff or the name of the file, as the task says.
 fn write_change<W: Write>(
     alloc: Global,
     change: Change<'_>,
@@ -159,7 +159,7 @@ fn write_change<W: Write>(
     }
 }
 
-// Does with the formatted text what the task asks for.
+// Writes or prints the formatted text, as the task says.
 fn finish<W: Write>(
     rt: &HostRuntime,
     program: &Program,
@@ -181,7 +181,7 @@ fn finish<W: Write>(
     Ok(Outcome::Changed)
 }
 
-// Reports that a text is not formatted because of a bug.
+// Reports that a text was not formatted because of a bug in the formatter.
 fn write_refusal(rt: &HostRuntime, program: &Program, name: &str) -> io::Result<()> {
     eprintln!(rt;
         "{}: {}: this text is left as it is: its new text would differ in more than white space, or change again, which is a bug; please report it",
@@ -237,7 +237,7 @@ fn read_and_format<W: Write>(
     }
 }
 
-// Why a file that is to be written cannot be replaced, if it cannot.
+// Returns the reason why a file that is to be written cannot be replaced, if it cannot.
 fn replacement_error(rt: &HostRuntime, name: &str, task: Task) -> Option<io::Error> {
     if task.writes() && name != "-" {
         replaceable(rt, name).err()

@@ -37,7 +37,7 @@ Ends with 0; with 1 if a file would change and --check or --diff is given; with 
     most: usize::MAX,
 };
 
-// What the options ask for. `--diff` includes what `--check` reports.
+// Returns the task that the options ask for. `--diff` takes precedence over `--check`, and both over `--print`.
 fn task_of(arguments: &Arguments) -> Task {
     if arguments.has("--diff") {
         Task::Diff

@@ -1,4 +1,4 @@
-//! Formatting of files: what is printed of each, their counts, and the exit status.
+//! Formatting files: the output for each, the counts, and the exit status.
 
 ghost use Rattle.std.specs.Prelude.{◌≡◌, map, string_bytes, IfOk, OnOk};
 ghost use Rattle.std.specs.Io.KnownBytes.{Appends};
@@ -18,7 +18,7 @@ struct Tally {
 }
 
 impl Tally {
-    // The counts with one more file.
+    // Returns the counts with one more file.
     fn counted(self, outcome: Outcome) -> Tally
         ensures { result ≡ counted outcome self }
     {
@@ -46,14 +46,14 @@ impl Tally {
         }
     }
 
-    // The exit status of a check without failures.
+    // Returns the exit status of a check without failures.
     fn found(self) -> u8
         ensures { result ≡ found_status self }
     {
         if self.changed == 0 { 0 } else { FOUND }
     }
 
-    // The exit status.
+    // Returns the exit status.
     fn status(self, task: Task) -> u8
         ensures { result ≡ status_of task self }
     {
@@ -68,7 +68,7 @@ impl Tally {
     }
 }
 
-// Writes the line in front of a text, if it has one.
+// Writes the line before a text, if there is one.
 fn write_heading<W: Write>(has_headings: bool, name: &str, out: &mut W) -> io::Result<()>
     ensures { OnOk result (Appends (W.contents out.old) (W.contents out.new) (heading has_headings name.now)) }
 {

@@ -21,15 +21,15 @@ struct Counts {
 // Lines of a diff that are printed together.
 #[derive(Clone, Copy)]
 struct Hunk {
-    // The number of its first line in the diff, and of the line after its last one.
+    // The indices in the diff of its first line and of the line after its last one.
     first: usize,
     end: usize,
-    // How many lines of each text precede it, and how many it has.
+    // The number of lines of each text before it, and in it.
     before: Counts,
     counts: Counts,
 }
 
-// How many lines of each text are among lines of a diff.
+// Returns the number of lines of each text in a part of a diff.
 fn counts_of(lines: &[DiffLine<'_>]) -> Counts
     ensures { AreCounts lines.now result }
 {
@@ -39,7 +39,7 @@ fn counts_of(lines: &[DiffLine<'_>]) -> Counts
     }
 }
 
-// How many lines of a diff are common before the first other one.
+// Returns the number of common lines at the start of a part of a diff.
 fn count_common(lines: &[DiffLine<'_>]) -> usize
     ensures count { result ≡ prefix_len is_common lines.now }
     ensures within { result ≤ length lines.now }
@@ -47,8 +47,8 @@ fn count_common(lines: &[DiffLine<'_>]) -> usize
     lines.iter().take_while(|line| line.is_common()).count()
 }
 
-// How many lines of a diff, which begins with a change, there are up to the last change in the same hunk. Between two changes of a hunk there are at most
-// the common lines that are printed after the one and before the other.
+// Returns the number of lines up to the last change of a hunk, in a part of a diff that begins with a change. Two changes are in one hunk if at most
+// `2 * CONTEXT` common lines are between them.
 fn count_changed(lines: &[DiffLine<'_>]) -> usize
     requires { 0 < length lines.now }
     ensures some { 0 < result }
@@ -65,7 +65,7 @@ fn count_changed(lines: &[DiffLine<'_>]) -> usize
     end
 }
 
-// The counts of lines of a diff, and of further ones.
+// Returns the sum of two counts.
 fn counts_with(before: Counts, more: Counts) -> Counts
     requires olds { before.olds + more.olds < 2 ^ 64 }
     requires news { before.news + more.news < 2 ^ 64 }
@@ -78,7 +78,7 @@ fn counts_with(before: Counts, more: Counts) -> Counts
     }
 }
 
-// The first hunk from the line of a number on, before which there are so many lines of each text.
+// Returns the first hunk from a line of the diff on, given the number of lines of each text before that line.
 fn next_hunk(diff: &[DiffLine<'_>], index: usize, before: Counts) -> Option<Hunk>
     requires within { index ≤ length diff.now }
     requires before { AreCounts (take index diff.now) before }
@@ -100,7 +100,7 @@ fn next_hunk(diff: &[DiffLine<'_>], index: usize, before: Counts) -> Option<Hunk
     })
 }
 
-// The hunks of a diff.
+// Returns the hunks of a diff.
 fn hunks_of(alloc: Global, diff: &[DiffLine<'_>]) -> Result<Vec<Hunk>, AllocError>
     ensures { IfOk result (λ hunks. AreHunks diff.now 0 hunks.items) }
 {
@@ -115,7 +115,7 @@ fn hunks_of(alloc: Global, diff: &[DiffLine<'_>]) -> Result<Vec<Hunk>, AllocErro
     Ok(hunks)
 }
 
-// Whether a character of a file's name is written as an escape.
+// Returns whether a character of a file's name is written as an escape.
 fn is_escaped(letter: char) -> bool {
     letter < ' ' || letter == '\u{7f}' || letter == '"' || letter == '\\'
 }
@@ -135,7 +135,7 @@ fn quoted_name(alloc: Global, name: &str) -> Result<String, AllocError> {
     Ok(quoted)
 }
 
-// Adds the parts of a path to a text, each after a `/`. Empty parts and `.` are left out: `git apply` refuses them.
+// Adds the components of a path to a text, each after a `/`. Leaves out empty ones and `.`, which `git apply` refuses.
 fn push_path(path: &str, text: &mut String) -> Result<(), AllocError> {
     for part in path.split('/') {
         if !part.is_empty() && part != "." {
@@ -146,7 +146,7 @@ fn push_path(path: &str, text: &mut String) -> Result<(), AllocError> {
     Ok(())
 }
 
-// Returns the name of one of the texts. As `git` does it, a name with unusual characters is quoted, and a tab follows one with spaces.
+// Returns the name of one of the texts. As in the output of `git`, a name with unusual characters is quoted, and a tab follows one with spaces.
 fn name_of(alloc: Global, side: char, name: &str) -> Result<String, AllocError> {
     let end = if name.contains(' ') { "\t" } else { "" };
     let mut whole = format!(in alloc; "{side}")?;
@@ -166,7 +166,7 @@ fn write_names(alloc: Global, name: &str, out: &mut String) -> Result<(), AllocE
     out.push_str(names.as_str())
 }
 
-// Two numbers with a comma between them.
+// Returns two numbers with a comma between them.
 fn pair_text(alloc: Global, first: usize, second: usize) -> Result<String, AllocError>
     ensures { IfOk result (λ text. string_bytes text ≡ decimal first ++ codes "," ++ decimal second) }
 {
@@ -177,8 +177,8 @@ fn pair_text(alloc: Global, first: usize, second: usize) -> Result<String, Alloc
     Ok(text)
 }
 
-// Lines of one text in the header of a hunk, by how many precede them: the number of the first one, and how many there are. For no lines, it is the number
-// of the line before.
+// Returns the lines of one text as the header of a hunk gives them: the number of the first line, and how many there are. If there are none, the first number
+// is that of the line before.
 fn range_text(alloc: Global, before: usize, count: usize) -> Result<String, AllocError>
     requires { before + 1 < 2 ^ 64 }
     ensures { IfOk result (λ text. string_bytes text ≡ range_text before count) }

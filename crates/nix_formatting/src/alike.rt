@@ -18,7 +18,7 @@ struct Solid<'t> {
     joins: bool,
 }
 
-// Whether a path may continue after a token of the kind.
+// Returns whether a path may continue after a token of the kind.
 fn ends_piece(kind: SyntaxKind) -> bool
     ensures { result ≡ ends_piece kind }
 {
@@ -31,7 +31,7 @@ fn ends_piece(kind: SyntaxKind) -> bool
     )
 }
 
-// Whether a token of the kind continues a path that ends right before it.
+// Returns whether a token of the kind continues a path that ends right before it.
 fn is_piece_start(kind: SyntaxKind) -> bool
     ensures { result ≡ is_piece_start kind }
 {
@@ -74,14 +74,14 @@ enum Step {
     End,
 }
 
-/// Whether two flags are the same.
+/// Returns whether two flags are the same.
 pub fn same_flag(old: bool, new: bool) -> bool
     ensures { result ≡ same_flag old new }
 {
     if old { new } else { !new }
 }
 
-// Whether two tokens are the same.
+// Returns whether two tokens are the same.
 fn is_same(old: &Solid<'_>, new: &Solid<'_>) -> bool
     ensures { result ≡ same_solid old.now new.now }
 {
@@ -120,7 +120,7 @@ fn next_step(
     Ok(compared(old, new))
 }
 
-/// Whether two texts have the same tokens except for white space, and the same parts of paths without white space between them.
+/// Returns whether two texts have the same tokens except for white space, and the same parts of paths without white space between them.
 #[tactic(auto, using(crate::proofs::SolidLemmas::same_text, crate::proofs::SolidLemmas::same_step, crate::proofs::SolidLemmas::end_step))]
 pub fn have_same_solids(alloc: Global, old: &str, new: &str) -> Result<bool, AllocError>
     ensures { IfOk result (λ are_same. are_same ≡ true → solids_of new.now ≡ solids_of old.now) }

@@ -21,8 +21,8 @@ pub enum Formatting {
     Formatted(String),
     /// The text has errors.
     Faulty,
-    /// The text has no errors, but the layout would change more than white space and the indentation of strings, or would change its own texts again and
-    /// again. This is a bug of the layout.
+    /// The text has no errors, but the new text differs in more than white space and the indentation of strings, or changes each time it is formatted again.
+    /// This is a bug of the layout.
     Refused,
 }
 
@@ -77,8 +77,8 @@ fn compared(alloc: Global, text: &str, read: &Parse, made: String) -> Result<For
 
 /// Formats a text in the style of Nixpkgs. The new text has the same tokens, comments included, and the same tree, except for white space and the
 /// indentation of strings in `''`, whose values stay the same. It is compared with the old text, and the result is `Refused` if it differs in more. Formatting
-/// it again changes nothing: if the layout does not know this of its text, that text is formatted again, a few times at most. The result is `Faulty` exactly
-/// if the text has errors.
+/// it again changes nothing: if the layout cannot tell, the new text is formatted again, a few times at most. The result is `Faulty` exactly if the text has
+/// errors.
 pub fn formatted(alloc: Global, text: &str) -> Result<Formatting, AllocError>
     ensures { IfOk result (IsOutcome text.now) }
 {

@@ -9,7 +9,7 @@ ghost use Rattle.nix_formatting.specs.Values.{written_parts};
 
 use rnix::ast::{AstToken, InterpolPart, Str, StrContent};
 
-// Whether two parts are interpolations, or texts that are written in the same way.
+// Returns whether two parts are interpolations, or texts that are written in the same way.
 fn is_same_written<'t>(
     old: &InterpolPart<'t, StrContent<'t>>,
     new: &InterpolPart<'t, StrContent<'t>>,
@@ -25,7 +25,7 @@ fn is_same_written<'t>(
     }
 }
 
-/// Whether two strings have the same texts and as many interpolations between them, as they are written.
+/// Returns whether two strings have the same texts and as many interpolations between them, as they are written.
 #[tactic(auto, using(crate::proofs::ValueLemmas::parts_begun, crate::proofs::ValueLemmas::parts_ended))]
 pub fn have_same_written<'t>(old: &Str<'t>, new: &Str<'t>) -> bool
     ensures { result ≡ true → bare_parts (written_parts new.now) ≡ bare_parts (written_parts old.now) }
@@ -43,7 +43,7 @@ pub fn have_same_written<'t>(old: &Str<'t>, new: &Str<'t>) -> bool
     news.next().is_none()
 }
 
-// Whether two normalized parts are interpolations, or the same texts.
+// Returns whether two normalized parts are interpolations, or the same texts.
 fn is_same_normalized(old: &InterpolPart<'_, String>, new: &InterpolPart<'_, String>) -> bool
     ensures { result ≡ true → bare (with_text string_bytes new.now) ≡ bare (with_text string_bytes old.now) }
 {
@@ -54,7 +54,7 @@ fn is_same_normalized(old: &InterpolPart<'_, String>, new: &InterpolPart<'_, Str
     }
 }
 
-/// Whether some normalized parts are the same texts, with as many interpolations between them.
+/// Returns whether some normalized parts are the same texts, with as many interpolations between them.
 pub fn have_same_normalized(
     olds: &[InterpolPart<'_, String>],
     news: &[InterpolPart<'_, String>],

@@ -4,7 +4,7 @@ use nix_layout::{NewText, styled};
 use rnix::Root;
 use std::alloc::{AllocError, Global};
 
-// How often a text is formatted again at most.
+// The greatest number of times that a text is formatted again.
 const ROUNDS: usize = 4;
 
 // Formats a new text again. Returns `None` if it has errors.
@@ -20,8 +20,8 @@ fn styled_again(alloc: Global, made: &str) -> Result<Option<NewText>, AllocError
     }))
 }
 
-/// Returns a text that stays the same when it is formatted again: the new text, or what it becomes when it is formatted a few times more. Returns `None` if
-/// there is none among these, or if the new text has errors.
+/// Returns a text that stays the same when it is formatted again: the new text, or the result of formatting it a few more times. Returns `None` if there is
+/// none among these, or if the new text has errors.
 pub fn settled(alloc: Global, made: NewText) -> Result<Option<String>, AllocError> {
     let mut made = made;
     for _ in 0..ROUNDS {

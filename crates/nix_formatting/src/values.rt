@@ -106,7 +106,7 @@ fn normalized_value(
     Ok(symbols)
 }
 
-// Whether some parts have the same bytes and interpolations as others.
+// Returns whether some parts have the same bytes and interpolations as others.
 #[tactic(auto, using(crate::proofs::ValueLemmas::normalized_same, crate::proofs::ValueLemmas::equal_pass))]
 fn are_same_parts(
     alloc: Global,
@@ -123,7 +123,7 @@ fn are_same_parts(
     Ok(old_row.as_slice() == new_row.as_slice())
 }
 
-// Whether the normalized parts of two strings have the same bytes and interpolations.
+// Returns whether the normalized parts of two strings have the same bytes and interpolations.
 fn are_same_normalized<'t>(alloc: Global, old: &Str<'t>, new: &Str<'t>) -> Result<bool, AllocError>
     ensures { IfOk result (λ same. same ≡ bytes_eq (symbols_of (normalized_parts old.now)) (symbols_of (normalized_parts new.now))) }
 {
@@ -132,7 +132,7 @@ fn are_same_normalized<'t>(alloc: Global, old: &Str<'t>, new: &Str<'t>) -> Resul
     are_same_parts(alloc, &olds, &news)
 }
 
-// Whether two strings have the same value as Nix makes it.
+// Returns whether two strings have the same value in Nix.
 fn are_made_alike<'t>(alloc: Global, old: &Str<'t>, new: &Str<'t>) -> Result<bool, AllocError>
     ensures { IfOk result (λ same. same ≡ bytes_eq (nix_value_of old.now) (nix_value_of new.now)) }
 {
@@ -141,7 +141,7 @@ fn are_made_alike<'t>(alloc: Global, old: &Str<'t>, new: &Str<'t>) -> Result<boo
     are_same_parts(alloc, &olds, &news)
 }
 
-// Whether two strings have the same parts as they are written, and quotes of the same kind.
+// Returns whether two strings have the same parts as they are written, and quotes of the same kind.
 #[tactic(auto, using(crate::proofs::ValueLemmas::written_same, crate::proofs::ValueLemmas::nix_written_same))]
 fn are_written_alike<'t>(old: &Str<'t>, new: &Str<'t>) -> bool
     ensures value { result ≡ true → value_of old.now ≡ value_of new.now }
@@ -150,7 +150,7 @@ fn are_written_alike<'t>(old: &Str<'t>, new: &Str<'t>) -> bool
     same_flag(is_indented(old.syntax()), is_indented(new.syntax())) && have_same_written(old, new)
 }
 
-// Whether two strings have the same value.
+// Returns whether two strings have the same value.
 #[tactic(auto, using(crate::proofs::ValueLemmas::value_of_indented))]
 fn have_same_value<'t>(alloc: Global, old: &Str<'t>, new: &Str<'t>) -> Result<bool, AllocError>
     ensures { IfOk result (λ same. same ≡ bytes_eq (value_of old.now) (value_of new.now)) }
@@ -163,7 +163,7 @@ fn have_same_value<'t>(alloc: Global, old: &Str<'t>, new: &Str<'t>) -> Result<bo
     Ok(old_value.as_slice() == new_value.as_slice())
 }
 
-/// Whether two strings have the same value, also as Nix makes it. Strings that are written alike are not evaluated.
+/// Returns whether two strings have the same normalized parts and the same value in Nix. Strings that are written alike are not evaluated.
 #[tactic(auto, using(crate::proofs::ValueLemmas::both_same, crate::proofs::ValueLemmas::second_decides, crate::proofs::ValueLemmas::first_differs))]
 pub fn are_same_values<'t>(alloc: Global, old: &Str<'t>, new: &Str<'t>) -> Result<bool, AllocError>
     ensures { IfOk result (λ same. same ≡ same_shown (both_values old.now) (both_values new.now)) }

@@ -13,7 +13,7 @@ use rnix::{
 };
 use std::alloc::{AllocError, Global};
 
-// Whether an event is a step: it enters or leaves a node, or passes a token other than white space.
+// Returns whether an event is a step: it enters or leaves a node, or passes a token other than white space.
 fn is_step(event: &WalkEvent<SyntaxElement<'_>>) -> bool
     ensures { result ≡ is_step (event_of event.now) }
 {
@@ -39,7 +39,7 @@ fn next_step<'t>(walk: &mut PreorderWithTokens<'t>) -> Option<WalkEvent<SyntaxEl
     None
 }
 
-// Whether two nodes of the same kind that are entered show the same: the same values, if they are strings.
+// Returns whether two nodes of the same kind that are entered show the same: the same values, if they are strings.
 #[tactic(auto, using(crate::proofs::WalkStepLemmas::no_strings, crate::proofs::WalkStepLemmas::one_string, crate::proofs::WalkStepLemmas::strings_show))]
 fn show_the_same<'t>(
     alloc: Global,
@@ -57,7 +57,7 @@ fn show_the_same<'t>(
     are_same_values(alloc, &old_string, &new_string)
 }
 
-// Whether two nodes that are entered have the same kind, and the same values if they are strings.
+// Returns whether two nodes that are entered have the same kind, and the same values if they are strings.
 #[tactic(auto, using(crate::proofs::WalkStepLemmas::kinds_differ, crate::proofs::WalkStepLemmas::kinds_same))]
 fn are_same_nodes<'t>(
     alloc: Global,
@@ -72,7 +72,7 @@ fn are_same_nodes<'t>(
     Ok(false)
 }
 
-// Whether two tokens have the same kind, and the same text unless they are the contents of strings.
+// Returns whether two tokens have the same kind, and the same text unless they are the contents of strings.
 fn are_same_tokens(old: &SyntaxToken<'_>, new: &SyntaxToken<'_>) -> bool
     ensures { result ≡ same_tokens old.now new.now }
 {
@@ -80,7 +80,7 @@ fn are_same_tokens(old: &SyntaxToken<'_>, new: &SyntaxToken<'_>) -> bool
         && (old.kind() == SyntaxKind::TOKEN_STRING_CONTENT || old.text() == new.text())
 }
 
-// Whether two events have the same step.
+// Returns whether two events have the same step.
 #[tactic(auto, using(crate::proofs::WalkStepLemmas::nodes_entered, crate::proofs::WalkStepLemmas::nodes_done, crate::proofs::WalkStepLemmas::tokens_passed))]
 fn are_same<'t>(
     alloc: Global,
@@ -149,7 +149,7 @@ fn next_pair(
     compared(alloc, old, new)
 }
 
-/// Whether walks over two trees have the same steps: white space aside, and with the values of strings in place of their contents.
+/// Returns whether walks over two trees have the same steps: white space aside, and with the values of strings in place of their contents.
 #[tactic(auto, using(crate::proofs::WalkStepLemmas::same_pair, crate::proofs::WalkStepLemmas::end_pair))]
 pub fn have_same_steps(
     alloc: Global,

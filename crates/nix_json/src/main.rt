@@ -36,7 +36,7 @@ Ends with 0, with 1 if the text is refused or has no such PATH, or with 2 if som
     most: 2,
 };
 
-// Prints a converted text, or refuses if there is none.
+// Prints a converted text, or a refusal if there is none.
 fn write_converted(rt: &HostRuntime, converted: Option<String>) -> io::Result<u8> {
     match converted {
         Some(text) => {

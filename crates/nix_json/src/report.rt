@@ -1,4 +1,4 @@
-//! Messages on a text, with the place and the line.
+//! Messages about a text, with the location and the line.
 
 ghost use Rattle.nix_cli.specs.MessageLocations.{IsIndexed};
 
@@ -12,7 +12,7 @@ use std::io::{self, BufWriter, Write};
 // The largest number of errors that are printed.
 const LIMIT: usize = 20;
 
-// Prints a message with its place, and the line with carets.
+// Prints a message with its location, and the line with carets.
 fn write_message<W: Write>(
     source: &Source<'_>,
     range: TextRange,

@@ -4,7 +4,7 @@ use crate::layout::Target;
 use rnix::SyntaxKind;
 use rnix::ast::BinOpKind;
 
-// Whether nodes of a kind can be broken on their own: sets, lists and strings.
+// Returns whether nodes of a kind can be broken on their own: sets, lists and strings.
 fn is_term(kind: SyntaxKind) -> bool {
     matches!(
         kind,
@@ -12,18 +12,18 @@ fn is_term(kind: SyntaxKind) -> bool {
     )
 }
 
-// Whether the operator joins sets or lists.
+// Returns whether the operator joins sets or lists.
 fn is_joining(operator: Option<BinOpKind>) -> bool {
     matches!(operator, Some(BinOpKind::Update | BinOpKind::Concat))
 }
 
-// Whether a call is broken at its end, and not between parentheses.
+// Returns whether a call is broken at its end, and not between parentheses.
 fn is_tail_call(child: SyntaxKind, target: Target, end: usize) -> bool {
     let is_last = target.close.saturating_add(1) == end;
     child == SyntaxKind::NODE_APPLY && is_last && !target.is_paren
 }
 
-// Whether an entry of a set may be broken at the target of its value.
+// Returns whether an entry of a set may be broken at the target of its value.
 fn entry_takes(child: SyntaxKind) -> bool {
     is_term(child)
         || matches!(
@@ -36,7 +36,7 @@ fn entry_takes(child: SyntaxKind) -> bool {
         )
 }
 
-/// Whether a node may be broken at the target of one of its children, which ends before the piece `end`.
+/// Returns whether a node may be broken at the target of one of its children, which ends before the piece `end`.
 pub fn takes_target(
     parent: SyntaxKind,
     operator: Option<BinOpKind>,
@@ -63,7 +63,7 @@ pub fn takes_target(
     }
 }
 
-/// Whether a node with a target is broken there whenever that makes it fit. Other nodes are broken there only if the node around them is.
+/// Returns whether a node with a target is broken there whenever that makes it fit. Other nodes are broken there only if the node around them is.
 pub fn absorbs(kind: SyntaxKind) -> bool {
     matches!(
         kind,
@@ -74,7 +74,7 @@ pub fn absorbs(kind: SyntaxKind) -> bool {
     )
 }
 
-/// The node's own target: from its opening bracket, the piece `open`, to the last piece before `end`.
+/// Returns the node's own target: from its opening bracket, the piece `open`, to the last piece before `end`.
 pub fn own_target(kind: SyntaxKind, open: usize, end: usize) -> Option<Target> {
     let close = end.saturating_sub(1);
     let is_filled = close > open.saturating_add(1);

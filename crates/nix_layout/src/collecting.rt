@@ -96,7 +96,7 @@ impl Collector {
         self.unset = self.layout.pieces.len();
     }
 
-    // Whether the last piece always begins its line.
+    // Returns whether the last piece always begins its line.
     fn begins_line(&self) -> bool {
         match self.layout.pieces.last() {
             Some(piece) => piece.gap.is_hard,
@@ -104,7 +104,7 @@ impl Collector {
         }
     }
 
-    // The gap between a child of a node and the next one. A conditional whose `else` is followed by another one is broken.
+    // Returns the gap between a child of a node and the next one. A conditional whose `else` is followed by another one is broken.
     fn wanted(&self, frame: &Frame, before: SyntaxKind, child: Child) -> Spacing {
         if before == SyntaxKind::TOKEN_COMMA && self.begins_line() {
             return behind_first_comma();
@@ -164,7 +164,7 @@ impl Collector {
         self.settle(around_text(), 0);
     }
 
-    // The spacing before an item of a kind.
+    // Returns the spacing before an item of a kind.
     fn spacing_before(&self, kind: SyntaxKind) -> Spacing {
         if keeps_distance(self.last, kind) {
             distant(self.spacing)
@@ -233,12 +233,12 @@ impl Collector {
         }
     }
 
-    // The number of elements up to the end of a node that is entered.
+    // Returns the number of elements up to the end of a node that is entered.
     fn end_of(&self, node: &SyntaxNode<'_>) -> usize {
         self.passed.saturating_add(node.inside_count())
     }
 
-    // Whether the next node has a group of its own, or else shares that of the node around it.
+    // Returns whether the next node has a group of its own, or else shares that of the node around it.
     fn opens_group(&self, kind: SyntaxKind, operator: Option<BinOpKind>) -> bool {
         match self.frames.last() {
             Some(parent) => has_group(parent, kind, operator),
@@ -346,7 +346,7 @@ impl Collector {
         }
     }
 
-    // Whether the innermost node ends before the element of a number.
+    // Returns whether the innermost node ends before the element of a number.
     fn ends_before(&self, number: usize) -> bool {
         self.frames.last().is_some_and(|frame| frame.end <= number)
     }
@@ -385,7 +385,7 @@ impl Collector {
     }
 }
 
-/// The pieces and groups of a tree without errors.
+/// Returns the pieces and groups of a tree without errors.
 pub fn layout_of(alloc: Global, root: &SyntaxNode<'_>) -> Result<Layout, AllocError> {
     let mut collector = Collector::new(alloc);
     for element in root.descendants_with_tokens() {

@@ -3,7 +3,7 @@
 use crate::piece::{Gap, Level, Piece};
 use crate::spacing::Spacing;
 
-/// The gap with a spacing, for a piece with a number of line feeds before it.
+/// Returns the gap with a spacing, for a piece with a number of line feeds before it.
 pub fn plain_gap(spacing: Spacing, group: usize, line_feeds: usize) -> Gap {
     Gap {
         blanks: spacing.blanks,
@@ -16,7 +16,7 @@ pub fn plain_gap(spacing: Spacing, group: usize, line_feeds: usize) -> Gap {
     }
 }
 
-// The same gap with a line feed.
+// Returns the same gap with a line feed.
 fn ended(gap: Gap, line_feeds: usize, may_be_empty: bool) -> Gap {
     Gap {
         is_hard: true,
@@ -25,7 +25,7 @@ fn ended(gap: Gap, line_feeds: usize, may_be_empty: bool) -> Gap {
     }
 }
 
-// The same gap with a blank.
+// Returns the same gap with a blank.
 fn spaced(gap: Gap) -> Gap {
     Gap {
         blanks: 1,
@@ -36,7 +36,7 @@ fn spaced(gap: Gap) -> Gap {
     }
 }
 
-// The level of comments: inside the brackets, if a closing bracket follows.
+// Returns the level of comments: inside the brackets, if a closing bracket follows.
 fn comment_level(spacing: Spacing) -> Level {
     if spacing.closes {
         Level::Inner
@@ -45,7 +45,7 @@ fn comment_level(spacing: Spacing) -> Level {
     }
 }
 
-// The gap before a comment, by whether it is the first of its comments, whether the comment before it ended its line, and whether this one does.
+// Returns the gap before a comment, by whether it is the first of its comments, whether the comment before it ended its line, and whether this one does.
 fn comment_gap(
     piece: &Piece,
     spacing: Spacing,
@@ -70,7 +70,7 @@ fn comment_gap(
     }
 }
 
-// The gap before the piece that follows comments.
+// Returns the gap before the piece that follows comments.
 fn gap_behind(piece: &Piece, spacing: Spacing, group: usize, is_ended: bool) -> Gap {
     let gap = plain_gap(spacing, group, piece.line_feeds);
     if is_ended {
@@ -85,7 +85,7 @@ fn gap_behind(piece: &Piece, spacing: Spacing, group: usize, is_ended: bool) -> 
     }
 }
 
-// Whether the line ends after a comment.
+// Returns whether the line ends after a comment.
 fn ends_line(pieces: &[Piece], number: usize) -> bool {
     match (pieces.get(number), pieces.get(number.saturating_add(1))) {
         (Some(piece), Some(next)) => piece.ends_line || next.line_feeds > 0,

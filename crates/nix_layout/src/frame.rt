@@ -41,7 +41,7 @@ pub const NO_FRAME: Frame = Frame {
     end: 0,
 };
 
-/// Whether a node has a group of its own, or else shares that of its parent.
+/// Returns whether a node has a group of its own, or else shares that of its parent.
 pub fn has_group(parent: &Frame, kind: SyntaxKind, operator: Option<BinOpKind>) -> bool {
     match kind {
         SyntaxKind::NODE_APPLY => {

@@ -3,7 +3,7 @@
 use crate::spacing::Child;
 use rnix::{SyntaxKind, SyntaxNode};
 
-/// Whether nodes of a kind are written as they are: names, strings and paths.
+/// Returns whether nodes of a kind are written as they are: names, strings and paths.
 pub fn is_atom(kind: SyntaxKind) -> bool {
     matches!(
         kind,
@@ -16,7 +16,7 @@ pub fn is_atom(kind: SyntaxKind) -> bool {
     )
 }
 
-/// Whether nodes of a kind always have groups of their own.
+/// Returns whether nodes of a kind always have groups of their own.
 pub fn is_grouped(kind: SyntaxKind) -> bool {
     matches!(
         kind,
@@ -35,7 +35,7 @@ pub fn is_grouped(kind: SyntaxKind) -> bool {
     )
 }
 
-// Whether a function has a name as its parameter.
+// Returns whether a function has a name as its parameter.
 fn is_named_lambda(node: &SyntaxNode<'_>) -> bool {
     match node.first_child() {
         Some(parameter) => parameter.kind() == SyntaxKind::NODE_IDENT_PARAM,

@@ -22,7 +22,7 @@ struct Scan {
 }
 
 impl Scan {
-    // The state after an interpolation, or a byte that is neither a space nor a line feed: a tab or a carriage return, or another one.
+    // Returns the state after an interpolation, or a byte that is neither a space nor a line feed: a tab or a carriage return, or another one.
     fn with_text(self, is_tab: bool) -> Scan {
         match self.blanks {
             Some(blanks) => Scan {
@@ -35,7 +35,7 @@ impl Scan {
         }
     }
 
-    // The state after a line feed.
+    // Returns the state after a line feed.
     fn with_line_feed(self) -> Scan {
         Scan {
             blanks: Some(0),
@@ -44,7 +44,7 @@ impl Scan {
         }
     }
 
-    // The state after a part of a line.
+    // Returns the state after a part of a line.
     fn with_part(self, part: &str) -> Scan {
         let Some(blanks) = self.blanks else {
             return self;
@@ -60,7 +60,7 @@ impl Scan {
         }
     }
 
-    // The state after a text.
+    // Returns the state after a text.
     fn with_content(self, text: &str) -> Scan {
         let has_spaces = text.contains('\\') && has_spaces_after_escape(text);
         let mut scan = Scan {

@@ -33,7 +33,7 @@ pub struct Group {
 }
 
 impl Group {
-    /// Whether all pieces of a target are in the group.
+    /// Returns whether all pieces of a target are in the group.
     pub fn has_part(&self, target: Target) -> bool {
         self.first <= target.open && target.close < self.end
     }

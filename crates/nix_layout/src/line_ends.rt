@@ -19,7 +19,7 @@ struct Search<'a> {
 }
 
 impl<'a> Search<'a> {
-    // The first line end in the white space before an offset.
+    // Returns the first line end in the white space before an offset.
     fn end_before(self, end: usize) -> Option<&'static str> {
         let feed = self.text.get(self.start..end)?.find('\n')?;
         let before = self.text.get(..self.start.saturating_add(feed))?;
@@ -30,7 +30,7 @@ impl<'a> Search<'a> {
         })
     }
 
-    // The state after a piece, before which there is no line end or one after a comment.
+    // Returns the state after a piece, before which there is no line end or one after a comment.
     fn after(self, piece: &Piece, found: Option<&'static str>) -> Search<'a> {
         Search {
             start: piece.end,
@@ -40,7 +40,7 @@ impl<'a> Search<'a> {
         }
     }
 
-    // The line end to be written, for the last one of the text.
+    // Returns the line end to be written, for the last one of the text.
     fn finish(self, last: Option<&'static str>) -> &'static str {
         let found = if self.follows_comment {
             self.comment_end.or(last)

@@ -27,7 +27,7 @@ struct Scan {
 }
 
 impl Scan {
-    // The state after a character, or its escape.
+    // Returns the state after a character, or its escape.
     fn after(self, is_feed: bool, has_spaces: bool) -> Scan {
         Scan {
             state: EscapeState::Outside,
@@ -36,12 +36,12 @@ impl Scan {
         }
     }
 
-    // The state in an escape, or what may be one.
+    // Returns the state in an escape, or what may be one.
     fn at(self, state: EscapeState) -> Scan {
         Scan { state, ..self }
     }
 
-    // The state after the byte that follows `''\`. The line after a line feed that is written as such is moved with the others.
+    // Returns the state after the byte that follows `''\`. The line after a line feed that is written as such is moved with the others.
     fn with_escaped(self, byte: u8) -> Scan {
         match byte {
             b'n' => self.after(true, false),
@@ -51,7 +51,7 @@ impl Scan {
         }
     }
 
-    // The state after a byte.
+    // Returns the state after a byte.
     fn with_byte(self, byte: u8) -> Scan {
         match (self.state, byte) {
             (EscapeState::Outside, b'\'') => self.at(EscapeState::Quote),
@@ -64,7 +64,7 @@ impl Scan {
     }
 }
 
-/// Whether a text in `''` has a line that begins at an escaped line feed, and begins with a space or is written as a line of its own.
+/// Returns whether a text in `''` has a line that begins at an escaped line feed, and begins with a space or is written as a line of its own.
 pub fn has_spaces_after_escape(text: &str) -> bool {
     let mut scan = Scan {
         state: EscapeState::Outside,

@@ -29,12 +29,12 @@ pub struct Line {
 }
 
 impl Line {
-    /// The end of the spaces at its start.
+    /// Returns the end of the spaces at its start.
     pub fn end_of_blanks(self) -> usize {
         self.start.saturating_add(self.blanks)
     }
 
-    /// The number of spaces that are written, for the indentation of the code.
+    /// Returns the number of spaces that are written, for the indentation of the code.
     pub fn indent(self, code: usize) -> usize {
         match self.role {
             Role::Text(offset) => code.saturating_add(STEP).saturating_add(offset),
@@ -50,13 +50,13 @@ struct Moved {
     // The smallest indentation of its lines, and of those of the outermost string.
     least: usize,
     outermost: usize,
-    // How far its leftmost text is to the right of that of the outermost string, after the move.
+    // The columns from the leftmost text of the outermost string to its own, after the move.
     offset: usize,
 }
 
 impl Moved {
-    // A string inside this one, with the smallest indentation of its lines. It is not to the left of this one after the move. So it is at the same place
-    // after another move.
+    // Returns the state for a string inside this one, given the smallest indentation of its lines. After the move it is never to the left of this one, so
+    // another move leaves it where it is.
     fn around(self, least: usize) -> Moved {
         let inner = least.saturating_sub(self.least);
         Moved {
@@ -66,8 +66,8 @@ impl Moved {
         }
     }
 
-    // How far a line of the string is to the right of the leftmost text of the outermost one, after the move. Lines with code or with closing quotes may be
-    // to the left of the string's text.
+    // Returns the columns from the leftmost text of the outermost string to a line of this one, after the move. Lines with code or closing quotes may be to the
+    // left of the string's text.
     fn offset_of(self, blanks: usize) -> usize {
         match blanks.checked_sub(self.least) {
             Some(more) => self.offset.saturating_add(more),
@@ -86,7 +86,7 @@ struct LineWalk {
     current: Option<Line>,
 }
 
-// The line that begins at an offset.
+// Returns the line that begins at an offset.
 fn line_at(start: usize) -> Line {
     Line {
         start,
@@ -96,7 +96,7 @@ fn line_at(start: usize) -> Line {
 }
 
 impl LineWalk {
-    // The innermost string, if it is moved.
+    // Returns the innermost string, if it is moved.
     fn innermost(&self) -> Option<Moved> {
         match self.strings.last() {
             Some(string) => *string,
@@ -104,7 +104,8 @@ impl LineWalk {
         }
     }
 
-    // A string inside the outermost one, with the smallest indentation of its lines if it can be moved alone. It is moved if all strings around it are.
+    // Returns the state for a string inside the outermost one, given the smallest indentation of its lines if it can be moved alone. It is moved if all strings
+    // around it are.
     fn inside(&self, least: Option<usize>) -> Option<Moved> {
         let outer = self.innermost()?;
         Some(outer.around(least?))
@@ -230,7 +231,7 @@ impl LineWalk {
     }
 }
 
-// The lines of a string that is moved, with the smallest indentation of its lines, and of the strings inside it.
+// Returns the lines of a string that is moved, with the smallest indentation of its lines, and of the strings inside it.
 fn lines_of(alloc: Global, string: &SyntaxNode<'_>, least: usize) -> Result<Vec<Line>, AllocError> {
     let mut walk = LineWalk {
         lines: Vec::new(alloc),
@@ -250,7 +251,7 @@ fn lines_of(alloc: Global, string: &SyntaxNode<'_>, least: usize) -> Result<Vec<
     Ok(walk.lines)
 }
 
-// The number of characters of a string's last line, if that is the given line; it counts from the indentation of the code.
+// Returns the number of characters of a string's last line, if that is the given line; it counts from the indentation of the code.
 fn last_width(piece: &Piece, text: &str, line: Line) -> Option<usize> {
     let rest = text.get(line.end_of_blanks().saturating_sub(piece.start)..)?;
     if rest.contains('\n') {

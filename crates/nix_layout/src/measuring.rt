@@ -38,17 +38,17 @@ pub struct Room {
 // Parentheses wider than this are broken even if other arguments follow.
 const WIDE: usize = 40;
 
-// Whether the line always ends in the gap before a piece: 0 or 1.
+// Returns whether the line always ends in the gap before a piece: 0 or 1.
 fn hard_gap(piece: &Piece) -> usize {
     usize::from(piece.gap.is_hard)
 }
 
-// Whether a piece has several lines: 0 or 1.
+// Returns whether a piece has several lines: 0 or 1.
 fn several_lines(piece: &Piece) -> usize {
     usize::from(piece.last_width.is_some())
 }
 
-// The column at which each piece ends, and the number of line ends before it.
+// Returns the column at which each piece ends, and the number of line ends before it.
 fn sums_of(alloc: Global, pieces: &[Piece]) -> Result<Vec<Sum>, AllocError> {
     let mut sums = Vec::with_capacity(alloc, pieces.len().saturating_add(1))?;
     let mut end = 0usize;
@@ -66,7 +66,7 @@ fn sums_of(alloc: Global, pieces: &[Piece]) -> Result<Vec<Sum>, AllocError> {
     Ok(sums)
 }
 
-// The number of columns from each gap to the next place where the line may end, in reverse: first 0, for the end of the text.
+// Returns the number of columns from each gap to the next place where the line may end, in reverse: first 0, for the end of the text.
 fn tails_of(alloc: Global, pieces: &[Piece]) -> Result<Vec<usize>, AllocError> {
     let mut tails = Vec::with_capacity(alloc, pieces.len().saturating_add(1))?;
     let mut tail = 0usize;
@@ -85,7 +85,7 @@ fn tails_of(alloc: Global, pieces: &[Piece]) -> Result<Vec<usize>, AllocError> {
 }
 
 impl Measures {
-    /// The measures of a layout.
+    /// Returns the measures of a layout.
     pub fn of(alloc: Global, layout: &Layout) -> Result<Measures, AllocError> {
         Ok(Measures {
             sums: sums_of(alloc, &layout.pieces)?,
@@ -106,30 +106,30 @@ impl Measures {
         }
     }
 
-    /// The number of columns from the gap before a piece to the next place where the line may end.
+    /// Returns the number of columns from the gap before a piece to the next place where the line may end.
     pub fn tail(&self, piece: usize) -> usize {
         let index = self.tails.len().checked_sub(piece.saturating_add(1));
         index.map_or(0, |index| self.tails.get(index).copied().unwrap_or(0))
     }
 
-    // The column at which a piece ends, or 0 beyond the last piece.
+    // Returns the column at which a piece ends, or 0 beyond the last piece.
     fn end(&self, piece: usize) -> usize {
         self.sums.get(piece).map_or(0, |sum| sum.end)
     }
 
-    // The number of line ends before the gap of a piece, or in the whole text, or 0 beyond it.
+    // Returns the number of line ends before the gap of a piece, or in the whole text, or 0 beyond it.
     fn breaks(&self, piece: usize) -> usize {
         self.sums.get(piece).map_or(0, |sum| sum.breaks)
     }
 
-    // The width of the pieces from `first` to `last` on one line.
+    // Returns the width of the pieces from `first` to `last` on one line.
     fn width(&self, pieces: &[Piece], first: usize, last: usize) -> usize {
         let own = pieces.get(first).map_or(0, |piece| piece.width);
         let between = self.end(last).saturating_sub(self.end(first));
         between.saturating_add(own)
     }
 
-    // The number of unconditional line ends after the gap of `first` and up to the piece `end`.
+    // Returns the number of unconditional line ends after the gap of `first` and up to the piece `end`.
     fn breaks_inside(&self, pieces: &[Piece], first: usize, end: usize) -> usize {
         let gap = pieces.get(first).map_or(0, |piece| hard_gap(piece));
         self.breaks(end)
@@ -137,14 +137,14 @@ impl Measures {
             .saturating_sub(gap)
     }
 
-    /// Whether a group fits on the line.
+    /// Returns whether a group fits on the line.
     pub fn fits(&self, pieces: &[Piece], group: &Group, room: Room) -> bool {
         let width = self.width(pieces, group.first, group.end.saturating_sub(1));
         self.breaks_inside(pieces, group.first, group.end) == 0
             && room.column.saturating_add(width).saturating_add(room.tail) <= room.limit
     }
 
-    // Whether the pieces up to the one that opens the target fit on the line.
+    // Returns whether the pieces up to the one that opens the target fit on the line.
     fn fits_before(&self, pieces: &[Piece], group: &Group, target: Target, room: Room) -> bool {
         let width = self.width(pieces, group.first, target.open);
         let hard = pieces.get(target.open).map_or(0, |piece| hard_gap(piece));
@@ -154,7 +154,7 @@ impl Measures {
             && room.column.saturating_add(width) <= room.limit
     }
 
-    // Whether the pieces from the one that closes the target on fit on the last line.
+    // Returns whether the pieces from the one that closes the target on fit on the last line.
     fn fits_behind(&self, pieces: &[Piece], group: &Group, target: Target, room: Room) -> bool {
         let close = pieces.get(target.close).map_or(0, last_width);
         let last = self.end(group.end.saturating_sub(1));
@@ -165,7 +165,7 @@ impl Measures {
         breaks == 0 && column.saturating_add(room.tail) <= room.limit
     }
 
-    // Whether the target has to be broken: it has several lines, does not fit on the line, or ends the group.
+    // Returns whether the target has to be broken: it has several lines, does not fit on the line, or ends the group.
     fn has_to_break(&self, pieces: &[Piece], group: &Group, target: Target, room: Room) -> bool {
         let width = self.width(pieces, group.first, target.close);
         let behind = target.close.saturating_add(1);
@@ -178,7 +178,7 @@ impl Measures {
             || room.column.saturating_add(width).saturating_add(glued) > room.limit
     }
 
-    /// Whether a group fits if its target is broken: the part before the target on the first line, and the part after it on the last one.
+    /// Returns whether a group fits if its target is broken: the part before the target on the first line, and the part after it on the last one.
     pub fn fits_around(&self, pieces: &[Piece], group: &Group, target: Target, room: Room) -> bool {
         self.fits_before(pieces, group, target, room)
             && self.fits_behind(pieces, group, target, room)
@@ -186,7 +186,7 @@ impl Measures {
     }
 }
 
-// The characters of the last line of a piece.
+// Returns the characters of the last line of a piece.
 fn last_width(piece: &Piece) -> usize {
     piece.last_width.unwrap_or(piece.width)
 }

@@ -47,7 +47,7 @@ const UNKNOWN: Opened = Opened {
     },
 };
 
-// The indentation of a line of a group.
+// Returns the indentation of a line of a group.
 fn indent_of(opened: Opened, level: Level) -> usize {
     let Place { column, indent } = opened.place;
     let is_same = match level {
@@ -79,27 +79,27 @@ impl Modes {
         })
     }
 
-    // The group of a number.
+    // Returns the group of a number.
     fn group_at(&self, number: usize) -> Opened {
         self.opened.get(number).copied().unwrap_or(UNKNOWN)
     }
 
-    // Whether a group is broken.
+    // Returns whether a group is broken.
     fn is_broken(&self, number: usize) -> bool {
         self.group_at(number).mode == Mode::Broken
     }
 
-    /// Whether the line ends in a gap.
+    /// Returns whether the line ends in a gap.
     pub fn ends_line(&self, gap: Gap) -> bool {
         gap.is_hard || (gap.can_break && self.is_broken(gap.group))
     }
 
-    /// The indentation of a line that begins after a gap.
+    /// Returns the indentation of a line that begins after a gap.
     pub fn indent_after(&self, gap: Gap) -> usize {
         indent_of(self.group_at(gap.group), gap.level)
     }
 
-    // The number of columns that have to follow a group on its line.
+    // Returns the number of columns that have to follow a group on its line.
     fn tail_of(&self, layout: &Layout, group: &Group) -> usize {
         let Some(next) = layout.pieces.get(group.end) else {
             return 0;
@@ -116,7 +116,7 @@ impl Modes {
         rest.saturating_add(gap.blanks).saturating_add(next.width)
     }
 
-    // The mode of a group that does not fit on the line.
+    // Returns the mode of a group that does not fit on the line.
     fn unfit_mode(&self, layout: &Layout, group: &Group, room: Room, is_shared: bool) -> Mode {
         let Some(target) = group.target else {
             return Mode::Broken;
@@ -130,7 +130,7 @@ impl Modes {
         }
     }
 
-    // The mode of a group that begins at a place.
+    // Returns the mode of a group that begins at a place.
     fn mode_of(&self, layout: &Layout, number: usize, group: &Group, place: Place) -> Mode {
         let around = self.group_at(group.parent).mode;
         if number > 0 && around == Mode::Flat {
@@ -170,7 +170,7 @@ impl Modes {
         Ok(())
     }
 
-    // Whether a group that begins where it began has the same mode.
+    // Returns whether a group that begins where it began has the same mode.
     fn is_kept(&self, layout: &Layout, number: usize) -> bool {
         match (layout.groups.get(number), self.opened.get(number)) {
             (Some(group), Some(opened)) => {
@@ -180,7 +180,7 @@ impl Modes {
         }
     }
 
-    /// Whether all groups have the same modes in another layout, which differs in its hard gaps.
+    /// Returns whether all groups have the same modes in another layout, which differs in its hard gaps.
     pub fn are_kept(&mut self, layout: &Layout) -> bool {
         self.measures.count_breaks(&layout.pieces);
         for number in 0..layout.groups.len() {

@@ -65,7 +65,7 @@ pub struct Piece {
 }
 
 impl Gap {
-    /// An empty gap.
+    /// Returns an empty gap.
     pub fn nothing() -> Gap {
         Gap {
             blanks: 0,
@@ -79,13 +79,13 @@ impl Gap {
     }
 }
 
-/// The number of line feeds in a text.
+/// Returns the number of line feeds in a text.
 pub fn line_feeds_in(text: &str) -> usize {
     text.bytes().filter(|byte| *byte == b'\n').count()
 }
 
 impl Piece {
-    /// A part of the old text whose characters are all of ASCII and no line feeds, with no gap yet: a name, or a token of a text without errors that is
+    /// Returns a part of the old text whose characters are all of ASCII and no line feeds, with no gap yet: a name, or a token of a text without errors that is
     /// no white space, no comment and no part of a string.
     pub fn of_word(start: usize, end: usize) -> Piece {
         Piece {
@@ -101,7 +101,7 @@ impl Piece {
         }
     }
 
-    /// A piece of the old text, with no gap yet.
+    /// Returns a piece of the old text, with no gap yet.
     pub fn new(start: usize, text: &str) -> Piece {
         let word = Piece::of_word(start, start.saturating_add(text.len()));
         let Some((first, _)) = text.split_once('\n') else {

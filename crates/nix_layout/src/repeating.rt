@@ -8,7 +8,7 @@ use crate::line_ends::comment_end_of;
 use crate::modes::Modes;
 use crate::piece::{Gap, Piece};
 
-// Whether the line ends between two pieces of which the first one is no comment with `#`, or at the end of the text.
+// Returns whether the line ends between two pieces of which the first one is no comment with `#`, or at the end of the text.
 fn has_line_end(pieces: &[Piece], modes: &Modes) -> bool {
     let mut follows_comment = true;
     for piece in pieces {
@@ -36,7 +36,7 @@ fn harden(pieces: &mut Vec<Piece>, modes: &Modes) -> bool {
     are_any
 }
 
-/// Whether the new text of a layout stays the same when it is formatted again. The layout of the old text becomes that of the new one.
+/// Returns whether the new text of a layout stays the same when it is formatted again. The layout of the old text becomes that of the new one.
 pub fn is_repeated(text: &str, line_end: &str, layout: &mut Layout, modes: &mut Modes) -> bool {
     let same_end = has_line_end(&layout.pieces, modes)
         || comment_end_of(text, &layout.pieces) == line_end;

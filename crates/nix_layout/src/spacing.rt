@@ -64,7 +64,7 @@ const SOFT: Spacing = Spacing {
     ..GLUED
 };
 
-// The same after an opening bracket, and before a closing one.
+// Returns the same after an opening bracket, and before a closing one.
 fn opening(spacing: Spacing) -> Spacing {
     Spacing {
         opens: true,
@@ -80,7 +80,7 @@ fn closing(spacing: Spacing) -> Spacing {
     }
 }
 
-// The same at the level of the group.
+// Returns the same at the level of the group.
 fn level(spacing: Spacing) -> Spacing {
     Spacing {
         level: Level::Same,
@@ -88,7 +88,7 @@ fn level(spacing: Spacing) -> Spacing {
     }
 }
 
-// The same, always with a line feed.
+// Returns the same, always with a line feed.
 fn hard(spacing: Spacing) -> Spacing {
     Spacing {
         is_hard: true,
@@ -96,7 +96,7 @@ fn hard(spacing: Spacing) -> Spacing {
     }
 }
 
-// The same, keeping a line feed of the old text.
+// Returns the same, keeping a line feed of the old text.
 fn kept(spacing: Spacing) -> Spacing {
     Spacing {
         keeps_break: true,
@@ -104,7 +104,7 @@ fn kept(spacing: Spacing) -> Spacing {
     }
 }
 
-// The same, keeping an empty line of the old text.
+// Returns the same, keeping an empty line of the old text.
 fn airy(spacing: Spacing) -> Spacing {
     Spacing {
         keeps_empty: true,
@@ -112,7 +112,7 @@ fn airy(spacing: Spacing) -> Spacing {
     }
 }
 
-// The same in the group of the condition.
+// Returns the same in the group of the condition.
 fn inner(spacing: Spacing) -> Spacing {
     Spacing {
         is_inner: true,
@@ -257,7 +257,7 @@ fn in_operation(next: SyntaxKind) -> Spacing {
     }
 }
 
-/// Whether two items would become other tokens without white space between them: a path may begin with `-`, and a URI may contain a comma.
+/// Returns whether two items would become other tokens without white space between them: a path may begin with `-`, and a URI may contain a comma.
 pub fn keeps_distance(before: SyntaxKind, next: SyntaxKind) -> bool {
     match next {
         SyntaxKind::NODE_PATH_ABS | SyntaxKind::NODE_PATH_REL => before == SyntaxKind::TOKEN_SUB,
@@ -266,7 +266,7 @@ pub fn keeps_distance(before: SyntaxKind, next: SyntaxKind) -> bool {
     }
 }
 
-/// The same white space, with at least one space.
+/// Returns the same white space, with at least one space.
 pub fn distant(spacing: Spacing) -> Spacing {
     Spacing {
         blanks: 1,
@@ -274,7 +274,7 @@ pub fn distant(spacing: Spacing) -> Spacing {
     }
 }
 
-/// The same white space, with a line feed if there may be one.
+/// Returns the same white space, with a line feed if there may be one.
 pub fn broken(spacing: Spacing) -> Spacing {
     Spacing {
         is_hard: spacing.can_break,
@@ -282,17 +282,17 @@ pub fn broken(spacing: Spacing) -> Spacing {
     }
 }
 
-/// The white space after a comma that a comment has moved to the start of its line.
+/// Returns the white space after a comma that a comment has moved to the start of its line.
 pub fn behind_first_comma() -> Spacing {
     SPACED
 }
 
-/// The white space before the first item of a text, and behind the last one.
+/// Returns the white space before the first item of a text, and behind the last one.
 pub fn around_text() -> Spacing {
     airy(level(GLUED))
 }
 
-/// The white space between a child of a node and the next one.
+/// Returns the white space between a child of a node and the next one.
 pub fn spacing_in(parent: SyntaxKind, before: SyntaxKind, next: Child) -> Spacing {
     match parent {
         SyntaxKind::NODE_ROOT => around_text(),

@@ -100,7 +100,7 @@ impl<'a> Writer<'a> {
         self.copy(start, piece.end)
     }
 
-    // The column after a piece.
+    // Returns the column after a piece.
     fn column_after(&self, piece: &Piece) -> usize {
         match (piece.last_width, piece.moves) {
             (Some(width), Some(moves)) if moves.has_last => {
@@ -144,7 +144,7 @@ impl<'a> Writer<'a> {
     }
 }
 
-/// The text of a layout: each group is on one line if it fits.
+/// Returns the text of a layout: each group is on one line if it fits.
 pub fn written(alloc: Global, text: &str, layout: &Layout) -> Result<Output, AllocError> {
     let writer = Writer {
         text,

@@ -13,20 +13,20 @@ use std::alloc::{AllocError, Global};
 use std::borrow::CowStr;
 use std::collections::BTreeMap;
 
-/// Of each attribute, by the attribute or the set that has it and by its name, the site of the first name that defines it.
+/// Maps the owner and the name of each attribute to the site of the first name that defines it.
 type Firsts<'t> = BTreeMap<(usize, CowStr<'t>), NameSite>;
 
 /// The attributes that the names so far define.
 #[derive(Drop)]
 pub struct Attributes<'t> {
-    // The attribute of what begins at an offset, where an earlier name defines it.
+    // Maps the start of a set or a name to that of its attribute, if an earlier name defines the attribute.
     attributes: BTreeMap<usize, usize>,
     firsts: Firsts<'t>,
-    /// The names that define one again which cannot be defined again, in order.
+    /// The names that define an attribute again that cannot be defined again, in order.
     pub repeated: Vec<Repeated>,
 }
 
-// Returns the attribute of what begins at an offset: the offset itself, if the map has no other.
+// Returns the attribute of the set or name at an offset, or the offset itself if the map has no entry for it.
 fn attribute_of(attributes: &BTreeMap<usize, usize>, start: usize) -> usize
     ensures { result ≡ attribute_by attributes.now start }
 {
@@ -36,14 +36,14 @@ fn attribute_of(attributes: &BTreeMap<usize, usize>, start: usize) -> usize
     }
 }
 
-// Whether a name adds to the attribute that another one defines first.
+// Returns whether a name adds to the attribute that another one defines first.
 fn extends(first: NameSite, own: NameSite) -> bool
     ensures { result ≡ extends (site_of first) (site_of own) }
 {
     first.is_open && own.is_open && (own.continues || first.owner == own.owner)
 }
 
-// Returns the repetition that a name is, where the first name of its attribute is this one.
+// Returns the repetition that a name makes, if there is one, given the first name of its attribute.
 fn repetition(first: NameSite, own: NameSite) -> Option<Repeated>
     ensures { map repetition_of (option_to_list result) ≡ repetition (Some (site_of first)) (site_of own) }
 {
@@ -56,7 +56,7 @@ fn repetition(first: NameSite, own: NameSite) -> Option<Repeated>
     })
 }
 
-// Adds that the names inside a name are those of the attribute that another name defines first, if others may add names there.
+// Records that the names inside an attribute belong to the one that another name defines first, if other entries may add names to it.
 fn add_inner(
     first: NameSite,
     own: NameSite,
@@ -72,7 +72,7 @@ fn add_inner(
     Ok(())
 }
 
-// Adds a name whose text is known, and returns the repetition that it is, if it is one.
+// Adds a name whose text is known, and returns the repetition that it makes, if there is one.
 fn add_text<'t>(
     text: CowStr<'t>,
     own: NameSite,
@@ -98,7 +98,7 @@ fn add_text<'t>(
     }
 }
 
-// Adds a name, and returns the repetition that it is, if it is one.
+// Adds a name, and returns the repetition that it makes, if there is one.
 fn add_name<'t>(
     definition: Definition<'t>,
     attributes: &mut BTreeMap<usize, usize>,
@@ -117,7 +117,7 @@ fn add_name<'t>(
 }
 
 impl<'t> Attributes<'t> {
-    /// Returns those of no names.
+    /// Returns the state before the first name.
     pub fn new(alloc: Global) -> Attributes<'t>
         ensures { IsEmpty result }
     {

@@ -3,25 +3,25 @@
 use rnix::TextRange;
 use std::borrow::CowStr;
 
-/// Where a name is written that defines an attribute, or leads to the one that its entry defines.
+/// The site of a name that defines an attribute, or that leads to the one that its entry defines.
 #[derive(Clone, Copy)]
 pub struct NameSite {
     /// The name.
     pub range: TextRange,
-    /// Where the set or the `let` begins that has the entry, or the name before it in its path.
+    /// The start of the set or `let` with the entry, or of the name before this one in its path.
     pub owner: usize,
-    /// The owner of the names inside its attribute: where the set begins that is its value, or else the name itself.
+    /// The owner of the names inside its attribute: the start of the set that is its value, or of the name itself if there is none.
     pub inner: usize,
     /// Whether it follows another name in its path.
     pub continues: bool,
-    /// Whether other entries may add names to the attribute: its path goes on, or its value is a set.
+    /// Whether other entries may add names to the attribute: its path continues, or its value is a set.
     pub is_open: bool,
 }
 
 /// A name and its site.
 #[derive(Drop)]
 pub struct Definition<'t> {
-    /// What the name is, where the text alone says so.
+    /// The name as Nix reads it, if the text alone determines it.
     pub text: Option<CowStr<'t>>,
     pub name_site: NameSite,
 }

@@ -18,7 +18,7 @@ use rnix::{SyntaxKind, SyntaxNode};
 use std::alloc::{AllocError, Global};
 use std::borrow::CowStr;
 
-// Returns where a node begins.
+// Returns the start of a node.
 fn start_of(node: &SyntaxNode<'_>) -> usize
     ensures { result ≡ start_of node.now }
 {
@@ -37,7 +37,7 @@ fn set_of<'t>(expr: &SyntaxNode<'t>) -> Option<SyntaxNode<'t>>
     }
 }
 
-// Returns where the set begins that is the value of an entry.
+// Returns the start of the set that is the value of an entry.
 fn value_start<'t>(entry: &AttrpathValue<'t>) -> Option<usize>
     ensures { result ≡ value_start (child_of is_expr 0 entry.now) }
 {
@@ -46,7 +46,7 @@ fn value_start<'t>(entry: &AttrpathValue<'t>) -> Option<usize>
     Some(start_of(&set))
 }
 
-// Returns what a name is, if it is an identifier.
+// Returns the text of a name, if it is an identifier.
 fn written_text<'t>(node: &SyntaxNode<'t>) -> Option<&'t str>
     ensures { IfSome result (λ text. static_name node.now ≡ Some text.now) }
 {
@@ -56,7 +56,7 @@ fn written_text<'t>(node: &SyntaxNode<'t>) -> Option<&'t str>
     }
 }
 
-// Returns what a name is, where the text alone says so. Only one that is no identifier takes memory.
+// Returns the name as Nix reads it, if the text alone determines it. Allocates only for names that are not identifiers.
 fn text_of<'t>(alloc: Global, attr: &Attr<'t>) -> Result<Option<CowStr<'t>>, AllocError>
     ensures { IfOk result (λ text. option_map cow_str_bytes text ≡ static_name (attr_node attr.now)) }
 {

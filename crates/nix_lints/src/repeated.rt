@@ -8,7 +8,7 @@ use crate::entries::add_names;
 use rnix::{SyntaxNode, TextRange};
 use std::alloc::{AllocError, Global};
 
-/// A name that defines an attribute again, where Nix takes no second definition.
+/// A name that defines an attribute again, where Nix allows no second definition.
 #[derive(Clone, Copy, Debug, PartialEq, Eq)]
 pub struct Repeated {
     /// The name.
@@ -17,11 +17,10 @@ pub struct Repeated {
     pub first: TextRange,
 }
 
-/// Returns the names that define an attribute again which cannot be defined again, in the order of their entries: Nix refuses a text without syntax errors
-/// that has one. As in Nix 2.8.
+/// Returns the names that define an attribute again that cannot be defined again, in the order of their entries. Nix 2.8 refuses a text with such a name.
 ///
-/// An attribute can be defined again if both definitions are paths that go on, or sets: `{ a.b = 1; a.c = 2; }`. The attributes of a set that is the
-/// value of such a second definition must all be new.
+/// An attribute can be defined again if each definition is a path that continues or has a set as its value: `{ a.b = 1; a.c = 2; }`. The attributes of a
+/// set that is the value of such a second definition must all be new.
 pub fn repeated_attributes(
     alloc: Global,
     root: &SyntaxNode<'_>,

@@ -6,7 +6,7 @@ use rnix::{SyntaxNode, TextRange};
 use rnix_text::LineIndex;
 use std::io::{self, Write};
 
-// The line and the column of an offset, both from 1.
+// Returns the line and the column of an offset, both from 1.
 fn position(index: &LineIndex<'_>, offset: usize) -> (usize, usize) {
     let location = index.position(offset).unwrap_or_default();
     (
@@ -15,7 +15,7 @@ fn position(index: &LineIndex<'_>, offset: usize) -> (usize, usize) {
     )
 }
 
-// Writes the place and the bounds of a range as members of an object.
+// Writes the location and the bounds of a range as members of an object.
 fn write_range<W: Write>(index: &LineIndex<'_>, range: TextRange, out: &mut W) -> io::Result<()> {
     let (line, column) = position(index, range.start());
     let (start, end) = (range.start(), range.end());
@@ -25,7 +25,7 @@ fn write_range<W: Write>(index: &LineIndex<'_>, range: TextRange, out: &mut W) -
     )
 }
 
-// Writes what the object of a name begins with.
+// Writes the first members of the object of a name.
 fn write_head<W: Write>(
     file: &str,
     index: &LineIndex<'_>,

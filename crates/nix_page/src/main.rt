@@ -52,7 +52,7 @@ fn write_page(rt: &HostRuntime, name: &str, text: &str) -> io::Result<()> {
     out.flush()
 }
 
-// The size in bytes of the longest text that is shown. Its page has about a hundred times that size.
+// The greatest size of a text in bytes. Its page is about a hundred times as large.
 const LONGEST: usize = 1 << 20;
 
 // Writes the page of the file that the command line names.

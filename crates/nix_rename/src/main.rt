@@ -1,5 +1,5 @@
-//! Renames a binding and its uses: `nix-rename [-i] FILE LINE:COLUMN NAME` prints the text of FILE in which what is bound to the name at
-//! that place is bound to NAME. It refuses where that would change what some name means.
+//! Renames a binding and its uses: `nix-rename [-i] FILE LINE:COLUMN NAME` prints the text of FILE in which the name at that place, its binding and its other
+//! uses are replaced by NAME. It refuses to if any name would then mean something else.
 #![tactic(auto)]
 
 mod refusal;
@@ -35,7 +35,7 @@ Ends with 0, with 1 if the name cannot be renamed so, or with 2 if the text is n
     most: 3,
 };
 
-// The offset of a place: a line and a column from 1, or an offset.
+// Returns the offset of a place: a line and a column from 1, or an offset.
 fn offset_of(rt: &HostRuntime, text: &str, location: &str) -> io::Result<Option<usize>> {
     let Some((line, column)) = location.split_once(':') else {
         return Ok(location.parse::<usize>().ok());
@@ -53,7 +53,7 @@ fn offset_of(rt: &HostRuntime, text: &str, location: &str) -> io::Result<Option<
     }))
 }
 
-// Says that a text is not Nix, and where its first error is.
+// Reports that a text has errors, and where the first one is.
 fn refuse_text(rt: &HostRuntime, name: &str, text: &str, read: &Parse) -> io::Result<u8> {
     let range = read.errors().first().and_then(|error| error.range());
     let (line, column) = location_of(text, range.map_or(text.len(), |range| range.start()));

@@ -1,4 +1,4 @@
-//! Why a name is not renamed.
+//! Refusals to rename.
 
 ghost use Rattle.std.specs.Prelude.{◌≡◌};
 ghost use Rattle.std.specs.List.{list_any};
@@ -9,12 +9,12 @@ use nix_scopes::{Binding, Reference, Resolution};
 use rnix::SyntaxKind;
 use std::fmt;
 
-/// The reason why a binding keeps its name.
+/// The reason why a binding cannot be renamed.
 #[derive(Clone, Copy, PartialEq, Eq, Debug)]
 pub enum Kept {
     /// An `inherit` binds it.
     Inherited,
-    /// It is an argument that callers give by its name.
+    /// It is an argument that callers pass by name.
     Argument,
     /// It is an attribute of a set with `rec`.
     Attribute,
@@ -39,7 +39,7 @@ pub enum Refusal {
     NoName,
     /// Nothing in the text binds the name.
     Unbound,
-    /// The binding keeps its name.
+    /// The binding cannot be renamed.
     Kept(Kept),
     /// The text does not contain the old name at one of the occurrences.
     OtherSpelling,
@@ -62,7 +62,7 @@ pub fn is_hidden_name(name: &str) -> bool
 }
 
 impl Kept {
-    // Returns the words for people.
+    // Returns the message.
     fn text(self) -> &'static str
         ensures { result.now ≡ kept_text self }
     {
@@ -79,7 +79,7 @@ impl Kept {
 }
 
 impl Refusal {
-    // Returns the words for people.
+    // Returns the message.
     fn text(self) -> &'static str
         ensures { result.now ≡ refusal_text self }
     {
@@ -106,7 +106,7 @@ impl fmt::Display for Refusal {
     }
 }
 
-// Returns why a part of a binding keeps its name, if it does; the parent of its node is of this kind.
+// Returns the reason why a part of a binding cannot be renamed, if there is one. `parent` is the kind of its node's parent.
 fn kept_in(parent: SyntaxKind, part: &Binding<'_>) -> Option<Kept>
     ensures { result ≡ kept_in parent (bound_of part.now) }
 {
@@ -128,7 +128,7 @@ fn kept_in(parent: SyntaxKind, part: &Binding<'_>) -> Option<Kept>
     }
 }
 
-// Returns why a part of a binding keeps its name, if it does and is a part of the binding of the number.
+// Returns the reason why a part cannot be renamed, if it is a part of the binding with this number and there is a reason.
 fn kept_part(part: &Binding<'_>, number: usize) -> Option<Kept>
     ensures { result ≡ kept_part number part.now }
 {
@@ -139,7 +139,7 @@ fn kept_part(part: &Binding<'_>, number: usize) -> Option<Kept>
     }
 }
 
-// Returns why the first part that keeps its name does, among these parts of the binding of a number.
+// Returns the reason of the first of these parts that cannot be renamed, among those of the binding with this number.
 fn kept_among(parts: &[Binding<'_>], number: usize) -> Option<Kept>
     ensures { result ≡ kept_among number parts.now }
 {
@@ -151,7 +151,7 @@ fn kept_among(parts: &[Binding<'_>], number: usize) -> Option<Kept>
     None
 }
 
-// Returns whether one of these references inherits the binding of a number.
+// Returns whether one of these references inherits the binding with this number.
 fn is_inherited(references: &[Reference<'_>], number: usize) -> bool
     ensures { result ≡ list_any (inherits number) references.now }
 {
@@ -163,7 +163,7 @@ fn is_inherited(references: &[Reference<'_>], number: usize) -> bool
     false
 }
 
-/// Returns why the binding of a number keeps its name, if it does.
+/// Returns the reason why the binding with this number cannot be renamed, if there is one.
 pub fn kept_name(names: &Resolution<'_>, number: usize) -> Option<Kept>
     ensures { result ≡ kept_name number names.now }
 {

@@ -16,21 +16,21 @@ use rnix::{Root, SyntaxKind, SyntaxNode, TextRange};
 use rnix_text::{EditError, Edits};
 use std::alloc::{AllocError, Global};
 
-/// The result of a renaming: the new text, or why there is none.
+/// The result of a renaming: the new text, or the refusal.
 #[derive(Drop)]
 pub enum Renaming {
     Renamed(String),
     Refused(Refusal),
 }
 
-// Returns whether a node is a name whose text is this one.
+// Returns whether a node is a name with this text.
 fn is_whole_name(node: &SyntaxNode<'_>, text: &str) -> bool
     ensures { result ≡ is_whole_name node.now text.now }
 {
     node.kind() == SyntaxKind::NODE_IDENT && node.text() == text
 }
 
-// Returns whether the expression of a tree is a name whose text is this one.
+// Returns whether the expression of a tree is a name with this text.
 fn is_name_whole(root: &Root<'_>, text: &str) -> bool
     ensures { result ≡ is_name_whole (child_of is_expr 0 root.now) text.now }
 {
@@ -49,7 +49,7 @@ fn is_name(alloc: Global, text: &str) -> Result<bool, AllocError>
     Ok(is_whole && read.errors().is_empty())
 }
 
-// Adds the change of an occurrence, if the text contains the old name there and it overlaps none that is changed already.
+// Adds the edit of an occurrence, if the text contains the old name there and no earlier edit overlaps it. Returns whether it was added.
 fn add_change(
     edits: &mut Edits<'_>,
     text: &str,
@@ -72,7 +72,7 @@ fn add_change(
     }
 }
 
-// Returns the text with a new name at these occurrences, if it contains the old one at each of them.
+// Returns the text with a new name at these occurrences, if each of them is the old name.
 fn changed(
     alloc: Global,
     text: &str,
@@ -93,7 +93,7 @@ fn changed(
     Ok(Some(edits.apply(alloc)?))
 }
 
-// Returns whether a text has no errors, and the same bindings and references as these, with a new name for one of the bindings.
+// Returns whether a text has no errors, and has the same bindings and references as `names` but for the new name of one binding.
 fn resolves_like(
     alloc: Global,
     names: &Resolution<'_>,
@@ -135,9 +135,8 @@ fn named(
     }
 }
 
-/// Returns the text in which the binding of the name at an offset has a new name. It is refused where the text does not bind the name,
-/// where others see it (inherited names, attributes of sets, arguments by name), where operators use the old or the new name, and where a
-/// name would then mean something else.
+/// Renames the binding of the name at an offset, and all its uses. Refuses if the text does not bind the name, if others see it (inherited names, attributes
+/// of sets, arguments passed by name), if operators use the old or the new name, and if a name would then mean something else.
 pub fn rename(
     alloc: Global,
     text: &str,

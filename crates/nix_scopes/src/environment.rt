@@ -1,4 +1,4 @@
-//! What is around the current node of a walk: the names in sight, and where the open scopes and bodies of `with` end.
+//! The surroundings of a walk's current node: the names in scope, and where the open scopes and bodies of `with` end.
 
 ghost use Rattle.std.specs.Prelude.{◌≡◌, ◌==◌, ◌≤◌, ◌++◌, ◌+◌, ◌-◌, [], ◌∷◌, ℕ, List, None, length, map, not, OnOk, if◌then◌else◌};
 ghost use Rattle.rnix_green.specs.Tree.{Located};
@@ -14,19 +14,19 @@ use crate::sight::Sight;
 use rnix::{SyntaxKind, SyntaxNode};
 use std::alloc::{AllocError, Global};
 
-/// What is around a place of a walk: the names in sight, and where the open scopes, bodies of `with` and attribute sets end, the innermost
-/// last. An end is the number of elements that the walk has after it.
+/// The surroundings of a position in a walk: the names in scope, and where the open scopes, bodies of `with` and attribute sets end, innermost last. An end
+/// is given as the number of elements that the walk has after it.
 #[derive(Drop)]
 pub struct Environment<'t> {
     pub sight: Sight<'t>,
     pub scope_ends: Vec<usize>,
     pub body_ends: Vec<usize>,
     pub set_ends: Vec<usize>,
-    /// Of each open attribute set, whether it is a scope: whether it has `rec`.
+    /// For each open attribute set, whether it has `rec` and is therefore a scope.
     pub set_scopes: Vec<bool>,
 }
 
-// Whether the last of these ends comes before an element, after which the walk has `left` more.
+// Returns whether the last of these ends comes before an element, after which the walk has `remaining` more.
 fn has_ended(ends: &[usize], remaining: usize) -> bool
     ensures { result ≡ has_ended remaining ends.now }
 {
@@ -36,7 +36,7 @@ fn has_ended(ends: &[usize], remaining: usize) -> bool
     }
 }
 
-// Enters a node, after which the walk has `left` more elements: if it is a scope, as `binds` says, its names come into sight.
+// Enters a node, after which the walk has `remaining` more elements: if it is a scope, as `binds` says, its names come into scope.
 fn enter_scope<'t>(
     alloc: Global,
     node: &SyntaxNode<'t>,
@@ -60,7 +60,7 @@ fn enter_scope<'t>(
     Ok(())
 }
 
-// Enters a node, after which the walk has `left` more elements: it may be the body of a `with`.
+// Enters a node, after which the walk has `remaining` more elements: it may be the body of a `with`.
 fn enter_body(
     node: &SyntaxNode<'_>,
     remaining: usize,
@@ -76,7 +76,7 @@ fn enter_body(
     Ok(())
 }
 
-// Enters a node, after which the walk has `left` more elements: it may be an attribute set, which is a scope if `binds`.
+// Enters a node, after which the walk has `remaining` more elements: it may be an attribute set, which is a scope if `binds`.
 fn enter_set(
     node: &SyntaxNode<'_>,
     binds: bool,
@@ -96,7 +96,7 @@ fn enter_set(
     Ok(())
 }
 
-// Leaves the scopes that end before an element, after which the walk has `left` more.
+// Leaves the scopes that end before an element, after which the walk has `remaining` more.
 fn leave_scopes<'t>(
     remaining: usize,
     sight: &mut Sight<'t>,
@@ -114,7 +114,7 @@ fn leave_scopes<'t>(
     Ok(())
 }
 
-// Leaves the bodies of `with` that end before an element, after which the walk has `left` more.
+// Leaves the bodies of `with` that end before an element, after which the walk has `remaining` more.
 fn leave_bodies(remaining: usize, ends: &mut Vec<usize>)
     ensures { (root : Located) → (bodies : List Located) → ends.old.items ≡ counts_behind root bodies →
         ends.new.items ≡ counts_behind root (still_open root remaining bodies) }
@@ -124,7 +124,7 @@ fn leave_bodies(remaining: usize, ends: &mut Vec<usize>)
     }
 }
 
-// Leaves the attribute sets that end before an element, after which the walk has `left` more.
+// Leaves the attribute sets that end before an element, after which the walk has `remaining` more.
 fn leave_sets(remaining: usize, ends: &mut Vec<usize>, scopes: &mut Vec<bool>)
     ensures { (root : Located) → (sets : List Located) → SeesSets root ends.old.items scopes.old.items sets →
         SeesSets root ends.new.items scopes.new.items (still_open root remaining sets) }
@@ -136,7 +136,7 @@ fn leave_sets(remaining: usize, ends: &mut Vec<usize>, scopes: &mut Vec<bool>)
 }
 
 impl<'t> Environment<'t> {
-    /// Around a root.
+    /// Returns the surroundings of a root.
     pub fn new(alloc: Global) -> Self
         ensures numbers { (text : List ℕ) → number_by result.sight.numbers text ≡ None }
         ensures hidden { result.sight.hidden.items ≡ [] }
@@ -155,7 +155,7 @@ impl<'t> Environment<'t> {
         }
     }
 
-    /// Enters a node, after which the walk has `left` more elements. Its names are bound, if it is a scope.
+    /// Enters a node, after which the walk has `remaining` more elements. Its names are bound, if it is a scope.
     pub fn enter(
         &mut self,
         alloc: Global,
@@ -190,7 +190,7 @@ impl<'t> Environment<'t> {
         Ok(())
     }
 
-    /// Leaves the scopes, the bodies of `with` and the attribute sets that end before an element, after which the walk has `left` more.
+    /// Leaves the scopes, the bodies of `with` and the attribute sets that end before an element, after which the walk has `remaining` more.
     pub fn leave_ended(
         &mut self,
         remaining: usize,
@@ -204,7 +204,7 @@ impl<'t> Environment<'t> {
         Ok(())
     }
 
-    /// Whether a node is a scope, which is the parent of the current one.
+    /// Returns whether a node, the parent of the current one, is a scope.
     pub fn is_scope_around(&self, parent: &SyntaxNode<'_>) -> bool
         ensures { result ≡ is_scope_around self.now.set_scopes.items parent.now }
     {
@@ -214,7 +214,7 @@ impl<'t> Environment<'t> {
         }
     }
 
-    /// Whether the place is in the body of a `with`.
+    /// Returns whether the position is in the body of a `with`.
     pub fn is_below_with(&self) -> bool
         ensures { result ≡ not (length self.now.body_ends.items == 0) }
     {

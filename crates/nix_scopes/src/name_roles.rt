@@ -1,4 +1,4 @@
-//! Which names are expressions, and which nodes are in the body of a `with`.
+//! Names that are expressions, and nodes that are bodies of `with`.
 
 ghost use Rattle.std.specs.Prelude.{◌≡◌};
 ghost use Rattle.nix_scopes.specs.References.{is_behind_node, is_value_below, is_expression};
@@ -6,7 +6,7 @@ ghost use Rattle.nix_scopes.specs.Scopes.{is_with_body};
 
 use rnix::{Direction, SyntaxKind, SyntaxNode};
 
-// Whether another node comes before this one in its parent.
+// Returns whether another node comes before this one in its parent.
 fn is_behind_node(node: &SyntaxNode<'_>) -> bool
     ensures { result ≡ is_behind_node node.now }
 {
@@ -39,7 +39,7 @@ pub fn is_expression(node: &SyntaxNode<'_>) -> bool
     node.kind() == SyntaxKind::NODE_IDENT && is_value_below(parent.kind(), node)
 }
 
-/// Whether a node is the body of a `with`.
+/// Returns whether a node is the body of a `with`.
 pub fn is_with_body(node: &SyntaxNode<'_>) -> bool
     ensures { result ≡ is_with_body node.now }
 {

@@ -1,4 +1,4 @@
-//! The texts of names in sight.
+//! The texts of names in scope.
 
 ghost use Rattle.std.specs.Prelude.{◌≡◌, Some, nat_eq, IfOk, refl, string_bytes};
 ghost use Rattle.std.specs.Cow.{cow_str_bytes};
@@ -12,14 +12,14 @@ use std::borrow::CowStr;
 use std::boxed::Box;
 use std::cmp::Ordering;
 
-/// The text of a name, smaller than a `CowStr`: a part of the text that is resolved, or a text of its own, which few names have.
+/// The text of a name, smaller than a `CowStr`: a part of the resolved text, or, for few names, a text that was allocated.
 #[derive(Drop)]
 pub enum NameText<'t> {
     Part(&'t str),
     Made(Box<String>),
 }
 
-// A text of its own.
+// Returns an allocated text.
 #[inline(never)]
 fn made<'t>(text: &String) -> Result<NameText<'t>, AllocError>
     ensures { IfOk result (λ copy. name_bytes copy ≡ string_bytes text.now) }
@@ -28,7 +28,7 @@ fn made<'t>(text: &String) -> Result<NameText<'t>, AllocError>
 }
 
 impl<'t> NameText<'t> {
-    /// Copies the text of a name. Only a text of its own takes memory.
+    /// Copies the text of a name. Allocates only if the text was allocated.
     #[inline(always)]
     pub fn of(text: &CowStr<'t>) -> Result<NameText<'t>, AllocError>
         ensures { IfOk result (λ copy. name_bytes copy ≡ cow_str_bytes text.now) }

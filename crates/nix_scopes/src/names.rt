@@ -29,7 +29,7 @@ pub struct Name<'t> {
     pub node: SyntaxNode<'t>,
 }
 
-// Whether the value of a byte of a string in `"` may be another byte, or none.
+// Returns whether a text between `"` may differ from its value.
 fn may_differ(text: &str) -> bool
     ensures { result ≡ list_any may_differ text.now }
 {
@@ -40,7 +40,7 @@ fn may_differ(text: &str) -> bool
     )
 }
 
-// The content of a string in `"`, if it is the string's value.
+// Returns the content of a string in `"`, if it is the string's value.
 fn quoted_content<'t>(string: &Str<'t>) -> Option<&'t str>
     ensures { option_map (λ text. text.now) result ≡ quoted_content string.now }
 {
@@ -57,7 +57,7 @@ fn quoted_content<'t>(string: &Str<'t>) -> Option<&'t str>
     }
 }
 
-// What an attribute is called, if that is a part of its text: an identifier, or the content of a string in `"`.
+// Returns an attribute's name as Nix reads it, if the name is a part of the text: an identifier, or the content of a string in `"`.
 fn written_text<'t>(node: &SyntaxNode<'t>) -> Option<&'t str>
     ensures { IfSome result (λ text. static_name node.now ≡ Some text.now) }
 {
@@ -68,7 +68,7 @@ fn written_text<'t>(node: &SyntaxNode<'t>) -> Option<&'t str>
     }
 }
 
-/// What an attribute is called, if the text alone says so. Only a name that differs from its text takes memory.
+/// Returns an attribute's name as Nix reads it, if the text alone determines it. Allocates only for a name that differs from its text.
 pub fn attr_name<'t>(alloc: Global, attr: &Attr<'t>) -> Result<Option<CowStr<'t>>, AllocError>
     ensures { IfOk result (λ name. option_map cow_str_bytes name ≡ static_name (attr_node attr.now)) }
 {
@@ -81,7 +81,7 @@ pub fn attr_name<'t>(alloc: Global, attr: &Attr<'t>) -> Result<Option<CowStr<'t>
     }
 }
 
-// Adds what an attribute is called, if the text alone says so.
+// Adds an attribute's name, if the text alone determines it.
 fn add_attr<'t>(alloc: Global, attr: &Attr<'t>, names: &mut Vec<Name<'t>>) -> Result<(), AllocError>
     ensures { OnOk result (map named names.new.items
         ≡ map named names.old.items ++ named_if (attr_node attr.now) (static_name (attr_node attr.now))) }
@@ -124,7 +124,7 @@ fn add_path<'t>(
     }
 }
 
-// Adds the names that a node binds that is an entry.
+// Adds the names that a node binds, if it is an entry.
 fn add_entry<'t>(
     alloc: Global,
     entry: SyntaxNode<'t>,
@@ -155,7 +155,7 @@ fn add_entries<'t>(
     Ok(())
 }
 
-// Adds the name that an identifier is.
+// Adds the name of an identifier.
 fn add_ident<'t>(ident: Option<Ident<'t>>, names: &mut Vec<Name<'t>>) -> Result<(), AllocError>
     ensures { OnOk result (map named names.new.items ≡ map named names.old.items ++ ident_name ident.entry) }
 {
@@ -211,7 +211,7 @@ fn add_lambda<'t>(lambda: &Lambda<'t>, names: &mut Vec<Name<'t>>) -> Result<(), 
     }
 }
 
-/// Replaces names by those that a scope binds, in order; the name of a whole pattern is the first.
+/// Replaces the contents of `names` by the names that a scope binds, in order. The name of a whole pattern comes first.
 pub fn names_bound<'t>(
     alloc: Global,
     scope: &SyntaxNode<'t>,

@@ -1,4 +1,4 @@
-//! The name at an offset, and where a binding is written and referred to.
+//! The name at an offset, and the occurrences of a binding.
 
 ghost use Rattle.std.specs.Prelude.{◌≡◌, ◌++◌, map, IfOk, OnOk};
 ghost use Rattle.rnix_green.specs.Range.{bounds_of};
@@ -8,7 +8,7 @@ use crate::resolution::{Binding, Reference, Resolution};
 use rnix::{SyntaxKind, SyntaxNode, SyntaxToken, TextRange, TokenAtOffset};
 use std::alloc::{AllocError, Global};
 
-// The identifier to which a token belongs, if it belongs to one.
+// Returns the identifier to which a token belongs, if it belongs to one.
 fn identifier<'t>(token: &SyntaxToken<'t>) -> Option<SyntaxNode<'t>>
     ensures { result ≡ identifier_of token.now }
 {
@@ -20,7 +20,7 @@ fn identifier<'t>(token: &SyntaxToken<'t>) -> Option<SyntaxNode<'t>>
     }
 }
 
-/// The name at an offset, or right before it.
+/// Returns the name at an offset or directly before it.
 pub fn name_at<'t>(root: &SyntaxNode<'t>, offset: usize) -> Option<SyntaxNode<'t>>
     ensures { IsNameAt root.now offset result }
 {
@@ -34,7 +34,7 @@ pub fn name_at<'t>(root: &SyntaxNode<'t>, offset: usize) -> Option<SyntaxNode<'t
     }
 }
 
-// Adds where the binding of a number is written.
+// Adds the ranges at which the binding with a number is made.
 fn add_written(
     bindings: &[Binding<'_>],
     number: usize,
@@ -50,7 +50,7 @@ fn add_written(
     Ok(())
 }
 
-// Adds where the binding of a number is referred to.
+// Adds the ranges of the references to the binding with a number.
 fn add_referred(
     references: &[Reference<'_>],
     number: usize,
@@ -67,8 +67,8 @@ fn add_referred(
 }
 
 impl Resolution<'_> {
-    /// Where the binding of a number is written, in each of its parts, and then where it is referred to. The range of a name in quotes has
-    /// the quotes.
+    /// Returns the ranges of the names that make the binding with a number, in each of its parts, and then of the references to it. The range of a quoted name
+    /// includes the quotes.
     pub fn occurrences(&self, alloc: Global, number: usize) -> Result<Vec<TextRange>, AllocError>
         ensures { IfOk result (λ extents. map bounds_of extents.items ≡ occurrences_of number self.now) }
     {

@@ -1,4 +1,4 @@
-//! Whether another text resolves alike, in which one binding has a new name.
+//! Checks that a text with a new name for one binding resolves like the old text.
 
 ghost use Rattle.std.specs.Prelude.{◌≡◌, length, map, nat_le, IfOk};
 ghost use Rattle.std.specs.Bool.{Decides};
@@ -11,7 +11,7 @@ use crate::resolution::{Binding, Reference, Resolution};
 use rnix::SyntaxNode;
 use std::alloc::{AllocError, Global};
 
-// A new name for the binding of a number, the length of the old one, and where its occurrences end, in ascending order.
+// A new name for the binding with a number, the length of the old name, and the ends of its occurrences, in ascending order.
 #[derive(Drop)]
 struct NewName<'n> {
     number: usize,
@@ -20,7 +20,7 @@ struct NewName<'n> {
     ends: Vec<usize>,
 }
 
-// How many of these ends are the offset or before it.
+// Returns the number of these ends that are at an offset or before it.
 fn ended_by(ends: &[usize], offset: usize) -> usize
     requires { IsNonDecreasing ends.now }
     ensures { result ≡ ended_by ends.now offset }
@@ -32,7 +32,7 @@ fn ended_by(ends: &[usize], offset: usize) -> usize
     )
 }
 
-// Whether an offset moves to another one behind so many occurrences.
+// Returns whether the offset `from` becomes `to` if `ended` occurrences before it change their length from `old` to `new`.
 fn is_moved_by(ended: usize, old: usize, new: usize, from: usize, to: usize) -> bool
     ensures { Decides result (IsMovedBy ended old new from to) }
 {
@@ -41,7 +41,7 @@ fn is_moved_by(ended: usize, old: usize, new: usize, from: usize, to: usize) -> 
 }
 
 impl NewName<'_> {
-    // Whether an offset moves to another one in the text with the new name.
+    // Returns whether an offset moves to another one in the text with the new name.
     fn moves(&self, from: usize, to: usize) -> bool
         requires { IsNonDecreasing self.now.ends.items }
         ensures { Decides result (IsMoved (rename_by self.now) from to) }
@@ -50,7 +50,7 @@ impl NewName<'_> {
         is_moved_by(ended, self.old, self.text.len(), from, to)
     }
 
-    // Whether a node moves to another one in the text with the new name.
+    // Returns whether a node moves to another one in the text with the new name.
     fn moves_node(&self, from: &SyntaxNode<'_>, to: &SyntaxNode<'_>) -> bool
         requires { IsNonDecreasing self.now.ends.items }
         ensures { Decides result (IsNodeMoved (rename_by self.now) from.now to.now) }
@@ -59,7 +59,7 @@ impl NewName<'_> {
         self.moves(from.start(), to.start()) && self.moves(from.end(), to.end())
     }
 
-    // Whether another binding is the same one in the text with the new name.
+    // Returns whether another binding is the same one in the text with the new name.
     fn binds(&self, binding: &Binding<'_>, other: &Binding<'_>) -> bool
         requires { IsNonDecreasing self.now.ends.items }
         ensures { Decides result (IsBoundAlike (rename_by self.now) binding.now other.now) }
@@ -75,7 +75,7 @@ impl NewName<'_> {
             && self.moves_node(&binding.scope, &other.scope)
     }
 
-    // Whether another reference is the same one in the text with the new name.
+    // Returns whether another reference is the same one in the text with the new name.
     fn refers(&self, reference: &Reference<'_>, other: &Reference<'_>) -> bool
         requires { IsNonDecreasing self.now.ends.items }
         ensures { Decides result (RefersAlike (rename_by self.now) reference.now other.now) }
@@ -93,7 +93,7 @@ impl NewName<'_> {
     }
 }
 
-// Whether there are as many bindings, and each is the same one.
+// Returns whether there are as many bindings, and each is the same one.
 fn are_bound_alike(bindings: &[Binding<'_>], others: &[Binding<'_>], name: &NewName<'_>) -> bool
     requires { IsNonDecreasing name.now.ends.items }
     ensures { Decides result (AllZip (IsBoundAlike (rename_by name.now)) bindings.now others.now) }
@@ -109,7 +109,7 @@ fn are_bound_alike(bindings: &[Binding<'_>], others: &[Binding<'_>], name: &NewN
     true
 }
 
-// Whether there are as many references, and each is the same one.
+// Returns whether there are as many references, and each is the same one.
 fn refer_alike(references: &[Reference<'_>], others: &[Reference<'_>], name: &NewName<'_>) -> bool
     requires { IsNonDecreasing name.now.ends.items }
     ensures { Decides result (AllZip (RefersAlike (rename_by name.now)) references.now others.now) }
@@ -125,7 +125,7 @@ fn refer_alike(references: &[Reference<'_>], others: &[Reference<'_>], name: &Ne
     true
 }
 
-// Whether another text has the same bindings and references.
+// Returns whether another text has the same bindings and references.
 fn are_alike(names: &Resolution<'_>, others: &Resolution<'_>, name: &NewName<'_>) -> bool
     requires { IsNonDecreasing name.now.ends.items }
     ensures { Decides result (AreAlike (rename_by name.now) names.now others.now) }
@@ -135,7 +135,7 @@ fn are_alike(names: &Resolution<'_>, others: &Resolution<'_>, name: &NewName<'_>
 }
 
 impl Resolution<'_> {
-    // Where the occurrences of the binding of a number end, in ascending order.
+    // Returns the ends of the occurrences of the binding with a number, in ascending order.
     fn ends(&self, alloc: Global, number: usize) -> Result<Vec<usize>, AllocError>
         ensures exactly { IfOk result (λ ends. IsPermutation (map (λ extent. extent.end) (occurrences_of number self.now)) ends.items) }
         ensures order { IfOk result (λ ends. IsNonDecreasing ends.items) }
@@ -148,8 +148,8 @@ impl Resolution<'_> {
         Ok(ends)
     }
 
-    /// Whether another text has the same bindings and references, one for one and at the corresponding places, where the binding of a number
-    /// has a new name in the other text in place of one of this length.
+    /// Returns whether another text has the same bindings and references at corresponding offsets, where the binding with a number has a new name in the other
+    /// text. `old` is the length of its old name.
     pub fn is_like(
         &self,
         alloc: Global,

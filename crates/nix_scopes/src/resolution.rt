@@ -1,4 +1,4 @@
-//! What is bound in a text, and what its names refer to.
+//! The bindings of a text, and what its names refer to.
 
 ghost use Rattle.std.specs.Prelude.{◌≡◌, option_map};
 ghost use Rattle.nix_scopes.specs.Bound.{bindings_of, references_of};
@@ -12,29 +12,29 @@ use std::borrow::CowStr;
 /// A name that a scope binds: a `let`, a `rec` set or a lambda.
 #[derive(Drop)]
 pub struct Binding<'t> {
-    /// What the name is: without quotes and `${}`, and with escapes replaced.
+    /// The name as Nix reads it: without quotes and `${}`, and with escapes replaced.
     pub text: CowStr<'t>,
-    /// What writes the name: an identifier, a string or a `${}`.
+    /// The node of the name: an identifier, a string or a `${}`.
     pub node: SyntaxNode<'t>,
-    /// The node inside which the name is in sight.
+    /// The node in which the name is in scope.
     pub scope: SyntaxNode<'t>,
-    /// The number of the binding that references have: its own, but where a set is written in parts, as in `a.b = 1; a.c = 2;`.
+    /// The number of the binding to which references refer: its own, except where a set is written in parts, as in `a.b = 1; a.c = 2;`; then the first part's.
     pub first: usize,
 }
 
-/// A name whose value is used, or that is inherited from what is around its set or `let`.
+/// A name whose value is used, or that an `inherit` takes from around its set or `let`.
 #[derive(Drop)]
 pub struct Reference<'t> {
-    /// What the name is: without quotes and `${}`, and with escapes replaced.
+    /// The name as Nix reads it: without quotes and `${}`, and with escapes replaced.
     pub text: CowStr<'t>,
-    /// What writes the name: an identifier, a string or a `${}`.
+    /// The node of the name: an identifier, a string or a `${}`.
     pub node: SyntaxNode<'t>,
     /// Whether it is inherited.
     pub is_inherited: bool,
     /// The number of its binding, in the innermost scope around it that binds the name.
     pub binding: Option<usize>,
-    /// Whether it has no binding and is in the body of a `with`, which may bring the name into sight. A name that has no binding and is
-    /// not open comes from outside of the text.
+    /// Whether it has no binding and is in the body of a `with`, which may bind the name. A name without a binding that is not open comes from outside the
+    /// text.
     pub is_open: bool,
 }
 
@@ -46,29 +46,29 @@ pub struct Resolution<'t> {
 }
 
 impl<'t> Resolution<'t> {
-    /// What is bound. The number of a binding is its index here.
+    /// Returns the bindings. The number of a binding is its index here.
     pub fn bindings(&self) -> &[Binding<'t>]
         ensures { result.now ≡ bindings_of self.now }
     {
         &self.bindings
     }
 
-    /// What refers to a binding, or to nothing in the text.
+    /// Returns the references, also those to names that nothing in the text binds.
     pub fn references(&self) -> &[Reference<'t>]
         ensures { result.now ≡ references_of self.now }
     {
         &self.references
     }
 
-    /// The binding that a node writes, or that it refers to; its first part, where it has several. What is bound by an `inherit` is both,
-    /// and returns what it binds.
+    /// Returns the binding that a node makes or refers to, or its first part if it has several. A name of an `inherit` does both; for it, returns the binding
+    /// that it makes.
     pub fn binding_at(&self, node: &SyntaxNode<'_>) -> Option<&Binding<'t>>
         ensures { option_map (λ binding. binding.now) result ≡ binding_at self.now (extent_of node.now) }
     {
         self.bindings.get(self.number_at(node)?)
     }
 
-    // The number of the binding that a node writes, or that it refers to.
+    // Returns the number of the binding that a node makes or refers to.
     fn number_at(&self, node: &SyntaxNode<'_>) -> Option<usize>
         ensures { result ≡ number_at self.now (extent_of node.now) }
     {
@@ -79,7 +79,7 @@ impl<'t> Resolution<'t> {
     }
 }
 
-// Whether a node is at a range.
+// Returns whether a node is at a range.
 fn is_at(node: &SyntaxNode<'_>, extent: TextRange) -> bool
     ensures { result ≡ is_at (bounds_of extent) node.now }
 {
@@ -87,7 +87,7 @@ fn is_at(node: &SyntaxNode<'_>, extent: TextRange) -> bool
     range.start() == extent.start() && range.end() == extent.end()
 }
 
-// The number of the binding that is written at a range.
+// Returns the number of the binding that is written at a range.
 fn written_number(bindings: &[Binding<'_>], extent: TextRange) -> Option<usize>
     ensures { result ≡ written_number (bounds_of extent) bindings.now }
 {
@@ -99,7 +99,7 @@ fn written_number(bindings: &[Binding<'_>], extent: TextRange) -> Option<usize>
     None
 }
 
-// The number of the binding to which the reference at a range refers.
+// Returns the number of the binding to which the reference at a range refers.
 fn referred_number(references: &[Reference<'_>], extent: TextRange) -> Option<usize>
     ensures { result ≡ referred_number (bounds_of extent) references.now }
 {

@@ -1,4 +1,4 @@
-//! Going over a text, what its names refer to.
+//! Resolving the names of a text in one pass.
 
 ghost use Rattle.std.specs.Prelude.{◌≡◌, ◌++◌, [], ◌∷◌, map, IfOk, OnOk, true};
 ghost use Rattle.rnix_green.specs.Relatives.{parent_of};
@@ -22,7 +22,7 @@ use rnix::{NodeOrToken, SyntaxNode};
 use std::alloc::{AllocError, Global};
 use std::borrow::CowStr;
 
-// Adds a name that refers to the binding of a number, or has none.
+// Adds a reference to the binding with a number, or to none.
 fn add_reference<'t>(
     around: &Environment<'t>,
     binding: Option<usize>,
@@ -43,7 +43,8 @@ fn add_reference<'t>(
     Ok(())
 }
 
-// Adds a name that is inherited, if the text alone says it; from outside of the innermost scope, if that is the set or the `let` of the `inherit`.
+// Adds a reference for an inherited name, if the text alone determines the name. If the innermost scope is the set or the `let` of the `inherit`, the name is
+// looked up outside it.
 fn add_inherited<'t>(
     alloc: Global,
     around: &Environment<'t>,
@@ -64,7 +65,7 @@ fn add_inherited<'t>(
     }
 }
 
-// The number of a name, outside of the innermost scope or in all scopes.
+// Returns the number of a name's binding, in all scopes or outside the innermost one.
 fn number_of<'t>(
     sight: &Sight<'t>,
     is_outer: bool,
@@ -80,7 +81,7 @@ fn number_of<'t>(
     }
 }
 
-// Whether the parent of the current node is a scope.
+// Returns whether the parent of the current node is a scope.
 fn is_in_scope(around: &Environment<'_>, node: &SyntaxNode<'_>) -> bool
     ensures { result ≡ is_in_scope around.now (parent_of node.now) }
 {
@@ -110,7 +111,7 @@ fn add_all_inherited<'t>(
     Ok(())
 }
 
-// Adds the references that a node is or has.
+// Adds the references of a node: the node itself, or its inherited names.
 fn add_references<'t>(
     alloc: Global,
     around: &Environment<'t>,
@@ -132,7 +133,7 @@ fn add_references<'t>(
     }
 }
 
-/// Resolves the names inside a node: a name refers to the innermost binding of its name around it, also below `with`.
+/// Resolves the names inside a node. A name refers to the innermost binding of that name around it, even inside `with`.
 pub fn resolve<'t>(alloc: Global, root: &SyntaxNode<'t>) -> Result<Resolution<'t>, AllocError>
     ensures bindings { IfOk result (λ names. map bound_of (bindings_of names) ≡ bindings_in root.now) }
     ensures firsts { IfOk result (λ names. AreFirst (bindings_of names)) }
@@ -142,7 +143,7 @@ pub fn resolve<'t>(alloc: Global, root: &SyntaxNode<'t>) -> Result<Resolution<'t
     let mut bindings = Vec::new(alloc);
     let mut references = Vec::new(alloc);
     let mut around = Environment::new(alloc);
-    // How many elements come after the current one.
+    // The number of elements after the current one.
     let mut remaining = root.inside_count();
     for element in root.descendants_with_tokens() {
         if let NodeOrToken::Node(node) = element {

@@ -1,4 +1,4 @@
-//! Which nodes are scopes.
+//! The nodes that are scopes.
 
 ghost use Rattle.std.specs.Prelude.{◌≡◌};
 ghost use Rattle.nix_scopes.specs.Binders.{is_recursive, is_binder, is_scope};
@@ -6,7 +6,7 @@ ghost use Rattle.nix_scopes.specs.Binders.{is_recursive, is_binder, is_scope};
 use rnix::ast::{AstNode, AttrSet};
 use rnix::{SyntaxKind, SyntaxNode};
 
-// Whether a node is a set with `rec`.
+// Returns whether a node is a set with `rec`.
 fn is_recursive(node: &SyntaxNode<'_>) -> bool
     ensures { result ≡ is_recursive node.now }
 {
@@ -16,7 +16,7 @@ fn is_recursive(node: &SyntaxNode<'_>) -> bool
     }
 }
 
-/// Whether a node of the kind binds names.
+/// Returns whether a node of the kind binds names.
 pub fn is_binder(kind: SyntaxKind) -> bool
     ensures { result ≡ is_binder kind }
 {
@@ -26,7 +26,7 @@ pub fn is_binder(kind: SyntaxKind) -> bool
     )
 }
 
-/// Whether the node's names are in sight inside it.
+/// Returns whether the node's names are in scope inside it.
 pub fn is_scope(node: &SyntaxNode<'_>) -> bool
     ensures { result ≡ is_scope node.now }
 {

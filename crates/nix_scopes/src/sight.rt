@@ -1,4 +1,4 @@
-//! The names in sight at the current node of a walk.
+//! The names in scope at the current node of a walk.
 
 ghost use Rattle.std.specs.Prelude.{◌≡◌, ℕ, ◌<◌, ◌≤◌, ◌+◌, ◌++◌, [], ◌∷◌, List, Option, Some, None, length, map, get_or, slice_get};
 ghost use Rattle.std.specs.Prelude.{IsSome, IfOk, OnOk, if◌then◌else◌};
@@ -19,30 +19,30 @@ use std::alloc::{AllocError, Global};
 use std::borrow::CowStr;
 use std::collections::BTreeMap;
 
-// A name behind the number that some of its bytes make: most names differ in these numbers.
+// A name, after a number made from some of its bytes. Most names differ in these numbers.
 type Key<'t> = (u64, NameText<'t>);
 
-/// The bindings of a scope, by their numbers: from the first to the end, exclusive.
+/// The numbers of a scope's bindings: from the first up to, but not including, the end.
 #[derive(Clone, Copy)]
 pub struct Scope {
     pub first: usize,
     pub end: usize,
 }
 
-/// The names in sight at a place.
+/// The names in scope at a position.
 #[derive(Drop)]
 pub struct Sight<'t> {
-    /// Of each name in sight, the number of its innermost binding.
+    /// For each name in scope, the number of its innermost binding.
     pub numbers: BTreeMap<Key<'t>, usize>,
-    /// Of each binding, the number that its name has outside of its scope.
+    /// For each binding, the number that its name has outside its scope.
     pub hidden: Vec<Option<usize>>,
-    /// The scopes around the place, the innermost last.
+    /// The scopes around the position, innermost last.
     pub scopes: Vec<Scope>,
-    // The names of the scope that was entered last: its room serves each scope.
+    // The names of the scope that was entered last. The list is reused for each scope.
     names: Vec<Name<'t>>,
 }
 
-// The byte at a place, or 0 behind the end.
+// Returns the byte at an index, or 0 after the end.
 fn byte_at(bytes: &[u8], index: usize) -> u8
     ensures { result ≡ get_or bytes.now index 0 }
 {
@@ -52,7 +52,7 @@ fn byte_at(bytes: &[u8], index: usize) -> u8
     }
 }
 
-// The number that the first four bytes of a name make; 0 is in place of each that it does not have.
+// Returns the number that the first four bytes of a name make. A missing byte counts as 0.
 #[inline(always)]
 fn first_four(bytes: &[u8]) -> u32
     ensures { result ≡ first_four bytes.now }
@@ -65,7 +65,7 @@ fn first_four(bytes: &[u8]) -> u32
     ])
 }
 
-// The number that the last four bytes of a name make; in a name that has fewer the first one is repeated.
+// Returns the number that the last four bytes of a name make. In a shorter name, the first byte is repeated.
 #[inline(always)]
 fn last_four(bytes: &[u8]) -> u32
     ensures { result ≡ last_four bytes.now }
@@ -79,7 +79,7 @@ fn last_four(bytes: &[u8]) -> u32
     ])
 }
 
-// The number that the last and the first four bytes of a name make.
+// Returns the number that the last and the first four bytes of a name make.
 #[inline(always)]
 fn mark_in(bytes: &[u8]) -> u64
     ensures { result ≡ mark_of bytes.now }
@@ -87,7 +87,7 @@ fn mark_in(bytes: &[u8]) -> u64
     u64::from(last_four(bytes)) * 4_294_967_296 + u64::from(first_four(bytes))
 }
 
-// The number that some bytes of a short name make.
+// Returns the number that some bytes of a short name make.
 #[inline(never)]
 fn mark_of_short(bytes: &[u8]) -> u64
     ensures { result ≡ mark_of bytes.now }
@@ -95,7 +95,7 @@ fn mark_of_short(bytes: &[u8]) -> u64
     mark_in(bytes)
 }
 
-// The number that some bytes of a name make. Where there are four, LLVM reads them at once.
+// Returns the number that some bytes of a name make. LLVM reads four bytes at once.
 fn mark_of(text: &str) -> u64
     ensures { result ≡ mark_of text.now }
 {
@@ -106,14 +106,14 @@ fn mark_of(text: &str) -> u64
     mark_in(bytes)
 }
 
-// The key of a name that is a part of the text.
+// Returns the key of a name that is a part of the text.
 fn part_key<'t>(text: &'t str) -> Key<'t>
     ensures { IsKeyOf text.now result }
 {
     (mark_of(text), NameText::Part(text))
 }
 
-// The key of a name.
+// Returns the key of a name.
 fn key_of<'t>(text: &CowStr<'t>) -> Result<Key<'t>, AllocError>
     ensures { IfOk result (IsKeyOf (cow_str_bytes text.now)) }
 {
@@ -121,7 +121,7 @@ fn key_of<'t>(text: &CowStr<'t>) -> Result<Key<'t>, AllocError>
     Ok((mark, NameText::of(text)?))
 }
 
-// The number that the name of a binding has outside of its scope.
+// Returns the number that the name of a binding has outside its scope.
 fn hidden_by(hidden: &[Option<usize>], number: usize) -> Option<usize>
     ensures { result ≡ hidden_by hidden.now number }
 {
@@ -131,7 +131,7 @@ fn hidden_by(hidden: &[Option<usize>], number: usize) -> Option<usize>
     }
 }
 
-// The number of a name outside of a scope whose numbers begin with `first`, where it has this one inside.
+// Returns the number of a name outside a scope whose numbers begin with `first`, given its number inside.
 fn outside(number: Option<usize>, first: usize, hidden: &[Option<usize>]) -> Option<usize>
     ensures { result ≡ outside_of number first hidden.now }
 {
@@ -141,7 +141,7 @@ fn outside(number: Option<usize>, first: usize, hidden: &[Option<usize>]) -> Opt
     }
 }
 
-// A copy of the text of a name. Only a text of its own takes memory.
+// Returns a copy of a name's text. Allocates only if the text was allocated.
 #[inline(always)]
 fn copied<'t>(text: &CowStr<'t>) -> Result<CowStr<'t>, AllocError>
     ensures { IfOk result (λ copy. cow_str_bytes copy ≡ cow_str_bytes text.now) }
@@ -152,7 +152,7 @@ fn copied<'t>(text: &CowStr<'t>) -> Result<CowStr<'t>, AllocError>
     }
 }
 
-// Gives a name a number, or the one that it has in its scope, whose numbers begin with `first`. Returns it with the one that it had before.
+// Gives a name a number, unless it has one in its scope, whose numbers begin with `first`. Returns its number, and the one that it had before.
 fn give_number<'t>(
     numbers: &mut BTreeMap<Key<'t>, usize>,
     text: &CowStr<'t>,
@@ -229,7 +229,7 @@ fn bind_names<'t>(
     Ok(())
 }
 
-// Shows a name that a scope hid, or takes it out of sight where the scope hid none.
+// Restores the number that a name had outside a scope, or removes the name if it had none.
 fn show<'t>(
     numbers: &mut BTreeMap<Key<'t>, usize>,
     text: &CowStr<'t>,
@@ -254,7 +254,7 @@ fn show<'t>(
     }
 }
 
-// Shows what the binding of a number hid.
+// Restores the number that the binding with a number hid.
 fn show_binding<'t>(
     number: usize,
     bindings: &[Binding<'t>],
@@ -273,7 +273,7 @@ fn show_binding<'t>(
     }
 }
 
-// Shows what the bindings of a scope hid.
+// Restores the numbers that the bindings of a scope hid.
 fn show_hidden<'t>(
     scope: Scope,
     bindings: &[Binding<'t>],
@@ -290,7 +290,7 @@ fn show_hidden<'t>(
 }
 
 impl<'t> Sight<'t> {
-    /// Nothing is in sight.
+    /// Returns the state in which no name is in scope.
     pub fn new(alloc: Global) -> Self
         ensures numbers { (text : List ℕ) → number_by result.numbers text ≡ None }
         ensures hidden { result.hidden.items ≡ [] }
@@ -304,7 +304,7 @@ impl<'t> Sight<'t> {
         }
     }
 
-    /// Enters a scope: its names are bound, and come into sight.
+    /// Enters a scope, and binds its names.
     pub fn enter(
         &mut self,
         alloc: Global,
@@ -330,7 +330,7 @@ impl<'t> Sight<'t> {
         Ok(())
     }
 
-    /// Leaves the innermost scope: what it hid comes into sight again.
+    /// Leaves the innermost scope, and restores what it hid.
     pub fn leave(&mut self, bindings: &[Binding<'t>]) -> Result<(), AllocError>
         ensures { OnOk result ((n : ℕ) → (scope : Located) → (outer : List Located) →
             IsSeen bindings.now self.old n (scope ∷ outer) → IsSeen bindings.now self.new n outer) }
@@ -344,14 +344,14 @@ impl<'t> Sight<'t> {
         }
     }
 
-    /// The number of the innermost binding of a name that is a part of the text.
+    /// Returns the number of the innermost binding of a name that is a part of the text.
     pub fn number(&self, text: &'t str) -> Option<usize>
         ensures { result ≡ number_by self.now.numbers text.now }
     {
         self.numbers.get(&part_key(text)).copied()
     }
 
-    /// The number of the innermost binding of a name.
+    /// Returns the number of the innermost binding of a name.
     pub fn number_of(&self, text: &CowStr<'t>) -> Result<Option<usize>, AllocError>
         ensures { IfOk result (λ number. number ≡ number_by self.now.numbers (cow_str_bytes text.now)) }
     {
@@ -359,7 +359,7 @@ impl<'t> Sight<'t> {
         Ok(self.numbers.get(&key).copied())
     }
 
-    /// The number that a name has outside of the innermost scope, where it has this one inside.
+    /// Returns the number that a name has outside the innermost scope, given its number inside.
     pub fn outer_number(&self, number: Option<usize>) -> Option<usize>
         ensures { result ≡ outer_by (first_of self.now.scopes.items) number self.now.hidden.items }
     {

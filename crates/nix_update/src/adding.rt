@@ -15,7 +15,7 @@ use rnix::SyntaxNode;
 use rnix_edit::Edited;
 use std::alloc::{AllocError, Global};
 
-// Returns the names of a path from a number on, as they are written.
+// Returns the text of a path from the name with index `at` on.
 fn rest_at<'p>(path: &Path<'p>, at: usize) -> Option<&'p str>
     ensures { IfSome result (λ rest. IsRest path.now.starts.items path.now.text.now at rest.now) }
 {
@@ -23,7 +23,7 @@ fn rest_at<'p>(path: &Path<'p>, at: usize) -> Option<&'p str>
     path.text.get(*start..)
 }
 
-// Adds an attribute to a set, whatever names then refer to.
+// Adds an attribute to a set, without checking what names then refer to.
 fn add_entry(
     alloc: Global,
     text: &str,
@@ -45,7 +45,7 @@ fn add_entry(
     }
 }
 
-// Returns a text with an attribute more, unless with it a name would refer to something else and it is not forced.
+// Returns the text `made`, to which an attribute was added, or refuses it if a name would then refer to something else, unless forced.
 fn keep_added(
     alloc: Global,
     site: Site<'_, '_>,
@@ -64,7 +64,7 @@ fn keep_added(
     }
 }
 
-// Adds the attribute to the only set to which the most names of its path lead.
+// Adds the attribute to the set `home`, the only one to which the most names of its path lead.
 fn add_to(
     alloc: Global,
     text: &str,

@@ -1,4 +1,4 @@
-//! Whether other names keep their meaning when an attribute is added or removed.
+//! Checks that other names keep their meaning when an attribute is added or removed.
 
 ghost use Rattle.std.specs.Prelude.{◌≡◌, None, IfOk, IfNone};
 ghost use Rattle.nix_update.specs.Updated.{set_at, entry_at, change_of, IsMeaningKeptWith, IsMeaningKeptWithout};
@@ -34,7 +34,7 @@ fn is_special(name: &str) -> bool {
     )
 }
 
-// Returns whether the name of a number is such a name.
+// Returns whether the name with index `at` is special in this sense.
 fn is_special_at(names: &[String], at: usize) -> bool {
     match names.get(at) {
         Some(name) => is_special(name.as_str()),
@@ -65,7 +65,7 @@ fn inner_recursive<'w, 't>(ways: &'w [Way<'t>]) -> Option<&'w SyntaxNode<'t>> {
     None
 }
 
-// Returns whether more than one entry of a node makes the attribute of a name of a path, or a part of it.
+// Returns whether more than one entry of a node makes the attribute that the path has up to the name with index `at`, or a part of it.
 fn is_shared(
     alloc: Global,
     names: &[String],
@@ -95,7 +95,7 @@ fn has_shared(alloc: Global, site: Site<'_, '_>) -> Result<bool, AllocError> {
     Ok(false)
 }
 
-// Returns where a `rec` set on the way begins to which other entries may add.
+// Returns the start of a `rec` set on the way to which other entries may add.
 fn split_set(alloc: Global, site: Site<'_, '_>) -> Result<Option<usize>, AllocError> {
     let Some(set) = inner_recursive(site.ways) else {
         return Ok(None);
@@ -107,7 +107,7 @@ fn split_set(alloc: Global, site: Site<'_, '_>) -> Result<Option<usize>, AllocEr
     }
 }
 
-// Returns why no attribute is added to a set or removed from it, whatever names refer to.
+// Returns the reason, if there is one, why no attribute can be added to a set or removed from it, whatever names refer to.
 fn barred(alloc: Global, site: Site<'_, '_>) -> Result<Option<Refused>, AllocError> {
     if let Some(start) = split_set(alloc, site)? {
         return Ok(Some(refuse_at(Reason::SplitSet, start)));
@@ -153,7 +153,7 @@ fn change_of(entry: &SyntaxNode<'_>, longer: &str, shorter: &str) -> Change
     }
 }
 
-// Returns names that mean something else with the last entry of a set, which is new, or `None` if all mean the same.
+// Returns the offset of the first name that means something else in the text with a new last entry of a set, or `None` if all names mean the same.
 fn unlike_with(
     alloc: Global,
     text: &str,
@@ -177,7 +177,7 @@ fn unlike_with(
     }
 }
 
-// Returns names that mean something else without an entry, or `None` if all mean the same.
+// Returns the offset of the first name that means something else in the text without an entry, or `None` if all names mean the same.
 fn unlike_without(
     alloc: Global,
     text: &str,
@@ -207,7 +207,7 @@ fn other_meaning(offset: Option<usize>) -> Option<Refused>
     }
 }
 
-/// Returns why an attribute is not added, if with it a name would refer to something else: the last one of its set in the new text.
+/// Returns the refusal of a text with a new last entry of a set, if a name refers to something else in it.
 pub fn hinders_adding(
     alloc: Global,
     site: Site<'_, '_>,
@@ -222,7 +222,7 @@ pub fn hinders_adding(
     Ok(other_meaning(offset))
 }
 
-/// Returns why an entry is not removed, if without it a name would refer to something else.
+/// Returns the refusal of a text without an entry, if a name refers to something else in it.
 pub fn hinders_removing(
     alloc: Global,
     site: Site<'_, '_>,

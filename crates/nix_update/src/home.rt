@@ -1,4 +1,4 @@
-//! The sets for a new attribute.
+//! The sets to which a new attribute can be added.
 
 ghost use Rattle.std.specs.Prelude.{◌≡◌, ◌++◌, IfOk, OnOk};
 ghost use Rattle.nix_update.specs.Updated.{most_names, is_home, home_if, homes_in};
@@ -7,7 +7,7 @@ use crate::ways::Way;
 use rnix::{SyntaxKind, SyntaxNode};
 use std::alloc::{AllocError, Global};
 
-// Returns the most names of a path that lead to attributes.
+// Returns the greatest number of names of a path that lead to an expression, without names of a `let`.
 fn most_names(ways: &[Way<'_>]) -> usize
     ensures { result ≡ most_names 0 ways.now }
 {
@@ -20,14 +20,14 @@ fn most_names(ways: &[Way<'_>]) -> usize
     most
 }
 
-// Returns whether an expression on the way is a set to which so many names lead, none of them of a `let`.
+// Returns whether an expression on the way is a set to which `most` names lead, none of them of a `let`.
 fn is_home(way: &Way<'_>, most: usize) -> bool
     ensures { result ≡ is_home most way.now }
 {
     !way.in_let && way.at == most && way.node.kind() == SyntaxKind::NODE_ATTR_SET
 }
 
-// Adds an expression on the way, if it is such a set.
+// Adds an expression on the way, if it is a set for the new attribute.
 fn add_home<'t>(most: usize, way: &Way<'t>, homes: &mut Vec<Way<'t>>) -> Result<(), AllocError>
     ensures { OnOk result (homes.new.items ≡ homes.old.items ++ home_if most way.now) }
 {
@@ -49,7 +49,7 @@ pub fn homes_of<'t>(alloc: Global, ways: &[Way<'t>]) -> Result<Vec<Way<'t>>, All
     Ok(homes)
 }
 
-/// Returns the last expression on the way of a path to which the most of its names lead, or the root.
+/// Returns the last expression on the way to which the most names of the path lead, or the root if there is none.
 pub fn end_of_way<'t>(ways: &[Way<'t>], root: &SyntaxNode<'t>) -> SyntaxNode<'t> {
     let most = most_names(ways);
     let mut last = root.clone();

@@ -1,4 +1,4 @@
-//! Which part of an expression has the attributes that the expression has.
+//! The part of an expression in which its attributes are defined.
 
 ghost use Rattle.std.specs.Prelude.{◌≡◌};
 ghost use Rattle.rnix_green.specs.Tree.{item_of};
@@ -12,7 +12,7 @@ use rnix::ast::{AstNode, BinOp, BinOpKind, Expr};
 use rnix::{SyntaxKind, SyntaxNode};
 use rnix_base::child_at;
 
-/// Returns the expression with a number, from 0, right below a node.
+/// Returns the child expression of a node with a number, from 0.
 pub fn expr_at<'t>(node: &SyntaxNode<'t>, number: usize) -> Option<SyntaxNode<'t>>
     ensures { result ≡ child_of is_expr number node.now }
 {
@@ -20,7 +20,7 @@ pub fn expr_at<'t>(node: &SyntaxNode<'t>, number: usize) -> Option<SyntaxNode<'t
     Some(expr.syntax().clone())
 }
 
-// Returns whether an operand of `//` may be the one that is meant: it is a set or another operation.
+// Returns whether PATH may mean an operand of `//`: it is a set or another operation.
 fn is_meant(operand: &SyntaxNode<'_>) -> bool
     ensures { result ≡ is_meant (item_of operand.now).kind }
 {
@@ -30,7 +30,7 @@ fn is_meant(operand: &SyntaxNode<'_>) -> bool
     )
 }
 
-// Returns the one of two operands that is a set or another operation, if the other one is neither.
+// Returns the operand that is a set or another operation, if just one of the two is.
 fn one_of<'t>(left: SyntaxNode<'t>, right: SyntaxNode<'t>) -> Option<SyntaxNode<'t>>
     ensures { result ≡ one_of left.entry right.entry }
 {
@@ -43,7 +43,7 @@ fn one_of<'t>(left: SyntaxNode<'t>, right: SyntaxNode<'t>) -> Option<SyntaxNode<
     }
 }
 
-// Returns the operand of an operation that is meant, if the operation is `//` and there is just one.
+// Returns the operand that PATH means, if the operation is `//` and there is just one such operand.
 fn operand<'t>(node: &SyntaxNode<'t>) -> Option<SyntaxNode<'t>>
     ensures { result ≡ operand node.now }
 {
@@ -54,8 +54,8 @@ fn operand<'t>(node: &SyntaxNode<'t>) -> Option<SyntaxNode<'t>>
     }
 }
 
-/// Returns the expression in a node that PATH means where it means the node: that in brackets, the body of a function, a `let`, a `with` or
-/// an `assert`, the argument of a call, or the only operand of `//` that is a set or another operation.
+/// Returns the expression in a node that has the node's attributes: the one in parentheses, the body of a function, a `let`, a `with` or an `assert`, the
+/// argument of a call, or the only operand of `//` that is a set or another operation.
 pub fn inner<'t>(node: &SyntaxNode<'t>) -> Option<SyntaxNode<'t>>
     ensures { result ≡ inner node.now }
 {

@@ -63,7 +63,7 @@ if something cannot be read or written.
     most: 3,
 };
 
-// Returns what is wrong with a command line, if something is.
+// Returns the message on a command line that is wrong, if it is.
 fn wrong_with(arguments: &Arguments) -> Option<&'static str> {
     let (is_raw, is_list) = (arguments.has("--raw"), arguments.has("--list"));
     let count = arguments.words.len();
@@ -105,7 +105,7 @@ fn form_of(arguments: &Arguments) -> Form {
     }
 }
 
-// Writes where in a file something is, and what.
+// Writes a message about a file, with the line and the column of an offset if it has one.
 fn report(
     rt: &HostRuntime,
     name: &str,

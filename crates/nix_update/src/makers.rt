@@ -16,11 +16,11 @@ pub struct Maker<'t> {
     pub meeting: Meeting,
     /// The set or the `let` of the entry.
     pub home: SyntaxNode<'t>,
-    /// The number of names of the path that lead to it.
+    /// The number of names of the path that lead to this set or `let`.
     pub at: usize,
 }
 
-// Returns whether an expression on the way has entries that bind names of a `let`, or else attributes.
+// Returns whether an expression on the way has entries: those that names of a `let` lead to if `of_let`, otherwise those of sets.
 fn has_entries(way: &Way<'_>, of_let: bool) -> bool
     ensures { result ≡ has_entries of_let way.now }
 {
@@ -69,7 +69,7 @@ fn add_makers<'t>(
     Ok(())
 }
 
-// Adds the entries of an expression on the way that make the attribute, if they are those of a `let`, or of sets, as is asked.
+// Adds the entries of an expression on the way that make the attribute: those that names of a `let` lead to if `of_let`, otherwise those of sets.
 fn add_makers_if<'t>(
     alloc: Global,
     names: &[String],
@@ -85,7 +85,7 @@ fn add_makers_if<'t>(
     Ok(())
 }
 
-/// Returns the entries on the way of a path that make its attribute: those of sets, or those that names of a `let` lead to.
+/// Returns the entries on the way of a path that make its attribute: those that names of a `let` lead to if `of_let`, otherwise those of sets.
 pub fn makers_of<'t>(
     alloc: Global,
     names: &[String],

@@ -1,4 +1,4 @@
-//! Whether names mean the same in a text with one entry more.
+//! Checks that names mean the same in a text with one more entry.
 
 ghost use Rattle.std.specs.Prelude.{◌≡◌, option_map, IfSome, IfNone};
 ghost use Rattle.std.specs.Bool.{Decides};
@@ -7,24 +7,24 @@ ghost use Rattle.nix_update.specs.SameNames.{moved, start_of, is_outside, bindin
 use nix_scopes::{Binding, Reference, Resolution};
 use rnix::SyntaxNode;
 
-/// One of two texts has an entry more than the other one.
+/// The difference of two texts of which one has one more entry.
 #[derive(Clone, Copy)]
 pub struct Change {
-    /// Where the entry begins and ends in the longer text.
+    /// The start and the end of the entry in the longer text.
     pub start: usize,
     pub end: usize,
-    /// How many bytes longer that text is.
+    /// The difference of the lengths in bytes.
     pub by: usize,
 }
 
-/// Names that do not mean the same: where they are in the longer and in the shorter text, if they are in both.
+/// Two names that do not mean the same, or one that is missing: their offsets in the longer and in the shorter text.
 #[derive(Clone, Copy, PartialEq, Eq, Debug)]
 pub struct Unlike {
     pub longer: Option<usize>,
     pub shorter: Option<usize>,
 }
 
-// Returns where an offset of the longer text is in the shorter one, if it is not in the entry.
+// Returns the offset in the shorter text for an offset in the longer one that is not in the entry.
 fn moved(change: Change, offset: usize) -> Option<usize>
     ensures { result ≡ moved change offset }
 {
@@ -39,14 +39,14 @@ fn moved(change: Change, offset: usize) -> Option<usize>
     }
 }
 
-// Returns where a node begins.
+// Returns the start of a node.
 fn start_of(node: &SyntaxNode<'_>) -> usize
     ensures { result ≡ start_of node.now }
 {
     node.text_range().start()
 }
 
-// Returns whether a reference is not in the entry.
+// Returns whether a reference is outside the entry.
 fn is_outside(change: Change, reference: &Reference<'_>) -> bool
     ensures { result ≡ is_outside change reference.now }
 {
@@ -54,7 +54,7 @@ fn is_outside(change: Change, reference: &Reference<'_>) -> bool
     start < change.start || change.end <= start
 }
 
-// Returns whether two bindings, if there are any, are in the same scope.
+// Returns whether two bindings are in the same scope, or both are missing.
 fn are_in_one_scope(
     change: Change,
     longer: Option<&Binding<'_>>,
@@ -72,14 +72,14 @@ fn are_in_one_scope(
     }
 }
 
-// Returns the binding of a number, if there is one.
+// Returns the binding with a number, if there is one.
 fn binding_at<'r, 't>(names: &'r Resolution<'t>, number: Option<usize>) -> Option<&'r Binding<'t>>
     ensures { option_map (λ binding. binding.now) result ≡ binding_at names.now number }
 {
     names.bindings().get(number?)
 }
 
-// Returns whether a reference is the same one in the shorter text: its name is bound in the same scope, or by nothing in the text.
+// Returns whether two references of the texts correspond: they have the same name, which is bound in the same scope, or by nothing in the text.
 fn refers_alike(
     change: Change,
     longer: &Resolution<'_>,
@@ -99,7 +99,7 @@ fn refers_alike(
         )
 }
 
-// Returns where a reference is, if there is one.
+// Returns the start of a reference, if it is given.
 fn offset_of(reference: Option<&Reference<'_>>) -> Option<usize> {
     match reference {
         Some(reference) => Some(start_of(&reference.node)),
@@ -107,7 +107,7 @@ fn offset_of(reference: Option<&Reference<'_>>) -> Option<usize> {
     }
 }
 
-// Returns names of which at least one does not mean the same.
+// Returns two names that do not mean the same, of which one may be missing.
 fn names_at(longer: Option<&Reference<'_>>, shorter: Option<&Reference<'_>>) -> Unlike {
     Unlike {
         longer: offset_of(longer),
@@ -115,7 +115,7 @@ fn names_at(longer: Option<&Reference<'_>>, shorter: Option<&Reference<'_>>) -> 
     }
 }
 
-/// Returns the first names outside of an entry that do not mean the same in the text with the entry and in that without it.
+/// Returns the first names outside the entry that do not mean the same in the two texts.
 pub fn first_unlike(
     change: Change,
     longer: &Resolution<'_>,

@@ -1,4 +1,4 @@
-//! How entries meet a path.
+//! Comparing entries with a path.
 
 ghost use Rattle.std.specs.Prelude.{◌≡◌, map, string_bytes, IfOk};
 ghost use Rattle.rnix_base.specs.Select.{nodes_of};
@@ -10,14 +10,14 @@ use rnix::SyntaxNode;
 use rnix::ast::{AstNode, Attr, Attrpath, AttrpathValue, Inherit};
 use std::alloc::{AllocError, Global};
 
-/// How an entry of a set meets the rest of a path.
+/// How the names of an entry compare with the rest of a path.
 #[derive(Clone, Copy, PartialEq, Eq, Debug)]
 pub enum Meeting {
     /// It binds something else.
     Apart,
-    /// Its names are the first ones of the rest, which continues at this name of the path.
+    /// Its names are the first ones of the rest. The path continues at the name with this index.
     Within(usize),
-    /// Its names are the rest.
+    /// Its names are all of the rest.
     Whole,
     /// Its names continue after the rest: it makes a part of the attribute.
     Part,
@@ -36,7 +36,7 @@ impl Meeting {
         }
     }
 
-    /// Returns whether the entry can be removed whole: it has no names of other attributes, as an `inherit` has.
+    /// Returns whether the whole entry can be removed. An `inherit` cannot, because it may have names of other attributes.
     pub fn is_removable(self) -> bool
         ensures { result ≡ is_removable self }
     {
@@ -47,7 +47,7 @@ impl Meeting {
     }
 }
 
-// Returns whether an attribute names this name.
+// Returns whether an attribute has this name.
 fn is_named(alloc: Global, attr: &Attr<'_>, name: &str) -> Result<bool, AllocError>
     ensures { IfOk result (λ passes. passes ≡ is_named name.now (attr_node attr.now)) }
 {
@@ -57,7 +57,7 @@ fn is_named(alloc: Global, attr: &Attr<'_>, name: &str) -> Result<bool, AllocErr
     }
 }
 
-// Returns how a path of an entry meets the names of a path from a number on.
+// Compares the path of an entry with the names of a path from the index `start` on.
 fn path_meeting(
     alloc: Global,
     names: &[String],
@@ -85,7 +85,7 @@ fn path_meeting(
     }
 }
 
-// Returns how an `inherit` meets a path whose next name is this.
+// Compares an `inherit` with a path whose next name is `name`.
 fn inherit_meeting(alloc: Global, name: &str, inherit: &Inherit<'_>) -> Result<Meeting, AllocError>
     ensures { IfOk result (λ met. met ≡ inherit_meeting name.now inherit.now) }
 {
@@ -97,7 +97,7 @@ fn inherit_meeting(alloc: Global, name: &str, inherit: &Inherit<'_>) -> Result<M
     Ok(Meeting::Apart)
 }
 
-/// Returns how a node in a set meets the names of a path from a number on.
+/// Compares a node in a set with the names of a path from the index `at` on.
 pub fn meet(
     alloc: Global,
     names: &[String],

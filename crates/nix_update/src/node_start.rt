@@ -1,8 +1,8 @@
-//! Where nodes begin.
+//! The start of a node.
 
 use rnix::SyntaxNode;
 
-/// Returns where a node begins.
+/// Returns the start of a node.
 pub fn start_of(node: &SyntaxNode<'_>) -> usize {
     node.text_range().start()
 }

@@ -6,7 +6,7 @@ use std::fmt;
 /// The reason why a text is not updated.
 #[derive(Clone, Copy, PartialEq, Eq, Debug)]
 pub enum Reason {
-    /// The path is not one of names that are written out.
+    /// The path is not a path of plain names.
     NotAPath,
     /// The text has errors.
     NotNix,
@@ -24,7 +24,7 @@ pub enum Reason {
     NotAString,
     /// There is no set for the new attribute.
     NoSet,
-    /// There are several sets for it.
+    /// There are several sets for the new attribute.
     SeveralSets,
     /// With the change, a name would refer to something else.
     OtherMeaning,
@@ -36,7 +36,7 @@ pub enum Reason {
     Edit(Refusal),
 }
 
-/// Why a text is not updated, and where: the offset of the cause, and of the first one where that is the second.
+/// The reason why a text is not updated, the offset of its cause, and, if the cause is a second one, the offset of the first.
 #[derive(Clone, Copy, PartialEq, Eq, Debug)]
 pub struct Refused {
     pub reason: Reason,

@@ -12,7 +12,7 @@ use rnix::ast::{AstNode, AttrSet, Attrpath, AttrpathValue};
 use rnix::{Root, SyntaxNode};
 use std::alloc::{AllocError, Global};
 
-/// A path: what its names name, and where each begins in its text.
+/// A path: its names as Nix reads them, and the start of each in its text.
 #[derive(Drop)]
 pub struct Path<'p> {
     pub text: &'p str,
@@ -69,7 +69,7 @@ fn path_in<'p>(
     }))
 }
 
-/// Returns the path that a text is, or `None` if it is none or a name in it is computed.
+/// Returns the path of a text, or `None` if the text is not a path or a name in it is computed.
 #[tactic(auto, using(crate::proofs::PathLemmas::whole_path))]
 pub fn path_of<'p>(alloc: Global, text: &'p str) -> Result<Option<Path<'p>>, AllocError>
     ensures text { IfOk result (λ path. IfSome path (λ path. path.text.now ≡ text.now)) }

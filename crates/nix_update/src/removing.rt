@@ -13,7 +13,7 @@ use rnix::SyntaxNode;
 use rnix_edit::{Edited, remove};
 use std::alloc::{AllocError, Global};
 
-// Returns a text without an entry, unless without it a name would refer to something else and it is not forced.
+// Returns the text `made`, from which an entry was removed, or refuses it if a name would then refer to something else, unless forced.
 fn keep_removed(
     alloc: Global,
     site: Site<'_, '_>,

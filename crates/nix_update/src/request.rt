@@ -1,15 +1,15 @@
-//! What is asked of a text.
+//! The update that a command line asks for.
 
 use crate::value::Form;
 
 /// An action on the attribute of a path.
 #[derive(Clone, Copy, PartialEq, Eq)]
 pub enum Action {
-    /// It gets a value.
+    /// Set its value.
     Set,
-    /// It gets a value, and is added if there is none.
+    /// Set its value, and add the attribute if there is none.
     Add,
-    /// It is removed.
+    /// Remove it.
     Remove,
 }
 
@@ -20,6 +20,6 @@ pub struct Update<'a> {
     pub path: &'a str,
     pub form: Form,
     pub value: &'a str,
-    /// Whether an attribute is added or removed also where a name then refers to something else.
+    /// Whether to add or remove an attribute even if a name then refers to something else.
     pub is_forced: bool,
 }

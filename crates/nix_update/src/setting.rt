@@ -60,7 +60,7 @@ pub fn set_entry(
     }
 }
 
-// Returns why an entry that does not make all of an attribute is not changed.
+// Returns the refusal to change an entry that does not make all of an attribute.
 fn not_whole(meeting: Meeting) -> Reason {
     match meeting {
         Meeting::Inherited => Reason::Inherited,

@@ -16,7 +16,7 @@ use crate::ways::{Way, ways_of};
 use rnix::{Root, SyntaxNode};
 use std::alloc::{AllocError, Global};
 
-// Returns the refusal where several entries make the attribute.
+// Returns the refusal if several entries make the attribute.
 fn refuse_several(first: &Maker<'_>, second: &Maker<'_>) -> Refused {
     refuse_twice(
         Reason::SeveralEntries,
@@ -25,13 +25,13 @@ fn refuse_several(first: &Maker<'_>, second: &Maker<'_>) -> Refused {
     )
 }
 
-// Returns the refusal where no entry makes the attribute.
+// Returns the refusal if no entry makes the attribute.
 fn refuse_none(ways: &[Way<'_>], root: &SyntaxNode<'_>) -> Refused {
     let end = end_of_way(ways, root);
     refuse_at(Reason::NoAttribute, start_of(&end))
 }
 
-// Sets the value of the name of a `let`, where no attribute has the path.
+// Sets the value of a name of a `let`, if no attribute has the path.
 fn set_in_let(
     alloc: Global,
     text: &str,
@@ -131,7 +131,7 @@ fn update_in(
     }
 }
 
-/// Returns the updated text, or why there is none.
+/// Returns the updated text, or the refusal.
 pub fn updated(alloc: Global, text: &str, update: Update<'_>) -> Result<Outcome, AllocError>
     ensures { IfOk result (IsUpdated update.entry text.now) }
 {

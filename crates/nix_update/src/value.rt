@@ -17,7 +17,7 @@ pub enum Form {
     Text,
     /// A list of strings, separated by white space in the text.
     List,
-    /// The text is an expression.
+    /// The expression that the text is.
     Raw,
 }
 

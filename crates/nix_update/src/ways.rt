@@ -117,7 +117,7 @@ pub fn ways_of<'t>(
 {
     let mut ways = Vec::new(alloc);
     add_if(Some(root.clone()), 0, false, &mut ways)?;
-    // There are no more of them than nodes.
+    // There are at most as many of them as nodes.
     for number in 0..root.inside_count().saturating_add(2) {
         match way_at(&ways, number) {
             Some(way) => add_onward(alloc, names, &way, &mut ways)?,

@@ -14,7 +14,7 @@ pub trait Values {
     // Which attribute each value is.
     ghost keys: { Self → Keys };
 
-    /// The set that a value is an attribute of, and its name.
+    /// Returns the set that a value is an attribute of, and its name.
     fn attribute(&self, number: usize) -> Option<(usize, &str)>
         ensures { option_map (λ p. (p.0, p.1.now)) result ≡ keys self.now number };
 }
@@ -37,7 +37,7 @@ pub struct Attributes {
     crowded: OrderedAttributes,
 }
 
-// Whether what a value is an attribute of is a set, and a name its name.
+// Returns whether what a value is an attribute of is a set, and a name its name.
 fn is_attribute(found: Option<(usize, &str)>, set: usize, name: &str) -> bool
     ensures { result ≡ is_key (option_map (λ p. (p.0, p.1.now)) found.entry) set name.now }
 {
@@ -61,7 +61,7 @@ impl Attributes {
         }
     }
 
-    // Where the attribute of a set is that has a name with this hash. At most one name is compared.
+    // Returns where the attribute of a set is that has a name with this hash. At most one name is compared.
     fn probe<V: Values>(&self, values: &V, hash: u64, set: usize, name: &str) -> Probe
         requires { hash ≡ attribute_hash set name.now }
         ensures { result ≡ probe_in self.now (V.keys values.now) set name.now }
@@ -132,7 +132,7 @@ impl Attributes {
         Ok(())
     }
 
-    // Whether a value is found as the attribute of a set that has a name.
+    // Returns whether a value is found as the attribute of a set that has a name.
     fn finds<V: Values>(&self, values: &V, set: usize, name: &str, number: usize) -> bool
         ensures found { IsTrue result → found_in self.now (V.keys values.now) set name.now ≡ Some number }
         ensures other { result ≡ false → found_in self.now (V.keys values.now) set name.now ≡ Some number → ⊥ }

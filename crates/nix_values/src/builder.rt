@@ -56,7 +56,7 @@ impl Builder {
         }
     }
 
-    /// The number of values so far.
+    /// Returns the number of values so far.
     pub fn len(&self) -> usize
         ensures { result ≡ length (values_in self.now) }
     {

@@ -49,7 +49,7 @@ impl Value {
         matches!(self, Value::List | Value::Set)
     }
 
-    // Whether two values are the same, without the values inside them.
+    // Returns whether two values are the same, without the values inside them.
     fn is_same(&self, other: &Value) -> bool
         ensures { IsTrue result → plain_of self.now ≡ plain_of other.now }
     {
@@ -67,7 +67,7 @@ impl Value {
 }
 
 impl Item {
-    // Whether two values are the same and have the same place.
+    // Returns whether two values are the same and have the same place.
     fn is_same(&self, other: &Item) -> bool
         ensures { IsTrue result → entry_of self.now ≡ entry_of other.now }
     {
@@ -77,7 +77,7 @@ impl Item {
     }
 }
 
-// Whether all items are the same.
+// Returns whether all items are the same.
 fn are_same(ones: &[Item], others: &[Item]) -> bool
     ensures { IsTrue result → map entry_of ones.now ≡ map entry_of others.now }
 {

@@ -8,7 +8,7 @@ use std::alloc::{AllocError, Global};
 
 const ZERO: f64 = 0.0;
 
-// Whether a digit other than 0 precedes the exponent of a number.
+// Returns whether a digit other than 0 precedes the exponent of a number.
 fn has_value(number: &[u8]) -> bool
     ensures { result ≡ has_value number.now }
 {
@@ -47,7 +47,7 @@ pub fn without_first(text: &str, byte: u8) -> &str
     }
 }
 
-// The digits that a text begins with, and what follows them.
+// Returns the digits that a text begins with, and what follows them.
 fn split_digits(text: &str) -> (&str, &str)
     ensures front { result.0.now ≡ first_digits text.now }
     ensures back { result.1.now ≡ after_digits text.now }

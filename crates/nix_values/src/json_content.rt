@@ -10,7 +10,7 @@ use crate::json_error::{JsonReason, JsonStop, refused};
 use crate::json_strings::{plain_len, push_some};
 use std::alloc::{AllocError, Global};
 
-// The value of the hexadecimal digit at an index.
+// Returns the value of the hexadecimal digit at an index.
 fn hex_at(text: &[u8], index: usize) -> Option<u32>
     ensures none { result ≡ None → is_digit (slice_index text.now index) 16 ≡ false }
     ensures some { IfSome result (IsHexAt text.now index) }
@@ -18,7 +18,7 @@ fn hex_at(text: &[u8], index: usize) -> Option<u32>
     char::from(byte_at(text, index)).to_digit(16)
 }
 
-// The number that the first four hexadecimal digits are.
+// Returns the number that the first four hexadecimal digits are.
 #[inline(never)]
 fn code_unit(text: &[u8]) -> Option<u32>
     ensures unit { result ≡ code_unit text.now }
@@ -32,7 +32,7 @@ fn code_unit(text: &[u8]) -> Option<u32>
     Some(first * 4096 + (second * 256 + (third * 16 + fourth)))
 }
 
-// The number of an escape that may come first.
+// Returns the number of an escape that may come first.
 fn low_half(text: &[u8]) -> Option<u32>
     ensures unit { result ≡ low_half text.now }
     ensures ascii { IfSome result (λ unit. EndsAscii text.now 6) }
@@ -44,7 +44,7 @@ fn low_half(text: &[u8]) -> Option<u32>
     }
 }
 
-// The character of a surrogate pair, and the length of its escapes after the backslash.
+// Returns the character of a surrogate pair, and the length of its escapes after the backslash.
 fn paired(high: u32, low: Option<u32>) -> Result<(char, usize), JsonReason>
     requires { is_high high ≡ true }
     ensures found { Finds result (paired high low) }
@@ -62,14 +62,14 @@ fn paired(high: u32, low: Option<u32>) -> Result<(char, usize), JsonReason>
     }
 }
 
-// Whether a number is the first half of a pair.
+// Returns whether a number is the first half of a pair.
 fn is_high(unit: u32) -> bool
     ensures { result ≡ is_high unit }
 {
     unit >= 0xd800 && unit < 0xdc00
 }
 
-// The character of a number, and the length of its escape after the backslash.
+// Returns the character of a number, and the length of its escape after the backslash.
 fn escaped_unit(unit: u32, rest: &[u8]) -> Result<(char, usize), JsonReason>
     requires { unit < 65536 }
     ensures found { Finds result (escaped_unit (Some unit) rest.now) }
@@ -87,7 +87,7 @@ fn escaped_unit(unit: u32, rest: &[u8]) -> Result<(char, usize), JsonReason>
     }
 }
 
-// The character of the digits after `\u`, and the length of the escape after the backslash.
+// Returns the character of the digits after `\u`, and the length of the escape after the backslash.
 fn numbered(text: &[u8]) -> Result<(char, usize), JsonReason>
     ensures found { Finds result (numbered text.now) }
     ensures ascii { IfOk result (λ found. (0 < found.1) × EndsAscii text.now (found.1 - 1)) }
@@ -98,7 +98,7 @@ fn numbered(text: &[u8]) -> Result<(char, usize), JsonReason>
     }
 }
 
-// The character that a letter after a backslash means.
+// Returns the character that a letter after a backslash means.
 fn short_escape(letter: u8) -> Option<char>
     ensures { result ≡ short_escape letter }
 {
@@ -115,7 +115,7 @@ fn short_escape(letter: u8) -> Option<char>
     }
 }
 
-// The character of an escape, and the escape's length after the backslash.
+// Returns the character of an escape, and the escape's length after the backslash.
 #[tactic(auto, unfolding(crate::specs::JsonContent::escape_at))]
 fn escape_at(rest: &[u8]) -> Result<(char, usize), JsonReason>
     ensures found { Finds result (escape_at rest.now) }
@@ -131,7 +131,7 @@ fn escape_at(rest: &[u8]) -> Result<(char, usize), JsonReason>
     }
 }
 
-// Why a byte is not allowed in a string.
+// Returns why a byte is not allowed in a string.
 fn control_reason(byte: u8) -> JsonReason {
     if byte == 0 {
         JsonReason::HasNul

@@ -13,7 +13,7 @@ use crate::float::{float_of, without_first};
 use crate::json_error::{JsonReason, JsonStop, refused};
 use std::alloc::Global;
 
-// Where the digits end that must be at an offset.
+// Returns where the digits end that must be at an offset.
 fn some_digits(text: &[u8], from: usize) -> Option<usize>
     requires { from ≤ length text.now }
     ensures end { result ≡ some_digits from text.now }
@@ -23,7 +23,7 @@ fn some_digits(text: &[u8], from: usize) -> Option<usize>
     if end == from { None } else { Some(end) }
 }
 
-// Where the whole part ends.
+// Returns where the whole part ends.
 fn whole_end(text: &[u8], from: usize) -> Option<usize>
     requires { from ≤ length text.now }
     ensures end { result ≡ whole_end from text.now }
@@ -36,7 +36,7 @@ fn whole_end(text: &[u8], from: usize) -> Option<usize>
     }
 }
 
-// Where the fraction ends that may be at an offset.
+// Returns where the fraction ends that may be at an offset.
 fn fraction_end(text: &[u8], from: usize) -> Option<usize>
     requires { EndsAscii text.now from }
     ensures end { result ≡ fraction_end from text.now }
@@ -49,7 +49,7 @@ fn fraction_end(text: &[u8], from: usize) -> Option<usize>
     }
 }
 
-// Where the exponent ends that may be at an offset.
+// Returns where the exponent ends that may be at an offset.
 fn exponent_end(text: &[u8], from: usize) -> Option<usize>
     requires { EndsAscii text.now from }
     ensures end { result ≡ exponent_end from text.now }
@@ -66,7 +66,7 @@ fn exponent_end(text: &[u8], from: usize) -> Option<usize>
     }
 }
 
-// Where the fraction and the exponent end that may be at an offset.
+// Returns where the fraction and the exponent end that may be at an offset.
 fn decimals_end(text: &[u8], from: usize) -> Option<usize>
     requires { EndsAscii text.now from }
     ensures end { result ≡ decimals_end from text.now }
@@ -78,7 +78,7 @@ fn decimals_end(text: &[u8], from: usize) -> Option<usize>
     }
 }
 
-// Where the whole part begins.
+// Returns where the whole part begins.
 fn unsigned_start(text: &[u8]) -> usize
     ensures start { result ≡ unsigned_start text.now }
     ensures within { result ≤ length text.now }
@@ -86,7 +86,7 @@ fn unsigned_start(text: &[u8]) -> usize
     if byte_at(text, 0) == b'-' { 1 } else { 0 }
 }
 
-// Where a number ends, and whether it is an integer.
+// Returns where a number ends, and whether it is an integer.
 fn number_end(text: &[u8]) -> Option<(usize, bool)>
     ensures end { result ≡ number_end text.now }
     ensures ascii { IfSome result (λ n. EndsAscii text.now n.0) }
@@ -96,7 +96,7 @@ fn number_end(text: &[u8]) -> Option<(usize, bool)>
     Some((end, end == whole))
 }
 
-// The value of an integer, if Nix can write it.
+// Returns the value of an integer, if Nix can write it.
 fn integer_value(number: &str) -> Option<Value>
     requires { IsNumeral 10 (without_first 45 number.now) }
     ensures { option_map plain_of result ≡ integer_value number.now }
@@ -111,7 +111,7 @@ fn integer_value(number: &str) -> Option<Value>
     }
 }
 
-// The value of a number, or why Nix cannot hold it.
+// Returns the value of a number, or why Nix cannot hold it.
 fn number_value(
     alloc: Global,
     is_integer: bool,

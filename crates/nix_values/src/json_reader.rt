@@ -49,14 +49,14 @@ struct Reading {
     state: State,
 }
 
-// The value that begins with a bracket.
+// Returns the value that begins with a bracket.
 fn opened_value(is_set: bool) -> Value
     ensures { plain_of result ≡ opened_plain is_set }
 {
     if is_set { Value::Set } else { Value::List }
 }
 
-// What may come next inside it.
+// Returns what may come next inside it.
 fn opened(is_set: bool) -> State
     ensures { result ≡ opened is_set }
 {
@@ -71,7 +71,7 @@ impl Reading {
     ghost use Rattle.nix_values.specs.JsonReading.{is_value_next, is_name_next, is_close_next, is_comma_next, is_colon_next, is_end, state_behind, IsInside, IsSound, IsAdded, TakesOrNot, TakesTokenOrNot, IsBegun};
     ghost use Rattle.nix_values.specs.JsonReading.{entries_in, IsPlacedIn, IsTaken, IsNotTaken, IsDistinct};
 
-    // Nothing is read yet.
+    // Returns the state before the first token.
     fn new(alloc: Global) -> Reading
         ensures begun { IsBegun result }
         ensures placed { IsPlacedIn result }
@@ -87,7 +87,7 @@ impl Reading {
         }
     }
 
-    // The innermost list or set.
+    // Returns the innermost list or set.
     fn innermost(&self) -> Option<Frame>
         ensures last { result ≡ last_frame self.now.frames.items }
         ensures none { IfNone result (self.now.frames.items ≡ []) }
@@ -101,7 +101,7 @@ impl Reading {
         }
     }
 
-    // What comes after a value.
+    // Returns what comes after a value.
     fn after_value(&self) -> State
         ensures { result ≡ state_behind self.now.frames.items }
     {
@@ -111,7 +111,7 @@ impl Reading {
         }
     }
 
-    // Why a token does not fit.
+    // Returns why a token does not fit.
     fn unexpected(&self, at: usize) -> JsonStop {
         let is_set = match self.innermost() {
             Some(frame) => frame.is_set,
@@ -128,7 +128,7 @@ impl Reading {
         refused(reason, at)
     }
 
-    // The innermost set, if it is in no list.
+    // Returns the innermost set, if it is in no list.
     fn innermost_set(&self) -> Option<usize>
         ensures { result ≡ set_of (last_frame self.now.frames.items) }
     {
@@ -159,21 +159,21 @@ impl Reading {
         Ok(number)
     }
 
-    // Whether a value may come next.
+    // Returns whether a value may come next.
     fn is_value_next(&self) -> bool
         ensures { result ≡ is_value_next self.now.state }
     {
         matches!(self.state, State::Value | State::ValueOrClose)
     }
 
-    // Whether a name may come next.
+    // Returns whether a name may come next.
     fn is_name_next(&self) -> bool
         ensures { result ≡ is_name_next self.now.state }
     {
         matches!(self.state, State::Name | State::NameOrClose)
     }
 
-    // Whether the end of the innermost list or set may come next.
+    // Returns whether the end of the innermost list or set may come next.
     fn is_close_next(&self) -> bool
         ensures { result ≡ is_close_next self.now.state }
     {
@@ -183,21 +183,21 @@ impl Reading {
         )
     }
 
-    // Whether a comma may come next.
+    // Returns whether a comma may come next.
     fn is_comma_next(&self) -> bool
         ensures { result ≡ is_comma_next self.now.state }
     {
         matches!(self.state, State::CommaOrClose)
     }
 
-    // Whether a colon may come next.
+    // Returns whether a colon may come next.
     fn is_colon_next(&self) -> bool
         ensures { result ≡ is_colon_next self.now.state }
     {
         matches!(self.state, State::Colon)
     }
 
-    // Whether nothing may come next.
+    // Returns whether nothing may come next.
     fn is_end(&self) -> bool
         ensures { result ≡ is_end self.now.state }
     {
@@ -238,7 +238,7 @@ impl Reading {
         Ok(())
     }
 
-    // The attribute of the innermost set that has a name.
+    // Returns the attribute of the innermost set that has a name.
     fn attribute(&self, name: &str) -> Option<usize>
         requires { IsPlacedIn self.now }
         ensures taken { IfSome result (λ number. IsTaken self.now number name.now) }
@@ -345,7 +345,7 @@ impl Reading {
     }
 }
 
-// The data of a JSON text.
+// Returns the data of a JSON text.
 fn read(alloc: Global, text: &str) -> Result<Data, JsonStop>
     ensures read { ReadsJson result text.now }
     ensures distinct { ReadsDistinct result }

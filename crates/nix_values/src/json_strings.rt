@@ -7,7 +7,7 @@ ghost use Rattle.nix_values.specs.JsonEscapes.{is_plain, numbered, escape, json_
 
 use std::alloc::AllocError;
 
-// Whether a byte needs no escape.
+// Returns whether a byte needs no escape.
 #[inline(always)]
 fn is_plain(byte: u8) -> bool
     ensures { result ≡ is_plain byte }
@@ -23,7 +23,7 @@ pub fn plain_len(bytes: &[u8]) -> usize
     bytes.iter().take_while(|byte| is_plain(**byte)).count()
 }
 
-// The digit of a number below 16 in hexadecimal.
+// Returns the digit of a number below 16 in hexadecimal.
 fn digit(number: u8) -> char
     ensures { number < 16 → result ≡ digit_char number }
 {

@@ -39,7 +39,7 @@ pub struct Cut {
     pub end: usize,
 }
 
-// Whether a byte is white space.
+// Returns whether a byte is white space.
 #[inline(always)]
 fn is_space(byte: u8) -> bool
     ensures { result ≡ is_space byte }
@@ -80,7 +80,7 @@ pub fn after_space(text: &str, at: usize) -> usize
     }
 }
 
-// One of the three words that a text may begin with, and its length.
+// Returns one of the three words that a text may begin with, and its length.
 fn word_at(bytes: &[u8]) -> (Token, usize)
     ensures { IsWord bytes.now result.0 result.1 }
 {
@@ -95,7 +95,7 @@ fn word_at(bytes: &[u8]) -> (Token, usize)
     }
 }
 
-// The token that the word at an offset is.
+// Returns the token that the word at an offset is.
 fn word(bytes: &[u8], at: usize) -> Cut
     requires { at < length bytes.now }
     ensures { IsCutOf (word_at (drop at bytes.now)) bytes.now at result }
@@ -107,7 +107,7 @@ fn word(bytes: &[u8], at: usize) -> Cut
     }
 }
 
-// The string that begins at an offset.
+// Returns the string that begins at an offset.
 fn string_token(alloc: Global, text: &str, at: usize) -> Result<Cut, JsonStop>
     requires within { at < length text.now }
     requires quote { slice_index text.now at ≡ 34 }
@@ -123,7 +123,7 @@ fn string_token(alloc: Global, text: &str, at: usize) -> Result<Cut, JsonStop>
     }
 }
 
-// The number that begins at an offset with a byte of ASCII.
+// Returns the number that begins at an offset with a byte of ASCII.
 fn number_token(alloc: Global, text: &str, at: usize) -> Result<Cut, JsonStop>
     requires within { at < length text.now }
     requires ascii { slice_index text.now at < 128 }

@@ -46,7 +46,7 @@ impl Values for Nodes {
 }
 
 impl Nodes {
-    /// Whether a value is a set.
+    /// Returns whether a value is a set.
     pub fn is_set(&self, node: usize) -> bool
         ensures { result ≡ is_set_at (map built_of self.now.nodes.items) node }
     {

@@ -4,7 +4,7 @@ use crate::data::{Data, Item, Value};
 use crate::path_names::{PathName, names_of};
 use std::alloc::{AllocError, Global};
 
-// The number of the attribute of a name, or of the item of a number, in the value of a number.
+// Returns the number of the attribute of a name, or of the item of a number, in the value of a number.
 fn inside(items: &[Item], number: usize, name: &PathName) -> Option<usize> {
     let around = items.get(number)?;
     let is_set = matches!(&around.value, Value::Set);
@@ -25,7 +25,7 @@ fn inside(items: &[Item], number: usize, name: &PathName) -> Option<usize> {
     None
 }
 
-// The number of the part that a dotted path leads to.
+// Returns the number of the part that a dotted path leads to.
 fn number_at(alloc: Global, items: &[Item], path: &str) -> Result<Option<usize>, AllocError> {
     let Some(names) = names_of(alloc, path)? else {
         return Ok(None);
@@ -40,7 +40,7 @@ fn number_at(alloc: Global, items: &[Item], path: &str) -> Result<Option<usize>,
     Ok(Some(number))
 }
 
-// The part that begins with the item of a number.
+// Returns the part that begins with the item of a number.
 fn part_at(alloc: Global, items: Vec<Item>, start: usize) -> Result<Vec<Item>, AllocError> {
     let mut part = Vec::new(alloc);
     let mut depth = 0;

@@ -47,7 +47,7 @@ struct Reading {
     state: State,
 }
 
-// The character that a backslash and a letter mean in quotes.
+// Returns the character that a backslash and a letter mean in quotes.
 fn unescaped(letter: char) -> char {
     match letter {
         'n' => '\n',

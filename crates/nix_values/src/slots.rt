@@ -36,14 +36,14 @@ pub enum Spot {
 impl Slot {
     ghost use Rattle.nix_values.specs.HashSlots.{is_free, slot_entry};
 
-    /// Whether no number is here.
+    /// Returns whether no number is here.
     pub fn is_free(self) -> bool
         ensures { result ≡ is_free self }
     {
         self.number == FREE
     }
 
-    /// The number that is here, and its hash.
+    /// Returns the number that is here, and its hash.
     pub fn entry(self) -> Option<(u64, usize)>
         ensures { result ≡ slot_entry self }
     {
@@ -97,14 +97,14 @@ impl Slots {
         })
     }
 
-    /// How many slots are taken.
+    /// Returns how many slots are taken.
     pub fn count(&self) -> usize
         ensures { result ≡ self.now.count }
     {
         self.count
     }
 
-    /// Whether one more may be taken: at most half as many are as there are first slots.
+    /// Returns whether one more may be taken: at most half as many are as there are first slots.
     pub fn has_room(&self) -> bool {
         self.count < self.mask / 2
     }
@@ -116,7 +116,7 @@ impl Slots {
         self.slots.as_slice()
     }
 
-    // The first slot of a hash.
+    // Returns the first slot of a hash.
     fn first(&self, hash: u64) -> usize
         ensures is { result ≡ first_of self.now hash }
         ensures small { result < 2 ^ 63 }
@@ -170,7 +170,7 @@ impl Slots {
     }
 }
 
-/// The hash of an attribute.
+/// Returns the hash of an attribute.
 #[tactic(auto, unfolding(crate::specs::AttributeHash::attribute_hash))]
 pub fn hash_of(set: usize, name: &str) -> u64
     ensures { result ≡ attribute_hash set name.now }

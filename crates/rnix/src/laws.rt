@@ -1,5 +1,5 @@
-//! The laws on which the parser and the programs build; the crate `rnix_laws` has more. Each is the contract of a function that computes nothing;
-//! calling it gives the proof its clauses.
+//! The laws on which the parser and the programs build; the crate `rnix_laws` has more. A law is the contract of a function that does nothing at run time.
+//! A caller's proof can use its clauses.
 
 pub use crate::whole::nodes_have_parts;
 pub use rnix_kinds::{longest, one_list};

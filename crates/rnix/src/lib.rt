@@ -1,4 +1,4 @@
-//! A lossless parser of the Nix language: each byte of a text is found again in its tree, with the errors placed in it.
+//! A lossless parser for the Nix language: it turns any text into a tree that keeps every byte, and a list of errors.
 #![tactic(auto)]
 
 pub mod ast;

@@ -14,7 +14,7 @@ use rnix_tree::{GreenNode, SyntaxNode};
 use std::alloc::{AllocError, Global};
 use std::marker::Model;
 
-/// The tree of a text, and its errors in the order in which the parser found them. Every text has a tree.
+/// The tree and the errors of a text. A text with errors has a tree too.
 #[derive(Drop)]
 pub struct Parse {
     green: GreenNode,
@@ -40,7 +40,7 @@ impl Model for Parse {
 }
 
 impl<'t> Root<'t> {
-    /// Parses a text. Ranges count its bytes.
+    /// Parses a text. Ranges are in bytes. Fails only if an allocation fails.
     pub fn parse(alloc: Global, text: &str) -> Result<Parse, AllocError>
         ensures { IfOk result (λ read. IsParsed (tokens_of text.now) read.tree read.faults) }
     {
@@ -75,8 +75,8 @@ impl Parse {
         Root::new(SyntaxNode::new_root(&self.green))
     }
 
-    /// Returns the errors, in the order in which they were found. Of what `Root::parse` gave there are none exactly if each node has the shape of its
-    /// kind, and no two entries of a pattern have one name.
+    /// Returns the errors, in the order in which the parser found them. A parsed text has none exactly if every node has the children that its kind
+    /// requires and no pattern names an argument twice.
     pub fn errors(&self) -> &[ParseError]
         ensures { map fault_of result.now ≡ self.now.faults }
     {

@@ -1,4 +1,4 @@
-//! The parts that nodes of a tree without errors have.
+//! The parts that every node of a tree without errors has.
 
 ghost use Rattle.std.specs.Prelude.{ℕ, Bool, [], All, IfSome};
 ghost use Rattle.rnix_kinds.specs.declared.kinds.SyntaxKind.{SyntaxKind};
@@ -9,8 +9,8 @@ ghost use Rattle.rnix_grammar.specs.Parsed.{IsParsed};
 ghost use Rattle.rnix_base.specs.Select.{nodes_of, child_of};
 ghost use Rattle.rnix.specs.WholeTree.{HasTokensAlone, IsWhole, IsInTree};
 
-/// The nodes of a text without errors have their parts, and so have those of each tree whose nodes have their shapes and whose leaves are tokens.
-/// Children belong to the tree of their parent, so this extends to them.
+/// States that accessors for required parts return `Some` in a text without errors, and in every tree whose nodes have the children that their kinds
+/// require and whose leaves are tokens. It also states that children belong to the tree of their parent. Does nothing at run time.
 pub fn nodes_have_parts(text: &str)
     ensures read { (kind : SyntaxKind) (n : Located) → IsParsed (tokens_of text.now) n.tree [] → IsWhole kind n }
     ensures shaped { (kind : SyntaxKind) (n : Located) → IsShaped n.tree → HasTokensAlone n.tree → IsWhole kind n }

@@ -1,4 +1,4 @@
-//! The values of texts inside strings.
+//! Escapes in strings.
 
 ghost use Rattle.std.specs.Prelude.{◌≡◌, [], IfOk, MatchOption, string_bytes, true, false};
 ghost use Rattle.std.specs.List.{prefix_len};
@@ -29,7 +29,7 @@ fn escape(text: &str) -> Option<(&str, &str)>
     Some((value, rest))
 }
 
-// Returns whether the byte means itself if a piece begins with it.
+// Returns whether a byte can begin neither an escape nor a quote.
 fn is_plain(byte: u8, multiline: bool) -> bool
     ensures { result ≡ is_plain multiline byte }
 {
@@ -50,7 +50,7 @@ fn plain_len(bytes: &[u8], multiline: bool) -> usize
         .count()
 }
 
-// Returns a first byte that means itself and the plain bytes after it, and the rest; `None` if the text is empty.
+// Splits a text after its first byte, which needs no replacement, and the plain bytes that follow it. Returns `None` if the text is empty.
 fn plain_run(text: &str, multiline: bool) -> Option<(&str, &str)>
     requires { first_piece multiline text.now ≡ itself text.now }
     ensures { MatchOption result (unescaped multiline text.now ≡ []) (λ p. Begins multiline text.now p.0.now p.1.now) }
@@ -60,7 +60,7 @@ fn plain_run(text: &str, multiline: bool) -> Option<(&str, &str)>
     Some(text.split_at(1 + len))
 }
 
-// Returns the value of an escape of a string in `"`, or else of the bytes up to the next one, and the rest; `None` if no piece fits.
+// Returns the value of the first piece of a text between `"`, and the rest; `None` if there is no piece. A piece is an escape, or the bytes before the next.
 fn quoted_piece(text: &str) -> Option<(&str, &str)>
     ensures { MatchOption result (unescaped false text.now ≡ []) (λ p. Begins false text.now p.0.now p.1.now) }
 {
@@ -73,7 +73,7 @@ fn quoted_piece(text: &str) -> Option<(&str, &str)>
     plain_run(text, false)
 }
 
-// Returns the value of an escape of a string in `''`, or else of the bytes up to the next `'`, and the rest; `None` if no piece fits.
+// Returns the value of the first piece of a text between `''`, and the rest; `None` if there is no piece. A piece is an escape, or the bytes up to a `'`.
 fn indented_piece(text: &str) -> Option<(&str, &str)>
     ensures { MatchOption result (unescaped true text.now ≡ []) (λ p. Begins true text.now p.0.now p.1.now) }
 {
@@ -92,7 +92,7 @@ fn indented_piece(text: &str) -> Option<(&str, &str)>
     plain_run(text, true)
 }
 
-// Returns the value of an escape, or else of a run of plain bytes, and the rest; `None` if no piece fits.
+// Returns the value of the first piece, an escape or a run of plain bytes, and the rest; `None` if there is no piece.
 fn first_piece(text: &str, multiline: bool) -> Option<(&str, &str)>
     ensures { MatchOption result (unescaped multiline text.now ≡ []) (λ p. Begins multiline text.now p.0.now p.1.now) }
 {
@@ -103,7 +103,7 @@ fn first_piece(text: &str, multiline: bool) -> Option<(&str, &str)>
     }
 }
 
-/// Returns the value of a text inside a string: in `''` if `multiline`, else in `"`.
+/// Returns a text inside a string with its escapes replaced: in `''` if `multiline`, else in `"`.
 pub fn unescape(alloc: Global, text: &str, multiline: bool) -> Result<String, AllocError>
     ensures { IfOk result (λ value. string_bytes value ≡ unescaped multiline text.now) }
 {

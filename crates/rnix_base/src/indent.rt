@@ -112,7 +112,7 @@ fn line_end(bytes: &[u8]) -> &[u8]
     rest
 }
 
-// Returns the first line without the spaces that it loses, up to `left`; what follows it; and how many spaces the text still loses there.
+// Removes up to `remaining` spaces from the start of the first line. Returns the line, what follows it, and how many spaces are still to be removed there.
 fn first_line(text: &str, least: usize, remaining: usize) -> (&str, &str, usize)
     requires { 0 < length text.now }
     ensures { KeepsLine least remaining text.now result.0.now result.1.now result.2 }
@@ -131,7 +131,8 @@ fn first_line(text: &str, least: usize, remaining: usize) -> (&str, &str, usize)
     }
 }
 
-/// Returns the unindented lines of a text, and how many spaces its last line still loses. Each line loses up to `least`, the first one `left`.
+/// Removes up to `remaining` spaces from the start of the first line of a text and up to `least` from each other line. Returns the new text, and how many
+/// spaces are still to be removed from its last line.
 pub(crate) fn unindented(
     alloc: Global,
     text: &str,
@@ -153,7 +154,7 @@ pub(crate) fn unindented(
     Ok((kept, remaining))
 }
 
-/// Returns what follows the first line feed, if only spaces precede it.
+/// Returns the text after the first line feed, if only spaces precede it.
 pub(crate) fn behind_blank(text: &str) -> Option<&str>
     ensures { MatchOption result (opens_blank text.now ≡ false) (λ rest. IsBehindBlank text.now rest.now) }
 {

@@ -1,4 +1,4 @@
-//! Literals: numbers and addresses.
+//! Literals: numbers and URIs.
 
 ghost use Rattle.std.specs.Prelude.{◌≡◌};
 ghost use Rattle.rnix_kinds.specs.declared.kinds.SyntaxKind.TheVariants as k;
@@ -24,7 +24,7 @@ pub enum LiteralKind<'t> {
 /// A floating-point number: `1.5`.
 pub type Float<'t> = TypedToken<'t, FloatType>;
 
-/// The type `Float`.
+/// The marker type of `Float`.
 #[derive(Drop)]
 pub enum FloatType {}
 
@@ -50,7 +50,7 @@ impl<'t> Float<'t> {
 /// An integer: `42`.
 pub type Integer<'t> = TypedToken<'t, IntegerType>;
 
-/// The type `Integer`.
+/// The marker type of `Integer`.
 #[derive(Drop)]
 pub enum IntegerType {}
 
@@ -76,7 +76,7 @@ impl<'t> Integer<'t> {
 /// An unquoted URI: `https://nixos.org`.
 pub type Uri<'t> = TypedToken<'t, UriType>;
 
-/// The type `Uri`.
+/// The marker type of `Uri`.
 #[derive(Drop)]
 pub enum UriType {}
 

@@ -9,10 +9,10 @@ ghost use Rattle.rnix_base.specs.Kinds.{is_path_token};
 use crate::typed_token::{TokenType, TypedToken};
 use rnix_kinds::SyntaxKind;
 
-/// The text of a path between its interpolations: `./so` or `<so>`.
+/// The text of a path between its interpolations: `./a` or `<a>`.
 pub type PathContent<'t> = TypedToken<'t, PathContentType>;
 
-/// The type `PathContent`.
+/// The marker type of `PathContent`.
 #[derive(Drop)]
 pub enum PathContentType {}
 
@@ -48,29 +48,29 @@ impl<'t> PathContent<'t> {
         self.syntax.kind()
     }
 
-    /// Returns whether the token is a TOKEN_PATH_ABS, such as `/so`.
+    /// Returns whether the token is a TOKEN_PATH_ABS, such as `/a`.
     pub fn is_absolute(&self) -> bool
         ensures { result ≡ same_kind k.TOKEN_PATH_ABS (item_of self.now).kind }
     {
         self.path_kind() == SyntaxKind::TOKEN_PATH_ABS
     }
 
-    /// Returns whether the token is a TOKEN_PATH_REL, such as `./so`.
+    /// Returns whether the token is a TOKEN_PATH_REL, such as `./a`.
     pub fn is_relative(&self) -> bool
         ensures { result ≡ same_kind k.TOKEN_PATH_REL (item_of self.now).kind }
     {
         self.path_kind() == SyntaxKind::TOKEN_PATH_REL
     }
 
-    /// Returns whether the token is a TOKEN_PATH_HOME, such as `~/so`. After an interpolation a token may have another kind than its path, as `~/b` in
-    /// `./a${x}~/b`.
+    /// Returns whether the token is a TOKEN_PATH_HOME, such as `~/a`. After an interpolation, the kind of a token may differ from that of its path, as for
+    /// `~/b` in `./a${x}~/b`.
     pub fn is_home(&self) -> bool
         ensures { result ≡ same_kind k.TOKEN_PATH_HOME (item_of self.now).kind }
     {
         self.path_kind() == SyntaxKind::TOKEN_PATH_HOME
     }
 
-    /// Returns whether the token is a TOKEN_PATH_SEARCH, such as `<so>`.
+    /// Returns whether the token is a TOKEN_PATH_SEARCH, such as `<a>`.
     pub fn is_search(&self) -> bool
         ensures { result ≡ same_kind k.TOKEN_PATH_SEARCH (item_of self.now).kind }
     {

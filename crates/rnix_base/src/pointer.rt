@@ -8,7 +8,7 @@ use crate::node::AstNode;
 use rnix_tree::{SyntaxNode, SyntaxNodePtr};
 use std::marker::PhantomData;
 
-/// A name of a type of nodes that does not mention the lifetime of their tree.
+/// Names a type of nodes without the lifetime of their tree.
 pub trait Pointee<'t> {
     /// The type of nodes of a tree with that lifetime.
     type Node: AstNode<'t>;

@@ -1,4 +1,4 @@
-//! Values as strings in `"`.
+//! Writing values as strings in `"`.
 
 ghost use Rattle.std.specs.Prelude.{◌≡◌, ◌++◌, ◌∷◌, [], ◌≤◌, ◌<◌, false, length, OnOk, IfOk, string_bytes};
 ghost use Rattle.std.specs.List.{prefix_len};
@@ -6,7 +6,7 @@ ghost use Rattle.rnix_base.specs.Quoted.{is_ordinary, begins_with_brace, escape_
 
 use std::alloc::AllocError;
 
-// Returns whether a byte needs no escape, whatever follows.
+// Returns whether a byte needs no escape, whatever follows it.
 #[inline(always)]
 fn is_ordinary(byte: u8) -> bool
     ensures { result ≡ is_ordinary byte }
@@ -14,7 +14,7 @@ fn is_ordinary(byte: u8) -> bool
     byte != b'\t' && byte != b'\n' && byte != b'\r' && byte != b'"' && byte != b'$' && byte != b'\\'
 }
 
-// Returns the number of leading bytes that need no escape, whatever follows.
+// Returns the number of leading bytes that need no escape, whatever follows them.
 fn plain_len(bytes: &[u8]) -> usize
     ensures len { result ≡ prefix_len is_ordinary bytes.now }
     ensures within { result ≤ length bytes.now }

@@ -12,7 +12,7 @@ use rnix_kinds::SyntaxKind;
 /// White space between other tokens.
 pub type Whitespace<'t> = TypedToken<'t, WhitespaceType>;
 
-/// The type `Whitespace`.
+/// The marker type of `Whitespace`.
 #[derive(Drop)]
 pub enum WhitespaceType {}
 
@@ -26,10 +26,10 @@ impl TokenType for WhitespaceType {
     }
 }
 
-/// A comment: `# so` or `/* so */`.
+/// A comment: `# text` or `/* text */`.
 pub type Comment<'t> = TypedToken<'t, CommentType>;
 
-/// The type `Comment`.
+/// The marker type of `Comment`.
 #[derive(Drop)]
 pub enum CommentType {}
 
@@ -64,7 +64,7 @@ fn said(text: &str) -> &str
 }
 
 impl<'t> Comment<'t> {
-    /// Returns the text after `#`, or between `/*` and `*/`. A text that is neither is returned whole.
+    /// Returns the text after `#`, or between `/*` and `*/`. A text of neither form is returned whole.
     pub fn text(&self) -> &'t str
         ensures { Says (text_at self.now) result.now }
     {
@@ -72,10 +72,10 @@ impl<'t> Comment<'t> {
     }
 }
 
-/// The content of a string between its quotes and interpolations, as written.
+/// A piece of a string's content, as written, without quotes and interpolations.
 pub type StrContent<'t> = TypedToken<'t, StrContentType>;
 
-/// The type `StrContent`.
+/// The marker type of `StrContent`.
 #[derive(Drop)]
 pub enum StrContentType {}
 

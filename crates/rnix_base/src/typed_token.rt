@@ -22,7 +22,7 @@ pub trait TokenType: Drop {
         ensures { result ≡ kinds kind };
 }
 
-/// A token of certain kinds. `Comment` and the like are its names for each type.
+/// A token of certain kinds. `Comment`, `Integer` and the other types of tokens are aliases of it.
 #[derive(Drop)]
 #[derive_where(Clone, PartialEq, Eq, Hash)]
 pub struct TypedToken<'t, K: TokenType> {

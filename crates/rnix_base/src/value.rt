@@ -56,7 +56,7 @@ fn next_letter(bytes: &[u8]) -> Option<(u8, &[u8])>
     Some((ESCAPE_MARK, rest))
 }
 
-// Returns what is known of the lines after the letters of a text in `''`.
+// Returns the state of the indentation after the letters of a text in `''`.
 fn behind_letters(indent: Indent, bytes: &[u8]) -> Indent
     ensures { result ≡ indent_behind indent (without_escapes bytes.now) }
 {
@@ -144,7 +144,7 @@ pub fn indented_value<'t, I: Drop>(
     Ok(value)
 }
 
-// Adds what is written of a character in front of a rest: a line feed for a carriage return, or nothing if one follows, unless it is escaped.
+// Appends a character that `rest` follows. An unescaped carriage return becomes a line feed, or is left out if a line feed follows.
 fn push_fed(made: &mut String, letter: char, rest: &str, is_escaped: bool) -> Result<(), AllocError>
     ensures { OnOk result (string_bytes made.new ≡ string_bytes made.old ++ fed_letter letter rest.now is_escaped) }
 {
@@ -156,14 +156,14 @@ fn push_fed(made: &mut String, letter: char, rest: &str, is_escaped: bool) -> Re
     Ok(())
 }
 
-// Whether a character escapes the next one.
+// Returns whether a character escapes the next one.
 fn is_escape(letter: char, is_escaped: bool) -> bool
     ensures { result ≡ (letter == 92 && not is_escaped) }
 {
     letter == '\\' && !is_escaped
 }
 
-// Returns a text between `"` in which a carriage return, alone or before a line feed, becomes a line feed, unless a backslash precedes it.
+// Returns a text between `"` in which each carriage return, with a line feed after it or without one, becomes one line feed, unless it is escaped.
 fn fed(alloc: Global, text: &str) -> Result<String, AllocError>
     ensures { IfOk result (λ made. string_bytes made ≡ fed false text.now) }
 {
@@ -177,7 +177,7 @@ fn fed(alloc: Global, text: &str) -> Result<String, AllocError>
     Ok(made)
 }
 
-// Whether a text has a carriage return.
+// Returns whether a text has a carriage return.
 fn has_return(text: &str) -> bool
     ensures { result ≡ has_return text.now }
 {
@@ -196,7 +196,7 @@ fn quoted_text(alloc: Global, text: &str) -> Result<String, AllocError>
     }
 }
 
-/// Returns the parts of the value of a string in `"`: escapes are replaced, and carriage returns that are not escaped are line feeds.
+/// Returns the parts of the value of a string in `"`: escapes are replaced, and carriage returns that are not escaped become line feeds.
 pub fn quoted_value<'t, I: Drop>(
     alloc: Global,
     parts: Vec<InterpolPart<&'t str, I>>,

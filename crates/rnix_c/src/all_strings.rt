@@ -89,7 +89,7 @@ fn add_string<'t>(
     add_parts(number, &added, parts, text)
 }
 
-// The parts of all strings of a tree, and their joined text.
+// Returns the parts of all strings of a tree, and their joined text.
 fn strings_of(alloc: Global, green: &GreenNode) -> Result<(Vec<RnixStringPart>, String), AllocError>
     ensures { IfOk result (λ all. found all.0.items (string_bytes all.1) ≡ strings_in green.now) }
 {

@@ -36,7 +36,7 @@ pub const NO_NUMBER: u64 = u64::MAX;
 /// An absent kind.
 pub const NO_KIND: u32 = u32::MAX;
 
-/// The text, or why it cannot be parsed.
+/// Returns the text, or why it cannot be parsed.
 pub fn checked<'t>(text: &'t [u8]) -> Result<&'t str, i64>
     ensures utf8 { IfOk result (λ _. IsUtf8 text.now) }
     ensures same { IfOk result (λ checked. checked.now ≡ text.now) }

@@ -37,7 +37,7 @@ pub struct RnixLink {
     pub is_token: u16,
 }
 
-// A parent's number, or the largest `u32` if there is none.
+// Returns a parent's number, or the largest `u32` if there is none.
 fn parent_or_none(parent: Option<usize>) -> u32
     requires { IfSome parent (λ number. number < 2 ^ 32) }
     ensures { result ≡ parent_or_none parent }
@@ -48,7 +48,7 @@ fn parent_or_none(parent: Option<usize>) -> u32
     }
 }
 
-// The range of an element as numbers.
+// Returns the range of an element as numbers.
 fn range_of(element: Element) -> RnixRange
     requires start { element.start < 2 ^ 32 }
     requires end { element.end < 2 ^ 32 }
@@ -60,7 +60,7 @@ fn range_of(element: Element) -> RnixRange
     }
 }
 
-// The rest of an element as numbers.
+// Returns the rest of an element as numbers.
 fn link_of(element: Element) -> RnixLink
     requires parent { IfSome element.parent (λ number. number < 2 ^ 32) }
     requires below { element.below < 2 ^ 32 }

@@ -40,7 +40,7 @@ fn add(
     Ok(())
 }
 
-// The diagnostics as numbers, and their joined messages.
+// Returns the diagnostics as numbers, and their joined messages.
 fn said_of(
     alloc: Global,
     diagnostics: &[Diagnostic],
@@ -55,7 +55,7 @@ fn said_of(
     Ok((records, messages))
 }
 
-/// The diagnostics of a text as numbers, and their joined messages.
+/// Returns the diagnostics of a text as numbers, and their joined messages.
 pub fn described(alloc: Global, read: &Parse) -> Result<(Vec<RnixDiagnostic>, String), AllocError>
     ensures { IfOk result (λ made. (all : List Worded) × AreSaid read.now.tree read.now.faults all
         × (said made.0.items (string_bytes made.1) ≡ said_of all)) }

@@ -22,7 +22,7 @@ pub struct RnixElement {
     pub is_token: u32,
 }
 
-/// A number, or the largest `u64` if there is none.
+/// Returns a number, or the largest `u64` if there is none.
 pub fn number_or_none(number: Option<usize>) -> u64
     ensures { result ≡ number_or_none number }
 {
@@ -32,7 +32,7 @@ pub fn number_or_none(number: Option<usize>) -> u64
     }
 }
 
-// An element as numbers.
+// Returns an element as numbers.
 fn record_of(element: Element) -> RnixElement
     ensures { result ≡ element_of (item_from element) }
 {

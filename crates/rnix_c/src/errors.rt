@@ -26,7 +26,7 @@ pub struct RnixError {
     pub found: u32,
 }
 
-// An error of this variant and no range.
+// Returns an error of this variant and no range.
 fn unplaced(variant: u32) -> RnixError
     ensures { result ≡ unplaced variant }
 {
@@ -39,7 +39,7 @@ fn unplaced(variant: u32) -> RnixError
     }
 }
 
-// An error of this variant and range.
+// Returns an error of this variant and range.
 fn placed(variant: u32, range: TextRange) -> RnixError
     ensures { result ≡ placed variant (bounds_of range) }
 {
@@ -50,7 +50,7 @@ fn placed(variant: u32, range: TextRange) -> RnixError
     }
 }
 
-// The numbers of the wanted kinds.
+// Returns the numbers of the wanted kinds.
 fn wanted_of(kinds: &[SyntaxKind]) -> [u8; 16]
     ensures { result ≡ wanted_of kinds.now }
 {
@@ -61,7 +61,7 @@ fn wanted_of(kinds: &[SyntaxKind]) -> [u8; 16]
     wanted
 }
 
-// An error as numbers. The header names the variants.
+// Returns an error as numbers. The header names the variants.
 fn record_of(error: &ParseError) -> RnixError
     ensures { result ≡ error_of (fault_of error.now) }
 {

@@ -60,7 +60,7 @@ fn write_fix_of(
     }
 }
 
-// The same for the diagnostic of this number.
+// Returns the same for the diagnostic of this number.
 fn write_fix_at(
     alloc: Global,
     read: &Parse,
@@ -81,7 +81,7 @@ fn write_fix_at(
     }
 }
 
-// The same for a text.
+// Returns the same for a text.
 fn write_fix_in(
     alloc: Global,
     text: &str,

@@ -7,7 +7,7 @@ ghost use Rattle.rnix_c.specs.KindCalls.{NamesKind, FindsKind};
 use crate::answers::{NONE_SUCH, written};
 use rnix::SyntaxKind;
 
-// The kind of this number.
+// Returns the kind of this number.
 fn kind_at(number: u32) -> Option<SyntaxKind>
     ensures found { IfSome result (λ kind. discriminant_of kind ≡ number) }
     ensures missing { IfNone result (kind_count ≤ number) }

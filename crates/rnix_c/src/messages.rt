@@ -20,7 +20,7 @@ fn write_message(alloc: Global, error: &ParseError, room: &mut [u8]) -> i64
     }
 }
 
-// The same for the error of this number.
+// Returns the same for the error of this number.
 fn write_message_of(alloc: Global, errors: &[ParseError], number: usize, room: &mut [u8]) -> i64
     ensures { ((result ≡ no_memory) × (room.new ≡ room.old)) ⊎ WritesMessage (map fault_of errors.now) number result room.old room.new }
 {
@@ -30,7 +30,7 @@ fn write_message_of(alloc: Global, errors: &[ParseError], number: usize, room: &
     }
 }
 
-// The texts of the errors, each ended by a line feed.
+// Returns the texts of the errors, each ended by a line feed.
 fn messages_of(alloc: Global, errors: &[ParseError]) -> Result<String, fmt::Error>
     ensures { IfOk result (λ messages. string_bytes messages ≡ messages_of (map fault_of errors.now)) }
 {

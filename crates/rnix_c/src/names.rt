@@ -37,7 +37,7 @@ pub struct RnixReference {
     pub is_open: u32,
 }
 
-// A binding as numbers.
+// Returns a binding as numbers.
 fn binding_of(binding: &Binding<'_>) -> RnixBinding
     ensures { result ≡ binding_of binding.now.first (bound_of binding.now) }
 {
@@ -53,7 +53,7 @@ fn binding_of(binding: &Binding<'_>) -> RnixBinding
     }
 }
 
-// A reference as numbers.
+// Returns a reference as numbers.
 fn reference_of(reference: &Reference<'_>) -> RnixReference
     ensures { result ≡ reference_of (resolved_of reference.now) }
 {

@@ -16,7 +16,7 @@ pub struct RnixPosition {
     pub column: u64,
 }
 
-// The unit of columns that has this number.
+// Returns the unit of columns that has this number.
 fn unit_at(number: u32) -> Option<ColumnUnit>
     ensures found { IfSome result (λ unit. IsUnit number unit) }
     ensures missing { IfNone result (2 < number) }
@@ -29,7 +29,7 @@ fn unit_at(number: u32) -> Option<ColumnUnit>
     }
 }
 
-// The position of an offset.
+// Returns the position of an offset.
 fn position_of(index: &LineIndex<'_>, offset: u64) -> RnixPosition
     ensures { result ≡ position_of index.now.unit index.now.text offset }
 {

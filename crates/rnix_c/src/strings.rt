@@ -23,7 +23,7 @@ pub struct RnixPart {
     pub is_interpolation: u32,
 }
 
-// The element of this number.
+// Returns the element of this number.
 fn element_at<'t>(green: &'t GreenNode, number: usize) -> Option<SyntaxElement<'t>>
     ensures { option_map spot_of result ≡ slice_get (elements_of (located green.now 0)) number }
 {
@@ -31,7 +31,7 @@ fn element_at<'t>(green: &'t GreenNode, number: usize) -> Option<SyntaxElement<'
     root.descendants_with_tokens().nth(number)
 }
 
-// The string that is the element of this number.
+// Returns the string that is the element of this number.
 fn string_at<'t>(green: &'t GreenNode, number: usize) -> Option<Str<'t>>
     ensures found { IfSome result (λ string. (string ≡ located green.now number) × IsString (located green.now number)) }
     ensures missing { IfNone result (¬ IsString (located green.now number)) }
@@ -42,7 +42,7 @@ fn string_at<'t>(green: &'t GreenNode, number: usize) -> Option<Str<'t>>
     Str::cast(node)
 }
 
-// The parts of the string that is the element of this number, if there is one.
+// Returns the parts of the string that is the element of this number, if there is one.
 fn parts_of<'t>(
     alloc: Global,
     green: &'t GreenNode,
@@ -61,7 +61,7 @@ fn parts_of<'t>(
     }
 }
 
-// The texts between the interpolations, concatenated.
+// Returns the texts between the interpolations, concatenated.
 fn text_of(alloc: Global, parts: &[InterpolPart<'_, String>]) -> Result<String, AllocError>
     ensures { IfOk result (λ text. string_bytes text ≡ flat_map literal_text (owned parts.now)) }
 {
@@ -74,7 +74,7 @@ fn text_of(alloc: Global, parts: &[InterpolPart<'_, String>]) -> Result<String, 
     Ok(text)
 }
 
-// The length of the string's text up to the end of a part, which `before` bytes precede.
+// Returns the length of the string's text up to the end of a part, which `before` bytes precede.
 fn end_after(part: &InterpolPart<'_, String>, before: usize) -> usize
     ensures { result ≡ end_after before (with_text string_bytes part.now) }
 {
@@ -84,7 +84,7 @@ fn end_after(part: &InterpolPart<'_, String>, before: usize) -> usize
     }
 }
 
-// A part that `before` bytes of the string's text precede.
+// Returns a part that `before` bytes of the string's text precede.
 fn part_at(part: &InterpolPart<'_, String>, before: usize) -> RnixPart
     ensures { result ≡ part_at before (with_text string_bytes part.now) }
 {

@@ -24,7 +24,7 @@ fn byte_at(text: &str, offset: usize) -> u8
     }
 }
 
-// Returns the byte before an offset, or a line feed if that is where the text begins.
+// Returns the byte before an offset, or a line feed at the start of the text.
 fn byte_before(text: &str, offset: usize) -> u8
     ensures { result ≡ byte_before text.now offset }
 {

@@ -9,7 +9,7 @@ use crate::steps::{
 };
 use rnix::SyntaxNode;
 
-/// Returns whether `other` has a node at `new`, and the trees around `old` in `root` and around `new` in `other` are the same.
+/// Returns whether `other` has a node at `new`, and the tree around it is the same as the one around `old` in `root`.
 pub fn is_around(
     root: &SyntaxNode<'_>,
     old: NodeRange,
@@ -45,7 +45,7 @@ pub fn is_without(
     takes_comments(&mut old_walk, comments) && are_same_walks(new_walk, old_walk)
 }
 
-// Returns whether `other` has a node at `new`, and is `root` without this node.
+// Returns whether `other` has a node at `new`, and is otherwise the same as `root`.
 fn is_with(root: &SyntaxNode<'_>, other: &SyntaxNode<'_>, new: NodeRange) -> bool
     ensures { Decides result (IsWith root.now other.now new) }
 {
@@ -58,7 +58,6 @@ fn is_with(root: &SyntaxNode<'_>, other: &SyntaxNode<'_>, new: NodeRange) -> boo
 }
 
 /// Returns whether `other` is `root` plus one node at `new`, directly after the node at `old` and its next `comments` comments.
-// Apart from the new node both trees have the same steps, so its position is right if the steps after it are.
 pub fn is_after(
     root: &SyntaxNode<'_>,
     old: NodeRange,
@@ -79,7 +78,6 @@ pub fn is_after(
 }
 
 /// Returns whether `other` is `root` plus one node at `new`, directly before the last token of the node at `old`.
-// As above, the steps after the new node determine its position.
 pub fn is_inside(
     root: &SyntaxNode<'_>,
     old: NodeRange,

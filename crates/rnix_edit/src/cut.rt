@@ -1,4 +1,4 @@
-//! Which bytes go with a node that is removed.
+//! The bytes that are removed with a node.
 
 ghost use Rattle.std.specs.Prelude.{◌≡◌};
 ghost use Rattle.rnix_edit.specs.EditRanges.{cut_in_line, cut_with_rest, cut_of};
@@ -42,7 +42,7 @@ fn cut_in_line(text: &str, start: usize, end: usize) -> Cut
     }
 }
 
-// Returns the range that is removed with a node that only comments follow on its line: the whole line if the node is the first in it, or else the
+// Returns the range that is removed with a node if only comments follow it on its line: the whole line if the node is the first on it, otherwise the
 // blanks before the node, the node and the comments.
 fn cut_with_rest(text: &str, start: usize, rest: RestOfLine) -> Cut
     ensures { result ≡ cut_with_rest text.now start rest }

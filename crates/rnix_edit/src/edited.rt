@@ -7,7 +7,7 @@ pub enum Refusal {
     NotInText,
     /// The new text has errors.
     HasErrors,
-    /// The new text is read in another way around the edited place.
+    /// The new text parses differently around the edited place.
     ReadOtherwise,
 }
 

@@ -1,4 +1,4 @@
-//! Where new nodes go.
+//! Places for new nodes.
 
 ghost use Rattle.std.specs.Prelude.{◌≡◌, IfOk};
 ghost use Rattle.rnix_edit.specs.EditRanges.{gap_in_line, gap_on_next_line, gap_after_range, gap_after, gap_above, gap_before, gap_at_closing, gap_inside};
@@ -9,21 +9,21 @@ use crate::line::{RestOfLine, closing_start, rest_of_line};
 use rnix::SyntaxNode;
 use std::alloc::{AllocError, Global};
 
-/// Where a new node goes: in place of the blanks from `start` up to `end`, between two pieces of white space.
+/// A place for a new node: it replaces the blanks from `start` up to `end`, with the white space `before` and `after` around it.
 #[derive(Drop)]
 pub struct Gap {
     pub start: usize,
     pub end: usize,
     pub before: String,
     pub after: &'static str,
-    /// The number of comments between the other node and the gap.
+    /// The number of comments between the previous node and the gap.
     pub comments: usize,
 }
 
 // The indentation of an entry in a set that has none yet.
 const INDENT: &str = "  ";
 
-// Returns the gap at the end of a node.
+// Returns the gap directly after a node, with a space.
 fn gap_in_line(alloc: Global, end: usize) -> Result<Gap, AllocError>
     ensures { IfOk result (λ gap. gap_of gap ≡ gap_in_line end) }
 {
@@ -36,7 +36,7 @@ fn gap_in_line(alloc: Global, end: usize) -> Result<Gap, AllocError>
     })
 }
 
-// Returns the gap at the line after a node that begins at an offset.
+// Returns the gap on the line after a node that begins at `start`.
 fn gap_on_next_line(
     alloc: Global,
     text: &str,
@@ -54,7 +54,7 @@ fn gap_on_next_line(
     })
 }
 
-// Returns the gap after a node with this range and this rest of its line.
+// Returns the gap after a node, given its range and the rest of its line.
 fn gap_after_range(
     alloc: Global,
     text: &str,
@@ -76,7 +76,7 @@ fn gap_after_range(
     }
 }
 
-/// Returns where a new node goes after another: on the next line if that one has its own line, otherwise after a space.
+/// Returns the gap for a new node after another one: on the next line if that one is on a line of its own, otherwise after a space.
 pub fn gap_after(alloc: Global, text: &str, node: &SyntaxNode<'_>) -> Result<Gap, AllocError>
     ensures { IfOk result (λ gap. gap_of gap ≡ gap_after text.now node.now) }
 {
@@ -84,7 +84,7 @@ pub fn gap_after(alloc: Global, text: &str, node: &SyntaxNode<'_>) -> Result<Gap
     gap_after_range(alloc, text, range.start(), range.end(), rest_of_line(node))
 }
 
-// Returns the gap above the line of a closing bracket.
+// Returns the gap on a new line above that of a closing bracket.
 fn gap_above(alloc: Global, text: &str, closing: usize) -> Result<Gap, AllocError>
     ensures { IfOk result (λ gap. gap_of gap ≡ gap_above text.now closing) }
 {
@@ -113,7 +113,7 @@ fn gap_before(alloc: Global, text: &str, closing: usize) -> Result<Gap, AllocErr
     })
 }
 
-// Returns the gap before a closing bracket, in a node that begins at an offset.
+// Returns the gap before a closing bracket, in a node that begins at `start`.
 fn gap_at_closing(
     alloc: Global,
     text: &str,
@@ -130,7 +130,7 @@ fn gap_at_closing(
     }
 }
 
-/// Returns where a new node goes before the closing bracket of a node: on its own line if the bracket has one, and else between spaces.
+/// Returns the gap before the closing bracket of a node: on a line of its own if the bracket has one, otherwise between spaces.
 pub fn gap_inside(alloc: Global, text: &str, node: &SyntaxNode<'_>) -> Result<Gap, AllocError>
     ensures { IfOk result (λ gap. gap_of gap ≡ gap_inside text.now node.now) }
 {

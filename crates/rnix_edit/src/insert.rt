@@ -23,7 +23,7 @@ fn joined(alloc: Global, before: &str, new: &str, after: &str) -> Result<String,
     Ok(text)
 }
 
-// Returns the text with a new text in a gap, read without errors.
+// Returns the text with a new text in a gap, which must parse without errors.
 fn read_filled(alloc: Global, text: &str, gap: &Gap, new: &str) -> Result<Tried, AllocError>
     ensures read { IfOk result (IfRead (spliced text.now gap.now.start gap.now.end (put_in (gap_of gap.now) new.now))) }
     ensures refused { IfOk result (IfNotRead (λ refusal. IsUnread refusal text.now gap.now.start gap.now.end (put_in (gap_of gap.now) new.now))) }
@@ -32,7 +32,7 @@ fn read_filled(alloc: Global, text: &str, gap: &Gap, new: &str) -> Result<Tried,
     read_spliced(alloc, text, gap.start, gap.end, put.as_str())
 }
 
-// Returns the range of a node of a kind that is put into a gap.
+// Returns the range that a node of a kind has in a gap.
 fn node_range_in(gap: &Gap, kind: SyntaxKind, new: &str) -> Result<NodeRange, AllocError>
     ensures { IfOk result (λ target. target ≡ node_range_in (gap_of gap.now) kind new.now) }
 {
@@ -47,8 +47,8 @@ fn node_range_in(gap: &Gap, kind: SyntaxKind, new: &str) -> Result<NodeRange, Al
 }
 
 /// Returns the text with a new node after another one: an entry of a set or a `let`, or an item of a list. If the other one has a line of
-/// its own, the new one gets the next line, with the same indentation, after the comments on that line; otherwise it follows after a space.
-/// The new text must be read as one node of this kind. `root` is the root of the tree of `text`.
+/// its own, the new one goes on the next line, with the same indentation, after the comments on that line; otherwise it follows after a space.
+/// The new text must parse as one node of this kind. `root` is the root of the tree of `text`.
 pub fn insert_after(
     alloc: Global,
     text: &str,
@@ -74,8 +74,8 @@ pub fn insert_after(
     }
 }
 
-/// Returns the text with a new node before the closing bracket of another one: of a set or a list, which may be empty. It gets a line of
-/// its own if the bracket has one. The new text must be read as one node of this kind. `root` is the root of the tree of `text`.
+/// Returns the text with a new node before the closing bracket of a set or a list, which may be empty. The new node goes on a line of its own if
+/// the bracket has one. The new text must parse as one node of this kind. `root` is the root of the tree of `text`.
 pub fn insert_inside(
     alloc: Global,
     text: &str,

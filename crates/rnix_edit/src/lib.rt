@@ -1,4 +1,4 @@
-//! Edits of a text by its nodes: each is refused unless the new text, read again, has the old tree around the edited place.
+//! Edits of a text by its nodes. An edit is refused unless the new text, parsed again, has the old tree around the edited place.
 #![tactic(auto)]
 
 mod blanks;

@@ -1,4 +1,4 @@
-//! What follows a node on its line.
+//! The rest of a node's line.
 
 ghost use Rattle.std.specs.Prelude.{◌≡◌, ◌<◌, ◌^◌, length};
 ghost use Rattle.rnix_green.specs.Tree.{item_of};
@@ -9,30 +9,30 @@ use rnix::{
     Direction, NodeOrToken, SiblingsWithTokens, SyntaxElement, SyntaxKind, SyntaxNode, SyntaxToken,
 };
 
-/// The comments after a node, each of one line, if nothing else follows them on the line.
+/// The rest of a node's line, if it has only one-line comments.
 #[derive(Clone, Copy)]
 pub struct RestOfLine {
-    /// Where the next line begins.
+    /// The start of the next line.
     pub next_line: usize,
     /// The number of comments.
     pub comments: usize,
-    /// Where the last of them ends, or the node if there is none.
+    /// The end of the last comment, or of the node if there is none.
     pub end: usize,
 }
 
-/// What an element is for its line.
+/// How an element counts for the rest of a line.
 #[derive(Clone, Copy)]
 pub enum Part {
     /// White space within the line.
     Blanks,
-    /// White space in which the line ends, and where the next line begins.
+    /// White space with a line feed, and the start of the next line.
     LineBreak(usize),
     /// A comment of one line.
     Comment,
     Other,
 }
 
-// Returns where the second line of a token begins, if it has one.
+// Returns the start of a token's second line, if it has one.
 fn second_line(token: &SyntaxToken<'_>) -> Option<usize>
     ensures { result ≡ second_line token.now }
 {
@@ -40,7 +40,7 @@ fn second_line(token: &SyntaxToken<'_>) -> Option<usize>
     Some(token.text_range().end().saturating_sub(rest.len()))
 }
 
-// Returns what a token is for its line, given its kind and where its second line begins.
+// Returns how a token counts for the line, given its kind and the start of its second line.
 fn token_part(kind: SyntaxKind, next_line: Option<usize>) -> Part
     ensures { result ≡ token_part kind next_line }
 {
@@ -64,7 +64,7 @@ fn token_part(kind: SyntaxKind, next_line: Option<usize>) -> Part
     }
 }
 
-// Returns what an element is for its line.
+// Returns how an element counts for the line.
 fn part_of(element: &SyntaxElement<'_>) -> Part
     ensures { result ≡ part_of (spot_of element.now) }
 {
@@ -84,7 +84,7 @@ fn siblings_after<'t>(node: &SyntaxNode<'t>) -> SiblingsWithTokens<'t>
     siblings
 }
 
-// Returns where an element ends.
+// Returns the end of an element.
 fn end_of(element: &SyntaxElement<'_>) -> usize
     ensures { result ≡ (item_of (spot_of element.now).1).end }
 {
@@ -94,7 +94,7 @@ fn end_of(element: &SyntaxElement<'_>) -> usize
     }
 }
 
-/// Returns the comments after a node, each of one line, if nothing else follows them on the line.
+/// Returns the rest of a node's line, if it has only one-line comments.
 pub fn rest_of_line(node: &SyntaxNode<'_>) -> Option<RestOfLine>
     ensures { result ≡ rest_of_line node.now }
 {
@@ -119,7 +119,7 @@ pub fn rest_of_line(node: &SyntaxNode<'_>) -> Option<RestOfLine>
     None
 }
 
-// Returns where an element begins if it is a token, or else another offset.
+// Returns the start of an element if it is a token, otherwise `end`.
 fn token_start(element: &SyntaxElement<'_>, end: usize) -> usize
     ensures { result ≡ token_start end (spot_of element.now) }
 {
@@ -129,7 +129,7 @@ fn token_start(element: &SyntaxElement<'_>, end: usize) -> usize
     }
 }
 
-/// Returns where the last token of a node begins if the node ends with one, or else where the node ends.
+/// Returns the start of the token with which a node ends, or the end of the node if its last child is a node.
 pub fn closing_start(node: &SyntaxNode<'_>) -> usize
     ensures { result ≡ closing_start node.now }
 {

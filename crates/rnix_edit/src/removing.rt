@@ -11,8 +11,8 @@ use crate::tried::{Tried, read_spliced};
 use rnix::SyntaxNode;
 use std::alloc::{AllocError, Global};
 
-/// Returns the text without a node: an entry of a set or a `let`, or an item of a list. Its line is removed with it if only comments share
-/// it; comments after it are removed if nothing else follows on the line. All other comments stay. `root` is the root of the tree of `text`.
+/// Returns the text without a node: an entry of a set or a `let`, or an item of a list. If only comments share its line, the line is removed with it. Comments
+/// after the node are removed if nothing else follows them on the line. All other comments stay. `root` is the root of the tree of `text`.
 pub fn remove(
     alloc: Global,
     text: &str,

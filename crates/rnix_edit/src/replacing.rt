@@ -13,7 +13,7 @@ use crate::tried::{Tried, read_spliced};
 use rnix::{SyntaxKind, SyntaxNode};
 use std::alloc::{AllocError, Global};
 
-// Returns the text with a new text in place of a node, read without errors.
+// Returns the text with a new text in place of a node, which must parse without errors.
 fn read_replaced(
     alloc: Global,
     text: &str,
@@ -27,7 +27,7 @@ fn read_replaced(
     read_spliced(alloc, text, range.start(), range.end(), new)
 }
 
-// Returns the kind and the range of a new text that must be read as one node of a kind.
+// Returns the kind and the range of a new text that must parse as one node of a kind.
 fn node_range_at(kind: SyntaxKind, start: usize, new: &str) -> NodeRange
     ensures { result ≡ node_range_at kind start new.now }
 {
@@ -38,7 +38,7 @@ fn node_range_at(kind: SyntaxKind, start: usize, new: &str) -> NodeRange
     }
 }
 
-// Returns whether a tree has a node of a kind in place of another one, and else is as it was.
+// Returns whether a tree has a node of a kind in place of another one, and is otherwise unchanged.
 fn is_replaced(
     root: &SyntaxNode<'_>,
     node: &SyntaxNode<'_>,
@@ -52,7 +52,7 @@ fn is_replaced(
     is_around(root, old, other, node_range_at(kind, old.start, new))
 }
 
-/// Returns the text with a new text in place of a node. The new text must be read as one node of this kind.
+/// Returns the text with a new text in place of a node. The new text must parse as one node of this kind.
 /// `root` is the root of the tree of `text`.
 pub fn replace(
     alloc: Global,

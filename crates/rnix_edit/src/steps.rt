@@ -1,4 +1,4 @@
-//! A tree as the steps of a walk over it, without white space.
+//! Comparing trees by the steps of walks over them, without white space.
 
 ghost use Rattle.std.specs.Prelude.{◌≡◌, ◌<◌, ◌≤◌, ◌+◌, [], ◌∷◌, MatchOption, IfSome, IfNone, IsTrue};
 ghost use Rattle.rnix_green.specs.Tree.{item_of, text_at};
@@ -127,7 +127,7 @@ fn next_step<'t>(events: &mut PreorderWithTokens<'t>) -> Option<Step<'t>>
     None
 }
 
-// Takes the next step of a walk before the node of a range, or else what is left up to where the walk enters that node.
+// Takes the next step of a walk before the node of a range, if there is one. If not, the walk has then entered that node, or has ended.
 fn next_before<'t>(events: &mut PreorderWithTokens<'t>, target: NodeRange) -> Option<Step<'t>>
     ensures steps { MatchOption result (steps_of (events_before target events.old) ≡ [])
         (λ step. steps_of (events_before target events.old) ≡ step_of step ∷ steps_of (events_before target events.new)) }
@@ -162,8 +162,8 @@ fn are_done(mut events: PreorderWithTokens<'_>) -> bool
     }
 }
 
-// Passes the siblings that walk `a` enters next and that end before an offset, if walk `b` has them too, and there before another offset, unless this
-// failed too often. Returns the number of failed attempts.
+// Passes the siblings that walk `a` enters next and that end before an offset, if walk `b` has the same ones before another offset. Makes no attempt after
+// too many have failed. Returns the number of failed attempts.
 fn try_pass(
     a: &mut PreorderWithTokens<'_>,
     before: usize,
@@ -186,7 +186,7 @@ fn try_pass(
 }
 
 /// Returns whether the remaining steps of two walks are the same.
-// Siblings that are alike are passed together, which saves entering and leaving each of them in both walks.
+// Passes alike siblings together, which is faster than entering and leaving each of them in both walks.
 pub fn are_same_walks<'t>(mut a: PreorderWithTokens<'t>, mut b: PreorderWithTokens<'t>) -> bool
     ensures { Decides result (steps_of a.entry ≡ steps_of b.entry) }
 {
@@ -203,8 +203,7 @@ pub fn are_same_walks<'t>(mut a: PreorderWithTokens<'t>, mut b: PreorderWithToke
     are_done(b)
 }
 
-/// Returns whether two walks have the same steps before the nodes of two ranges. If so, both walks have then entered these nodes, or are at their
-/// ends.
+/// Returns whether two walks have the same steps before the nodes of two ranges. If so, both walks have then entered these nodes, or have ended.
 pub fn are_same_before(
     events: &mut PreorderWithTokens<'_>,
     old: NodeRange,
@@ -228,9 +227,9 @@ pub fn are_same_before(
     next_before(events, old).is_none()
 }
 
-/// Takes the steps of `wanted` before the node of a range from both walks, if `events` begins with them, and returns whether it does. `wanted` has then
-/// entered the node, or is at its end.
-// Siblings that are alike are passed together.
+/// Takes the steps of `wanted` before the node of a range from both walks, if `events` begins with them, and returns whether it does. If so, `wanted` has
+/// then entered the node, or has ended.
+// Passes alike siblings together.
 pub fn begins_before(
     events: &mut PreorderWithTokens<'_>,
     wanted: &mut PreorderWithTokens<'_>,
@@ -252,7 +251,7 @@ pub fn begins_before(
     true
 }
 
-/// Takes `count` steps from a walk, if all of them pass comments.
+/// Takes `count` steps from a walk, as long as they pass comments, and returns whether all of them do.
 pub fn takes_comments(events: &mut PreorderWithTokens<'_>, count: usize) -> bool
     ensures { AreCommentsTaken result count (steps_of events.old) (steps_of events.new) }
 {
@@ -266,7 +265,7 @@ pub fn takes_comments(events: &mut PreorderWithTokens<'_>, count: usize) -> bool
     true
 }
 
-/// Takes the last token of a node and the end of the node from a walk: two steps, of which the first enters an element.
+/// Takes two steps from a walk, for the last token and the end of a node. Returns whether there are two and the first one enters an element.
 pub fn takes_closing(events: &mut PreorderWithTokens<'_>) -> bool
     ensures { IsClosingTaken result (steps_of events.old) (steps_of events.new) }
 {

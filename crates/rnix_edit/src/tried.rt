@@ -1,4 +1,4 @@
-//! A text with one range replaced, read again.
+//! Replacing one range of a text and parsing the new text.
 
 ghost use Rattle.std.specs.Prelude.{◌≡◌, false, string_bytes, IfOk, IfSome, IfNone};
 ghost use Rattle.rnix_text.specs.Changes.{IsInside, IsBetween};
@@ -10,14 +10,14 @@ use rnix::{Parse, Root};
 use rnix_text::{EditError, Edits};
 use std::alloc::{AllocError, Global};
 
-/// A changed text with its tree, or why there is none.
+/// A changed text with its tree, or the reason for refusing the change.
 #[derive(Drop)]
 pub enum Tried {
     Read(String, Parse),
     Refused(Refusal),
 }
 
-// Returns an error if the edit was refused for want of memory.
+// Returns an error if the edit was refused because an allocation failed.
 fn refuse_memory(error: EditError) -> Result<(), AllocError>
     ensures { IfOk result (λ _. is_memory error ≡ false) }
 {
@@ -27,7 +27,7 @@ fn refuse_memory(error: EditError) -> Result<(), AllocError>
     }
 }
 
-// Returns the text with new bytes in place of those from `start` up to `end`, or `None` if the range is not one of characters of the text.
+// Returns the text with new bytes in place of those from `start` up to `end`, or `None` if the range is not in the text or not at character boundaries.
 fn spliced(
     alloc: Global,
     text: &str,

@@ -1,4 +1,4 @@
-//! Laws that hold for every text. Each is the contract of a function that computes nothing; calling it gives the proof its clauses.
+//! Laws that hold for every text. A law is the contract of a function that does nothing at run time. A caller's proof can use its clauses.
 #![tactic(auto)]
 
 mod prefix;

@@ -1,4 +1,4 @@
-//! In how many steps a text is read.
+//! The number of steps in which a text is read.
 
 ghost use Rattle.std.specs.Prelude.{◌≤◌, ◌+◌, ◌*◌, length};
 ghost use Rattle.rnix_kinds.specs.Lexical.Tokens.{tokens_of};

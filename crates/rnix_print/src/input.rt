@@ -10,10 +10,10 @@ use crate::outcome::RunError;
 use std::alloc::Global;
 use std::io::{ErrorKind, Read};
 
-// How many bytes one read asks for.
+// The number of bytes that one read asks for.
 const CHUNK: usize = 4096;
 
-// Reads once, and appends the bytes. Returns whether the input has ended; after an interrupted read it has not.
+// Reads once, and appends the bytes. Returns whether the input has ended, which is not so after an interrupted read.
 fn read_more<R: Read>(input: &mut R, bytes: &mut Vec<u8>) -> Result<bool, RunError>
     ensures moved { OnOk result (HasMoved (R.remaining input.old) (R.remaining input.new) bytes.old.items bytes.new.items) }
     ensures ended { IfOk result (λ ended. IsTrue ended → IsAtEnd (R.remaining input.new)) }
@@ -37,7 +37,7 @@ fn read_more<R: Read>(input: &mut R, bytes: &mut Vec<u8>) -> Result<bool, RunErr
     }
 }
 
-// All bytes of the input.
+// Reads all bytes of the input.
 fn read_bytes<R: Read>(alloc: Global, input: &mut R) -> Result<Vec<u8>, RunError>
     ensures bytes { IfOk result (λ bytes. IfSome (R.remaining input.old) (λ all. bytes.items ≡ all)) }
     ensures end { OnOk result (IsAtEnd (R.remaining input.new)) }

@@ -1,4 +1,4 @@
-//! What the program prints of a text, and how it ends.
+//! The output and the exit status of `nix-tree`.
 #![tactic(auto)]
 
 mod error_lines;

@@ -3,7 +3,7 @@
 ghost use Rattle.std.specs.Prelude.{◌≡◌};
 ghost use Rattle.rnix_print.specs.Outcome.{status_of, complaint_of};
 
-/// Why a run was refused.
+/// The reason why a run failed.
 #[derive(Debug, Clone, Copy, PartialEq, Eq)]
 pub enum RunError {
     /// The input cannot be read.
@@ -12,11 +12,11 @@ pub enum RunError {
     NotUtf8,
     /// The output cannot be written.
     Write,
-    /// There is no memory left.
+    /// An allocation failed.
     Memory,
 }
 
-/// The status that the program ends with, where `Ok(true)` says that the text has no errors.
+/// Returns the program's exit status. `Ok(true)` means that the text has no errors.
 pub fn status(outcome: &Result<bool, RunError>) -> u8
     ensures { result ≡ status_of outcome.now }
 {
@@ -27,7 +27,7 @@ pub fn status(outcome: &Result<bool, RunError>) -> u8
     }
 }
 
-/// The line that the program prints of a run that was refused.
+/// Returns the line that the program prints for a run that failed.
 pub fn complaint(error: &RunError) -> &'static str
     ensures { result.now ≡ complaint_of error.now }
 {

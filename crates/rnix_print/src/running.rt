@@ -1,4 +1,4 @@
-//! A text in, its printed tree out.
+//! Reading a text and printing its tree.
 
 ghost use Rattle.std.specs.Prelude.{◌≡◌, ◌≢◌, map, OnOk, IfOk, IfSome, Err, IsUtf8};
 ghost use Rattle.std.specs.Io.KnownBytes.{Appends, IsAtEnd};
@@ -27,8 +27,8 @@ fn print<W: Write>(tree: &GreenNode, errors: &[ParseError], out: &mut W) -> io::
     write_tree(&SyntaxNode::new_root(tree), out)
 }
 
-/// Reads all of the input and prints its errors and its tree: true if there are no errors. A refusal other than `Write` leaves the writer
-/// as it was. An error other than `Read` and `Memory` is returned only once all of the input is read.
+/// Reads all of the input, prints its errors and its tree, and returns whether there are no errors. Unless writing fails, an error leaves the writer
+/// unchanged. An error other than `Read` and `Memory` is returned only after all of the input is read.
 pub fn run<R: Read, W: Write>(alloc: Global, input: &mut R, out: &mut W) -> Result<bool, RunError>
     ensures ran { IfOk result (λ good. HasRun (R.remaining input.old) good (W.contents out.old) (W.contents out.new)) }
     ensures read { result ≡ Err refused.Read → out.new ≡ out.old }

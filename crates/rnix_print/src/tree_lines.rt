@@ -15,7 +15,7 @@ const INDENTED: usize = 100;
 // Two spaces for each of these levels.
 static SPACES: [u8; 200] = [b' '; 200];
 
-// Prints how a line begins.
+// Prints the start of a line.
 fn write_margin<W: Write>(depth: usize, out: &mut W) -> io::Result<()>
     ensures { OnOk result (Appends (W.contents out.old) (W.contents out.new) (margin depth)) }
 {
@@ -35,8 +35,8 @@ fn write_line<W: Write>(element: &SyntaxElement<'_>, depth: usize, out: &mut W) 
     write_element(element, out)
 }
 
-/// Prints the node and all that is inside it, in preorder, one line for each element, as `dump` does, but of lines deeper than 100 levels the
-/// number of the level in place of the spaces.
+/// Prints the node and everything inside it, in preorder, one line for each element, as `dump` does. Lines deeper than 100 levels begin with the number of the
+/// level in place of spaces.
 pub(crate) fn write_tree<W: Write>(node: &SyntaxNode<'_>, out: &mut W) -> io::Result<()>
     ensures { OnOk result (Appends (W.contents out.old) (W.contents out.new) (tree_lines node.now)) }
 {

@@ -1,11 +1,11 @@
-//! Loops along chains of calls, each on what the one before answered.
+//! Loops that follow a chain of calls, each on the result of the one before.
 
 use rnix::ast::{AstNode, AstToken, AttrSet, AttrpathValue, Comment, Expr, HasEntry, Whitespace};
 use rnix::{NodeOrToken, Root, SyntaxKind, SyntaxNode, SyntaxToken};
 use std::alloc::{AllocError, Global};
 use std::test::Fail;
 
-// The set behind lambdas, lets, `with`, `assert` and parentheses.
+// Returns the set in the body of lambdas, lets, `with`, `assert` and parentheses.
 #[tactic(auto, using(rnix::proofs::ChainLemmas::child_falls))]
 fn set_within<'t>(root: &Root<'t>) -> Option<AttrSet<'t>> {
     let mut next = root.expr();
@@ -23,7 +23,7 @@ fn set_within<'t>(root: &Root<'t>) -> Option<AttrSet<'t>> {
     None
 }
 
-// The comments right before a node, the first first. A blank line ends them.
+// Returns the comments directly before a node, in the order of the text. A blank line ends them.
 #[tactic(auto, using(rnix::proofs::ChainLemmas::prev_falls))]
 fn comments_before<'t>(
     alloc: Global,
@@ -47,7 +47,7 @@ fn comments_before<'t>(
     Ok(comments)
 }
 
-// How many parameters the function has that is an attribute's value.
+// Returns the number of parameters of the function that is an attribute's value.
 #[tactic(auto, using(rnix::proofs::ChainLemmas::child_falls))]
 fn parameter_count(entry: &AttrpathValue<'_>) -> usize {
     let mut count: usize = 0;
@@ -59,7 +59,7 @@ fn parameter_count(entry: &AttrpathValue<'_>) -> usize {
     count
 }
 
-// How many elements stand behind the node with its parent.
+// Returns the number of siblings after the node, tokens included.
 #[tactic(auto, using(rnix::proofs::ChainLemmas::next_falls))]
 fn elements_behind(node: &SyntaxNode<'_>) -> usize {
     let mut count: usize = 0;
@@ -71,7 +71,7 @@ fn elements_behind(node: &SyntaxNode<'_>) -> usize {
     count
 }
 
-// How many nodes stand behind the node with its parent.
+// Returns the number of sibling nodes after the node.
 #[tactic(auto, using(rnix::proofs::ChainLemmas::next_node_falls))]
 fn nodes_behind(node: &SyntaxNode<'_>) -> usize {
     let mut count: usize = 0;
@@ -83,7 +83,7 @@ fn nodes_behind(node: &SyntaxNode<'_>) -> usize {
     count
 }
 
-// How many tokens of the tree come before the token.
+// Returns the number of tokens of the tree before the token.
 #[tactic(auto, using(rnix::proofs::ChainLemmas::prev_token_falls))]
 fn tokens_before(token: &SyntaxToken<'_>) -> usize {
     let mut count: usize = 0;
@@ -95,7 +95,7 @@ fn tokens_before(token: &SyntaxToken<'_>) -> usize {
     count
 }
 
-// How many sets are around the node.
+// Returns the number of sets that contain the node.
 #[tactic(auto, using(rnix::proofs::ChainLemmas::parent_falls))]
 fn sets_around(node: &SyntaxNode<'_>) -> usize {
     let mut count: usize = 0;
@@ -107,7 +107,7 @@ fn sets_around(node: &SyntaxNode<'_>) -> usize {
     count
 }
 
-// How many nodes lie in one another, each the last of its parent's elements.
+// Returns the length of the chain of nodes inside the node in which each is its parent's last element.
 #[tactic(auto, using(rnix::proofs::ChainLemmas::last_child_falls))]
 fn last_in_last(node: &SyntaxNode<'_>) -> usize {
     let mut count: usize = 0;
@@ -119,7 +119,7 @@ fn last_in_last(node: &SyntaxNode<'_>) -> usize {
     count
 }
 
-// How many comments stand before the first entry, its parameters, and how many elements and nodes stand behind it.
+// Returns the numbers of comments before the first entry, of its parameters, and of elements and nodes after it.
 fn about_first(
     alloc: Global,
     root: &Root<'_>,
@@ -140,7 +140,7 @@ fn about_first(
     )))
 }
 
-// How many tokens come before the last one.
+// Returns the number of tokens before the last one.
 fn before_last(root: &SyntaxNode<'_>) -> Option<usize> {
     let last = root.last_token()?;
     Some(tokens_before(&last))

@@ -1,4 +1,4 @@
-//! Tests of the examples that the documents show: uses of typed nodes, an edit, recursions and loops, and an `unwrap` that never fails.
+//! Tests of the examples in `docs`: uses of typed nodes, an edit, recursions and loops, and an `unwrap` that never fails.
 #![tactic(auto)]
 
 #[cfg(test)]

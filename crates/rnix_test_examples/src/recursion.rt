@@ -1,10 +1,10 @@
-//! Functions that call themselves for what is inside a node.
+//! Functions that call themselves on the children of a node.
 
 use rnix::ast::{Expr, InterpolPart};
 use rnix::{NodeOrToken, Root, SyntaxKind, SyntaxNode};
 use std::test::Fail;
 
-// How many sets stand in one another where there are most.
+// Returns the greatest number of sets nested in one another.
 #[tactic(auto, using(rnix::proofs::RecursionLemmas::child_nodes_fit))]
 fn nested_sets(node: &SyntaxNode<'_>) -> usize {
     let mut deepest: usize = 0;
@@ -15,7 +15,7 @@ fn nested_sets(node: &SyntaxNode<'_>) -> usize {
     deepest.saturating_add(own)
 }
 
-// How many tokens are inside the node.
+// Returns the number of tokens inside the node.
 #[tactic(auto, using(rnix::proofs::RecursionLemmas::children_fit))]
 fn tokens_within(node: &SyntaxNode<'_>) -> usize {
     let mut all: usize = 0;
@@ -29,7 +29,7 @@ fn tokens_within(node: &SyntaxNode<'_>) -> usize {
     all
 }
 
-// How many lists stand in one another where there are most, parentheses around them aside.
+// Returns the greatest number of lists nested in one another, looking through parentheses.
 #[tactic(auto, using(rnix::proofs::RecursionLemmas::child_fits, rnix::proofs::RecursionLemmas::selected_fit))]
 fn nested_lists(expr: &Expr<'_>) -> usize {
     match expr {
@@ -48,7 +48,7 @@ fn nested_lists(expr: &Expr<'_>) -> usize {
     }
 }
 
-// How many strings stand in one another where there are most.
+// Returns the greatest number of strings nested in one another.
 #[tactic(auto, using(rnix::proofs::RecursionLemmas::child_fits, rnix::proofs::RecursionLemmas::parts_fit))]
 fn nested_strings(expr: &Expr<'_>) -> usize {
     let Expr::Str(string) = expr else {

@@ -9,7 +9,7 @@ use std::io;
 use std::io::Write;
 use std::test::Fail;
 
-// The names that an entry binds, behind others: the first of its path, or those that it inherits.
+// Appends the names that an entry binds: the first name of its path, or the names that it inherits.
 fn entry_names<'t>(entry: &Entry<'t>, names: &mut Vec<Attr<'t>>) -> Result<(), AllocError> {
     match entry {
         Entry::AttrpathValue(value) => {
@@ -19,7 +19,7 @@ fn entry_names<'t>(entry: &Entry<'t>, names: &mut Vec<Attr<'t>>) -> Result<(), A
     }
 }
 
-// The names that a `let` binds.
+// Returns the names that a `let` binds.
 fn bound_names<'t>(alloc: Global, binding: &LetIn<'t>) -> Result<Vec<Attr<'t>>, AllocError> {
     let mut names = Vec::new(alloc);
     for entry in binding.entries() {
@@ -28,7 +28,7 @@ fn bound_names<'t>(alloc: Global, binding: &LetIn<'t>) -> Result<Vec<Attr<'t>>, 
     Ok(names)
 }
 
-// Writes a line for each name, with the place where it stands.
+// Writes a line for each name, with its range.
 fn write_names(names: &[Attr<'_>], out: &mut Vec<u8>) -> io::Result<()> {
     for name in names {
         let range = name.syntax().text_range();
@@ -51,7 +51,7 @@ fn names_that_a_let_binds(rt: HostRuntime) -> Result<(), Fail> {
     Ok(())
 }
 
-// A path with its names joined by dots, without what stands between them.
+// Returns the names of a path joined by dots, without the trivia between them.
 fn dotted(alloc: Global, path: &Attrpath<'_>) -> Result<String, AllocError> {
     let mut text = String::new(alloc);
     for attr in path.attrs() {
@@ -63,7 +63,7 @@ fn dotted(alloc: Global, path: &Attrpath<'_>) -> Result<String, AllocError> {
     Ok(text)
 }
 
-// The dotted paths and the values of a set.
+// Returns the dotted paths of a set with their values.
 fn paths_and_values<'t>(
     alloc: Global,
     set: &AttrSet<'t>,
@@ -98,7 +98,7 @@ fn paths_and_values_of_a_set(rt: HostRuntime) -> Result<(), Fail> {
     Ok(())
 }
 
-// The text that a string stands for; None where a part of it is an interpolation.
+// Returns the value of a string, or None if a part of it is an interpolation.
 fn text_of(alloc: Global, string: &Str<'_>) -> Result<Option<String>, AllocError> {
     let mut text = String::new(alloc);
     for part in &string.normalized_parts(alloc)? {

@@ -1,4 +1,4 @@
-//! In a text without errors, what must be there is taken without a test.
+//! In a text without errors, required parts are unwrapped without a test.
 
 ghost use Rattle.std.specs.Prelude.{[]};
 ghost use Rattle.rnix_kinds.specs.Lexical.Tokens.{tokens_of};
@@ -8,7 +8,7 @@ use rnix::ast::{AstNode, Expr, IfElse};
 use rnix::{Root, SyntaxNode, nodes_have_parts};
 use std::test::Fail;
 
-// The text of an `if` of a text without errors, and those of its condition and its two values.
+// Returns the text of an `if` in a text without errors, and the texts of its condition and its two branches.
 fn branches<'t>(node: &IfElse<'t>, text: &str) -> [&'t str; 4]
     requires { IsParsed (tokens_of text.now) node.now.tree [] }
 {

@@ -14,7 +14,7 @@ pub enum EditError {
     OutOfText,
     /// The range begins or ends inside a character.
     InsideCharacter,
-    /// The range shares a byte with that of another edit, or one of them is inside the other.
+    /// The range overlaps that of another edit, or an empty range is inside another one.
     Overlap,
     /// Memory for the edit was refused.
     Memory,

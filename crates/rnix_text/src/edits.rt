@@ -17,7 +17,7 @@ pub(crate) struct Edit {
     pub(crate) new: String,
 }
 
-/// Edits of a text: ranges of bytes in ascending order that do not overlap, each with a new text.
+/// Edits of a text: replacements for ranges of bytes that do not overlap.
 #[derive(Drop)]
 pub struct Edits<'t> {
     text: &'t str,

@@ -1,4 +1,4 @@
-//! Positions in a text, and the marks from which they are counted.
+//! Positions in a text, and the marks from which they are computed.
 
 ghost use Rattle.std.specs.Prelude.{◌≡◌, ◌+◌, ◌-◌, ◌<◌, ◌≤◌, ◌^◌, fold};
 ghost use Rattle.rnix_text.specs.Positions.{weight, step};
@@ -11,7 +11,7 @@ pub enum ColumnUnit {
     Bytes,
     /// Characters.
     Chars,
-    /// Units of 16 bits of UTF-16, as editors count.
+    /// 16-bit units of UTF-16, as editors count them.
     Utf16,
 }
 
@@ -31,11 +31,11 @@ pub(crate) struct Mark {
 
 // The byte that ends a line.
 const NEWLINE: u8 = b'\n';
-// The first byte that begins no character of one byte.
+// The smallest byte that continues a character.
 const CONTINUATION: u8 = 0x80;
-// The first byte that begins a character of several bytes.
+// The smallest byte that begins a character of several bytes.
 const LEAD: u8 = 0xc0;
-// The first byte that begins a character of two units in UTF-16.
+// The smallest byte that begins a character of two units in UTF-16.
 const LEAD_OF_PAIR: u8 = 0xf0;
 
 // Returns what a byte adds to the column of its line.
@@ -52,7 +52,7 @@ pub(crate) fn weight_of(unit: ColumnUnit, byte: u8) -> usize
     }
 }
 
-// Returns whether a byte moves the column as far as the offset.
+// Returns whether a byte moves the column by one, and does not end the line.
 pub(crate) fn moves_alike(unit: ColumnUnit, byte: u8) -> bool
     ensures { result ≡ is_plain unit byte }
 {
@@ -94,7 +94,7 @@ impl Mark {
         }
     }
 
-    // Returns the position of an offset after the mark, if each byte between them moves the column as far as the offset.
+    // Returns the position of an offset after the mark. Each byte between them must move the column by one.
     pub(crate) fn position_of(self, offset: usize) -> Position
         requires order { self.offset ≤ offset }
         requires fits { self.position.column + (offset - self.offset) < 2 ^ 64 }

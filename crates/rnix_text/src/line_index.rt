@@ -10,8 +10,7 @@ use crate::line_column::{ColumnUnit, Mark, Position, moves_alike};
 use std::alloc::{AllocError, Global};
 use std::marker::Model;
 
-/// The lines of a text, which end with `\n`. Building it takes time linear in the text, a query takes the
-/// logarithm of the text's length.
+/// The lines of a text, which end with `\n`. Building it takes time linear in the text's length, and a query takes time logarithmic in it.
 #[derive(Drop)]
 pub struct LineIndex<'t> {
     text: &'t str,

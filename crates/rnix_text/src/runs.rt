@@ -1,4 +1,4 @@
-//! Edits in ascending order, in runs of bounded length, so that adding one moves few others.
+//! Edits in ascending order, stored in runs of bounded length, so that adding one moves few others.
 
 ghost use Rattle.std.specs.Prelude.{◌≡◌, ◌+◌, ◌≤◌, ◌++◌, true, false, List, length, map, string_bytes, MatchOption, IfOk, OnOk, OnErr};
 ghost use Rattle.std.specs.Str.{IsCharBoundary};
@@ -12,10 +12,10 @@ ghost use Rattle.rnix_text.specs.declared.runs.InsertionPoint.TheVariants as ins
 use crate::edits::Edit;
 use std::alloc::{AllocError, Global};
 
-/// Where an edit goes.
+/// The position for a new edit.
 #[derive(Clone, Copy)]
 pub(crate) enum InsertionPoint {
-    /// In a run, before the edit at an index of it.
+    /// In the run with the first index, before the edit with the second index.
     In(usize, usize),
     /// After all edits.
     Last,
@@ -23,10 +23,10 @@ pub(crate) enum InsertionPoint {
 
 // The greatest number of edits in a run.
 const MOST: usize = 256;
-// The number of edits that stay in a run that is divided.
+// The number of edits that stay in a run when it is divided.
 const HALF: usize = 128;
 
-// Returns where the last edit of a run ends.
+// Returns the end of the last edit of a run.
 fn end_of(run: &[Edit]) -> usize
     ensures { result ≡ end_of 0 run.now }
 {
@@ -63,7 +63,7 @@ fn edits_by(run: &[Edit], offset: usize) -> usize
     )
 }
 
-// Returns where an edit goes of a range, if it overlaps none: after the edits that end at its start or before it.
+// Returns the position for an edit of a range: after the edits that end at its start or before it. Returns `None` if it overlaps another edit.
 pub(crate) fn insertion_point(
     runs: &[Vec<Edit>],
     start: usize,
@@ -181,7 +181,7 @@ pub(crate) fn add(
     }
 }
 
-// Adds to a text what comes before the end of a run of edits of another text, from an offset on. Returns where the last of them ends.
+// Appends the part of a text from `start` to the end of a run of edits, with these edits applied, and returns that end.
 fn add_changed(
     made: &mut String,
     text: &str,
@@ -204,7 +204,7 @@ fn add_changed(
     Ok(at)
 }
 
-/// Returns a text with edits.
+/// Returns the text with the edits applied.
 pub(crate) fn changed(alloc: Global, text: &str, runs: &[Vec<Edit>]) -> Result<String, AllocError>
     requires { AreInOrder text.now 0 (map change_of (edits_of runs.now)) }
     ensures { IfOk result (λ made. string_bytes made ≡ changed_from 0 (map change_of (edits_of runs.now)) text.now) }

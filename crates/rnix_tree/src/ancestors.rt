@@ -1,4 +1,4 @@
-//! The nodes around a node.
+//! Ancestors of a node.
 
 use crate::node::SyntaxNode;
 use rnix_green::GreenNode;

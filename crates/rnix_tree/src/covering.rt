@@ -13,7 +13,7 @@ use crate::node::SyntaxNode;
 use crate::offset::token_before;
 use rnix_green::{GreenNode, TextRange};
 
-// Returns whether a range is inside another; an empty range is strictly between its ends.
+// Returns whether a range is inside another. An empty range must be strictly between its ends.
 fn holds(range: TextRange, outer: TextRange) -> bool
     ensures { result ≡ holds (bounds_of range) (bounds_of outer) }
 {
@@ -30,8 +30,8 @@ fn range_of(green: &GreenNode, number: usize) -> TextRange
     TextRange::new(element.start, element.end)
 }
 
-// Returns the child of `parent` that contains the element: the search steps over the children from the first on and climbs from
-// the element in turn, so it takes as many steps as the shorter way has.
+// Returns the child of `parent` that contains the element. Alternately steps forward over the children and climbs from the element, so the shorter of
+// the two ways determines the cost.
 fn child_towards(green: &GreenNode, parent: usize, number: usize) -> usize
     requires there { parent < length (items_of green.now) }
     requires low { parent < number }
@@ -54,7 +54,7 @@ fn child_towards(green: &GreenNode, parent: usize, number: usize) -> usize
     child
 }
 
-// Returns the innermost element that contains the range: the node, or one inside it. All others contain the token at its start.
+// Returns the innermost element that contains the range: the node itself, or an element inside it around the token at the start of the range.
 fn innermost(green: &GreenNode, number: usize, range: TextRange) -> usize
     requires { IsNodeIn green.now number }
     ensures there { result < length (items_of green.now) }
@@ -76,7 +76,7 @@ fn innermost(green: &GreenNode, number: usize, range: TextRange) -> usize
 }
 
 impl<'t> SyntaxNode<'t> {
-    /// Returns the child that contains the range. An empty range between two children is in neither.
+    /// Returns the child that contains the range. Neither of two children contains an empty range between them.
     pub fn child_or_token_at_range(&self, range: TextRange) -> Option<SyntaxElement<'t>>
         ensures { option_map spot_of result ≡ child_at_range (bounds_of range) self.now }
     {

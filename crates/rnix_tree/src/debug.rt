@@ -15,19 +15,19 @@ use rnix_kinds::SyntaxKind;
 use std::fmt;
 use std::fmt::{InlineText, Write};
 
-// A token's text of fewer bytes is printed whole.
+// A token's text shorter than this is printed whole, in bytes.
 const LONG: usize = 25;
 
-// A longer text is cut at the first character that begins at this byte or after it.
+// A longer text is cut at this byte, or at the next character boundary.
 const CUT: usize = 21;
 
-// What follows a text that was cut.
+// Printed after a text that was cut.
 const MORE: &str = " ...";
 
-// The greatest number of bytes of such a text with its ending: a character has at most four.
+// The longest text that was cut, with what is printed after it, in bytes.
 const START_LEN: usize = 28;
 
-// More bytes than an element is printed with: a byte is escaped by at most six.
+// Capacity for one printed element, in bytes. Each byte of a text is escaped to at most six.
 const TEXT_LEN: usize = 256;
 
 // Prints a kind with its range.

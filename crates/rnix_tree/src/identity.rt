@@ -1,4 +1,4 @@
-//! Equality and hashes of nodes and tokens, and their texts.
+//! Equality, hashes and `{}` of nodes and tokens.
 
 ghost use Rattle.std.specs.Prelude.{◌≡◌, fold};
 ghost use Rattle.rnix_green.specs.Range.{bounds_of};

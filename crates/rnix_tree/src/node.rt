@@ -75,7 +75,7 @@ impl<'t> SyntaxNode<'t> {
         self.green.text_at(self.number)
     }
 
-    /// Returns the number of nodes and tokens inside the node, not counting itself. It is smaller for each child, so a recursion can end by it.
+    /// Returns the number of nodes and tokens inside the node, not counting itself. It is smaller for each child, so it can be a recursion's measure.
     pub fn inside_count(&self) -> usize
         ensures { result ≡ inside_count self.now }
     {
@@ -110,7 +110,7 @@ impl<'t> SyntaxNode<'t> {
         ensures ancestors { result ≡ ancestors_of self.now }
         ensures fits { length result < 2 ^ 64 }
     {
-        // Nothing is computed here. The contract of the call says that the number of its elements fits in a `usize`.
+        // This call has no effect. Its contract bounds the number of elements.
         let _element = self.green.element(self.number);
         Ancestors {
             green: self.green,
@@ -157,7 +157,7 @@ impl<'t> SyntaxNode<'t> {
         ensures count { element_count (part_at self.now) < 2 ^ 64 }
         ensures fits { length result < 2 ^ 64 }
     {
-        // Nothing is computed here. The contract of the call says that the number of its elements fits in a `usize`.
+        // This call has no effect. Its contract bounds the number of elements.
         let _element = self.green.element(self.number);
         PreorderWithTokens::new(self.green, self.number)
     }

@@ -64,7 +64,7 @@ impl<'t> Model for Preorder<'t> {
 }
 
 impl<'t> Preorder<'t> {
-    /// Skips the rest of the innermost node that was entered: the next event leaves it. A walk that has entered none ends.
+    /// Skips the rest of the innermost open node, one that was entered and not left: the next event leaves it. If none is open, the walk ends.
     pub fn skip_subtree(&mut self)
         ensures walk { self.new ≡ from_leaving 0 self.old }
         ensures shorter { length (node_events self.new) ≤ length (node_events self.old) }

@@ -19,7 +19,7 @@ pub enum TokenAtOffset<T> {
 }
 
 impl<T> TokenAtOffset<T> {
-    /// Maps each token by `f`.
+    /// Applies `f` to each token.
     pub fn map<F: Fn(T) -> U, U>(self, f: F) -> TokenAtOffset<U>
         requires { ForTokens (F.pre f) self }
         ensures { MapsTokens (F.post f) self result }
@@ -78,7 +78,7 @@ impl<T: Drop> TokenAtOffset<T> {
     }
 }
 
-/// Returns the token inside the node that holds the byte before the offset: the last element that starts before the offset.
+/// Returns the token inside the node that contains the byte before the offset: the last element that starts before the offset.
 pub(crate) fn token_before(green: &GreenNode, number: usize, offset: usize) -> usize
     requires node { IsNodeIn green.now number }
     requires low { (item green.now number).start < offset }
@@ -91,7 +91,7 @@ pub(crate) fn token_before(green: &GreenNode, number: usize, offset: usize) -> u
 }
 
 impl<'t> SyntaxNode<'t> {
-    /// Returns the tokens inside the node whose ranges, with their ends, contain the offset. Empty tokens are left out.
+    /// Returns the tokens inside the node that contain or touch the offset. Empty tokens are left out.
     pub fn token_at_offset(&self, offset: TextSize) -> TokenAtOffset<SyntaxToken<'t>>
         ensures { AreTouched self.now offset result }
     {
@@ -103,7 +103,7 @@ impl<'t> SyntaxNode<'t> {
         }
     }
 
-    // Returns the tokens at an offset of the node, which is not empty.
+    // Returns the tokens at an offset of a node that is not empty.
     fn tokens_inside(&self, offset: TextSize) -> TokenAtOffset<SyntaxToken<'t>>
         requires some { (item_of self.now).start < (item_of self.now).end }
         requires low { (item_of self.now).start ≤ offset }

@@ -19,7 +19,7 @@ const LEVELS: usize = 32;
 // Two spaces for each of them.
 static SPACES: [u8; 64] = [b' '; 64];
 
-// The greatest number of bytes of a range in decimal, with `@` before it and the end of its line.
+// The length of the longest printed range, with `@` before it and a line feed after it, in bytes.
 const RANGE_LEN: usize = 44;
 
 // Prints two spaces for each level.

@@ -81,7 +81,7 @@ pub(crate) fn last_child(green: &GreenNode, number: usize) -> Option<usize>
     }
 }
 
-/// Returns the first node among this element, if there is one, and its next siblings.
+/// Returns the first node among the element `start` and the siblings after it. Returns `None` if `start` is `None`.
 pub(crate) fn first_node(green: &GreenNode, start: Option<usize>) -> Option<usize>
     requires { IsThereIfAny green.now start }
     ensures { FirstNodeFrom green.now start result }
@@ -96,7 +96,7 @@ pub(crate) fn first_node(green: &GreenNode, start: Option<usize>) -> Option<usiz
     None
 }
 
-/// Returns the last node among this element, if there is one, and its previous siblings.
+/// Returns the last node among the element `start` and the siblings before it. Returns `None` if `start` is `None`.
 pub(crate) fn last_node(green: &GreenNode, start: Option<usize>) -> Option<usize>
     requires { IsThereIfAny green.now start }
     ensures { LastNodeFrom green.now start result }

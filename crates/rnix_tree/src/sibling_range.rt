@@ -29,7 +29,7 @@ fn holder_of(root: usize, number: usize, parent: Option<usize>) -> usize
     }
 }
 
-/// Returns the siblings from an element on in a walk from a root.
+/// Returns the element and the siblings after it in a walk from a root.
 pub(crate) fn siblings_at(green: &GreenNode, root: usize, number: usize) -> SiblingRange
     requires { IsInside green.now root number }
     ensures siblings { result ≡ siblings_at green.now root number }
@@ -164,8 +164,9 @@ fn are_texts_alike(
     text[start..end] == other[other_start..other_end]
 }
 
-/// Returns whether the siblings of two rows are alike up to the number `end` of the first one, with all that is inside them, and end in the second tree
-/// before an offset: as many elements, of the same kinds, with as many elements inside, and the same text. Linear in their number and in the bytes.
+/// Returns whether the siblings of two rows are alike up to the number `end` of the first one, with everything inside them, and end in the second tree
+/// before an offset. Alike means the same number of elements, of the same kinds, with as many elements inside, and the same text. Takes time linear in
+/// the number of elements and of bytes.
 pub(crate) fn are_siblings_alike(
     green: &GreenNode,
     siblings: SiblingRange,

@@ -52,7 +52,7 @@ impl<'t> SiblingsWithTokens<'t> {
         ensures siblings { result ≡ siblings_of direction record { tree = green.now; number = number } }
         ensures fits { length result < 2 ^ 64 }
     {
-        // Nothing is computed here. The contract of the call says that the count fits in a `usize`.
+        // This call has no effect. Its contract bounds the count.
         let _count = green.element_count();
         SiblingsWithTokens {
             green,
@@ -62,7 +62,7 @@ impl<'t> SiblingsWithTokens<'t> {
     }
 }
 
-// Returns the number of siblings before the element, which it steps over from the first child of the parent on.
+// Returns the number of siblings before the element, counted from the parent's first child.
 fn index(green: &GreenNode, number: usize) -> usize
     requires { number < length (items_of green.now) }
     ensures { result ≡ index_of record { tree = green.now; number = number } }

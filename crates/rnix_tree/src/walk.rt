@@ -11,7 +11,7 @@ use crate::sibling_range::{after_siblings, are_siblings_alike, end_before, sibli
 use rnix_green::GreenNode;
 use std::marker::Model;
 
-/// The nodes and tokens right below a node, in order.
+/// An iterator over the children of a node, nodes and tokens, in order.
 #[derive(Drop)]
 pub struct SyntaxElementChildren<'t> {
     pub(crate) green: &'t GreenNode,
@@ -57,7 +57,7 @@ impl<'t> Iterator for SyntaxElementChildren<'t> {
     }
 }
 
-// The state of a walk: what it does next, at which element.
+// What a walk does next, and at which element.
 #[derive(Clone, Copy)]
 pub(crate) enum Next {
     Enter(usize),
@@ -100,7 +100,7 @@ impl<'t> PreorderWithTokens<'t> {
         }
     }
 
-    /// Skips the rest of the innermost element that was entered: the next event leaves it. A walk that has entered none ends.
+    /// Skips the rest of the innermost open element, one that was entered and not left: the next event leaves it. If none is open, the walk ends.
     pub fn skip_subtree(&mut self)
         ensures walk { self.new ≡ from_leaving 0 self.old }
         ensures shorter { length self.new ≤ length self.old }
@@ -108,11 +108,11 @@ impl<'t> PreorderWithTokens<'t> {
         self.next = after_skip(self.green, self.root, self.next);
     }
 
-    /// Passes the siblings that the walk enters next and that end before an offset, and as many siblings in another walk, if they are alike; for programs
-    /// that look for what differs between two trees. Returns whether they are, or `None` if the walk enters no such sibling next. They are alike if they
-    /// have as many nodes and tokens, in the same order, of the same kinds, and tokens of the same texts, and if those in the other walk end before another
-    /// offset. Unless it returns `Some(true)`, both walks stay where they are. Linear in the number of elements that are compared, and in the bytes of their
-    /// texts.
+    /// Passes siblings that are alike in two walks, for programs that look for differences between two trees. Compares the siblings that this walk enters
+    /// next and that end before the offset `before` with as many that `other` enters next. Returns `None` if there are none, and otherwise whether they are
+    /// alike: the same nodes and tokens in the same order, of the same kinds, tokens with the same texts, and those of `other` end before `other_before`.
+    /// If they are alike, both walks have passed them; otherwise neither has moved. Takes time linear in the number of elements compared and the bytes of
+    /// their texts.
     pub fn pass_alike(
         &mut self,
         before: usize,
@@ -142,7 +142,7 @@ impl<'t> PreorderWithTokens<'t> {
     }
 }
 
-// Returns what a walk does after it entered the element.
+// Returns what a walk does after entering the element.
 fn after_enter(green: &GreenNode, number: usize) -> Next
     requires { number < length (items_of green.now) }
     ensures { result ≡ after_enter green.now number }
@@ -154,7 +154,7 @@ fn after_enter(green: &GreenNode, number: usize) -> Next
     }
 }
 
-// Returns what a walk from the root does after it left the element.
+// Returns what a walk from `root` does after leaving the element.
 fn after_leave(green: &GreenNode, root: usize, number: usize) -> Next
     requires { number < length (items_of green.now) }
     ensures { result ≡ after_leave green.now root number }
@@ -173,7 +173,7 @@ fn after_leave(green: &GreenNode, root: usize, number: usize) -> Next
     }
 }
 
-// Returns what a walk from the root does when the rest of the innermost open element is skipped.
+// Returns what a walk from `root` does after skipping the rest of the innermost open element.
 fn after_skip(green: &GreenNode, root: usize, next: Next) -> Next
     requires { IsNextWithin green.now root next }
     ensures { result ≡ after_skip green.now root next }

@@ -1,4 +1,4 @@
-//! What an attribute is called.
+//! The name of an attribute, as Nix reads it.
 
 ghost use Rattle.std.specs.Prelude.{◌≡◌, if◌then◌else◌, None, option_map, IfOk, string_bytes};
 ghost use Rattle.rnix_green.specs.Tree.{item_of};
@@ -20,7 +20,7 @@ use rnix_kinds::SyntaxKind;
 use rnix_tree::SyntaxNode;
 use std::alloc::{AllocError, Global};
 
-// The state of Nix's tokenizer after one more byte of a text in `''`: at 0 its token may continue, at 1 it has ended.
+// Returns the state of Nix's tokenizer after one more byte of a text in `''`: at 0 its token may continue, at 1 it has ended.
 fn state_behind(state: u8, byte: u8) -> u8
     ensures { result ≡ state_behind state byte }
 {
@@ -36,7 +36,7 @@ fn state_behind(state: u8, byte: u8) -> u8
     }
 }
 
-// Whether a text in `''` is one token that any more text could continue.
+// Returns whether a text in `''` is one token to which more text could be added.
 fn is_run(text: &str) -> bool
     ensures { result ≡ is_run text.now }
 {
@@ -47,7 +47,7 @@ fn is_run(text: &str) -> bool
     state == 0
 }
 
-// Whether a text in `''` is one of the other tokens: a `$`, or an escape.
+// Returns whether a text in `''` is one of the other tokens: a `$`, or an escape.
 fn is_lone(text: &str) -> bool
     ensures { result ≡ is_lone text.now }
 {
@@ -57,7 +57,7 @@ fn is_lone(text: &str) -> bool
         || (text.len() == 4 && text.as_bytes().starts_with(b"''\\"))
 }
 
-// Whether Nix reads the content of a string in `''` as one piece.
+// Returns whether Nix reads the content of a string in `''` as one piece.
 fn is_one_piece(string: &Str<'_>) -> bool
     ensures { result ≡ is_one_piece (string_parts string.now) }
 {
@@ -96,7 +96,7 @@ fn constant(alloc: Global, node: &SyntaxNode<'_>) -> Result<Option<String>, Allo
     }
 }
 
-// Returns the same of the expression in `${` and `}`, perhaps in parentheses, if there is one.
+// Returns that value of the expression in `${` and `}`, perhaps in parentheses, if there is one.
 fn constant_of(alloc: Global, dynamic: &Dynamic<'_>) -> Result<Option<String>, AllocError>
     ensures { IfOk result (λ value. option_map string_bytes value ≡ constant_of (child_of is_expr 0 dynamic.now)) }
 {
@@ -106,7 +106,7 @@ fn constant_of(alloc: Global, dynamic: &Dynamic<'_>) -> Result<Option<String>, A
     }
 }
 
-// Returns what a string is called as an attribute: nothing in `''`, and otherwise its value.
+// Returns the name of a string as an attribute: its value, or `None` for a string in `''`.
 fn string_name(alloc: Global, string: &Str<'_>) -> Result<Option<String>, AllocError>
     ensures { IfOk result (λ name. option_map string_bytes name ≡ (if is_indented string.now then None else plain_value string.now)) }
 {
@@ -116,7 +116,7 @@ fn string_name(alloc: Global, string: &Str<'_>) -> Result<Option<String>, AllocE
     string.plain_value(alloc)
 }
 
-// Returns what the attribute of a node is called.
+// Returns the name of the attribute of a node.
 fn name_of(alloc: Global, node: &SyntaxNode<'_>) -> Result<Option<String>, AllocError>
     ensures { IfOk result (λ name. option_map string_bytes name ≡ static_name node.now) }
 {
@@ -129,8 +129,8 @@ fn name_of(alloc: Global, node: &SyntaxNode<'_>) -> Result<Option<String>, Alloc
 }
 
 impl<'t> Attr<'t> {
-    /// Returns what the attribute is called if the text alone says so: `a`, `"a"`, `${"a"}` and `${("a")}` are called `a`. Returns `None` for a name that
-    /// must be evaluated, and for a string in `''`, which Nix refuses as a name. As in Nix 2.8.
+    /// Returns the attribute's name as Nix 2.8 reads it, if the text alone determines it: `a`, `"a"`, `${"a"}` and `${("a")}` all have the name `a`. Returns
+    /// `None` for a name that must be evaluated, and for a string in `''`, which Nix refuses as a name.
     pub fn static_name(&self, alloc: Global) -> Result<Option<String>, AllocError>
         ensures { IfOk result (λ name. option_map string_bytes name ≡ static_name (attr_node self.now)) }
     {

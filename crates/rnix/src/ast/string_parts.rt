@@ -44,8 +44,8 @@ impl<'t> Str<'t> {
         }
     }
 
-    /// Returns the parts of the string's value as Nix makes it. It differs from [`Str::normalized_parts`], which is as in rnix, where a string in `''`
-    /// has an escaped line feed, after which Nix drops indentation too, and where a string in `"` has a carriage return, which Nix reads as a line feed.
+    /// Returns the parts of the string's value in Nix. They differ from [`Str::normalized_parts`], which follows rnix, in two cases. After an escaped line feed
+    /// in `''`, Nix drops the indentation too. A carriage return in `"` is a line feed for Nix.
     pub fn value_parts(&self, alloc: Global) -> Result<Vec<InterpolPart<'t, String>>, AllocError>
         ensures { IfOk result (λ parts. map (with_text string_bytes) parts.items ≡ value_parts self.now) }
     {
@@ -57,7 +57,7 @@ impl<'t> Str<'t> {
         }
     }
 
-    /// Returns the string's value as Nix makes it, or `None` if it has an interpolation.
+    /// Returns the string's value in Nix, or `None` if it has an interpolation.
     pub fn plain_value(&self, alloc: Global) -> Result<Option<String>, AllocError>
         ensures { IfOk result (λ value. option_map string_bytes value ≡ plain_value self.now) }
     {
