@@ -1,4 +1,4 @@
--- Which tokens Nix reads otherwise, on worked rows.
+-- Which tokens Nix reads otherwise, on worked examples.
 use Rattle.std.proofs.Common.{◌≡◌, ◌++◌, ◌∷◌, [], true, false, refl}
 use Rattle.std.specs.Prelude.{codes}
 use Rattle.rnix_kinds.specs.declared.kinds.SyntaxKind.TheVariants as k

@@ -68,7 +68,7 @@ number_sort e false is h =
     has_sort k.NODE_LITERAL e
     (subst (HasKind k.NODE_LITERAL) (cond-false (same_kind k.NODE_UNARY_OP (item_of e).kind) (unwrap_or (child_of is_expr 0 e) e) e is) h)
 
--- what is found behind two tests passed the second one
+-- what is found after two tests passed the second one
 second_passed : (altered is_string : Bool) (found : Option (List ℕ)) (t : List ℕ) →
     (if altered then None else (if is_string then found else None)) ≡ Some t → is_string ≡ true
 second_passed true is_string found t h = absurd (cc)

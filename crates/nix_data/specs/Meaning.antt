@@ -1,4 +1,4 @@
--- What an expression means that contains only literals, lists, and sets whose paths are single names.
+-- The meaning of an expression that contains only literals, lists, and sets whose paths are single names.
 use Rattle.std.specs.Prelude.{◌≡◌, ℕ, zero, suc, ◌+◌, Bool, true, false, List, [], ◌∷◌, ◌++◌, map, codes, bytes_eq, Option, Some, None, option_map, unwrap_or, if◌then◌else◌, ◌<◌, ◌^◌, unsigned_abs}
 use Rattle.std.specs.Fmt.{signed_decimal}
 use Rattle.std.specs.List.{IsDistinct}
@@ -18,11 +18,11 @@ use Rattle.nix_values.specs.Contents.{Plain, null, boolean, integer, float, text
 use Rattle.nix_values.specs.Floats.{is_held}
 use Rattle.nix_data.specs.Misread.{is_altered}
 
--- the value, as Nix makes it, of an expression that is a string without interpolations, unless Nix changes it
+-- the value in Nix of an expression that is a string without interpolations, unless Nix changes the string
 abbrev pub expression_text : Located → Option (List ℕ)
 expression_text e = if is_altered (text_at e) then None else (if same_kind k.NODE_STRING (item_of e).kind then plain_value e else None)
 
--- the operand of an operation in front of it, as `1` of `-1`; any other expression is its own
+-- the operand of a prefix operation, such as `1` of `-1`; any other expression is itself
 abbrev pub unsigned : Located → Located
 unsigned e = if same_kind k.NODE_UNARY_OP (item_of e).kind then unwrap_or (child_of is_expr 0 e) e else e
 
@@ -36,7 +36,7 @@ abbrev pub is_float : Option LiteralKind → Bool
 is_float (Some (literal.Float token)) = true
 is_float _ = false
 
--- an expression is a literal of a sort, perhaps with a sign
+-- an expression is a literal that passes a test, perhaps with a sign
 abbrev pub IsNumber : (Option LiteralKind → Bool) → Located → Type 0
 IsNumber is_sort e = HasKind k.NODE_LITERAL (unsigned e) × (is_sort (first_literal (unsigned e)) ≡ true)
 
@@ -54,27 +54,27 @@ HasValue e (text t) = expression_text e ≡ Some t
 HasValue e list = HasKind k.NODE_LIST e
 HasValue e set = HasKind k.NODE_ATTR_SET e × (token_of (same_kind k.TOKEN_REC) e ≡ None)
 
--- the name that a node of a kind is
+-- the name that a node of a kind represents
 abbrev pub name_of_kind : SyntaxKind → Located → Option (List ℕ)
 name_of_kind k.NODE_IDENT e = Some (text_at e)
 name_of_kind k.NODE_STRING e = expression_text e
 name_of_kind _ e = None
 
--- the name that an attribute is: an identifier, or a string without interpolations
+-- the name of an attribute: an identifier, or a string without interpolations
 abbrev pub name_of : Located → Option (List ℕ)
 name_of e = name_of_kind (item_of e).kind e
 
--- the name that some attributes are, if there is exactly one
+-- the name of the attribute in a list, if there is exactly one
 abbrev pub single_name : List Located → Option (List ℕ)
 single_name (e ∷ []) = name_of e
 single_name attributes = None
 
--- the name that a path is, if there is one and it is a single name
+-- the name in a path, if there is a path and it is a single name
 abbrev pub path_name : Option Located → Option (List ℕ)
 path_name None = None
 path_name (Some path) = single_name (nodes_of is_attr path)
 
--- a child node has a value inside: in a set it is an entry, with a name and a value; in a list it is the value, which has no name
+-- the name and the value that a child node holds: in a set it is an entry with both; in a list it is the value, without a name
 abbrev pub IsPart : Plain → Located → List ℕ → Located → Type 0
 IsPart set child name inner =
     HasKind k.NODE_ATTRPATH_VALUE child × (path_name (child_of (same_kind k.NODE_ATTRPATH) 0 child) ≡ Some name) × (child_of is_expr 0 child ≡ Some inner)
@@ -93,7 +93,7 @@ HaveDifferentNames _ nodes = Unit {0}
 abbrev pub parts_of : Plain → Located → List Located
 parts_of own e = if has_parts own then nodes_in (children_of e) else []
 
--- an expression without the parentheses around it, if there are some
+-- an expression without the parentheses around it, if there are any
 abbrev pub unwrapped : Located → Located
 unwrapped e = if same_kind k.NODE_PAREN (item_of e).kind then unwrap_or (child_of is_expr 0 e) e else e
 

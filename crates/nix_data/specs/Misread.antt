@@ -1,4 +1,4 @@
--- Tokens that Nix reads otherwise than the tokenizer does.
+-- Tokens that Nix reads differently from the tokenizer.
 use Rattle.std.specs.Prelude.{◌≡◌, ℕ, ◌==◌, ◌&&◌, ◌||◌, Bool, true, false, not, List, [], ◌∷◌, slice_index, if◌then◌else◌}
 use Rattle.std.specs.List.{list_any, list_all}
 use Rattle.std.specs.Char.{is_ascii_digit}
@@ -14,7 +14,7 @@ use Rattle.rnix.specs.ParseResult.{Reading, root_of}
 abbrev pub is_blank : ℕ → Bool
 is_blank byte = byte == 32 || (byte == 10 || (byte == 9 || byte == 13))
 
--- after a carriage return, or after the first one in the text, there is something other than white space
+-- after a carriage return, or after the first one in the text, something other than white space follows
 abbrev pub has_text_after_return : Bool → List ℕ → Bool
 has_text_after_return returned [] = false
 has_text_after_return returned (byte ∷ bytes) = if returned && not (is_blank byte) then true else has_text_after_return (returned || byte == 13) bytes
@@ -27,26 +27,26 @@ ends_early text = slice_index text 0 == 35 && has_text_after_return false text
 abbrev pub lacks_digit : List ℕ → Bool
 lacks_digit text = slice_index text 0 == 48 && (slice_index text 1 == 46 && not (is_ascii_digit (slice_index text 2)))
 
--- Nix reads a token of a kind and a text otherwise
+-- Nix reads a token of this kind and text differently
 abbrev pub is_misread : SyntaxKind → List ℕ → Bool
 is_misread k.TOKEN_WHITESPACE text = not (list_all is_blank text)
 is_misread k.TOKEN_COMMENT text = ends_early text
 is_misread k.TOKEN_FLOAT text = lacks_digit text
 is_misread kind text = false
 
--- Nix changes a string: it cuts it at the character 0, and reads a carriage return in `"` as a line feed
+-- Nix changes a string: it cuts the string at the character 0, and reads a carriage return in `"` as a line feed
 abbrev pub is_altered : List ℕ → Bool
 is_altered source = list_any (λ b. b == 0) source || (slice_index source 0 == 34 && list_any (λ b. b == 13) source)
 
--- an element is a token that Nix reads otherwise
+-- an element is a token that Nix reads differently
 abbrev pub is_misread_at : Spot → Bool
 is_misread_at spot = not spot.0 && is_misread (item_of spot.1).kind (text_at spot.1)
 
--- Nix reads no token of an element otherwise
+-- Nix reads no token of an element differently
 abbrev pub IsReadAlike : Located → Type 0
 IsReadAlike e = list_any is_misread_at (elements_of e) ≡ false
 
--- a text is parsed without errors, and Nix reads none of its tokens otherwise
+-- a text has no errors, and Nix reads none of its tokens differently
 pub record IsData (text : List ℕ) : Type 0 where
   pub read : Reading
   pub is_read : IsParsed (tokens_of text) read.tree read.faults

@@ -15,7 +15,7 @@ use Rattle.nix_data.specs.Misread.{IsReadAlike}
 abbrev pub IsMeant : Located → List Entry → Type 0
 IsMeant root entries = IsSomeAnd (child_of is_expr 0 root) (λ e. Means LEVELS 0 [] e entries)
 
--- a text is parsed without errors, Nix reads none of its tokens otherwise, and its expression means these values
+-- a text has no errors, Nix reads none of its tokens differently, and its expression means these values
 pub record IsWritten (text : List ℕ) (entries : List Entry) : Type 0 where
   pub read : Reading
   pub is_read : IsParsed (tokens_of text) read.tree read.faults

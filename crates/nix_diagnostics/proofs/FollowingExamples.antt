@@ -6,17 +6,17 @@ use Rattle.rnix_green.specs.{Forest.{Forest, empty, leaf, node}, Tree.Located}
 use Rattle.rnix_grammar.specs.Fault.{Fault, unexpected_at, unexpected_eof, duplicated_args, extra}
 use Rattle.nix_diagnostics.specs.Following.{firsts}
 
--- a comment in front of a row, with three words and two line feeds
+-- a comment in front of a forest, with three words and two line feeds
 abbrev far : Forest → Forest
 far rest = leaf k.TOKEN_COMMENT (10 ∷ 97 ∷ 32 ∷ 97 ∷ 32 ∷ 97 ∷ 10 ∷ []) rest
 
--- an error node with a token of the kind, in front of a row
+-- an error node with a token of the kind, in front of a forest
 abbrev wrong : SyntaxKind → Forest → Forest
 wrong kind rest = node k.NODE_ERROR (leaf kind (44 ∷ []) empty) rest
 
--- a text of one row
+-- a text of one forest
 abbrev text : Forest → Located
-text row = record { tree = record { kind = k.NODE_ROOT; children = row }; number = 0 }
+text trees = record { tree = record { kind = k.NODE_ROOT; children = trees }; number = 0 }
 
 -- a node of the kind in brackets, with an error node at 1 and one at 9, far from each other; the first has a token of the second kind
 abbrev inside : SyntaxKind → SyntaxKind → SyntaxKind → Located
@@ -47,7 +47,7 @@ closed_outer = refl
 closed_nothing : firsts (inside k.NODE_PAREN k.TOKEN_R_BRACE k.TOKEN_R_PAREN) errors ≡ 0 ∷ 1 ∷ []
 closed_nothing = refl
 
--- in a text that ends too early, after what goes on to its end
+-- in a text that ends too early, after what continues to its end
 too_early : firsts (inside k.NODE_PAREN k.TOKEN_COMMA k.TOKEN_COMMA) (errors ++ unexpected_eof ∷ []) ≡ 0 ∷ []
 too_early = refl
 

@@ -1,4 +1,4 @@
--- Entries that end between errors.
+-- Entries that end between errors. A slip is an error about an unexpected or missing token.
 use Rattle.std.specs.Prelude.{ℕ, ◌&&◌, ◌||◌, nat_lt, nat_le, Bool, true, false, not, List, [], ◌∷◌, Option, Some, None, if◌then◌else◌}
 use Rattle.rnix_kinds.specs.declared.kinds.SyntaxKind.{SyntaxKind}
 use Rattle.rnix_kinds.specs.declared.kinds.SyntaxKind.TheVariants.{NODE_ATTRPATH_VALUE, NODE_INHERIT, TOKEN_SEMICOLON}
@@ -17,7 +17,7 @@ is_entry_kind NODE_ATTRPATH_VALUE = true
 is_entry_kind NODE_INHERIT = true
 is_entry_kind kind = false
 
--- a node is an entry or an `inherit`, if there is one
+-- there is a node, and it is an entry or an `inherit`
 abbrev pub is_entry : Option Located → Bool
 is_entry None = false
 is_entry (Some node) = is_entry_kind (item_of node).kind
@@ -40,22 +40,22 @@ start_around (Some node) = start_or_zero (parent_of node)
 abbrev pub semicolon_of : Located → Semicolon
 semicolon_of token = record { start = (item_of token).start; set = start_around (parent_of token) }
 
--- those `;` of entries and `inherit`s among elements, in order
+-- the `;` of entries and `inherit`s among elements, in order
 abbrev pub semicolons_in : List Spot → List Semicolon
 semicolons_in [] = []
 semicolons_in (spot ∷ spots) =
     if spot.0 then semicolons_in spots else (if ends_entry spot.1 then semicolon_of spot.1 ∷ semicolons_in spots else semicolons_in spots)
 
--- those in an element
+-- the `;` of entries and `inherit`s in an element
 abbrev pub semicolons_of : Located → List Semicolon
 semicolons_of e = semicolons_in (elements_of e)
 
--- those from the first on that does not start before an offset
+-- these `;`, from the first that does not start before an offset
 abbrev pub since : ℕ → List Semicolon → List Semicolon
 since offset [] = []
 since offset (s ∷ rest) = if nat_lt s.start offset then since offset rest else s ∷ rest
 
--- among those that start before an offset there is one of a set or `let` that starts before another
+-- before an offset there is the `;` of an entry whose set or `let` starts before another offset
 abbrev pub ends_between : ℕ → ℕ → List Semicolon → Bool
 ends_between set_before offset [] = false
 ends_between set_before offset (s ∷ rest) = nat_lt s.start offset && (nat_lt s.set set_before || ends_between set_before offset rest)
@@ -64,12 +64,12 @@ ends_between set_before offset (s ∷ rest) = nat_lt s.start offset && (nat_lt s
 abbrev pub larger : ℕ → ℕ → ℕ
 larger m n = if nat_lt m n then n else m
 
--- how far a number and some errors about unexpected or missing tokens reach
+-- where the last of some slips ends, or a given offset if that is larger
 abbrev pub reach_from : Located → ℕ → List Fault → ℕ
 reach_from root end [] = end
 reach_from root end (fault ∷ faults) = reach_from root (if is_slip fault then larger end (location_of root fault).end else end) faults
 
--- how far the errors about unexpected or missing tokens reach
+-- where the last of the slips ends, 0 if there is none
 abbrev pub reach : Located → List Fault → ℕ
 reach root faults = reach_from root 0 faults
 

@@ -1,4 +1,4 @@
--- Tokens that open or close something, and the balance of them in a node.
+-- Tokens that open or close something, and whether a node balances them.
 use Rattle.std.specs.Prelude.{ℕ, ◌+◌, ◌-◌, ◌==◌, nat_lt, ◌&&◌, Bool, true, false, not, List, [], ◌∷◌, Option, Some, None, if◌then◌else◌}
 use Rattle.rnix_kinds.specs.declared.kinds.SyntaxKind.{SyntaxKind}
 use Rattle.rnix_kinds.specs.declared.kinds.SyntaxKind.TheVariants.{TOKEN_L_BRACE, TOKEN_L_BRACK, TOKEN_L_PAREN, TOKEN_INTERPOL_START}
@@ -32,12 +32,12 @@ closes TOKEN_THEN = true
 closes TOKEN_ELSE = true
 closes kind = false
 
--- a token has the range, if there is one
+-- there is a range, and the token has it
 abbrev pub has_range : Option Extent → Located → Bool
 has_range None token = false
 has_range (Some range) token = range.start == (item_of token).start && range.end == (item_of token).end
 
--- a token closes something that is open before a walk in which so much is open; the unmatched token closes nothing
+-- a token closes something around the walk, in which so much is open before the token; the unmatched token closes nothing
 abbrev pub closes_around : Option Extent → ℕ → Located → Bool
 closes_around unmatched depth token = closes (item_of token).kind && (depth == 0 && not (has_range unmatched token))
 
@@ -45,13 +45,13 @@ closes_around unmatched depth token = closes (item_of token).kind && (depth == 0
 abbrev pub depth_after : ℕ → SyntaxKind → ℕ
 depth_after depth kind = (if closes kind then depth - 1 else depth) + (if opens kind then 1 else 0)
 
--- the tokens of a walk in which so much is open close something that is open before it, or leave something open
+-- the tokens of a walk, in which so much is open, close something around it or leave something open
 abbrev pub is_unbalanced : Option Extent → ℕ → List Spot → Bool
 is_unbalanced unmatched depth [] = nat_lt 0 depth
 is_unbalanced unmatched depth (spot ∷ spots) =
     if spot.0 then is_unbalanced unmatched depth spots
     else (if closes_around unmatched depth spot.1 then true else is_unbalanced unmatched (depth_after depth (item_of spot.1).kind) spots)
 
--- the tokens of a node close something that is open before it, or leave something open; the unmatched token closes nothing
+-- the tokens of a node close something around it or leave something open; the unmatched token closes nothing
 abbrev pub skips_brackets : Option Extent → Located → Bool
 skips_brackets unmatched node = is_unbalanced unmatched 0 (elements_of node)

@@ -1,4 +1,4 @@
--- What diagnostics report and how serious that is, and the names of both for tools.
+-- The codes and severities of diagnostics, and their names for tools.
 use Rattle.std.specs.Prelude.{ℕ, List, codes}
 use Rattle.rnix_grammar.specs.Fault.{Fault, too_deep}
 use Rattle.nix_diagnostics.specs.declared.code.Code.{Code}
@@ -6,7 +6,7 @@ use Rattle.nix_diagnostics.specs.declared.code.Code.TheVariants.{SyntaxError, Ne
 use Rattle.nix_diagnostics.specs.declared.code.Severity.{Severity}
 use Rattle.nix_diagnostics.specs.declared.code.Severity.TheVariants.{Error, Warning}
 
--- what is reported of an error
+-- the code of an error
 abbrev pub code_of : Fault → Code
 code_of too_deep = NestedTooDeep
 code_of _ = SyntaxError
@@ -17,7 +17,7 @@ code_name SyntaxError = codes "syntax-error"
 code_name NestedTooDeep = codes "nested-too-deep"
 code_name RepeatedAttribute = codes "repeated-attribute"
 
--- how serious it is: all that has a code so far is an error
+-- the severity of a code; so far every code is an error
 abbrev pub severity_of : Code → Severity
 severity_of SyntaxError = Error
 severity_of NestedTooDeep = Error

@@ -1,4 +1,4 @@
--- The error nodes of errors, and what is around them.
+-- The error nodes of errors, and the nodes around them.
 use Rattle.std.specs.Prelude.{◌≡◌, ℕ, ◌==◌, ◌<◌, nat_lt, ◌&&◌, Bool, true, false, not, List, find, Option, Some, None, option_map, if◌then◌else◌}
 use Rattle.rnix_kinds.specs.declared.kinds.SyntaxKind.{SyntaxKind}
 use Rattle.rnix_kinds.specs.declared.kinds.SyntaxKind.TheVariants.{NODE_LIST, NODE_PATTERN, NODE_STRING, NODE_DYNAMIC, NODE_INHERIT}
@@ -50,7 +50,7 @@ node_range fault = range_in fault
 abbrev pub error_node : Located → Fault → Option Located
 error_node root fault = error_at root (node_range fault)
 
--- a node of the kind is one in which one mistake leads to several errors
+-- one mistake in a node of this kind leads to several errors
 abbrev pub is_group : SyntaxKind → Bool
 is_group NODE_LIST = true
 is_group NODE_PATTERN = true
@@ -65,12 +65,12 @@ abbrev pub range_if_group : Option Located → Option Extent
 range_if_group None = None
 range_if_group (Some node) = if is_group (item_of node).kind then Some (extent_of node) else None
 
--- the range of the list, pattern, .. that a node is right below, if it is
+-- the range of a node's parent, if that is a list, pattern, string, interpolated name, `inherit` or entry
 abbrev pub group_around : Option Located → Option Extent
 group_around None = None
 group_around (Some node) = range_if_group (parent_of node)
 
--- the range of the list, pattern, .. that the error node of an error is right below
+-- the range of the parent of an error's error node, if that is a list, pattern, string, interpolated name, `inherit` or entry
 abbrev pub group_of : Located → Fault → Option Extent
 group_of root fault = group_around (error_node root fault)
 

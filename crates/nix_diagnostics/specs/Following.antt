@@ -1,4 +1,4 @@
--- Which errors follow from an earlier one, so that they share its diagnostic.
+-- Which errors follow from an earlier one, and so share its diagnostic. A slip is an error about an unexpected or missing token.
 use Rattle.std.specs.Prelude.{ℕ, ◌+◌, ◌-◌, ◌==◌, Bool, true, false, not, nat_lt, nat_le, ◌||◌, ◌&&◌, List, [], ◌∷◌, ◌++◌, length, take, drop, Option, Some, None}
 use Rattle.std.specs.Prelude.{is_some, is_none, if◌then◌else◌}
 use Rattle.std.specs.List.{list_any}
@@ -19,12 +19,12 @@ abbrev pub is_extra : Fault → Bool
 is_extra (extra range) = true
 is_extra fault = false
 
--- the last error about an unexpected or a missing token, or else the given one
+-- the last of some slips, or the given error if there is none
 abbrev pub last_from : Option Fault → List Fault → Option Fault
 last_from before [] = before
 last_from before (fault ∷ faults) = last_from (if is_slip fault then Some fault else before) faults
 
--- the last error about an unexpected or a missing token
+-- the last slip
 abbrev pub last_slip : List Fault → Option Fault
 last_slip faults = last_from None faults
 
@@ -32,7 +32,7 @@ last_slip faults = last_from None faults
 abbrev pub is_blank : ℕ → Bool
 is_blank byte = byte == 32 || (byte == 10 || (byte == 9 || byte == 13))
 
--- how many words start in a text that begins after white space, or inside a word
+-- how many words start in a text that follows white space, or is inside a word
 abbrev pub words : Bool → List ℕ → ℕ
 words inside [] = 0
 words inside (byte ∷ bytes) = (if is_blank byte || inside then 0 else 1) + words (not (is_blank byte)) bytes
@@ -45,22 +45,22 @@ is_short text = not (list_any (λ byte. byte == 10) text) || nat_lt (words false
 abbrev pub are_close : List ℕ → ℕ → ℕ → Bool
 are_close text from to = is_short (take (to - from) (drop from text))
 
--- an error starts at the end of another or close after it, if there is another
+-- there is another error, and this one starts at its end or close after it
 abbrev pub is_near : Located → Option Fault → Fault → Bool
 is_near root None fault = false
 is_near root (Some last) fault = are_close (text_at root) (location_of root last).end (location_of root fault).start
 
--- the list, pattern, .. of an error, if there is one
+-- the range of the list, pattern or other such node around an error, if there is an error
 abbrev pub group_if : Located → Option Fault → Option Extent
 group_if root None = None
 group_if root (Some fault) = group_of root fault
 
--- an error node, if there is one, skips brackets
+-- there is an error node, and it skips brackets
 abbrev pub skips_if : Option Extent → Option Located → Bool
 skips_if unmatched None = false
 skips_if unmatched (Some node) = skips_brackets unmatched node
 
--- the tokens of the error node of an error close something around it, or leave something open; the first token of the text that closes nothing is let be
+-- an error's error node skips brackets: its tokens close something around it, or leave something open; the text's first unmatched token is ignored
 abbrev pub skips : Located → Fault → Bool
 skips root fault = skips_if (unmatched root) (error_node root fault)
 
@@ -70,11 +70,11 @@ loses_at root all fault =
     is_none (range_in fault) || (nat_le (end_of_items root) (location_of root fault).end
     || (is_from (lost_from root all) (location_of root fault).start || skips root fault))
 
--- the parser loses its way at an error: such a one, about an unexpected or a missing token
+-- the parser loses its way at an error, which is such a slip
 abbrev pub loses : Located → List Fault → Fault → Bool
 loses root all fault = is_slip fault && loses_at root all fault
 
--- the parser is back on its way at an error: it is about an unexpected or a missing token, and apart from those before it
+-- the parser is back on its way at an error: it is a slip, and apart from those before it
 abbrev pub is_back : Located → List Fault → Fault → Bool
 is_back root before fault = is_slip fault && is_apart root before fault
 
@@ -93,28 +93,28 @@ is_lost_in root all before (fault ∷ faults) =
 abbrev pub is_lost : Located → List Fault → List Fault → Bool
 is_lost root all before = is_lost_in root all [] before
 
--- the error node of one of these errors about unexpected or missing tokens skips brackets
+-- the error node of one of the slips skips brackets
 abbrev pub has_skipped : Located → List Fault → Bool
 has_skipped root before = list_any (λ fault. is_slip fault && skips root fault) before
 
--- an error at the end of a text follows even if it is apart: the text ends with what closes something, and brackets were skipped before
+-- an error at the end of a text follows even if it is apart: the last item closes something, and an earlier slip skipped brackets
 abbrev pub is_closing : Located → List Fault → Fault → Bool
 is_closing root before fault = has_skipped root before && (ends_closed root && nat_le (end_of_items root) (location_of root fault).end)
 
--- an error that is not apart from the earlier ones shares their diagnostic: the parser has lost its way, or the error is in the list, pattern, .. of the
--- last one, or near it
+-- an error that is not apart from earlier ones shares their diagnostic: the parser has lost its way, or the error is in the list, pattern or other such
+-- node of the last slip, or near that slip
 abbrev pub is_joined : Located → List Fault → List Fault → Fault → Bool
 is_joined root all before fault =
     is_lost root all before || (are_one (group_of root fault) (group_if root (last_slip before)) || is_near root (last_slip before) fault)
 
--- an error follows from earlier ones, of which one is about an unexpected or a missing token: it is about tokens after the expression; or the text ends
--- inside a string; or it is about an unexpected or a missing token itself, and shares their diagnostic
+-- an error follows from earlier ones, one of which is a slip: it is about tokens after the expression; or the text ends inside a string; or the error is
+-- a slip itself, and shares their diagnostic
 abbrev pub follows : Located → List Fault → List Fault → Fault → Bool
 follows root all before fault =
     is_some (last_slip before) && (is_extra fault || (ends_in_string root || (is_slip fault
     && (if is_apart root before fault then is_closing root before fault else is_joined root all before fault))))
 
--- the numbers of those errors, from the first of some on, that follow from none before
+-- the numbers of those among the later errors that follow from no earlier one
 abbrev pub firsts_from : Located → List Fault → List Fault → List Fault → List ℕ
 firsts_from root all before [] = []
 firsts_from root all before (fault ∷ faults) =
@@ -125,12 +125,12 @@ firsts_from root all before (fault ∷ faults) =
 abbrev pub firsts : Located → List Fault → List ℕ
 firsts root all = firsts_from root all [] all
 
--- the first of some numbers, or else another
+-- the first of some numbers, or another if there is none
 abbrev pub next_or : ℕ → List ℕ → ℕ
 next_or end [] = end
 next_or end (next ∷ more) = next
 
--- where runs end that begin at some numbers: each at the next of them, the last at a given number
+-- where runs that begin at some numbers end: each at the next number, the last at a given one
 abbrev pub run_ends : ℕ → List ℕ → List ℕ
 run_ends end [] = []
 run_ends end (first ∷ more) = next_or end more ∷ run_ends end more

@@ -1,4 +1,4 @@
--- What the state of `Folding` says of the errors so far.
+-- What the state of a `Folding` says about the errors so far. A slip is an error about an unexpected or missing token.
 use Rattle.std.specs.Prelude.{◌≡◌, ℕ, drop, if◌then◌else◌, nat_le, ◌&&◌, ◌||◌, Bool, true, false, List, [], ◌∷◌, ◌++◌, Option, Some, None, option_map, is_some, is_none}
 use Rattle.rnix_green.specs.declared.range.TextRange.{TextRange}
 use Rattle.rnix_green.specs.Range.{Extent, bounds_of}
@@ -20,28 +20,28 @@ pub record IsMatching (root : Located) (m : Matching) : Type 0 where
   pub last : m.last ≡ last_kind root
   pub extra : option_map bounds_of m.mismatch.extra ≡ unmatched root
 
--- the parser loses its way at an error with this place, whose node skips brackets or does not: it has no range, or ends with the last token other
--- than trivia or after it, or follows what is never closed, or its node skips brackets
+-- the parser loses its way at an error at this location: the error has no range, or ends with the last token that is not trivia or after it, or starts
+-- after what is never closed, or its node skips brackets
 abbrev pub loses_in : Folding → Fault → Bool → TextRange → Bool
 loses_in f fault skips location = is_none (range_in fault) || (nat_le f.end location.end || (is_from f.lost_from location.start || skips))
 
--- an offset is close after another, if there is another
+-- there is another offset, and this one is close after it
 abbrev pub is_close_after : List ℕ → Option ℕ → ℕ → Bool
 is_close_after text None offset = false
 is_close_after text (Some last) offset = are_close text last offset
 
--- an error with this place is apart from the earlier ones
+-- an error at this location is apart from the earlier ones
 abbrev pub is_apart_in : Folding → TextRange → Bool
 is_apart_in f location = ends_between f.reach location.start (drop f.passed f.semicolons.items)
 
--- an error about an unexpected or a missing token, with this list, pattern, .. around it and this place, shares that of the earlier ones, from which
--- it is not apart: the parser has lost its way, or the last one shares that list, pattern, .., or is close before it
+-- a slip at this location, with this list, pattern or other such node around it, shares the diagnostic of the earlier ones, from which it is
+-- not apart: the parser has lost its way, or the last slip has the same node around it, or is close before it
 abbrev pub is_joined_in : Located → Folding → Option TextRange → TextRange → Bool
 is_joined_in root f group location =
     f.is_lost || (are_one (option_map bounds_of group) (option_map bounds_of f.group) || is_close_after (text_at root) f.last location.start)
 
--- such an error follows from earlier ones: there are some, and the text ends inside a string; or it is apart from them, brackets were skipped, and it is
--- at the end of a text that ends with what closes something; or it is not, and shares theirs
+-- such a slip follows from earlier ones: there are some, and the text ends inside a string; or it is apart from them, brackets were skipped, and it is
+-- at the end of a text whose last item closes something; or it is not apart, and shares their diagnostic
 abbrev pub follows_in : Located → Folding → Bool → Option TextRange → TextRange → Bool
 follows_in root f apart group location =
     is_some f.last && (f.in_string || (if apart then f.is_unbalanced && (f.ends_closed && nat_le f.end location.end) else is_joined_in root f group location))
@@ -60,7 +60,7 @@ pub record Knows (root : Located) (all before : List Fault) (f : Folding) : Type
   pub reaches : f.reach ≡ reach root before
   pub remaining : drop f.passed f.semicolons.items ≡ since f.reach (semicolons_of root)
 
--- the state notes that an error reaches so far
+-- the state records where the last error ends
 pub record HasReached (old new : Folding) (end : ℕ) : Type 0 where
   pub reaches : new.reach ≡ larger old.reach end
   pub remaining : drop new.passed new.semicolons.items ≡ since (larger old.reach end) (drop old.passed old.semicolons.items)
@@ -79,7 +79,7 @@ pub record HasReached (old new : Folding) (end : ℕ) : Type 0 where
     is_lost = old.is_lost;
   }
 
--- the result says whether an error follows, whatever the earlier ones are, and the new state fits them and it
+-- the result says whether the error follows from any earlier errors that the old state fits, and the new state fits all of them
 abbrev pub JudgesNext : Located → Fault → Folding → Folding → Bool → Type 0
 JudgesNext root fault old new result =
     (all before : List Fault) → Knows root all before old → (result ≡ follows root all before fault) × Knows root all (before ++ fault ∷ []) new

@@ -18,7 +18,7 @@ pub data AllFollow (root : Located) (all before : List Fault) : List Fault → T
   one_more : (faults : List Fault) (fault : Fault) → AllFollow root all before faults → follows root all (before ++ faults) fault ≡ true →
       AllFollow root all before (faults ++ fault ∷ [])
 
--- diagnostics show errors, in order: each error belongs to one diagnostic, which covers an unbroken run of them and has the place of the first.
+-- diagnostics show errors, in order: each error belongs to one diagnostic, which covers a run of errors and has the location of the first.
 -- The first follows from no earlier error, and each of the others does
 pub data Shows (root : Located) (all : List Fault) : List Fault → List Diagnostic → Type 0 where
   none : Shows root all [] []
@@ -37,7 +37,7 @@ pub record CoverRuns (root : Located) (all : List Fault) (ds : List Diagnostic) 
   pub starts : map (λ (d : Diagnostic). d.first_error) ds ≡ firsts root all
   pub end : map (λ (d : Diagnostic). d.end_error) ds ≡ run_ends (length all) (firsts root all)
 
--- a diagnostic shows the error of a number alone
+-- a diagnostic shows only the error with a number
 pub record IsSingle (root : Located) (number : ℕ) (fault : Fault) (d : Diagnostic) : Type 0 where
   pub code : d.code ≡ code_of fault
   pub range : bounds_of d.range ≡ location_of root fault

@@ -1,8 +1,8 @@
--- Errors about unexpected or missing tokens.
+-- Slips: errors about unexpected or missing tokens.
 use Rattle.std.specs.Prelude.{Bool, true, false}
 use Rattle.rnix_grammar.specs.Fault.{Fault, extra, duplicated_args}
 
--- the error is about an unexpected or a missing token: not about a duplicate argument, nor about tokens after the expression
+-- the error is a slip: it is neither a repeated argument nor about tokens after the expression
 abbrev pub is_slip : Fault → Bool
 is_slip (extra range) = false
 is_slip (duplicated_args range name) = false

@@ -11,7 +11,7 @@ use Rattle.rnix_green.specs.Walk.{Spot, elements_of}
 use Rattle.nix_diagnostics.specs.Brackets.{opens}
 use Rattle.nix_diagnostics.specs.declared.openings.Openings.{Openings}
 
--- the kind of the token that one of the kind closes, if it closes one
+-- the kind of the token that a token of this kind closes, if it closes one
 abbrev pub opener_of : SyntaxKind → Option SyntaxKind
 opener_of TOKEN_R_BRACE = Some TOKEN_L_BRACE
 opener_of TOKEN_R_BRACK = Some TOKEN_L_BRACK
@@ -23,7 +23,7 @@ opener_of TOKEN_THEN = Some TOKEN_IF
 opener_of TOKEN_ELSE = Some TOKEN_THEN
 opener_of kind = None
 
--- a token of the kind is open, where these are
+-- a token of the kind is among the open ones
 abbrev pub is_open : SyntaxKind → List SyntaxKind → Bool
 is_open kind [] = false
 is_open kind (k ∷ stack) = if same_kind k kind then true else is_open kind stack
@@ -33,12 +33,12 @@ abbrev pub open_around : SyntaxKind → List SyntaxKind → List SyntaxKind
 open_around kind [] = []
 open_around kind (k ∷ stack) = if same_kind k kind then stack else open_around kind stack
 
--- what closes a token of the kind, if it closes one, closes nothing where these are open
+-- a token that closes tokens of the kind, if there is a kind, closes none of the open ones
 abbrev pub closes_none : Option SyntaxKind → List SyntaxKind → Bool
 closes_none None stack = false
 closes_none (Some kind) stack = not (is_open kind stack)
 
--- what is open after it closes the innermost token of the kind, and all inside that
+-- what is open after such a token: it closes the innermost open token of the kind, and all inside that one
 abbrev pub after_closing : Option SyntaxKind → List SyntaxKind → List SyntaxKind
 after_closing None stack = stack
 after_closing (Some kind) stack = open_around kind stack
@@ -47,7 +47,7 @@ after_closing (Some kind) stack = open_around kind stack
 abbrev pub open_after : SyntaxKind → List SyntaxKind → List SyntaxKind
 open_after kind stack = if opens kind then kind ∷ after_closing (opener_of kind) stack else after_closing (opener_of kind) stack
 
--- the first token of a walk that closes nothing, where these are open before it
+-- the first token of a walk that closes nothing; the stack is open before the walk
 abbrev pub unmatched_in : List SyntaxKind → List Spot → Option Extent
 unmatched_in stack [] = None
 unmatched_in stack (spot ∷ spots) =
@@ -59,11 +59,11 @@ unmatched_in stack (spot ∷ spots) =
 abbrev pub unmatched : Located → Option Extent
 unmatched root = unmatched_in [] (elements_of root)
 
--- a range, or else the first token of a walk that closes nothing
+-- a range, or the first token of a walk that closes nothing if there is none
 abbrev pub unmatched_or : Option Extent → List SyntaxKind → List Spot → Option Extent
 unmatched_or None stack spots = unmatched_in stack spots
 unmatched_or (Some range) stack spots = Some range
 
--- the first token that closes nothing, of those that were read and those that follow
+-- the first token that closes nothing, among those already read and those that follow
 abbrev pub unmatched_after : Openings → List Spot → Option Extent
 unmatched_after read spots = unmatched_or (option_map bounds_of read.extra) (reverse read.opened.items) spots

@@ -13,7 +13,7 @@ use Rattle.rnix_parser.specs.Significant.{leaf_unless}
 use Rattle.nix_formatting.specs.{Outline.{text_unless, outline}, WalkSteps.{Step, Shown, shown_node, shown_token, step_if, steps_of, steps_in}}
 use Rattle.nix_formatting.specs.Values.{both_values, value_if, values_in, string_values, nix_string_values}
 
--- a step in front of rows of trees: those of the open nodes, innermost first, each from the walk's place to the row's end
+-- a step in front of forests: those of the open nodes, innermost first, each from the walk's place to the forest's end
 abbrev built : Bool → Bool → SyntaxKind → Shown → List Forest → List Forest
 built false enters k t [] = []
 built false enters k t (f ∷ fs) = leaf k t.0 f ∷ fs
@@ -22,7 +22,7 @@ built true true k t [] = []
 built true true k t (c ∷ []) = []
 built true true k t (c ∷ (f ∷ fs)) = node k c f ∷ fs
 
--- the rows that steps make, read from the last one on
+-- the forests that steps make, read from the last one on
 abbrev rebuilt : List Step → List Forest
 rebuilt [] = empty ∷ []
 rebuilt (s ∷ ss) = built s.is_node s.enters s.kind s.shown (rebuilt ss)
@@ -73,7 +73,7 @@ join_empty empty = refl
 join_empty (leaf k t f) = ap (leaf k t) (join_empty f)
 join_empty (node k c f) = ap (node k c) (join_empty f)
 
--- a token in front of a row
+-- a token in front of a forest
 token_row : (is_space : Bool) (k : SyntaxKind) (u : List ℕ) (ss : List Step) (f g : Forest) (fs : List Forest) → rebuilt ss ≡ join f g ∷ fs
     → rebuilt (step_if (not is_space) (step_with true false k (u, [])) ss) ≡ join (leaf_unless is_space k u f) g ∷ fs
 token_row true k u ss f g fs h = h
@@ -89,7 +89,7 @@ module _ (whole u behind : List ℕ) (s : ℕ) (at : drop s whole ≡ u ++ behin
   text_behind : drop (s + length u) whole ≡ behind
   text_behind = sym (drop-drop (length u) s whole) ∙ ap (drop (length u)) at ∙ drop_at u behind (length u) refl
 
--- the steps of a walk over a row rebuild its outline in front of the rest of its row
+-- the steps of a walk over a forest rebuild its outline in front of the rest of its forest
 rebuilds : (t : Tree) (n s : ℕ) (p : Option ℕ) (f : Forest) (more : List Event) (rest : List ℕ) (g : Forest) (fs : List Forest)
     → HasItemsAt t n (items_from n s p f) → drop s (text_of (forest_of t)) ≡ text_of f ++ rest → rebuilt (steps_of more) ≡ g ∷ fs
     → rebuilt (steps_of (map (event_at t) (steps_from n f) ++ more)) ≡ join (outline f) g ∷ fs

@@ -19,17 +19,17 @@ use Rattle.nix_formatting.specs.Solids.{same_flag}
 use Rattle.nix_formatting.specs.Values.{interpolation_symbol, with_symbols, symbols_of, written_parts, value_of, nix_value_of, both_values}
 
 -- bare parts have the same bytes and interpolations
-symbols_bare : {I : Type 0} (row : List ℕ) (parts : Parts I) → fold with_symbols row (bare_parts parts) ≡ fold with_symbols row parts
-symbols_bare row [] = refl
-symbols_bare row (Literal text ∷ parts) = symbols_bare (row ++ text) parts
-symbols_bare row (Interpolation i ∷ parts) = symbols_bare (row ++ interpolation_symbol ∷ []) parts
+symbols_bare : {I : Type 0} (list : List ℕ) (parts : Parts I) → fold with_symbols list (bare_parts parts) ≡ fold with_symbols list parts
+symbols_bare list [] = refl
+symbols_bare list (Literal text ∷ parts) = symbols_bare (list ++ text) parts
+symbols_bare list (Interpolation i ∷ parts) = symbols_bare (list ++ interpolation_symbol ∷ []) parts
 
--- and the same row of symbols
-row_bare : {I : Type 0} (n : ℕ) (parts : Parts I) → symbols n (bare_parts parts) ≡ symbols n parts
+-- and the same list of symbols
+symbol_list_bare : {I : Type 0} (n : ℕ) (parts : Parts I) → symbols n (bare_parts parts) ≡ symbols n parts
 unfolding symbols
-row_bare n [] = refl
-row_bare n (Literal text ∷ parts) = ap (λ row. map (λ b. record { part = n; byte = Some b }) text ++ row) (row_bare (suc n) parts)
-row_bare n (Interpolation i ∷ parts) = ap (λ row. record { part = n; byte = None } ∷ row) (row_bare (suc n) parts)
+symbol_list_bare n [] = refl
+symbol_list_bare n (Literal text ∷ parts) = ap (λ list. map (λ b. record { part = n; byte = Some b }) text ++ list) (symbol_list_bare (suc n) parts)
+symbol_list_bare n (Interpolation i ∷ parts) = ap (λ list. record { part = n; byte = None } ∷ list) (symbol_list_bare (suc n) parts)
 
 -- the first line feed is left out alike
 opens_bare : {I : Type 0} (is_blank : Bool) (text rest : List ℕ) (parts : Parts I)
@@ -45,11 +45,11 @@ opened_bare (Literal text ∷ parts) = opens_bare (opens_blank text) text (behin
 opened_bare (Interpolation i ∷ parts) = refl
 
 -- texts are replaced alike
-texts_bare : {I : Type 0} (row : List Symbol) (n : ℕ) (parts : Parts I) → bare_parts (with_texts row n parts) ≡ with_texts row n (bare_parts parts)
+texts_bare : {I : Type 0} (list : List Symbol) (n : ℕ) (parts : Parts I) → bare_parts (with_texts list n parts) ≡ with_texts list n (bare_parts parts)
 unfolding with_texts
-texts_bare row n [] = refl
-texts_bare row n (Literal text ∷ parts) = ap (λ ps. Literal (part_text n row) ∷ ps) (texts_bare row (suc n) parts)
-texts_bare row n (Interpolation i ∷ parts) = ap (λ ps. Interpolation 0 ∷ ps) (texts_bare row (suc n) parts)
+texts_bare list n [] = refl
+texts_bare list n (Literal text ∷ parts) = ap (λ ps. Literal (part_text n list) ∷ ps) (texts_bare list (suc n) parts)
+texts_bare list n (Interpolation i ∷ parts) = ap (λ ps. Interpolation 0 ∷ ps) (texts_bare list (suc n) parts)
 
 -- the last spaces are left out alike
 closed_bare : {I : Type 0} (parts : Parts I) → bare_parts (closed parts) ≡ closed (bare_parts parts)
@@ -72,8 +72,8 @@ indented_bare parts =
     (closed_bare (with_texts (unindented (symbols 0 (opened parts))) 0 (opened parts))
     ∙ ap closed (texts_bare (unindented (symbols 0 (opened parts))) 0 (opened parts)
     ∙ ap (λ ps. with_texts (unindented (symbols 0 (opened parts))) 0 ps) (opened_bare parts)
-    ∙ ap (λ row. with_texts (unindented row) 0 (opened (bare_parts parts)))
-    (sym (row_bare 0 (opened parts)) ∙ ap (symbols 0) (opened_bare parts))))
+    ∙ ap (λ list. with_texts (unindented list) 0 (opened (bare_parts parts)))
+    (sym (symbol_list_bare 0 (opened parts)) ∙ ap (symbols 0) (opened_bare parts))))
 
 -- the last line is left out alike
 ended_bare : {I : Type 0} (parts : Parts I) → bare_parts (ended parts) ≡ ended (bare_parts parts)
@@ -87,12 +87,12 @@ ended_bare (Interpolation i ∷ parts) = ap (λ ps. Interpolation 0 ∷ ps) (end
 dedented_bare : {I : Type 0} (n : ℕ) (parts : Parts I) → bare_parts (dedented n parts) ≡ dedented n (bare_parts parts)
 dedented_bare n parts =
     texts_bare (flat_map (shortened n) (lines (symbols 0 parts))) 0 parts
-    ∙ ap (λ row. with_texts (flat_map (shortened n) (lines row)) 0 (bare_parts parts)) (sym (row_bare 0 parts))
+    ∙ ap (λ list. with_texts (flat_map (shortened n) (lines list)) 0 (bare_parts parts)) (sym (symbol_list_bare 0 parts))
 
 indentation_bare : {I : Type 0} (parts : Parts I) → value_indentation (bare_parts parts) ≡ value_indentation parts
 indentation_bare parts =
-    ap (λ row. least_indentation (lines row))
-    (ap (symbols 0) (sym (mapped_bare without_escapes parts)) ∙ row_bare 0 (map (with_text without_escapes) parts))
+    ap (λ list. least_indentation (lines list))
+    (ap (symbols 0) (sym (mapped_bare without_escapes parts)) ∙ symbol_list_bare 0 (map (with_text without_escapes) parts))
 
 -- the value as Nix makes it is alike
 value_bare : {I : Type 0} (parts : Parts I) → bare_parts (indented_value parts) ≡ indented_value (bare_parts parts)

@@ -1,4 +1,4 @@
--- The parts of strings with nothing known of their interpolations.
+-- The parts of strings without the contents of their interpolations.
 use Rattle.std.specs.Prelude.{ℕ, List, map}
 use Rattle.rnix_kinds.specs.declared.kinds.SyntaxKind.TheVariants.{NODE_INTERPOL, TOKEN_STRING_CONTENT}
 use Rattle.rnix_green.specs.Equality.{same_kind}
@@ -12,7 +12,7 @@ use Rattle.rnix_base.specs.Parts.{part_of, parts_of}
 abbrev pub bare : {I : Type 0} → InterpolPart (List ℕ) I → InterpolPart (List ℕ) ℕ
 bare = part_of (λ text. text) (λ i. 0)
 
--- some parts so
+-- some such parts
 abbrev pub bare_parts : {I : Type 0} → Parts I → Parts ℕ
 bare_parts = map bare
 
@@ -20,6 +20,6 @@ bare_parts = map bare
 abbrev pub parts_among : List Spot → List (InterpolPart Located Located)
 parts_among = parts_of (same_kind TOKEN_STRING_CONTENT) (same_kind NODE_INTERPOL)
 
--- these parts as they are written
+-- these parts as written
 abbrev pub bare_among : List Spot → Parts ℕ
 bare_among spots = bare_parts (map (with_text text_at) (parts_among spots))

@@ -8,18 +8,18 @@ use Rattle.nix_formatting.specs.Reindented.{IsReformatted}
 use Rattle.nix_formatting.specs.declared.formatting.Formatting.{Formatting}
 use Rattle.nix_formatting.specs.declared.formatting.Formatting.TheVariants as formatting
 
--- the text is read without errors
+-- the text has no errors
 abbrev pub IsFaultless : List ℕ → Type 0
 IsFaultless text = (tree : Tree) × IsReading (tokens_of text) tree []
 
--- the text is read with errors
+-- the text has errors
 pub record IsFaulty (text : List ℕ) : Type 0 where
   pub tree : Tree
   pub faults : List Fault
   pub read : IsReading (tokens_of text) tree faults
   pub some : ¬ (faults ≡ [])
 
--- the result is right for a text: a formatted text differs only in white space and in the indentation of strings in `''`, and the text has errors
+-- the result is correct: a formatted text differs only in white space and in the indentation of strings in `''`, and the text has errors
 -- exactly if the result is `Faulty`
 abbrev pub IsOutcome : List ℕ → Formatting → Type 0
 IsOutcome text (formatting.Formatted made) = IsReformatted text (string_bytes made)

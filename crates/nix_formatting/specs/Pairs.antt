@@ -12,7 +12,7 @@ use Rattle.nix_formatting.specs.WalkSteps.{Shown, shown_node, step_of, steps_of}
 use Rattle.nix_formatting.specs.declared.walks.Pair.{Pair}
 use Rattle.nix_formatting.specs.declared.walks.Pair.TheVariants as pair
 
--- an event of a walk, as the program has it
+-- an event of a walk, as a value of the program
 abbrev pub Met : Type 0
 Met = WalkEvent (NodeOrToken Located Located)
 
@@ -25,7 +25,7 @@ IsNextStep before (Some met) after = steps_of before ≡ step_of (event_of met) 
 abbrev pub AreSame : Event → Event → Type 0
 AreSame old new = step_of new ≡ step_of old
 
--- whether the same is shown
+-- whether both show the same
 abbrev pub same_shown : Shown → Shown → Bool
 same_shown old new = bytes_eq old.0 new.0 && bytes_eq old.1 new.1
 
@@ -33,7 +33,7 @@ same_shown old new = bytes_eq old.0 new.0 && bytes_eq old.1 new.1
 abbrev pub same_nodes : Located → Located → Bool
 same_nodes old new = same_kind (item_of old).kind (item_of new).kind && same_shown (shown_node true old) (shown_node true new)
 
--- the result of comparing what two nodes of one kind show when they are entered
+-- the result of comparing what two nodes of the same kind show when they are entered
 abbrev pub ShowTheSame : Located → Located → Bool → Type 0
 ShowTheSame old new same =
     same_kind (item_of old).kind (item_of new).kind ≡ true → same ≡ same_shown (shown_node true old) (shown_node true new)

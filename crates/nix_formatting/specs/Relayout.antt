@@ -25,7 +25,7 @@ solids_from in_path [] = []
 solids_from in_path (t ∷ ts) =
     solid_if (same_kind t.0 TOKEN_WHITESPACE) (t.0, t.1, in_path && is_piece_start t.0) (solids_from false ts) (solids_from (ends_piece t.0) ts)
 
--- those of a text
+-- the tokens of a text other than white space
 abbrev pub solids_of : List ℕ → List Solid
 solids_of text = solids_from false (tokens_of text)
 

@@ -14,7 +14,7 @@ use Rattle.rnix.specs.StringParts.{string_parts, normalized_parts, value_parts}
 abbrev pub interpolation_symbol : ℕ
 interpolation_symbol = 256
 
--- some bytes and interpolations, and after them those of one more part of a string
+-- some bytes and interpolations, followed by those of one more part of a string
 abbrev pub with_symbols : {I : Type 0} → List ℕ → InterpolPart (List ℕ) I → List ℕ
 with_symbols symbols (Literal text) = symbols ++ text
 with_symbols symbols (Interpolation i) = symbols ++ interpolation_symbol ∷ []
@@ -23,15 +23,15 @@ with_symbols symbols (Interpolation i) = symbols ++ interpolation_symbol ∷ []
 abbrev pub symbols_of : {I : Type 0} → Parts I → List ℕ
 symbols_of = fold with_symbols []
 
--- the parts of a string as they are written
+-- the parts of a string as written
 abbrev pub written_parts : Located → Parts Located
 written_parts string = map (with_text text_at) (string_parts string)
 
--- the value of a string: in `''` the bytes and interpolations of its normalized parts, in `"` those of its parts as they are written
+-- the value of a string: in `''` the bytes and interpolations of its normalized parts, in `"` those of its parts as written
 abbrev pub value_of : Located → List ℕ
 value_of string = if is_indented string then symbols_of (normalized_parts string) else symbols_of (written_parts string)
 
--- the value of a string as Nix makes it: the bytes and interpolations of its parts
+-- the value of a string in Nix: the bytes and interpolations of its parts
 abbrev pub nix_value_of : Located → List ℕ
 nix_value_of string = symbols_of (value_parts string)
 
@@ -39,7 +39,7 @@ nix_value_of string = symbols_of (value_parts string)
 abbrev pub both_values : Located → List ℕ × List ℕ
 both_values string = (value_of string, nix_value_of string)
 
--- a value before others, or not
+-- a value, if there is one, before others
 abbrev pub value_if : Bool → List ℕ → List (List ℕ) → List (List ℕ)
 value_if true value values = value ∷ values
 value_if false value values = values

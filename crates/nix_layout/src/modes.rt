@@ -21,9 +21,9 @@ enum Mode {
     Broken,
 }
 
-/// A place in the new text.
+/// The state of the last line of the new text.
 #[derive(Clone, Copy)]
-pub struct Place {
+pub struct LineState {
     /// The column.
     pub column: usize,
     /// The indentation of the line.
@@ -35,13 +35,13 @@ pub struct Place {
 struct Opened {
     mode: Mode,
     // Where it begins.
-    place: Place,
+    line_state: LineState,
 }
 
 // Stands in for a group that does not exist.
 const UNKNOWN: Opened = Opened {
     mode: Mode::Broken,
-    place: Place {
+    line_state: LineState {
         column: 0,
         indent: 0,
     },
@@ -49,7 +49,7 @@ const UNKNOWN: Opened = Opened {
 
 // Returns the indentation of a line of a group.
 fn indent_of(opened: Opened, level: Level) -> usize {
-    let Place { column, indent } = opened.place;
+    let LineState { column, indent } = opened.line_state;
     let is_same = match level {
         Level::Same => true,
         Level::Inner => false,
@@ -130,8 +130,14 @@ impl Modes {
         }
     }
 
-    // Returns the mode of a group that begins at a place.
-    fn mode_of(&self, layout: &Layout, number: usize, group: &Group, place: Place) -> Mode {
+    // Returns the mode of a group that begins in a state of its line.
+    fn mode_of(
+        &self,
+        layout: &Layout,
+        number: usize,
+        group: &Group,
+        line_state: LineState,
+    ) -> Mode {
         let around = self.group_at(group.parent).mode;
         if number > 0 && around == Mode::Flat {
             return Mode::Flat;
@@ -142,8 +148,8 @@ impl Modes {
         };
         let is_part = outer.is_some_and(|target| group.has_part(target));
         let room = Room {
-            column: place.column,
-            indent: place.indent,
+            column: line_state.column,
+            indent: line_state.indent,
             tail: self.tail_of(layout, group),
             limit: LINE,
         };
@@ -155,8 +161,13 @@ impl Modes {
         }
     }
 
-    /// Begins the groups whose first piece this is, at a place.
-    pub fn open(&mut self, layout: &Layout, piece: usize, place: Place) -> Result<(), AllocError> {
+    /// Begins the groups whose first piece this is; `line_state` is that before the piece.
+    pub fn open(
+        &mut self,
+        layout: &Layout,
+        piece: usize,
+        line_state: LineState,
+    ) -> Result<(), AllocError> {
         for number in self.opened.len()..layout.groups.len() {
             let Some(group) = layout.groups.get(number) else {
                 break;
@@ -164,8 +175,8 @@ impl Modes {
             if group.first > piece {
                 break;
             }
-            let mode = self.mode_of(layout, number, group, place);
-            self.opened.push(Opened { mode, place })?;
+            let mode = self.mode_of(layout, number, group, line_state);
+            self.opened.push(Opened { mode, line_state })?;
         }
         Ok(())
     }
@@ -174,7 +185,7 @@ impl Modes {
     fn is_kept(&self, layout: &Layout, number: usize) -> bool {
         match (layout.groups.get(number), self.opened.get(number)) {
             (Some(group), Some(opened)) => {
-                self.mode_of(layout, number, group, opened.place) == opened.mode
+                self.mode_of(layout, number, group, opened.line_state) == opened.mode
             }
             _ => true,
         }

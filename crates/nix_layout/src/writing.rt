@@ -2,7 +2,7 @@
 
 use crate::layout::Layout;
 use crate::line_ends::line_end_of;
-use crate::modes::{MOST_BLANKS, Modes, Place};
+use crate::modes::{LineState, MOST_BLANKS, Modes};
 use crate::piece::{Gap, Moves, Piece};
 use std::alloc::{AllocError, Global};
 
@@ -30,8 +30,8 @@ struct Writer<'a> {
     // What ends lines, and whether the last piece is a comment with `#`, which has its own carriage return.
     line_end: &'static str,
     follows_comment: bool,
-    // The current place.
-    place: Place,
+    // The line that is being written.
+    line_state: LineState,
 }
 
 impl<'a> Writer<'a> {
@@ -53,7 +53,7 @@ impl<'a> Writer<'a> {
         }
         let indent = self.modes.indent_after(gap);
         self.made.push_str(BLANKS.get(..indent).unwrap_or(BLANKS))?;
-        self.place = Place {
+        self.line_state = LineState {
             column: indent,
             indent,
         };
@@ -67,7 +67,7 @@ impl<'a> Writer<'a> {
         }
         if gap.blanks > 0 {
             self.made.push(' ')?;
-            self.place.column = self.place.column.saturating_add(1);
+            self.line_state.column = self.line_state.column.saturating_add(1);
         }
         Ok(())
     }
@@ -93,7 +93,7 @@ impl<'a> Writer<'a> {
         for number in moves.first..moves.end {
             if let Some(line) = self.layout.lines.get(number).copied() {
                 self.copy(start, line.start)?;
-                self.write_blanks(line.indent(self.place.indent))?;
+                self.write_blanks(line.indent(self.line_state.indent))?;
                 start = line.end_of_blanks();
             }
         }
@@ -104,10 +104,10 @@ impl<'a> Writer<'a> {
     fn column_after(&self, piece: &Piece) -> usize {
         match (piece.last_width, piece.moves) {
             (Some(width), Some(moves)) if moves.has_last => {
-                self.place.indent.saturating_add(width)
+                self.line_state.indent.saturating_add(width)
             }
             (Some(width), _) => width,
-            (None, _) => self.place.column.saturating_add(piece.width),
+            (None, _) => self.line_state.column.saturating_add(piece.width),
         }
     }
 
@@ -117,7 +117,7 @@ impl<'a> Writer<'a> {
             Some(moves) => self.write_lines(piece, moves)?,
             None => self.copy(piece.start, piece.end)?,
         }
-        self.place.column = self.column_after(piece);
+        self.line_state.column = self.column_after(piece);
         self.follows_comment = piece.ends_line;
         Ok(())
     }
@@ -129,8 +129,8 @@ impl<'a> Writer<'a> {
             if number > 0 {
                 self.write_gap(piece.gap)?;
             }
-            let place = self.place;
-            self.modes.open(layout, number, place)?;
+            let line_state = self.line_state;
+            self.modes.open(layout, number, line_state)?;
             self.write_piece(piece)?;
         }
         if !layout.pieces.is_empty() {
@@ -153,7 +153,7 @@ pub fn written(alloc: Global, text: &str, layout: &Layout) -> Result<Output, All
         made: String::with_capacity(alloc, text.len())?,
         line_end: line_end_of(text, &layout.pieces),
         follows_comment: false,
-        place: Place {
+        line_state: LineState {
             column: 0,
             indent: 0,
         },

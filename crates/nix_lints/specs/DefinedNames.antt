@@ -16,7 +16,7 @@ use Rattle.nix_lints.specs.declared.definition.NameSite.{NameSite}
 
 -- where a name is written: where the set or the `let` begins that has its entry, or the name before it in its path, which is its owner; the owner of
 -- the names inside its attribute: where the set begins that is its value, or else the name itself; whether it follows another name in its path; and
--- whether other entries may add names to its attribute, since its path goes on or its value is a set
+-- whether other entries may add names to its attribute, since its path continues or its value is a set
 pub record Site : Type 0 where
   pub extent : Extent
   pub owner : ℕ

@@ -12,7 +12,7 @@ alike_more R xs ys n x y there other at other_at so_far same =
     (AllZip-push R (take n xs) (take n ys) (get_or xs n x) (get_or ys n y) so_far
     (subst (λ a. R a (get_or ys n y)) at (subst (λ b. R x b) other_at same))))
 
--- as many numbers pass as are in front of the first that does not, where none passes behind it
+-- as many numbers pass as are in front of the first that does not, where none passes after it
 pub counted : (p : ℕ → Bool) (xs : List ℕ) (n : ℕ) → n ≤ length xs → AllWithin (λ x. p x ≡ true) xs 0 n →
     AllWithin (λ x. p x ≡ false) xs n (length xs) → n ≡ length (filter p xs)
 counted p [] n there pass fail = omega (arith, there)

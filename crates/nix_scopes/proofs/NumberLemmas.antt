@@ -11,7 +11,7 @@ use Rattle.std.specs.BTreeMap.{get_by}
 use Rattle.nix_scopes.specs.NameTexts.{name_bytes}
 use Rattle.nix_scopes.specs.declared.name_text.NameText.TheVariants.{Part}
 
--- nothing behind a number
+-- nothing after a number
 pub or_none : (o : Option ℕ) → option_or o None ≡ o
 or_none None = refl
 or_none (Some n) = refl
@@ -122,7 +122,7 @@ number_stays bindings more text scope n is =
 pub some_same : {X : Type 0} (x y : X) → Some x ≡ Some y → x ≡ y
 some_same x y e = ap (λ o. unwrap_or o x) e
 
--- an element stays where others are added behind it
+-- an element stays where others are added after it
 pub get_kept : {X : Type 0} (xs ys : List X) (n : ℕ) → n < length xs → slice_get (xs ++ ys) n ≡ slice_get xs n
 get_kept [] ys n l = absurd (omega (arith, l))
 get_kept (x ∷ xs) ys zero l = refl

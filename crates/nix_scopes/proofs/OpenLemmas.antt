@@ -97,7 +97,7 @@ test_all p (x ∷ xs) all =
     cond-true (p x) (x ∷ filter p xs) (filter p xs) (All-head (λ x. p x ≡ true) x xs all)
     ∙ ap (λ ys. x ∷ ys) (test_all p xs (All-tail (λ x. p x ≡ true) x xs all))
 
--- what holds an element ends where that ends, or behind it
+-- what holds an element ends where that ends, or after it
 holders_end : (t : Tree) (n k : ℕ) → n < length (items_of t) → k ≤ n → All (λ (a : Located). n + (item t n).below ≤ last_in a) (holders t n k)
 holders_end t n zero there l = λ i d h. absurd (omega (arith, h))
 holders_end t n (suc k) there l =

@@ -18,7 +18,7 @@ token_alone t n is = elim (cases_lt n (length (items_of t))) [
   | inr absent ↦ ap (λ (i : Item). i.below) (get_or_past (items_of t) n no_item absent)
 ]
 
--- the first of some elements is that of the first number, and the others are those behind it
+-- the first of some elements is that of the first number, and the others are those after it
 pub record IsTaken (t : Tree) (n count : ℕ) (spot : Spot) (later : List Spot) : Type 0 where
   pub first : spot ≡ spot_at t n
   pub others : ℕ

@@ -21,7 +21,7 @@ has_two others = false
 abbrev pub is_behind_node : Located → Bool
 is_behind_node e = has_two (nodes_in (siblings_of Prev e))
 
--- whether an identifier whose parent has the kind is an expression: names are selected, inherited and bound too; behind the name of an entry
+-- whether an identifier whose parent has the kind is an expression: names are selected, inherited and bound too; after the name of an entry
 -- of a pattern comes its default
 abbrev pub is_value_below : SyntaxKind → Located → Bool
 is_value_below k.NODE_ATTRPATH e = false

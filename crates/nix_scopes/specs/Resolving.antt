@@ -39,7 +39,7 @@ last_four text =
 abbrev pub mark_of : List ℕ → ℕ
 mark_of text = last_four text * 4294967296 + first_four text
 
--- a name behind its number
+-- a name after its number
 abbrev pub Key : Type 0
 Key = ℕ × NameText
 
@@ -86,7 +86,7 @@ pub record IsOpen (outer : List ℕ → Option ℕ) (bindings : List Bound) (hid
   pub own : (number : ℕ) → (b : Bound) → first ≤ number → number < end → slice_get bindings number ≡ Some b → b.scope.number ≡ scope.number
   pub hides : (number : ℕ) → (b : Bound) → first ≤ number → number < end → slice_get bindings number ≡ Some b → hidden_by hidden number ≡ outer b.text
 
--- a scope binds its names: those that it has bound are in sight, and behind them the names outside of it
+-- a scope binds its names: those that it has bound are in sight, and after them the names outside of it
 pub record IsBinding (outer : List ℕ → Option ℕ) (bindings : List Bound) (numbers : Numbers) (hidden : List (Option ℕ)) (first : ℕ)
     (scope : Located) : Type 0 where
   pub in_sight : (text : List ℕ) → number_by numbers text ≡ option_or (number_in bindings text scope) (outer text)

@@ -20,7 +20,7 @@ is_same_name (Some own) name = bytes_eq own name
 abbrev pub is_named : List ℕ → Located → Bool
 is_named name e = is_same_name (static_name e) name
 
--- an attribute comes where the path has this name, or is at its end; `more` is how those after it go on
+-- an attribute comes where the path has this name, or is at its end; `more` is how those after it continue
 abbrev pub name_meeting : Option (List ℕ) → Located → Meeting → Meeting
 name_meeting None attr more = meets.Part
 name_meeting (Some name) attr more = if is_named name attr then more else meets.Apart

@@ -24,22 +24,22 @@ abbrev pub way_if : Option Located → ℕ → Bool → List Way
 way_if None at in_let = []
 way_if (Some node) at in_let = way node at in_let ∷ []
 
--- the value of an entry that meets the path so, if the path goes on in it
+-- the value of an entry that meets the path so, if the path continues in it
 abbrev pub value_within : Meeting → Bool → Located → List Way
 value_within (meets.Within next) in_let entry = way_if (child_of is_expr 0 entry) next in_let
 value_within _ in_let entry = []
 
--- the values of the entries of a node in which the path goes on
+-- the values of the entries of a node in which the path continues
 abbrev pub values_in : List (List ℕ) → ℕ → Bool → Located → List Way
 values_in names at in_let e = flat_map (λ entry. value_within (meeting names at entry) in_let entry) (nodes_in (children_of e))
 
--- the values of the entries of a node of a kind in which the path goes on: of a set, or of a `let`, whose names are no attributes
+-- the values of the entries of a node of a kind in which the path continues: of a set, or of a `let`, whose names are no attributes
 abbrev pub values_by : SyntaxKind → List (List ℕ) → Way → List Way
 values_by k.NODE_ATTR_SET names w = values_in names w.at w.in_let w.node
 values_by k.NODE_LET_IN names w = values_in names w.at true w.node
 values_by _ names w = []
 
--- what follows an expression on the way: the values in which the path goes on, and the expression that is meant with it
+-- what follows an expression on the way: the values in which the path continues, and the expression that is meant with it
 abbrev pub onward : List (List ℕ) → Way → List Way
 onward names w = values_by (item_of w.node).kind names w ++ way_if (inner w.node) w.at w.in_let
 

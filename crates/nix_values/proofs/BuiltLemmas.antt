@@ -36,7 +36,7 @@ key_at values number found = key_by values number found.name found.parent
 set_before : (values : List Built) (b : Built) (p : ℕ) → (p ≡ length values → ⊥) → is_set_at (values ++ b ∷ []) p ≡ is_set_at values p
 set_before values b p other = ap is_set_found (get_before values b p other)
 
--- a value that is not behind all is the attribute that it was
+-- a value before the added one is the attribute that it was
 key_at_before : (values : List Built) (b found : Built) (i : ℕ) → i ≤ length values → key_at (values ++ b ∷ []) i found ≡ key_at values i found
 key_at_before values b found i inside = by found.parent
   where

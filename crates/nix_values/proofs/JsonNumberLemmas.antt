@@ -21,7 +21,7 @@ use Rattle.nix_values.specs.JsonReading.{EndsAscii}
 digit_low : (b : ℕ) → is_ascii_digit b ≡ true → b < 128
 digit_low b h = grind (arith, nat_tests)
 
--- a text may be cut behind the digits that it begins with
+-- a text may be cut after the digits that it begins with
 pub digits_boundary : (text : List ℕ) → IsUtf8 text → IsCharBoundary text (prefix_len is_ascii_digit text)
 digits_boundary text utf8 =
     let n = prefix_len is_ascii_digit text in
@@ -38,7 +38,7 @@ digits_boundary text utf8 =
           subst (IsCharBoundary text) e (IsCharBoundary-start text utf8)
     ]
 
--- a text may be cut behind a first byte of ASCII
+-- a text may be cut after a first byte of ASCII
 pub first_boundary : (text : List ℕ) (b : ℕ) → IsUtf8 text → get_or text 0 0 ≡ b → 0 < b → b < 128 → IsCharBoundary text 1
 first_boundary text b utf8 is some low =
     let there : 0 < length text = elim (cases_lt 0 (length text)) [
@@ -49,14 +49,14 @@ first_boundary text b utf8 is some low =
     let e : 0 + 1 ≡ 1 = refl in
     subst (IsCharBoundary text) e (IsCharBoundary-after_ascii text 0 utf8 there ascii)
 
--- a text may be cut behind a byte of ASCII
+-- a text may be cut after a byte of ASCII
 pub ascii_boundary : (text : List ℕ) (end : ℕ) → IsUtf8 text → EndsAscii text end → IsCharBoundary text end
 ascii_boundary text end utf8 h =
     let there : end - 1 < length text = omega (arith, h.0, h.1) in
     let e : end - 1 + 1 ≡ end = omega (arith, h.0) in
     subst (IsCharBoundary text) e (IsCharBoundary-after_ascii text (end - 1) utf8 there h.2)
 
--- some digits end behind a digit
+-- some digits end after a digit
 pub digits_ascii : (text : List ℕ) (from end : ℕ) → from ≤ length text → end ≡ from + prefix_len is_ascii_digit (drop from text) → end ≢ from →
     EndsAscii text end
 digits_ascii text from end within is some =

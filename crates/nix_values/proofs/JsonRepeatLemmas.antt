@@ -32,7 +32,7 @@ value_adds d t (closing b) r e = absurd (none-some r e)
 value_adds d t comma r e = absurd (none-some r e)
 value_adds d t colon r e = absurd (none-some r e)
 
--- the parts behind a value keep what it adds
+-- the parts after a value keep what it adds
 parts_add : (ps : List Part) (taken : Taken) (r : List Part × List Entry) → option_map (λ x. (x.0 ++ ps, x.1)) taken ≡ Some r →
     (x : List Part × List Entry) × (taken ≡ Some x) × (x.1 ≡ r.1)
 parts_add ps None r e = absurd (none-some r e)

@@ -79,7 +79,7 @@ more_sort false true d ps qs e = absurd (cc)
 pub one_sort : (b c : Bool) (fs : List Frame) → IsInside b fs → IsInside c fs → b ≡ c
 one_sort b c fs p q = more_sort b c (length fs) (drop 1 (rest_of fs)) (drop 1 (rest_of fs)) (sym p ∙ q)
 
--- ---- behind a value
+-- ---- after a value
 
 pub parts_behind : (fs : List Frame) (name : List ℕ) → parts_in (state_behind fs) fs name ≡ rest_of fs
 parts_behind [] name = refl
@@ -89,7 +89,7 @@ pub state_sound : (fs : List Frame) (name : List ℕ) → name ≡ [] → IsStat
 state_sound [] name none = (refl, none)
 state_sound (f ∷ fs) name none = (omega arith, none)
 
--- a token that may only begin a value does not fit behind one
+-- a token that may only begin a value does not fit after one
 more_scalar : (b : Bool) (d : ℕ) (ps : List Part) (p : Plain) → parts_from (more_of b d ∷ ps) (scalar p) ≡ None
 more_scalar true d ps p = refl
 more_scalar false d ps p = refl
@@ -106,7 +106,7 @@ more_colon : (b : Bool) (d : ℕ) (ps : List Part) → parts_from (more_of b d �
 more_colon true d ps = refl
 more_colon false d ps = refl
 
--- so a token that does not fit behind a value fits nowhere behind one
+-- so a token that does not fit after a value fits nowhere after one
 behind_wrong : (t : Token) → ((b : Bool) (d : ℕ) (ps : List Part) → parts_from (more_of b d ∷ ps) t ≡ None) → (fs : List Frame) → 0 < length fs →
     parts_from (rest_of fs) t ≡ None
 behind_wrong t wrong fs some =
@@ -177,7 +177,7 @@ parts_opened true fs f name =
 parts_opened false fs f name =
     ap₂ (λ (d : ℕ) (ps : List Part). first_item d ∷ ps) (sym (length_last fs f)) (sym (ap (drop 1) (rest_last fs f)))
 
--- parts behind what a part is followed by
+-- parts after what a part is followed by
 abbrev over : List Part → Taken → Taken
 over ps taken = option_map (λ r. (r.0 ++ ps, r.1)) taken
 

@@ -21,7 +21,7 @@ plain_boundary text =
           subst (IsCharBoundary text) same (IsCharBoundary-end text)
     ]
 
--- the byte behind them is no part of a longer character
+-- the byte after them is no part of a longer character
 pub behind_boundary : (text : List ℕ) → IsUtf8 text → prefix_len is_plain text < length text → IsCharBoundary text (prefix_len is_plain text + 1)
 behind_boundary text utf8 within =
     let n = prefix_len is_plain text in
@@ -60,7 +60,7 @@ run_written old new text run rest n len is behind written =
     ∙ ap (λ l. old ++ l) (ap (λ l. l ++ flat_map escape (drop n text)) plain
     ∙ sym (flat_map-append escape (take n text) (drop n text)) ∙ ap (flat_map escape) (take-append-drop n text)))
 
--- and so is the byte behind them
+-- and so is the byte after them
 pub byte_written : (old mid new text run rest : List ℕ) (n d : ℕ) → n ≡ prefix_len is_plain text → n < length text → run ≡ take n text
     → rest ≡ drop (n + 1) text → mid ≡ old ++ run → (is_plain (get_or text n d) ≡ false → new ≡ mid ++ escape (get_or text n d))
     → new ++ flat_map escape rest ≡ old ++ flat_map escape text

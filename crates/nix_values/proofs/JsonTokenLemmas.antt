@@ -25,7 +25,7 @@ pub space_more : (bytes : List ℕ) (i : ℕ) → i < length bytes → is_space 
     tokens_behind 0 (drop (i + 1) bytes) ≡ tokens_behind 0 (drop i bytes)
 space_more bytes i there h = sym (ap (tokens_behind 0) (drop_more bytes i 0 there) ∙ space_first (get_or bytes i 0) (drop (i + 1) bytes) h)
 
--- a token, and those behind it
+-- a token, and those after it
 abbrev before : Token → Option (List Token) → Option (List Token)
 before t found = option_map (λ ts. t ∷ ts) found
 
@@ -41,7 +41,7 @@ unfolding tokens_behind
 no_token_first b bytes solid none =
     cond-false (is_space b) _ _ solid ∙ ap (λ o. option_and_then (λ (r : Token × ℕ). before r.0 (tokens_behind (r.1 - 1) bytes)) o) none
 
--- what a token adds to the values of those behind it
+-- what a token adds to the values of those after it
 none_behind : (taken : Taken) → None ≡ option_and_then (λ r. in_front r.1 None) taken
 none_behind None = refl
 none_behind (Some r) = refl
@@ -81,7 +81,7 @@ fitting_token all parts more bytes i end next t es fs gs so_far there solid onwa
     ∙ ap (λ l. in_front l (values_of more (drop end bytes))) (sym both)
     ∙ ap (λ ts. in_front gs (option_and_then (meaning more) ts)) (sym space)
 
--- no values are behind what is none
+-- if the remaining values are none, there are none at all
 none_all : (all : Option (List Entry)) (es : List Entry) (x : Option (List Entry)) → all ≡ in_front es x → x ≡ None → all ≡ None
 none_all all es x so_far none = so_far ∙ ap (in_front es) none
 

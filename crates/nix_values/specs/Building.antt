@@ -8,7 +8,7 @@ use Rattle.nix_values.specs.Built.{Built, built_of}
 abbrev pub values_in : Builder → List Built
 values_in builder = map built_of builder.values.nodes.items
 
--- a value is added behind all, with the next number
+-- a value is added after all others, with the next number
 pub record IsAddedLast (old : Builder) (number : ℕ) (parent : Option ℕ) (name : List ℕ) (plain : Plain) (new : Builder) : Type 0 where
   pub numbered : number ≡ length (values_in old)
   pub added : values_in new ≡ values_in old ++ record { parent = parent; name = name; plain = plain } ∷ []

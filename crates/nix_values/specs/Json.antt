@@ -29,7 +29,7 @@ word_at bytes =
     else (if starts_with nat_eq bytes (codes "false") then Some (scalar (boolean false), 5)
     else None))
 
--- the string behind an opening quote, and the length of the token
+-- the string after an opening quote, and the length of the token
 abbrev pub string_at : List ℕ → Option (Token × ℕ)
 string_at bytes = option_map (λ r. (string r.0, suc r.1)) (content 0 bytes)
 
@@ -37,7 +37,7 @@ string_at bytes = option_map (λ r. (string r.0, suc r.1)) (content 0 bytes)
 abbrev pub scalar_at : List ℕ → Option (Token × ℕ)
 scalar_at bytes = option_map (λ r. (scalar r.0, r.1)) (number_at bytes)
 
--- the token that begins with a byte and goes on with others, and its length
+-- the token that begins with a byte and continues with others, and its length
 unfoldable pub token_at : ℕ → List ℕ → Option (Token × ℕ)
 token_at b bs =
     if b == 91 then Some (opening false, 1)
@@ -50,7 +50,7 @@ token_at b bs =
     else (if b == 45 || is_ascii_digit b then scalar_at (b ∷ bs)
     else word_at (b ∷ bs))))))))
 
--- the tokens of a text, behind so many bytes that are passed over
+-- the tokens of a text, after so many bytes that are passed over
 unfoldable pub tokens_behind : ℕ → List ℕ → Option (List Token)
 tokens_behind passed [] = Some []
 tokens_behind (suc passed) (b ∷ bs) = tokens_behind passed bs
@@ -87,7 +87,7 @@ value_from depth name (opening false) = if nat_lt depth MOST_DEPTH then Some (fi
 value_from depth name (opening true) = if nat_lt depth MOST_DEPTH then Some (first_member (depth + 1) ∷ [], entry depth name set) else None
 value_from depth name _ = None
 
--- a part behind what a token is followed by
+-- a part after what a token is followed by
 abbrev pub then_part : Part → Taken → Taken
 then_part part taken = option_map (λ r. (r.0 ++ part ∷ [], r.1)) taken
 

@@ -37,12 +37,12 @@ pair_of high low = (high - 0xD800) * 1024 + (low - 0xDC00) + 0x10000
 abbrev pub low_half : List ℕ → Option ℕ
 low_half text = if slice_index text 0 == 92 && slice_index text 1 == 117 then code_unit (drop 2 text) else None
 
--- the character of a first half, with what follows it, and the length of both escapes behind the backslash
+-- the character of a first half, with what follows it, and the length of both escapes after the backslash
 abbrev pub paired : ℕ → Option ℕ → Option (ℕ × ℕ)
 paired high None = None
 paired high (Some low) = if is_low low then Some (pair_of high low, 11) else None
 
--- the character of a code unit, with what follows it, and the length of the escape behind the backslash. A string of Nix cannot hold the character 0.
+-- the character of a code unit, with what follows it, and the length of the escape after the backslash. A string of Nix cannot hold the character 0.
 abbrev pub escaped_unit : Option ℕ → List ℕ → Option (ℕ × ℕ)
 escaped_unit None rest = None
 escaped_unit (Some unit) rest =
@@ -64,11 +64,11 @@ short_escape x =
     else (if x == 116 then Some 9
     else None)))))))
 
--- the character of the four digits behind `\u`, and the length of the escape behind the backslash
+-- the character of the four digits after `\u`, and the length of the escape after the backslash
 abbrev pub numbered : List ℕ → Option (ℕ × ℕ)
 numbered text = escaped_unit (code_unit text) (drop 4 text)
 
--- the character that is escaped behind a backslash, and the length of the escape there
+-- the character that is escaped after a backslash, and the length of the escape there
 unfoldable pub escape_at : List ℕ → Option (ℕ × ℕ)
 escape_at rest =
     if slice_index rest 0 == 117 then numbered (drop 1 rest)

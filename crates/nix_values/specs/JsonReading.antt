@@ -22,7 +22,7 @@ use Rattle.nix_values.specs.RepeatedNames.{entry_keys, HasRepeatedName, HasDisti
 use Rattle.nix_values.specs.FoundKeys.{found_keys}
 use Rattle.nix_values.specs.JsonLocations.{last_frame, set_of, in_set, IsPlaced}
 
--- a part of a text ends behind a byte of ASCII
+-- a part of a text ends after a byte of ASCII
 abbrev pub EndsAscii : List ℕ → ℕ → Type 0
 EndsAscii text end = (0 < end) × (end ≤ length text) × (slice_index text (end - 1) < 128)
 
@@ -144,7 +144,7 @@ IsNotTaken r name = (frame : Frame) (number : ℕ) → last_frame r.frames.items
 abbrev pub IsFree : Reading → List ℕ → Type 0
 IsFree r name = (number : ℕ) (key : ℕ × List ℕ) → in_set (set_of (last_frame r.frames.items)) name ≡ Some key → entry_keys (entries_in r) number ≡ Some key → ⊥
 
--- so it is with the name that is known, where a value comes next, perhaps behind a colon
+-- so it is with the name that is known, where a value comes next, perhaps after a colon
 abbrev pub IsNextFree : State → Reading → Type 0
 IsNextFree state.Value r = IsFree r (name_of r.name)
 IsNextFree state.ValueOrClose r = IsFree r (name_of r.name)
@@ -187,7 +187,7 @@ abbrev pub is_end : State → Bool
 is_end state.End = true
 is_end _ = false
 
--- what comes behind a value
+-- what comes after a value
 abbrev pub state_behind : List Frame → State
 state_behind [] = state.End
 state_behind (f ∷ fs) = state.CommaOrClose

@@ -12,7 +12,7 @@ const WINDOW: usize = 16;
 // The fewest first slots that a table has.
 const LEAST: usize = 16;
 
-// What stands in a free slot in place of a number.
+// What is in a free slot in place of a number.
 const FREE: usize = usize::MAX;
 
 /// A number with its hash, or a free slot.
@@ -55,7 +55,7 @@ impl Slot {
     }
 }
 
-/// Numbers by their hashes: each is in the first slot of its hash, or in one of those behind it.
+/// Numbers by their hashes: each is in the first slot of its hash, or in one of those after it.
 #[derive(Drop)]
 pub struct Slots {
     slots: Vec<Slot>,

@@ -48,7 +48,7 @@ const ROWS: [([&str; 3], usize); 9] = [
     (["''\n", "  %a ${%b}\n    %c ''$ %d\n", "''\n"], 150),
 ];
 
-// How many functions stand in one another at most: less than the 512 levels that the parser reads.
+// How many functions are in one another at most: less than the 512 levels that the parser reads.
 const MOST_FUNCTIONS: usize = 480;
 
 // Names of the outermost of functions in functions and of none of them, all used in the innermost one.

@@ -1,13 +1,13 @@
 //! Numbers without a pattern.
 
-/// A row of numbers without a pattern, the same for each seed.
+/// A sequence of numbers without a pattern, the same for each seed.
 #[derive(Clone, Copy)]
 pub struct Numbers {
     state: u64,
 }
 
 impl Numbers {
-    /// The row of a seed.
+    /// The sequence of a seed.
     pub fn new(seed: u64) -> Numbers {
         Numbers {
             state: mixed(seed.wrapping_add(1)),

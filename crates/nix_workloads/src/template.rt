@@ -2,7 +2,7 @@
 
 use std::alloc::{AllocError, Global};
 
-/// What stands in a text for a sign of its template.
+/// What is in a text for a sign of its template.
 #[derive(Clone, Copy)]
 pub enum Sign {
     /// A word, the same one for the same letter in one use of the template.
@@ -13,7 +13,7 @@ pub enum Sign {
     Count,
 }
 
-/// A text, and the sign behind it.
+/// A text, and the sign after it.
 #[derive(Clone, Copy)]
 pub struct Part {
     /// The text.
@@ -29,7 +29,7 @@ pub struct Template {
     end: &'static str,
 }
 
-// Returns the sign of the byte behind a `%`.
+// Returns the sign of the byte after a `%`.
 fn sign_of(byte: u8) -> Sign {
     match byte {
         b'0'..=b'9' => Sign::Number(byte),
@@ -67,7 +67,7 @@ impl Template {
         Ok(templates)
     }
 
-    /// Its texts but for the last one, each with the sign behind it.
+    /// Its texts except for the last one, each with the sign after it.
     pub fn parts(&self) -> &[Part] {
         &self.parts
     }

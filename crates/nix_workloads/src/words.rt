@@ -3,13 +3,13 @@
 use crate::numbers::mixed;
 use std::alloc::{AllocError, Global};
 
-// Parts of words. No row of them is a keyword of Nix.
+// Parts of words. No sequence of them is a keyword of Nix.
 const SYLLABLES: [&str; 32] = [
     "ba", "ce", "di", "fo", "gu", "ha", "ki", "lo", "mu", "na", "pe", "ri", "so", "tu", "va", "wo",
     "xi", "ya", "ze", "bo", "da", "fe", "go", "hu", "ja", "ko", "la", "mi", "no", "po", "ru", "sa",
 ];
 
-// How many rows of two syllables there are.
+// How many sequences of two syllables there are.
 const PAIRS: u64 = 32 * 32;
 
 // How many words there are: each two syllables, alone and with one or two more.
@@ -27,7 +27,7 @@ pub struct Words {
     padded: Vec<String>,
 }
 
-// Makes a word that begins with the two syllables of a number, and goes on with others for each further PAIRS.
+// Makes a word that begins with the two syllables of a number, and continues with others for each further PAIRS.
 fn word(alloc: Global, number: u64) -> Result<String, AllocError> {
     let mut text = String::new(alloc);
     let mut left = number % PAIRS | mixed(number) << 10;

@@ -21,7 +21,7 @@ tops empty = []
 tops (leaf k t f) = (false, k) ∷ tops f
 tops (node k c f) = (true, k) ∷ tops f
 
--- the elements of a row's trees are of their kinds
+-- the elements of a forest's trees are of their kinds
 row_sights : (t : Tree) (n s : ℕ) (p : Option ℕ) (f : Forest) → HasItemsAt t n (items_from n s p f) → map sight_of (map (spot_at t) (tree_numbers n f)) ≡ tops f
 row_sights t n s p empty h = refl
 row_sights t n s p (leaf k u f) h =
@@ -142,7 +142,7 @@ exact_items x t i = record {
 pub exact_nodes : (x : SyntaxKind) → is_token x ≡ false → AreNodes (same_kind x)
 exact_nodes x t k h = ap is_token (sym ((same_kind-decides x k).0 h)) ∙ t
 
--- the tokens of a row that are no trivia
+-- the tokens of a forest that are no trivia
 leaf_items : (test : SyntaxKind → Bool) (k : SyntaxKind) (ks js : List SyntaxKind) (w : Bool) → is_trivia k ≡ w → AreItems test →
     is_some (find test ks) ≡ is_some (find test js)
     → is_some (find test (k ∷ ks)) ≡ is_some (find test (if w then js else k ∷ js))
@@ -159,7 +159,7 @@ leaves_items test a (node k c f) r =
     ∙ sym (ap (λ w. is_some (cond w (Some k) (find test (item_kinds f))))
     (none_if test k (λ h. true_is_not_false (sym (a.token k h) ∙ row_of_node k (item_kinds c) r.0))))
 
--- the nodes of a row
+-- the nodes of a forest
 leaf_nodes : (test : SyntaxKind → Bool) (k : SyntaxKind) (n : ℕ) (js : List SyntaxKind) (w : Bool) → test k ≡ false → n ≡ length (filter test js)
     → n ≡ length (filter test (if w then js else k ∷ js))
 leaf_nodes test k n js true e ih = ih
@@ -184,7 +184,7 @@ get_alike (x ∷ xs) [] n e = absurd (omega (arith, e))
 get_alike (x ∷ xs) (y ∷ ys) zero e = refl
 get_alike (x ∷ xs) (y ∷ ys) (suc n) e = get_alike xs ys n (omega (arith, e))
 
--- what stands right below a node is what its row has
+-- what is right below a node is what its row has
 pub record Sees (n : Located) (ks : List SyntaxKind) : Type 0 where
   pub tokens : (test : SyntaxKind → Bool) → AreItems test → is_some (token_of test n) ≡ is_some (find test ks)
   pub nodes : (test : SyntaxKind → Bool) → AreNodes test → (number : ℕ) → is_some (child_of test number n) ≡ is_some (slice_get (filter test ks) number)

@@ -1,4 +1,4 @@
--- What is selected among the children of a node stands in the node's tree.
+-- What is selected among the children of a node is in the node's tree.
 use Rattle.std.proofs.{Common.{◌≡◌, ℕ, Bool, true, false, List, [], ◌∷◌, map, Option, Some, None, refl, subst}, lemmas.List.Elements.{All-nil, All-cons}}
 use Rattle.std.{proofs.lemmas.{List.Elements.All-filter, Option.{slice_get_within, get_or_from_slice_get}}, specs.Prelude.{if◌then◌else◌, All, IfSome}}
 use Rattle.{rnix_kinds.specs.declared.kinds.SyntaxKind.SyntaxKind, rnix_green.specs.{Tree.{Tree, Located, item}, Walk.{spot_at, nodes_in}}}

@@ -131,7 +131,7 @@ literal_kind {n} h =
     ∙ ap (λ v. is_some (find (same_kind k.TOKEN_FLOAT) h.kinds) || (is_some (find (same_kind k.TOKEN_INTEGER) h.kinds) || v)) (seen k.TOKEN_URI refl refl)
     ∙ row_is k.NODE_LITERAL has_literal refl h.kinds h.row
 
--- a default stands behind its sign
+-- a default comes after its sign
 default : {kind : SyntaxKind} {n : Located} → RowSeen kind n → (x : SyntaxKind) → is_token x ≡ true → is_trivia x ≡ false
     → ((ks : List SyntaxKind) → is_row kind ks ≡ true → are_together x ks ≡ true) → AreTogether (token_of (same_kind x) n) (child_of is_expr 1 n)
 default h x t i together =

@@ -14,7 +14,7 @@ use Rattle.rnix_base.specs.Select.{child_of, token_of}
 use Rattle.rnix.specs.NodeKinds.{is_expr}
 use Rattle.rnix.specs.StringParts.{string_parts, plain_value}
 
--- where Nix's tokenizer is in a text in `''` behind one more byte: at 0 its token may go on, at 36 and 39 it has seen a `$` or a quote, which belong to
+-- where Nix's tokenizer is in a text in `''` after one more byte: at 0 its token may continue, at 36 and 39 it has seen a `$` or a quote, which belong to
 -- the token unless `{` or a quote follows, or a quote or `$`; at 1 it has cut the text
 abbrev pub state_behind : ℕ → ℕ → ℕ
 state_behind state b =

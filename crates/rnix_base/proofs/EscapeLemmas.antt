@@ -9,7 +9,7 @@ use Rattle.std.{proofs.lemmas.{List.{get_or-take, Sums.{prefix_len-le-length, pr
 use Rattle.std.{proofs.Common.{subst, take, length-drop, length-take-le, take-append-drop}, specs.{Str.IsCharBoundary, List.prefix_len, Prelude.{not, ◌&&◌}}}
 use denote.Ref.{Bor}
 
--- the bytes of a character: a first byte, and none below 128 behind it
+-- the bytes of a character: a first byte, and none below 128 after it
 pub record IsCharacter (bytes : List ℕ) : Type 0 where
   pub first : ℕ
   pub more : List ℕ
@@ -65,7 +65,7 @@ values_inside m zero text = refl
 values_inside m (suc n) [] = refl
 values_inside m (suc n) (b ∷ text) = values_inside m n text
 
--- behind a piece
+-- after a piece
 pub unescaped_step : (m : Bool) (b : ℕ) (text : List ℕ) (p : Piece) → first_piece m (b ∷ text) ≡ Some p → unescaped m (b ∷ text) ≡ p.value
     ++ unescaped m (drop (p.len - 1) text)
 unescaped_step m b text p e = values_step m b text p e ∙ ap (λ t. p.value ++ t) (values_inside m (p.len - 1) text)
@@ -92,7 +92,7 @@ unescaped_plain m [] text h = refl
 unescaped_plain m (b ∷ bytes) text h = unescaped_step m b (bytes ++ text) _ (plain_piece m b (bytes ++ text) (h 0 (omega arith)))
     ∙ ap (λ t. b ∷ t) (unescaped_plain m bytes text (λ k i. h (suc k) (omega arith)))
 
--- a byte that means itself and the plain bytes behind it
+-- a byte that means itself and the plain bytes after it
 pub run_begins : (m : Bool) (b : ℕ) (text value rest : List ℕ) → first_piece m (b ∷ text) ≡ itself (b ∷ text)
     → value ≡ b ∷ take (prefix_len (is_plain m) text) text → rest ≡ drop (prefix_len (is_plain m) text) text → Begins m (b ∷ text) value rest
 run_begins m b text value rest free e f =
@@ -139,7 +139,7 @@ character_begins m text value rest one e free =
       shorter = omega (arith, ap length whole, length-append one.more rest);
     }
 
--- behind a backslash a character stands for itself, unless it is one of three letters
+-- after a backslash a character stands for itself, unless it is one of three letters
 pub character_escapes : (text value rest : List ℕ) → IsCharacter value → text ≡ value ++ rest → value ≢ codes "n" → value ≢ codes "r" → value ≢ codes "t"
     → Escapes text value rest
 character_escapes text value rest one e n r t =
@@ -152,7 +152,7 @@ character_escapes text value rest one e n r t =
       shorter = omega (arith, ap length whole, length-append one.more rest);
     }
 
--- a letter that stands for a control character behind a backslash
+-- a letter that stands for a control character after a backslash
 pub letter_escapes : (b : ℕ) (text value rest : List ℕ) → text ≡ b ∷ rest → value ≡ escaped b ∷ [] → Escapes text value rest
 letter_escapes b text value rest e v = record {
   split = λ m. rw (e, v) refl;
@@ -170,7 +170,7 @@ at_byte b i text some e =
 suc-both : (i n : ℕ) → suc i + suc n ≡ i + suc (suc n)
 suc-both i n = omega arith
 
--- bytes that stand in a text are a part of it
+-- bytes that are in a text are a part of it
 occurrence_splits : (bytes : List ℕ) (i : ℕ) (text : List ℕ) → list_all (nat_lt 0) bytes ≡ true → occurs_at bytes i text ≡ true → drop i text ≡ bytes
     ++ drop (i + length bytes) text
 occurrence_splits [] i text some e = ap (λ k. drop k text) (omega arith)
@@ -188,11 +188,11 @@ not_begun bytes text some none =
       | false ↦ λ e. e
     ] refl
 
--- what a text that begins with these bytes has behind them
+-- what a text that begins with these bytes has after them
 pub strip_gives : (bytes text rest : List ℕ) → StripsPrefix (FindsTextPrefix bytes) text rest → text ≡ bytes ++ rest
 strip_gives bytes text rest h = h.1.1 ∙ ap (λ t. bytes ++ t) (sym h.2)
 
--- behind two primes
+-- after two primes
 pub primes_begin : (text rest : List ℕ) → text ≡ codes "'''" ++ rest → Begins true text (codes "''") rest
 primes_begin text rest e = record {
   split = rw e (unescaped_step true 39 (39 ∷ 39 ∷ rest) _ refl);

@@ -19,7 +19,7 @@ plain_quotes : unescaped true (codes "\"Hello\"") ≡ codes "\"Hello\""
 unfolding values
 plain_quotes = refl
 
--- a dollar behind two primes
+-- a dollar after two primes
 dollar : unescaped true (codes "a''${b}'''${c}") ≡ codes "a${b}''${c}"
 unfolding values
 dollar = refl

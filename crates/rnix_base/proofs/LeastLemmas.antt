@@ -1,4 +1,4 @@
--- The least indentation of a row, symbol by symbol.
+-- The least indentation of a list of symbols, one by one.
 use Rattle.std.proofs.Common.{◌≡◌, ◌+◌, ◌≤◌, ◌++◌, ◌∙◌, ℕ, suc, min, Bool, true, false, not, cond, ◌||◌, nat_lt, List, [], ◌∷◌, Option, Some, None, refl, sym}
 use Rattle.std.{proofs.{Common.{ap, map, arith}, lemmas.Bool.Decides.nat_tests}, specs.{Prelude.if◌then◌else◌, List.fold}}
 use Rattle.rnix_base.specs.{declared.{indent.Indent.Indent, parts.InterpolPart.TheVariants.{Literal, Interpolation}}, Normal.{Parts, Symbol, symbols, is_gap}}
@@ -11,9 +11,9 @@ least_from spaces [] = 1000000
 least_from None (line ∷ ls) = least_indentation ls
 least_from (Some n) (line ∷ ls) = if has_text line then min (n + indentation line) (least_indentation ls) else least_indentation ls
 
--- after the symbols of a row
-abbrev pub indent_row : Indent → List Symbol → Indent
-indent_row = fold (λ indent s. indent_after indent s.byte)
+-- after the symbols of a list
+abbrev pub indent_after_all : Indent → List Symbol → Indent
+indent_after_all = fold (λ indent s. indent_after indent s.byte)
 
 least-limit : (ls : List (List Symbol)) → least_indentation ls ≤ 1000000
 unfolding least_indentation
@@ -30,7 +30,7 @@ from_zero (line ∷ ls) = ap (λ n. if has_text line then min n (least_indentati
   zero_plus : (n : ℕ) → 0 + n ≡ n
   zero_plus n = omega arith
 
--- behind a line feed
+-- after a line feed
 from_line : (spaces : Option ℕ) (s : Symbol) (ls : List (List Symbol)) → is_feed s ≡ true → least_from spaces ((s ∷ []) ∷ ls) ≡ least_indentation ls
 unfolding least_from
 from_line None s ls e = refl
@@ -42,7 +42,7 @@ from_line (Some n) s ls e = ap (λ t. if t then min (n + indentation (s ∷ []))
       or_true true = refl
       or_true false = refl
 
--- behind text
+-- after text
 from_none : (s : Symbol) (ls : List (List Symbol)) → least_from None (before_line s ls) ≡ least_from None ls
 unfolding least_from least_indentation
 from_none s [] = refl
@@ -105,51 +105,51 @@ after_text m n s f g = rw (f, g) refl
 min_both : (m n x : ℕ) → min (min m n) x ≡ min m (min n x)
 min_both m n x = omega arith
 
-least_step : (m : ℕ) (spaces : Option ℕ) (s : Symbol) (row : List Symbol) (feed gap : Bool) → m ≤ 1000000 → is_feed s ≡ feed → is_gap s ≡ gap
-    → ((indent : Indent) → indent.least ≤ 1000000 → (indent_row indent row).least ≡ min indent.least (least_from indent.spaces (lines row)))
-    → (indent_row record { least = m; spaces = spaces } (s ∷ row)).least ≡ min m (least_from spaces (lines (s ∷ row)))
-least_step m spaces s row true gap small f g more =
-    ap (λ i. (indent_row i row).least) (after_feed record { least = m; spaces = spaces } s f)
+least_step : (m : ℕ) (spaces : Option ℕ) (s : Symbol) (list : List Symbol) (feed gap : Bool) → m ≤ 1000000 → is_feed s ≡ feed → is_gap s ≡ gap
+    → ((indent : Indent) → indent.least ≤ 1000000 → (indent_after_all indent list).least ≡ min indent.least (least_from indent.spaces (lines list)))
+    → (indent_after_all record { least = m; spaces = spaces } (s ∷ list)).least ≡ min m (least_from spaces (lines (s ∷ list)))
+least_step m spaces s list true gap small f g more =
+    ap (λ i. (indent_after_all i list).least) (after_feed record { least = m; spaces = spaces } s f)
     ∙ more record { least = m; spaces = Some 0 } small
-    ∙ ap (min m) (from_zero (lines row) ∙ sym (from_line spaces s (lines row) f) ∙ ap (least_from spaces) (sym (lines_feed s row f)))
-least_step m None s row false gap small f g more =
-    ap (λ i. (indent_row i row).least) (after_none m s f)
+    ∙ ap (min m) (from_zero (lines list) ∙ sym (from_line spaces s (lines list) f) ∙ ap (least_from spaces) (sym (lines_feed s list f)))
+least_step m None s list false gap small f g more =
+    ap (λ i. (indent_after_all i list).least) (after_none m s f)
     ∙ more record { least = m; spaces = None } small
-    ∙ ap (min m) (sym (from_none s (lines row)) ∙ ap (least_from None) (sym (lines_more s row f)))
-least_step m (Some n) s row false true small f g more =
-    ap (λ i. (indent_row i row).least) (after_gap m n s f g)
+    ∙ ap (min m) (sym (from_none s (lines list)) ∙ ap (least_from None) (sym (lines_more s list f)))
+least_step m (Some n) s list false true small f g more =
+    ap (λ i. (indent_after_all i list).least) (after_gap m n s f g)
     ∙ more record { least = m; spaces = Some (if nat_lt n 1000000 then n + 1 else n) } small
-    ∙ ap (min m) (sym (from_gap n s (lines row) g) ∙ ap (least_from (Some n)) (sym (lines_more s row f)))
-least_step m (Some n) s row false false small f g more =
-    ap (λ i. (indent_row i row).least) (after_text m n s f g)
+    ∙ ap (min m) (sym (from_gap n s (lines list) g) ∙ ap (least_from (Some n)) (sym (lines_more s list f)))
+least_step m (Some n) s list false false small f g more =
+    ap (λ i. (indent_after_all i list).least) (after_text m n s f g)
     ∙ more record { least = min m n; spaces = None } (omega arith)
-    ∙ min_both m n (least_from None (lines row))
-    ∙ ap (min m) (sym (from_text n s (lines row) f g) ∙ ap (least_from (Some n)) (sym (lines_more s row f)))
+    ∙ min_both m n (least_from None (lines list))
+    ∙ ap (min m) (sym (from_text n s (lines list) f g) ∙ ap (least_from (Some n)) (sym (lines_more s list f)))
 
-row_least : (row : List Symbol) (indent : Indent) → indent.least ≤ 1000000
-    → (indent_row indent row).least ≡ min indent.least (least_from indent.spaces (lines row))
+list_least : (list : List Symbol) (indent : Indent) → indent.least ≤ 1000000
+    → (indent_after_all indent list).least ≡ min indent.least (least_from indent.spaces (lines list))
 unfolding lines least_from
-row_least [] indent small = omega arith
-row_least (s ∷ row) indent small = least_step indent.least indent.spaces s row (is_feed s) (is_gap s) small refl refl (λ i h. row_least row i h)
+list_least [] indent small = omega arith
+list_least (s ∷ list) indent small = least_step indent.least indent.spaces s list (is_feed s) (is_gap s) small refl refl (λ i h. list_least list i h)
 
--- the least indentation of a row, symbol by symbol
-pub least-row : (row : List Symbol) → (indent_row no_indent row).least ≡ least_indentation (lines row)
-least-row row = row_least row no_indent (omega arith) ∙ ap (min 1000000) (from_zero (lines row))
-    ∙ limited (least_indentation (lines row)) (least-limit (lines row)) where
+-- the least indentation of a list, symbol by symbol
+pub least-list : (list : List Symbol) → (indent_after_all no_indent list).least ≡ least_indentation (lines list)
+least-list list = list_least list no_indent (omega arith) ∙ ap (min 1000000) (from_zero (lines list))
+    ∙ limited (least_indentation (lines list)) (least-limit (lines list)) where
       limited : (x : ℕ) → x ≤ 1000000 → min 1000000 x ≡ x
       limited x h = omega arith
 
 -- and part by part
-row_of_text : (n : ℕ) (text : List ℕ) (row : List Symbol) (indent : Indent)
-    → indent_row indent (map (λ b. record { part = n; byte = Some b }) text ++ row) ≡ indent_row (indent_behind indent text) row
-row_of_text n [] row indent = refl
-row_of_text n (b ∷ text) row indent = row_of_text n text row (indent_after indent (Some b))
+after_text_symbols : (n : ℕ) (text : List ℕ) (list : List Symbol) (indent : Indent)
+    → indent_after_all indent (map (λ b. record { part = n; byte = Some b }) text ++ list) ≡ indent_after_all (indent_behind indent text) list
+after_text_symbols n [] list indent = refl
+after_text_symbols n (b ∷ text) list indent = after_text_symbols n text list (indent_after indent (Some b))
 
-row_of_parts : {I : Type 0} (n : ℕ) (parts : Parts I) (indent : Indent) → indent_row indent (symbols n parts) ≡ indent_of indent parts
+after_parts : {I : Type 0} (n : ℕ) (parts : Parts I) (indent : Indent) → indent_after_all indent (symbols n parts) ≡ indent_of indent parts
 unfolding symbols
-row_of_parts n [] indent = refl
-row_of_parts n (Literal text ∷ parts) indent = row_of_text n text (symbols (suc n) parts) indent ∙ row_of_parts (suc n) parts (indent_behind indent text)
-row_of_parts n (Interpolation i ∷ parts) indent = row_of_parts (suc n) parts (indent_after indent None)
+after_parts n [] indent = refl
+after_parts n (Literal text ∷ parts) indent = after_text_symbols n text (symbols (suc n) parts) indent ∙ after_parts (suc n) parts (indent_behind indent text)
+after_parts n (Interpolation i ∷ parts) indent = after_parts (suc n) parts (indent_after indent None)
 
 pub least-parts : {I : Type 0} (parts : Parts I) → (indent_of no_indent parts).least ≡ least_indentation (lines (symbols 0 parts))
-least-parts parts = ap (λ i. i.least) (sym (row_of_parts 0 parts no_indent)) ∙ least-row (symbols 0 parts)
+least-parts parts = ap (λ i. i.least) (sym (after_parts 0 parts no_indent)) ∙ least-list (symbols 0 parts)

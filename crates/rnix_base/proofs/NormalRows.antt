@@ -22,7 +22,7 @@ last_space : indented_parts {I = ℕ} (Literal (codes "hello ") ∷ []) ≡ (Lit
 unfolding values symbols lines least_indentation part_text with_texts closed
 last_space = refl
 
--- spaces behind the last line feed
+-- spaces after the last line feed
 last_line : indented_parts {I = ℕ} (Literal (codes "hello\n ") ∷ []) ≡ (Literal (codes "hello\n") ∷ [])
 unfolding values symbols lines least_indentation part_text with_texts closed
 last_line = refl
@@ -53,7 +53,7 @@ tabs : indented_parts {I = ℕ} (Literal (codes "\n\ta\n  b") ∷ []) ≡ (Liter
 unfolding values symbols lines least_indentation part_text with_texts closed
 tabs = refl
 
--- a line may go on in the next literal
+-- a line may continue in the next literal
 two_literals : indented_parts {I = ℕ} (Literal (codes "\n  ") ∷ Literal (codes "  a\n") ∷ Literal (codes "    b") ∷ []) ≡ (Literal (codes "")
     ∷ Literal (codes "a\n") ∷ Literal (codes "b") ∷ [])
 unfolding values symbols lines least_indentation part_text with_texts closed
@@ -69,7 +69,7 @@ opened_away : indented_parts {I = ℕ} (Literal (codes "  \n") ∷ Interpolation
 unfolding values symbols lines least_indentation part_text with_texts closed
 opened_away = refl
 
--- spaces behind the last line feed that are not the last line
+-- spaces after the last line feed that are not the last line
 last_spaces : indented_parts {I = ℕ} (Literal (codes "\n  a\n  b\n  ") ∷ Interpolation 0 ∷ []) ≡ (Literal (codes "a\nb\n") ∷ Interpolation 0 ∷ [])
 unfolding values symbols lines least_indentation part_text with_texts closed
 last_spaces = refl

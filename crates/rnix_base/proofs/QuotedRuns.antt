@@ -21,7 +21,7 @@ plain_boundary text =
           subst (IsCharBoundary text) same (IsCharBoundary-end text)
     ]
 
--- the byte behind them is no part of a longer character
+-- the byte after them is no part of a longer character
 pub behind_boundary : (text : List ℕ) → IsUtf8 text → prefix_len is_ordinary text < length text → IsCharBoundary text (prefix_len is_ordinary text + 1)
 behind_boundary text utf8 within =
     let n = prefix_len is_ordinary text in
@@ -58,7 +58,7 @@ run_written old new text run rest n len is behind written =
     let whole : inside_of text ≡ take n text ++ inside_of (drop n text) = rw len (plain_run text) in
     rw (written, is, behind) (append_assoc old (take n text) (inside_of (drop n text)) ∙ ap (λ l. old ++ l) (sym whole))
 
--- and so is the byte behind them
+-- and so is the byte after them
 pub byte_written : (old mid new text run rest : List ℕ) (n d : ℕ) → n ≡ prefix_len is_ordinary text → n < length text → run ≡ take n text
     → rest ≡ drop (n + 1) text → mid ≡ old ++ run → (is_ordinary (get_or text n d) ≡ false → new ≡ mid ++ escape_of (get_or text n d) rest)
     → new ++ inside_of rest ≡ old ++ inside_of text

@@ -1,17 +1,17 @@
--- The lines of a row, symbol by symbol.
+-- The lines of a list of symbols, symbol by symbol.
 use Rattle.std.proofs.Common.{◌≡◌, ◌+◌, ◌-◌, ◌++◌, ◌∙◌, ℕ, zero, suc, min, Bool, true, false, cond, ◌&&◌, nat_lt, List, [], ◌∷◌, Option, Some, None, refl, sym}
 use Rattle.{std.{proofs.{Common.{ap, drop, arith}, lemmas.Bool.Decides.nat_tests}, specs.{Prelude.if◌then◌else◌, List.flat_map}}, rnix_base.specs.Normal.Symbol}
 use Rattle.rnix_base.specs.{Normal.{is_byte, is_gap, is_feed, before_line, lines, indentation, shortened}, Indent.{is_lost, remaining_after}}
 
--- what stays of a row, where its first line loses up to `left` spaces and each other line up to n
+-- what stays of a list, where its first line loses up to `left` spaces and each other line up to n
 unfoldable pub shortened_from : ℕ → ℕ → List (List Symbol) → List Symbol
 shortened_from n remaining [] = []
 shortened_from n remaining (line ∷ lines) = shortened remaining line ++ flat_map (shortened n) lines
 
 -- the same, symbol by symbol
-unfoldable pub row_kept : ℕ → ℕ → List Symbol → List Symbol
-row_kept n remaining [] = []
-row_kept n remaining (s ∷ row) = (if is_lost remaining s.byte then [] else s ∷ []) ++ row_kept n (remaining_after n remaining s.byte) row
+unfoldable pub list_kept : ℕ → ℕ → List Symbol → List Symbol
+list_kept n remaining [] = []
+list_kept n remaining (s ∷ list) = (if is_lost remaining s.byte then [] else s ∷ []) ++ list_kept n (remaining_after n remaining s.byte) list
 
 from_start : (n : ℕ) (ls : List (List Symbol)) → shortened_from n n ls ≡ flat_map (shortened n) ls
 unfolding shortened_from
@@ -61,27 +61,27 @@ from_feed : (n l : ℕ) (s : Symbol) (ls : List (List Symbol)) → is_gap s ≡ 
 unfolding shortened_from
 from_feed n l s ls e = ap (λ t. t ++ flat_map (shortened n) ls) (shortened_none l s [] e) ∙ ap (λ t. s ∷ t) (sym (from_start n ls))
 
-pub lines_feed : (s : Symbol) (row : List Symbol) → is_feed s ≡ true → lines (s ∷ row) ≡ (s ∷ []) ∷ lines row
+pub lines_feed : (s : Symbol) (list : List Symbol) → is_feed s ≡ true → lines (s ∷ list) ≡ (s ∷ []) ∷ lines list
 unfolding lines
-lines_feed s row e = ap (λ f. if f then (s ∷ []) ∷ lines row else before_line s (lines row)) e
+lines_feed s list e = ap (λ f. if f then (s ∷ []) ∷ lines list else before_line s (lines list)) e
 
-pub lines_more : (s : Symbol) (row : List Symbol) → is_feed s ≡ false → lines (s ∷ row) ≡ before_line s (lines row)
+pub lines_more : (s : Symbol) (list : List Symbol) → is_feed s ≡ false → lines (s ∷ list) ≡ before_line s (lines list)
 unfolding lines
-lines_more s row e = ap (λ f. if f then (s ∷ []) ∷ lines row else before_line s (lines row)) e
+lines_more s list e = ap (λ f. if f then (s ∷ []) ∷ lines list else before_line s (lines list)) e
 
 -- what one symbol does
-pub kept_step : (n remaining next : ℕ) (s : Symbol) (row : List Symbol) → is_lost remaining s.byte ≡ false → remaining_after n remaining s.byte ≡ next
-    → row_kept n remaining (s ∷ row) ≡ s ∷ row_kept n next row
-unfolding row_kept
-kept_step n remaining next s row lost after = ap (λ b. (if b then [] else s ∷ []) ++ row_kept n (remaining_after n remaining s.byte) row) lost
-    ∙ ap (λ l. s ∷ row_kept n l row) after
+pub kept_step : (n remaining next : ℕ) (s : Symbol) (list : List Symbol) → is_lost remaining s.byte ≡ false → remaining_after n remaining s.byte ≡ next
+    → list_kept n remaining (s ∷ list) ≡ s ∷ list_kept n next list
+unfolding list_kept
+kept_step n remaining next s list lost after = ap (λ b. (if b then [] else s ∷ []) ++ list_kept n (remaining_after n remaining s.byte) list) lost
+    ∙ ap (λ l. s ∷ list_kept n l list) after
 
-lost_step : (n remaining : ℕ) (s : Symbol) (row : List Symbol) → is_lost remaining s.byte ≡ true
-    → row_kept n remaining (s ∷ row) ≡ row_kept n (remaining - 1) row
-unfolding row_kept
-lost_step n remaining s row lost =
-    ap (λ b. (if b then [] else s ∷ []) ++ row_kept n (remaining_after n remaining s.byte) row) lost
-    ∙ ap (λ b. row_kept n (if b then remaining - 1 else (if is_feed s then n else 0)) row) lost
+lost_step : (n remaining : ℕ) (s : Symbol) (list : List Symbol) → is_lost remaining s.byte ≡ true
+    → list_kept n remaining (s ∷ list) ≡ list_kept n (remaining - 1) list
+unfolding list_kept
+lost_step n remaining s list lost =
+    ap (λ b. (if b then [] else s ∷ []) ++ list_kept n (remaining_after n remaining s.byte) list) lost
+    ∙ ap (λ b. list_kept n (if b then remaining - 1 else (if is_feed s then n else 0)) list) lost
 
 stays_after : (n remaining : ℕ) (s : Symbol) (feed : Bool) → is_lost remaining s.byte ≡ false → is_feed s ≡ feed
     → remaining_after n remaining s.byte ≡ (if feed then n else 0)
@@ -90,24 +90,24 @@ stays_after n remaining s feed lost e = ap (λ b. if b then remaining - 1 else (
 not_lost : (remaining : ℕ) (s : Symbol) → is_gap s ≡ false → is_lost remaining s.byte ≡ false
 not_lost remaining s e = ap (λ g. g && nat_lt 0 remaining) e
 
-lines_step : (n remaining : ℕ) (s : Symbol) (row : List Symbol) (feed gap : Bool) → is_feed s ≡ feed → is_gap s ≡ gap
-    → ((l : ℕ) → row_kept n l row ≡ shortened_from n l (lines row)) → row_kept n remaining (s ∷ row) ≡ shortened_from n remaining (lines (s ∷ row))
-lines_step n remaining s row true gap f g more =
+lines_step : (n remaining : ℕ) (s : Symbol) (list : List Symbol) (feed gap : Bool) → is_feed s ≡ feed → is_gap s ≡ gap
+    → ((l : ℕ) → list_kept n l list ≡ shortened_from n l (lines list)) → list_kept n remaining (s ∷ list) ≡ shortened_from n remaining (lines (s ∷ list))
+lines_step n remaining s list true gap f g more =
     let none = feed_is_no_gap s f in
-    kept_step n remaining n s row (not_lost remaining s none) (stays_after n remaining s true (not_lost remaining s none) f)
-    ∙ ap (λ t. s ∷ t) (more n) ∙ sym (from_feed n remaining s (lines row) none) ∙ ap (shortened_from n remaining) (sym (lines_feed s row f))
-lines_step n remaining s row false false f g more =
-    kept_step n remaining 0 s row (not_lost remaining s g) (stays_after n remaining s false (not_lost remaining s g) f)
-    ∙ ap (λ t. s ∷ t) (more 0) ∙ sym (from_stays n remaining s (lines row) (λ line. shortened_none remaining s line g))
-    ∙ ap (shortened_from n remaining) (sym (lines_more s row f))
-lines_step n zero s row false true f g more =
+    kept_step n remaining n s list (not_lost remaining s none) (stays_after n remaining s true (not_lost remaining s none) f)
+    ∙ ap (λ t. s ∷ t) (more n) ∙ sym (from_feed n remaining s (lines list) none) ∙ ap (shortened_from n remaining) (sym (lines_feed s list f))
+lines_step n remaining s list false false f g more =
+    kept_step n remaining 0 s list (not_lost remaining s g) (stays_after n remaining s false (not_lost remaining s g) f)
+    ∙ ap (λ t. s ∷ t) (more 0) ∙ sym (from_stays n remaining s (lines list) (λ line. shortened_none remaining s line g))
+    ∙ ap (shortened_from n remaining) (sym (lines_more s list f))
+lines_step n zero s list false true f g more =
     let lost : is_lost 0 s.byte ≡ false = ap (λ b. b && nat_lt 0 0) g in
-    kept_step n 0 0 s row lost (stays_after n 0 s false lost f)
-    ∙ ap (λ t. s ∷ t) (more 0) ∙ sym (from_stays n 0 s (lines row) (λ line. shortened_zero (s ∷ line))) ∙ ap (shortened_from n 0) (sym (lines_more s row f))
-lines_step n (suc remaining) s row false true f g more =
-    lost_step n (suc remaining) s row (ap (λ b. b && nat_lt 0 (suc remaining)) g ∙ positive remaining)
-    ∙ ap (λ l. row_kept n l row) (suc_minus remaining) ∙ more remaining ∙ sym (from_gap n remaining s (lines row) g)
-    ∙ ap (shortened_from n (suc remaining)) (sym (lines_more s row f))
+    kept_step n 0 0 s list lost (stays_after n 0 s false lost f)
+    ∙ ap (λ t. s ∷ t) (more 0) ∙ sym (from_stays n 0 s (lines list) (λ line. shortened_zero (s ∷ line))) ∙ ap (shortened_from n 0) (sym (lines_more s list f))
+lines_step n (suc remaining) s list false true f g more =
+    lost_step n (suc remaining) s list (ap (λ b. b && nat_lt 0 (suc remaining)) g ∙ positive remaining)
+    ∙ ap (λ l. list_kept n l list) (suc_minus remaining) ∙ more remaining ∙ sym (from_gap n remaining s (lines list) g)
+    ∙ ap (shortened_from n (suc remaining)) (sym (lines_more s list f))
   where
     positive : (k : ℕ) → nat_lt 0 (suc k) ≡ true
     positive k = grind (arith, nat_tests)
@@ -115,11 +115,11 @@ lines_step n (suc remaining) s row false true f g more =
     suc_minus : (k : ℕ) → suc k - 1 ≡ k
     suc_minus k = omega arith
 
-row_is_shortened : (n remaining : ℕ) (row : List Symbol) → row_kept n remaining row ≡ shortened_from n remaining (lines row)
-unfolding row_kept shortened_from lines
-row_is_shortened n remaining [] = refl
-row_is_shortened n remaining (s ∷ row) = lines_step n remaining s row (is_feed s) (is_gap s) refl refl (λ l. row_is_shortened n l row)
+list_is_shortened : (n remaining : ℕ) (list : List Symbol) → list_kept n remaining list ≡ shortened_from n remaining (lines list)
+unfolding list_kept shortened_from lines
+list_is_shortened n remaining [] = refl
+list_is_shortened n remaining (s ∷ list) = lines_step n remaining s list (is_feed s) (is_gap s) refl refl (λ l. list_is_shortened n l list)
 
--- the lines of a row are shortened symbol by symbol
-pub row_kept-lines : (n : ℕ) (row : List Symbol) → flat_map (shortened n) (lines row) ≡ row_kept n n row
-row_kept-lines n row = sym (row_is_shortened n n row ∙ from_start n (lines row))
+-- the lines of a list are shortened symbol by symbol
+pub list_kept-lines : (n : ℕ) (list : List Symbol) → flat_map (shortened n) (lines list) ≡ list_kept n n list
+list_kept-lines n list = sym (list_is_shortened n n list ∙ from_start n (lines list))

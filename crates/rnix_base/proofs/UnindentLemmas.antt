@@ -164,7 +164,7 @@ module _ (least remaining lost : ℕ) (text line : List ℕ) (is : lost ≡ min 
           shorter = more;
         }
 
--- behind spaces a character begins, or the text ends
+-- after spaces a character begins, or the text ends
 pub behind_spaces : (text : List ℕ) (lost remaining : ℕ) → IsUtf8 text → lost ≡ min (spaces text) remaining → IsCharBoundary text lost
 behind_spaces text zero remaining utf8 is = IsCharBoundary-start text utf8
 behind_spaces text (suc k) remaining utf8 is =
@@ -174,7 +174,7 @@ behind_spaces text (suc k) remaining utf8 is =
     subst (IsCharBoundary text) one
     (IsCharBoundary-after_ascii text k utf8 (omega (arith, low, prefix_len-le-length is_space text)) (grind (arith, nat_tests)))
 
--- and behind a line feed
+-- and after a line feed
 pub behind_feed : (line : List ℕ) (len : ℕ) → IsUtf8 line → len ≡ prefix_len is_inside_line line → len < length line → IsCharBoundary line (len + 1)
 behind_feed line len utf8 run there =
     let stop : is_inside_line (get_or line len 0) ≡ false =

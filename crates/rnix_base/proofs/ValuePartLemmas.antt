@@ -3,10 +3,10 @@ use Rattle.std.proofs.Common.{◌≡◌, ◌≢◌, ◌++◌, ◌∙◌, ℕ, tr
 use Rattle.rnix_base.specs.{declared.parts.InterpolPart.{InterpolPart, TheVariants.{Literal, Interpolation}}, Escapes.unescaped, Normal.{Parts, with_text, borrowed, symbols}}
 use Rattle.rnix_base.specs.{Normal.{opened, with_texts}, Indent.{kept, remaining_behind, indent_of, no_indent}}
 use Rattle.rnix_base.specs.Value.{without_escapes, without_last_line, ended, value_indentation, dedented, indented_value, quoted_value}
-use Rattle.rnix_base.proofs.{SymbolLineLemmas.row_kept-lines, LeastLemmas.least-parts, StringPartLemmas.{unindented_parts, with_texts-behind, part_text-none}}
+use Rattle.rnix_base.proofs.{SymbolLineLemmas.list_kept-lines, LeastLemmas.least-parts, StringPartLemmas.{unindented_parts, with_texts-behind, part_text-none}}
 use denote.Ref.{Bor}
 
--- a text that is the last one, without the spaces behind its last line feed, and any other
+-- a text that is the last one, without the spaces after its last line feed, and any other
 abbrev pub ended_text : {I : Type 0} → Parts I → List ℕ → List ℕ
 ended_text [] text = without_last_line text
 ended_text (part ∷ parts) text = text
@@ -66,7 +66,7 @@ indented_value-from parts n e =
     let least : n ≡ value_indentation (opened parts) = e ∙ least-parts (map (with_text without_escapes) (opened parts)) in
     let whole = map (with_text (unescaped true)) (ended (opened parts)) in
     sym (with_texts-behind n whole [] n 0 (λ k _. part_text-none k))
-    ∙ ap (λ row. with_texts row 0 whole) (sym (row_kept-lines n (symbols 0 whole)))
+    ∙ ap (λ list. with_texts list 0 whole) (sym (list_kept-lines n (symbols 0 whole)))
     ∙ ap (λ k. dedented k whole) least
 
 -- the next part of a string between `"`

@@ -12,7 +12,7 @@ not_counted : indented_value {I = ℕ} (Literal (codes "\n    a''\\n b\n    c") 
 unfolding values symbols lines least_indentation part_text with_texts marked ended
 not_counted = refl
 
--- the blanks behind an escaped line feed belong to the value
+-- the blanks after an escaped line feed belong to the value
 blanks_stay : indented_value {I = ℕ} (Literal (codes "\n        x''\\\n              ") ∷ []) ≡ (Literal (codes "x\n      ") ∷ [])
 unfolding values symbols lines least_indentation part_text with_texts marked ended
 blanks_stay = refl
@@ -22,7 +22,7 @@ escaped_blank : indented_value {I = ℕ} (Literal (codes "\n  a''\\n''\\  b''\\ 
 unfolding values symbols lines least_indentation part_text with_texts marked ended
 escaped_blank = refl
 
--- quotes behind quotes are an escape, and the backslash and the line feed behind them are none
+-- quotes after quotes are an escape, and the backslash and the line feed after them are none
 three_quotes : indented_value {I = ℕ} (Literal (codes "\n  a'''\\\n  ") ∷ []) ≡ (Literal (codes "a''\\\n") ∷ [])
 unfolding values symbols lines least_indentation part_text with_texts marked ended
 three_quotes = refl

@@ -13,6 +13,6 @@ IsBlock text said = text ≡ codes "/*" ++ (said ++ codes "*/")
 abbrev pub IsNeither : List ℕ → Type 0
 IsNeither text = ((said : List ℕ) → ¬ IsLine text said) × ((said : List ℕ) → ¬ IsBlock text said)
 
--- a comment of the text says this: what is behind `#` or between `/*` and `*/`, and of a text that is neither the whole
+-- a comment of the text says this: what is after `#` or between `/*` and `*/`, and of a text that is neither the whole
 abbrev pub Says : List ℕ → List ℕ → Type 0
 Says text said = IsLine text said ⊎ (IsBlock text said ⊎ ((said ≡ text) × IsNeither text))

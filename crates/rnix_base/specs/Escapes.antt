@@ -15,7 +15,7 @@ escaped b = if b == 110 then 10 else (if b == 114 then 13 else (if b == 116 then
 abbrev pub itself : List ℕ → Option Piece
 itself text = Some record { len = 1; value = slice_index text 0 ∷ [] }
 
--- a backslash behind `before` bytes, with the byte that follows it, which may be the first of a longer character; no piece, if the text ends there
+-- a backslash after `before` bytes, with the byte that follows it, which may be the first of a longer character; no piece, if the text ends there
 abbrev pub backslash : ℕ → List ℕ → Option Piece
 backslash before text =
     if nat_lt (before + 1) (length text)

@@ -42,7 +42,7 @@ is_gap s = is_byte 32 s.byte
 abbrev pub is_feed : Symbol → Bool
 is_feed s = is_byte 10 s.byte
 
--- the parts as one row of symbols, where n parts precede them
+-- the parts as one list of symbols, where n parts precede them
 unfoldable pub symbols : {I : Type 0} → ℕ → Parts I → List Symbol
 symbols n [] = []
 symbols n (Literal text ∷ parts) = map (λ b. record { part = n; byte = Some b }) text ++ symbols (suc n) parts
@@ -53,10 +53,10 @@ abbrev pub before_line : Symbol → List (List Symbol) → List (List Symbol)
 before_line s [] = (s ∷ []) ∷ []
 before_line s (line ∷ lines) = (s ∷ line) ∷ lines
 
--- the lines of a row, which is cut after each line feed
+-- the lines of a list of symbols, which is cut after each line feed
 unfoldable pub lines : List Symbol → List (List Symbol)
 lines [] = []
-lines (s ∷ row) = if is_feed s then (s ∷ []) ∷ lines row else before_line s (lines row)
+lines (s ∷ list) = if is_feed s then (s ∷ []) ∷ lines list else before_line s (lines list)
 
 -- how many spaces a line begins with
 abbrev pub indentation : List Symbol → ℕ
@@ -76,20 +76,20 @@ least_indentation (line ∷ lines) =
 abbrev pub shortened : ℕ → List Symbol → List Symbol
 shortened n line = drop (min n (indentation line)) line
 
--- a row whose lines lose the least indentation
+-- a list of symbols, each line without the least indentation
 abbrev pub unindented : List Symbol → List Symbol
-unindented row = flat_map (shortened (least_indentation (lines row))) (lines row)
+unindented list = flat_map (shortened (least_indentation (lines list))) (lines list)
 
--- the bytes of a row that belong to the part of this number
+-- the bytes of a list of symbols that belong to the part of this number
 unfoldable pub part_text : ℕ → List Symbol → List ℕ
 part_text n [] = []
-part_text n (s ∷ row) = (if s.part == n then option_to_list s.byte else []) ++ part_text n row
+part_text n (s ∷ list) = (if s.part == n then option_to_list s.byte else []) ++ part_text n list
 
--- the parts with the texts that a row has for them, where n parts precede them
+-- the parts with the texts that a list of symbols has for them, where n parts precede them
 unfoldable pub with_texts : {I : Type 0} → List Symbol → ℕ → Parts I → Parts I
-with_texts row n [] = []
-with_texts row n (Literal text ∷ parts) = Literal (part_text n row) ∷ with_texts row (suc n) parts
-with_texts row n (Interpolation i ∷ parts) = Interpolation i ∷ with_texts row (suc n) parts
+with_texts list n [] = []
+with_texts list n (Literal text ∷ parts) = Literal (part_text n list) ∷ with_texts list (suc n) parts
+with_texts list n (Interpolation i ∷ parts) = Interpolation i ∷ with_texts list (suc n) parts
 
 -- how many spaces a text begins with
 abbrev pub spaces : List ℕ → ℕ
@@ -123,11 +123,11 @@ opened (Interpolation i ∷ parts) = Interpolation i ∷ parts
 abbrev pub trimmed : List ℕ → List ℕ
 trimmed text = take (length text - suffix_len is_space text) text
 
--- a text without the spaces behind its last line feed, if nothing else is there
+-- a text without the spaces after its last line feed, if nothing else is there
 abbrev pub without_last_spaces : List ℕ → List ℕ
 without_last_spaces text = if slice_index (trimmed text) (length (trimmed text) - 1) == 10 then trimmed text else text
 
--- the parts; the last, if it is a literal, without the spaces behind its last line feed, if nothing else is there
+-- the parts; the last, if it is a literal, without the spaces after its last line feed, if nothing else is there
 unfoldable pub closed : {I : Type 0} → Parts I → Parts I
 closed [] = []
 closed (Literal text ∷ []) = Literal (without_last_spaces text) ∷ []

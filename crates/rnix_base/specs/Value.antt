@@ -28,7 +28,7 @@ without_escapes text = marked 0 text
 abbrev pub last_byte : List ℕ → ℕ
 last_byte = fold (λ before b. b) 0
 
--- a text in `''` without the spaces behind its last line feed, if nothing else is there; an escaped line feed ends no line
+-- a text in `''` without the spaces after its last line feed, if nothing else is there; an escaped line feed ends no line
 abbrev pub without_last_line : List ℕ → List ℕ
 without_last_line text = if last_byte (without_escapes (trimmed text)) == 10 then without_last_spaces text else text
 
@@ -37,7 +37,7 @@ pub record IsLetter (text : List ℕ) (letter : ℕ) (rest : List ℕ) : Type 0 
   pub split : without_escapes text ≡ letter ∷ without_escapes rest
   pub shorter : length rest < length text
 
--- the parts; the last, if it is a literal, without the spaces behind its last line feed, if nothing else is there
+-- the parts; the last, if it is a literal, without the spaces after its last line feed, if nothing else is there
 unfoldable pub ended : {I : Type 0} → Parts I → Parts I
 ended [] = []
 ended (Literal text ∷ []) = Literal (without_last_line text) ∷ []
@@ -55,7 +55,7 @@ dedented n parts = with_texts (flat_map (shortened n) (lines (symbols 0 parts)))
 abbrev pub indented_value : {I : Type 0} → Parts I → Parts I
 indented_value parts = dedented (value_indentation (opened parts)) (map (with_text (unescaped true)) (ended (opened parts)))
 
--- a text between `"` in which a carriage return, with a line feed behind it or without, is a line feed; a byte that a backslash precedes stays
+-- a text between `"` in which a carriage return, with a line feed after it or without, is a line feed; a byte that a backslash precedes stays
 unfoldable pub fed : Bool → List ℕ → List ℕ
 fed is_escaped [] = []
 fed true (b ∷ text) = b ∷ fed false text

@@ -7,7 +7,7 @@ const CHAINS: u64 = 10_000;
 
 const OFFSETS: u64 = 100_000;
 
-// The next of a row of numbers without a pattern.
+// The next of a sequence of numbers without a pattern.
 fn next_number(number: u64) -> u64 {
     number
         .wrapping_mul(6_364_136_223_846_793_005)
@@ -39,7 +39,7 @@ pub fn count_range_bytes(root: &SyntaxNode<'_>) -> usize {
     bytes
 }
 
-/// How many bytes of tokens stand at some offsets.
+/// How many bytes of tokens are at some offsets.
 pub fn look_up(root: &SyntaxNode<'_>) -> usize {
     let range = root.text_range();
     let (mut number, mut bytes): (u64, usize) = (1, 0);
@@ -55,7 +55,7 @@ pub fn look_up(root: &SyntaxNode<'_>) -> usize {
     bytes
 }
 
-/// How many nodes stand around the tokens at some offsets.
+/// How many nodes are around the tokens at some offsets.
 pub fn follow_parents(root: &SyntaxNode<'_>) -> usize {
     let range = root.text_range();
     let (mut number, mut nodes): (u64, usize) = (1, 0);

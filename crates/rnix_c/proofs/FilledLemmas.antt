@@ -14,7 +14,7 @@ filled-beyond zero things (r ∷ room) l = absurd (omega arith)
 filled-beyond (suc n) [] (r ∷ room) l = refl
 filled-beyond (suc n) (x ∷ things) (r ∷ room) l = ap (λ rest. x ∷ rest) (filled-beyond n things room (omega arith))
 
--- once n are written, the next is written behind them
+-- once n are written, the next is written after them
 filled-suc : {A : Type 0} → (n : ℕ) (things room : List A) (x : A) → n < length things → n < length room → x ≡ get_or things n x
     → set (filled (take n things) room) n x ≡ filled (take (suc n) things) room
 filled-suc n [] room x l m e = absurd (omega arith)

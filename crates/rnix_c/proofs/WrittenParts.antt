@@ -22,6 +22,6 @@ module _ (n before : ℕ) (parts : Parts Located) (part : InterpolPart (List ℕ
   pub next_is : part_at before part ≡ get_or (parts_from 0 parts) n (part_at before part)
   next_is = cc both
 
-  -- behind it the list goes on with the other parts
+  -- after it the list continues with the other parts
   pub rest_is : drop (n + 1) (parts_from 0 parts) ≡ parts_from (end_after before part) (drop (n + 1) parts)
   rest_is = ap (λ k. drop k (parts_from 0 parts)) (add-one n) ∙ (cc both) ∙ ap (λ k. parts_from (end_after before part) (drop k parts)) (sym (add-one n))

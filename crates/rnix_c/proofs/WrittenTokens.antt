@@ -8,7 +8,7 @@ use Rattle.rnix_c.specs.{declared.tokens.RnixToken.{RnixToken}, TokenCalls.{toke
 abbrev HasText : Lexeme → Type 0
 HasText token = 0 < length token.1
 
--- so many tokens of a text are behind, the next begins at an offset, and these are left
+-- so many tokens of a text are passed, the next begins at an offset, and these are left
 pub record IsAt (text : List ℕ) (remaining : List Lexeme) (count start : ℕ) : Type 0 where
   pub rest : drop count (tokens_written text) ≡ tokens_from start remaining
   pub counted : count + length remaining ≡ length (tokens_written text)
@@ -54,7 +54,7 @@ module _ (text : List ℕ) (kind : SyntaxKind) (token : List ℕ) (remaining : L
   pub ends_inside : start + length token ≤ length text
   ends_inside = omega (arith, h.fits, length-append token (flat_map text_of remaining))
 
-  -- behind it the others are left
+  -- after it the others are left
   pub at_next : IsAt text remaining (count + 1) (start + length token)
   at_next = record {
     rest = ap (λ n. drop n (tokens_written text)) (add-one count) ∙ (cc cut);

@@ -14,7 +14,7 @@ parent_or_none (Some number) = number
 abbrev pub range_of : Item → RnixRange
 range_of i = record { start = i.start; end = i.end }
 
--- what is written of an element but for its range
+-- what is written of an element except for its range
 abbrev pub link_of : Item → RnixLink
 link_of i = record { parent = parent_or_none i.parent; inside = i.below; kind = discriminant_of i.kind; is_token = cond i.is_node 0 1 }
 

@@ -33,7 +33,7 @@ literal_text (Interpolation node) = []
 abbrev pub string_text : Located → List ℕ
 string_text string = flat_map literal_text (normalized_parts string)
 
--- where the string's text ends behind a part, where it ends at an offset before it; no offset is above the largest of 64 bits
+-- where the string's text ends after a part, where it ends at an offset before it; no offset is above the largest of 64 bits
 abbrev pub end_after : ℕ → InterpolPart (List ℕ) Located → ℕ
 end_after before (Literal text) = min (before + length text) (2 ^ 64 - 1)
 end_after before (Interpolation node) = before

@@ -81,7 +81,7 @@ inside_tested root old other new taken same remaining added comes is tested =
     (λ after. record { added = added; fits = passed.0.0; token = passed.0.1; after = after ∙ passed.1 })
     (λ h. h.after ∙ sym passed.1) tested
 
--- the tests of a tree without a node, behind which comments were taken
+-- the tests of a tree without a node, after which comments were taken
 pub without_tested : (root : Located) (old : NodeRange) (comments : ℕ) (other : Located) (remaining : List Step) (taken same : Bool) →
     AreCommentsTaken taken comments (steps_after old root) remaining → taken ≡ true → Decides same (steps_in other ≡ steps_before old root ++ remaining) →
     Decides same (IsWithout root old comments other)

@@ -43,7 +43,7 @@ passed_leave target spot rest other later = record {
   remaining = ap (λ b. b || is_exited target rest) other ∙ later.remaining;
 }
 
--- and so where the elements of a row come first
+-- and so where the elements of a forest come first
 passed_row : (target : NodeRange) (t : Tree) (n : ℕ) (f : Forest) (rest : List Event) → IsPassed target rest →
     IsPassed target (map (event_at t) (steps_from n f) ++ rest)
 passed_row target t n empty rest later = later
@@ -99,7 +99,7 @@ counted_both n (suc a) b =
     let from : n + 1 + a ≡ n + suc a = omega arith in
     ap (counted n) count ∙ ap (λ ns. n ∷ ns) (counted_both (n + 1) a b ∙ ap (λ m. counted (n + 1) a ++ counted m b) from)
 
--- the node at a place is left in the walk over a row just if it is one of the elements there
+-- the node at a place is left in the walk over a forest just if it is one of the elements there
 exited_siblings : (target : NodeRange) (t : Tree) (n : ℕ) (f : Forest) →
     is_exited target (map (event_at t) (steps_from n f)) ≡ list_any (is_at target) (nodes_in (map (spot_at t) (counted n (element_count f))))
 exited_siblings target t n empty = refl
@@ -129,7 +129,7 @@ exited_siblings target t n (node k c f) =
     swap false true c = refl
     swap false false c = refl
 
--- there are no nodes behind the last element
+-- there are no nodes after the last element
 no_nodes : (t : Tree) (n k : ℕ) → length (items_of t) ≤ n → nodes_in (map (spot_at t) (counted n k)) ≡ []
 no_nodes t n zero beyond = refl
 no_nodes t n (suc k) beyond =

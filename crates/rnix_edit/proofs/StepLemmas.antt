@@ -57,7 +57,7 @@ both_passed x y a b all_a all_b first second same rests = cc
 pub both_remaining : (x y : Step) (a b all_a all_b : List Step) → all_a ≡ x ∷ a → all_b ≡ y ∷ b → all_a ≡ all_b → a ≡ b
 both_remaining x y a b all_a all_b first second same = cc
 
--- the steps of one walk go on with those of another just if what was left of both does
+-- the steps of one walk continue with those of another just if what was left of both does
 pub record GoesOn (first all first_remaining all_remaining : List Step) : Type 0 where
   pub there : (rest : List Step) → all_remaining ≡ first_remaining ++ rest → all ≡ first ++ rest
   pub back : (rest : List Step) → all ≡ first ++ rest → all_remaining ≡ first_remaining ++ rest

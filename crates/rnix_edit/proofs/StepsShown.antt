@@ -67,7 +67,7 @@ step_taken first all x y a b all_a all_b so_far one two same = record {
       cc;
 }
 
--- the second one goes on with what is left of the first one just if all of it begins with all of that
+-- the second one continues with what is left of the first one just if all of it begins with all of that
 pub alike_goes_on : (a b a_remaining b_remaining first all : List Step) → GoOnAlike a b a_remaining b_remaining → GoesOn first all a b
     → GoesOn first all a_remaining b_remaining
 alike_goes_on a b a_remaining b_remaining first all h so_far = record {
@@ -78,7 +78,7 @@ alike_goes_on a b a_remaining b_remaining first all h so_far = record {
       (sym h.second ∙ so_far.back rest e ∙ ap (λ steps. steps ++ rest) h.first ∙ append_assoc h.front a_remaining rest);
 }
 
--- walks that pass events that show the same go on by the same steps
+-- walks that pass events that show the same continue by the same steps
 go_on_alike : (passed twins a b a_remaining b_remaining : List Event) → map shown_of passed ≡ map shown_of twins → a ≡ passed ++ a_remaining
     → b ≡ twins ++ b_remaining
     → GoOnAlike (steps_of a) (steps_of b) (steps_of a_remaining) (steps_of b_remaining)
@@ -164,7 +164,7 @@ as_passed before other_before (Some true) a b a_remaining b_remaining h = record
 
 -- what is left of two walks that passed alike events
 module _ (before other_before : ℕ) (a b a_remaining b_remaining : List Event) (h : ArePassed before other_before a b a_remaining b_remaining) where
-  -- goes on alike
+  -- continues alike
   pub passed_alike : GoOnAlike (steps_of a) (steps_of b) (steps_of a_remaining) (steps_of b_remaining)
   passed_alike = go_on_alike h.passed h.twins a b a_remaining b_remaining h.alike h.first h.second
 

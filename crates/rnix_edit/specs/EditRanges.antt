@@ -1,4 +1,4 @@
--- Which bytes an edit removes, and where it puts a new text.
+-- Which bytes an edit removes, and where it inserts a new text.
 use Rattle.std.specs.Prelude.{ℕ, ◌==◌, nat_lt, ◌&&◌, ◌||◌, List, [], ◌++◌, codes, Option, Some, None, if◌then◌else◌}
 use Rattle.rnix_green.specs.Tree.{Located, item_of}
 use Rattle.rnix_edit.specs.Blanks.{begins_line, blanks_start, blanks_before, blanks_end, line_break_before, is_opened}
@@ -10,16 +10,16 @@ use Rattle.rnix_edit.specs.declared.line.RestOfLine.{RestOfLine}
 abbrev pub cut : ℕ → ℕ → ℕ → Cut
 cut start end comments = record { start = start; end = end; comments = comments }
 
--- what goes with a node that something else follows on its line: the blanks before it if none follow it; else those after it, if there are
--- some before it too or an opening bracket is there; else none
+-- what goes with a node that is followed by more than comments on its line: the blanks before it if none follow it; those after it, if there are
+-- some before it too or an opening bracket precedes it; otherwise none
 abbrev pub cut_in_line : List ℕ → ℕ → ℕ → Cut
 cut_in_line text start end =
     if blanks_end text end == end then cut (blanks_start text start) end 0
     else (if nat_lt (blanks_start text start) start || is_opened text start then cut start (blanks_end text end) 0
     else cut start end 0)
 
--- what goes with a node that nothing but comments follows on its line: the whole line, with its line break, if the node is the first in it;
--- else the blanks before the node, the node and the comments
+-- what goes with a node that is followed only by comments on its line: the whole line, with its line break, if the node is the first in it;
+-- otherwise the blanks before the node, the node and the comments
 abbrev pub cut_with_rest : List ℕ → ℕ → RestOfLine → Cut
 cut_with_rest text start rest =
     if begins_line text (blanks_start text start) then cut (blanks_start text start) rest.next_line rest.comments
@@ -34,7 +34,7 @@ cut_of_range text start end (Some rest) = cut_with_rest text start rest
 abbrev pub cut_of : List ℕ → Located → Cut
 cut_of text node = cut_of_range text (item_of node).start (item_of node).end (rest_of_line node)
 
--- a gap in a text for a new text: the bytes from start up to end, in whose place others are put before and after the new text; and the number of
+-- a gap for a new text: the bytes from start up to end, what replaces them before and after the new text, and the number of
 -- comments between a node and the gap
 pub record Gap : Type 0 where
   pub start : ℕ
@@ -57,8 +57,8 @@ gap_on_next_line text start rest = record {
   comments = rest.comments;
 }
 
--- the gap after a node, by its range and by what follows it on its line: on the next line if the node is the first in its line, and nothing but
--- comments follows it there
+-- the gap after a node, by its range and by what follows it on its line: on the next line if the node is the first in its line and only
+-- comments follow it there; otherwise at its end
 abbrev pub gap_after_range : List ℕ → ℕ → ℕ → Option RestOfLine → Gap
 gap_after_range text start end None = gap_in_line end
 gap_after_range text start end (Some rest) = if begins_line text (blanks_start text start) then gap_on_next_line text start rest else gap_in_line end
@@ -81,7 +81,7 @@ gap_above text closing = record {
 abbrev pub gap_before : List ℕ → ℕ → Gap
 gap_before text closing = record { start = blanks_start text closing; end = closing; before = codes " "; after = codes " "; comments = 0 }
 
--- the gap before the closing bracket of a node that begins at an offset: above the bracket's line if that begins in the node, with the bracket
+-- the gap before the closing bracket of a node that begins at an offset: above the bracket's line if that line begins inside the node, with the bracket
 abbrev pub gap_at_closing : List ℕ → ℕ → ℕ → Gap
 gap_at_closing text start closing =
     if begins_line text (blanks_start text closing) && nat_lt start (blanks_start text closing) then gap_above text closing else gap_before text closing

@@ -1,4 +1,4 @@
--- The new text of an edit: read again, it has the old tree around the edited place.
+-- The new text of an edit: parsed again, it has the old tree around the edited place.
 use Rattle.std.specs.Prelude.{◌≡◌, ◌≢◌, ℕ, ◌+◌, ◌≤◌, true, List, [], ◌++◌, length, take, drop, string_bytes}
 use Rattle.std.specs.List.{list_all}
 use Rattle.rnix_kinds.specs.declared.kinds.SyntaxKind.{SyntaxKind}
@@ -26,18 +26,18 @@ pub record IsAround (root : Located) (old : NodeRange) (other : Located) (new : 
   pub before : steps_before new other ≡ steps_before old root
   pub after : steps_after new other ≡ steps_after old root
 
--- a tree is another one without the node at a place and this number of comments after it, white space aside
+-- a tree is another one without the node at a place and so many comments after it, white space aside
 pub record IsWithout (root : Located) (old : NodeRange) (comments : ℕ) (other : Located) : Type 0 where
   pub fits : comments ≤ length (steps_after old root)
   pub are_comments : list_all is_comment (take comments (steps_after old root)) ≡ true
   pub rest : steps_in other ≡ steps_before old root ++ drop comments (steps_after old root)
 
--- a node is at a place of a tree, and without it that is another tree, white space aside
+-- a node is at a place of a tree, and the tree without it is another tree, white space aside
 pub record IsWith (root other : Located) (new : NodeRange) : Type 0 where
   pub is_there : has_node new other ≡ true
   pub rest : steps_in root ≡ steps_before new other ++ steps_after new other
 
--- such a node comes right after a node of the other tree and this number of comments
+-- such a node comes right after a node of the other tree and so many comments
 pub record IsAfter (root : Located) (old : NodeRange) (comments : ℕ) (other : Located) (new : NodeRange) : Type 0 where
   pub added : IsWith root other new
   pub fits : comments ≤ length (steps_after old root)
@@ -56,29 +56,29 @@ pub record IsLastIn (root : Located) (old : NodeRange) (other : Located) (new : 
 abbrev pub root_in : Tree → Located
 root_in tree = record { tree = tree; number = 0 }
 
--- the place at which a new node is read
+-- the place of a new node
 abbrev pub node_range_at : SyntaxKind → ℕ → List ℕ → NodeRange
 node_range_at kind start new = record { kind = kind; start = start; len = length new }
 
--- a text is read without errors, as a tree whose root satisfies `so`
+-- a text has no errors, and the root of its tree satisfies `so`
 pub record IsReadSo (text : List ℕ) (so : Located → Type 0) : Type 0 where
   pub tree : Tree
   pub is_read : IsParsed (tokens_of text) tree []
   pub is_so : so (root_in tree)
 
--- a text is read without errors, as a tree whose root does not satisfy `so`
+-- a text has no errors, and the root of its tree does not satisfy `so`
 pub record IsReadOtherwise (text : List ℕ) (so : Located → Type 0) : Type 0 where
   pub tree : Tree
   pub is_read : IsParsed (tokens_of text) tree []
   pub is_not : ¬ so (root_in tree)
 
--- a text is read with errors
+-- a text has errors
 pub record IsReadWithErrors (text : List ℕ) : Type 0 where
   pub read : Reading
   pub is_read : IsParsed (tokens_of text) read.tree read.faults
   pub some : read.faults ≢ []
 
--- the text with one range replaced is read without errors, as a tree whose root satisfies `so`
+-- the text with one range replaced has no errors, and the root of its tree satisfies `so`
 pub record IsMade (text : List ℕ) (start end : ℕ) (new : List ℕ) (so : Located → Type 0) (made : List ℕ) : Type 0 where
   pub made_is : made ≡ spliced text start end new
   pub read : IsReadSo made so
@@ -89,11 +89,11 @@ IsHindered refusal.NotInText text start end new so = ¬ (IsInside text start end
 IsHindered refusal.HasErrors text start end new so = IsReadWithErrors (spliced text start end new)
 IsHindered refusal.ReadOtherwise text start end new so = IsReadOtherwise (spliced text start end new) so
 
--- the root is that of the tree with a new node of a kind in place of the other one
+-- the root is that of the tree with a new node of the kind in place of another one
 abbrev pub IsTreeReplaced : Located → Located → SyntaxKind → List ℕ → Located → Type 0
 IsTreeReplaced root node kind new other = IsAround root (node_range_of node) other (node_range_at kind (item_of node).start new)
 
--- the text with a new text in place of that of a node: it is one node of the kind, and the tree around it is as before
+-- the text with a new text in place of a node: the new text is one node of the kind, and the tree around it is as before
 abbrev pub IsReplaced : List ℕ → Located → Located → SyntaxKind → List ℕ → List ℕ → Type 0
 IsReplaced text root node kind new made =
     IsMade text (item_of node).start (item_of node).end new (IsTreeReplaced root node kind new) made

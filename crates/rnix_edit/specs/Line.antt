@@ -21,12 +21,12 @@ abbrev pub second_line : Located → Option ℕ
 second_line e =
     if nat_lt (position_or_len is_feed (text_at e)) (length (text_at e)) then Some ((item_of e).end - length (after_first is_feed (text_at e))) else None
 
--- what a token is for its line, by its kind and by where its second line begins
+-- how a token counts for its line, by its kind and by where its second line begins
 abbrev pub token_part : SyntaxKind → Option ℕ → Part
 token_part kind None = if same_kind kind k.TOKEN_WHITESPACE then part.Blanks else (if same_kind kind k.TOKEN_COMMENT then part.Comment else part.Other)
 token_part kind (Some next) = if same_kind kind k.TOKEN_WHITESPACE then part.LineBreak next else part.Other
 
--- what an element is for its line
+-- how an element counts for its line
 abbrev pub part_of : Spot → Part
 part_of spot = if spot.0 then part.Other else token_part (item_of spot.1).kind (second_line spot.1)
 
@@ -50,15 +50,15 @@ siblings_after e = drop 1 (siblings_of Next e)
 abbrev pub rest_of_line : Located → Option RestOfLine
 rest_of_line node = rest_from (siblings_after node) 0 (item_of node).end
 
--- where an element begins if it is a token, and else another offset
+-- where an element begins if it is a token, otherwise another offset
 abbrev pub token_start : ℕ → Spot → ℕ
 token_start end spot = if spot.0 then end else (item_of spot.1).start
 
--- where the last of some elements begins if it is a token, and else where their node ends
+-- where the last of some elements begins if it is a token, otherwise where their node ends
 abbrev pub closing_from : List Spot → ℕ → ℕ → ℕ
 closing_from [] end closing = closing
 closing_from (spot ∷ spots) end closing = closing_from spots end (token_start end spot)
 
--- where the last token of a node begins if the node ends with one, and else where the node ends
+-- where the last token of a node begins if the node ends with one, otherwise where the node ends
 abbrev pub closing_start : Located → ℕ
 closing_start node = closing_from (children_of node) (item_of node).end (item_of node).end

@@ -12,7 +12,7 @@ use Rattle.rnix_tree.specs.WalksAlike.{shown_of, EndsBefore}
 use Rattle.rnix_edit.specs.declared.node_range.NodeRange.{NodeRange}
 use Rattle.rnix_edit.specs.declared.steps.Step.{Step as Made}
 
--- a node is entered or left, and then has no text, or a token is passed
+-- a node is entered or left, which shows no text, or a token is passed
 pub record Step : Type 0 where
   pub enters : Bool
   pub kind : SyntaxKind
@@ -38,7 +38,7 @@ token_step kind text = record { enters = true; kind = kind; text = text }
 abbrev pub token_steps : SyntaxKind → List ℕ → List Step
 token_steps kind text = if same_kind kind k.TOKEN_WHITESPACE then [] else token_step kind text ∷ []
 
--- the step of an event of a walk: none for white space, and none where a token is left
+-- the step of an event of a walk: none for white space, and none when a token is left
 abbrev pub step_at : Event → List Step
 step_at event =
     if event.1.0 then node_step event.0 (item_of event.1.1).kind ∷ []
@@ -56,7 +56,7 @@ steps_in root = steps_of (preorder_of root)
 abbrev pub node_range_of : Located → NodeRange
 node_range_of e = record { kind = (item_of e).kind; start = (item_of e).start; len = (item_of e).end - (item_of e).start }
 
--- two places are one
+-- two places are the same
 abbrev pub same_node_range : NodeRange → NodeRange → Bool
 same_node_range a b = same_kind a.kind b.kind && (a.start == b.start && a.len == b.len)
 
@@ -112,25 +112,25 @@ abbrev pub enters_first : List Step → Bool
 enters_first [] = false
 enters_first (step ∷ steps) = step.enters
 
--- so many steps come first, all of which pass comments
+-- the first steps pass so many comments
 abbrev pub AreComments : ℕ → List Step → Type 0
 AreComments count all = (count ≤ length all) × (list_all is_comment (take count all) ≡ true)
 
--- whether so many comments come first; if so, they were taken, and these steps are left
+-- whether so many comments come first; if so, they were passed, and these steps are left
 pub record AreCommentsTaken (taken : Bool) (count : ℕ) (all remaining : List Step) : Type 0 where
   pub passed : taken ≡ true → AreComments count all × (remaining ≡ drop count all)
   pub found : AreComments count all → taken ≡ true
 
--- two steps come first, and the first one enters an element
+-- the first two steps are these, and the first of them enters an element
 abbrev pub IsClosing : List Step → Type 0
 IsClosing all = (2 ≤ length all) × (enters_first all ≡ true)
 
--- whether these two come first; if so, they were taken, and these steps are left
+-- whether the first two steps are these; if so, they were passed, and these steps are left
 pub record IsClosingTaken (taken : Bool) (all remaining : List Step) : Type 0 where
   pub passed : taken ≡ true → IsClosing all × (remaining ≡ drop 2 all)
   pub found : IsClosing all → taken ≡ true
 
--- whether steps begin with some others; if so, these were taken, and what is left
+-- whether steps begin with some others; if so, these were passed, and what is left
 pub record AreTaken (taken : Bool) (first all remaining : List Step) : Type 0 where
   pub passed : taken ≡ true → all ≡ first ++ remaining
   pub found : (rest : List Step) → all ≡ first ++ rest → taken ≡ true

@@ -1,4 +1,4 @@
--- A text with one change that was read again.
+-- A text that was parsed again after one change.
 use Rattle.std.specs.Prelude.{◌≡◌, ℕ, Bool, true, false, List, [], string_bytes}
 use Rattle.rnix_kinds.specs.Lexical.Tokens.{tokens_of}
 use Rattle.rnix_grammar.specs.Parsed.{IsParsed}
@@ -14,23 +14,23 @@ use Rattle.rnix_edit.specs.declared.edited.Refusal.TheVariants as refusal
 use Rattle.rnix_edit.specs.declared.tried.Tried.{Tried}
 use Rattle.rnix_edit.specs.declared.tried.Tried.TheVariants as tried
 
--- whether an edit was refused for want of memory
+-- whether an edit was refused for lack of memory
 abbrev pub is_memory : EditError → Bool
 is_memory cause.Memory = true
 is_memory _ = false
 
--- a text is read without errors, and this is its reading
+-- a text has no errors, and this is its reading
 pub record IsReadAs (text : List ℕ) (read : Reading) : Type 0 where
   pub is_read : IsParsed (tokens_of text) read.tree read.faults
   pub none : read.faults ≡ []
 
--- why the text with a change is not read without errors
+-- why the changed text has errors
 abbrev pub IsUnread : Refusal → List ℕ → ℕ → ℕ → List ℕ → Type 0
 IsUnread refusal.NotInText text start end new = ¬ (IsInside text start end × IsBetween text start end)
 IsUnread refusal.HasErrors text start end new = IsReadWithErrors (spliced text start end new)
 IsUnread refusal.ReadOtherwise text start end new = ⊥
 
--- the new text, if there is one, is this text with its reading
+-- the new text, if there is one, is this text, with its reading
 abbrev pub IfRead : List ℕ → Tried → Type 0
 IfRead text (tried.Read made read) = (string_bytes made ≡ text) × IsReadAs text read
 IfRead text (tried.Refused refusal) = Unit {0}

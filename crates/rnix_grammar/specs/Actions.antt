@@ -1,4 +1,4 @@
--- What is done at each position, by the next token that is not trivia.
+-- What the reader does at each position, by the next item.
 use Rattle.std.specs.Prelude.{ℕ, Bool, true, false, ◌+◌, ◌&&◌, Option, Some, None, if◌then◌else◌, nat_le, nat_eq}
 use Rattle.rnix_kinds.specs.declared.kinds.SyntaxKind.{SyntaxKind}
 use Rattle.rnix_kinds.specs.declared.kinds.SyntaxKind.TheVariants.{TOKEN_R_PAREN, TOKEN_L_PAREN, TOKEN_L_BRACE, TOKEN_R_BRACE, TOKEN_SEMICOLON, TOKEN_ASSIGN, TOKEN_COLON, TOKEN_COMMA, TOKEN_THEN, TOKEN_ELSE, TOKEN_INTERPOL_END, TOKEN_INHERIT, TOKEN_STRING_START, TOKEN_STRING_CONTENT, TOKEN_STRING_END, TOKEN_INTERPOL_START, TOKEN_PATH_ABS, TOKEN_PATH_REL, TOKEN_PATH_HOME, TOKEN_IDENT, TOKEN_OR, TOKEN_CUR_POS, TOKEN_DOT, TOKEN_ELLIPSIS, TOKEN_AT, TOKEN_QUESTION, NODE_INHERIT, NODE_ATTRPATH_VALUE, NODE_ATTRPATH, NODE_INTERPOL, NODE_DYNAMIC, NODE_STRING, NODE_IDENT, NODE_INHERIT_FROM, NODE_PAT_BIND, NODE_PAT_ENTRY, NODE_PATTERN, NODE_ERROR, NODE_SELECT, NODE_HAS_ATTR, NODE_BIN_OP}
@@ -18,7 +18,7 @@ use Rattle.rnix_grammar.specs.declared.action.Action.TheVariants as a
 use Rattle.rnix_grammar.specs.Levels.{has_attr_level, application_level, binding_power, right_of, max_bp_of}
 use Rattle.rnix_grammar.specs.Slots.{slot_at}
 
--- what an error says is wanted where a child of a kind is missing
+-- what an error lists as wanted where a child of a kind is missing
 abbrev pub expected_set_of : SyntaxKind → ExpectedSet
 expected_set_of TOKEN_R_PAREN = u.RParen
 expected_set_of TOKEN_L_BRACE = u.LBrace
@@ -41,17 +41,17 @@ abbrev pub name_action : ℕ → ℕ → SyntaxKind → Action
 name_action index after TOKEN_IDENT = a.Leaf NODE_IDENT after
 name_action index after kind = a.Run u.Ident index
 
--- where a child of a kind is wanted: a token, or a name
+-- where a child of a kind is wanted, which is a token or a name
 abbrev pub wanted_action : SyntaxKind → ℕ → ℕ → Option SyntaxKind → Action
 wanted_action wanted index after None = a.MissWanted (expected_set_of wanted) after
 wanted_action wanted index after (Some kind) = if same_kind wanted NODE_IDENT then name_action index after kind else token_action wanted index after kind
 
--- where more operands of a level may stand, or what closes the row
+-- where more operands of a level may be, or what closes the row
 abbrev pub many_action : ℕ → SyntaxKind → ℕ → ℕ → Option SyntaxKind → Action
 many_action level closer index after None = a.Miss after
 many_action level closer index after (Some kind) = if same_kind closer kind then a.Take after else a.Read level true index
 
--- where more entries of a set or of bindings may stand, or what closes the row
+-- where more entries of a set or of bindings may be, or what closes the row
 abbrev pub entries_action : SyntaxKind → ℕ → ℕ → Option SyntaxKind → Action
 entries_action closer index after None = a.Miss after
 entries_action closer index after (Some TOKEN_INHERIT) = a.Open NODE_INHERIT INHERIT index
@@ -73,7 +73,7 @@ piece_action index (Some TOKEN_PATH_HOME) = a.Take index
 piece_action index (Some TOKEN_INTERPOL_START) = a.Open NODE_INTERPOL INTERPOL index
 piece_action index next = a.Close
 
--- where more pieces of a path may stand, by whether the next item touches what is before it
+-- where more pieces of a path may be, by whether the next item touches what is before it
 abbrev pub path_pieces_action : ℕ → Bool → Option SyntaxKind → Action
 path_pieces_action index touches next = if touches then piece_action index next else a.Close
 
@@ -87,7 +87,7 @@ attr_action again after (Some TOKEN_OR) = a.Leaf NODE_IDENT after
 attr_action again after (Some TOKEN_CUR_POS) = a.Leaf NODE_IDENT after
 attr_action again after (Some kind) = a.Run u.Attr again
 
--- where more inherited names may stand, or `;`
+-- where more inherited names may be, or `;`
 abbrev pub names_action : ℕ → ℕ → Option SyntaxKind → Action
 names_action index after None = a.Miss after
 names_action index after (Some kind) = if same_kind kind TOKEN_SEMICOLON then a.Take INHERIT_CLOSED else attr_action INHERITED_NAME index (Some kind)
@@ -103,7 +103,7 @@ abbrev pub more_attrs_action : Option SyntaxKind → Action
 more_attrs_action (Some TOKEN_DOT) = a.Take ATTRPATH
 more_attrs_action next = a.Close
 
--- inside the braces of a pattern, where a formal may stand, by whether a name is bound before them
+-- inside the braces of a pattern, where a formal may be, by whether a name is bound before them
 abbrev pub formals_action : Bool → ℕ → Option SyntaxKind → Action
 formals_action bound after None = a.MissWanted u.Entry after
 formals_action bound after (Some TOKEN_R_BRACE) = a.Take after
@@ -143,7 +143,7 @@ abbrev pub end_action : Option SyntaxKind → Action
 end_action None = a.Finish
 end_action (Some kind) = a.Extra
 
--- a child that is there whenever its node is
+-- a child that every such node has
 abbrev pub child_action : ℕ → Option SyntaxKind → Action
 child_action after None = a.Miss after
 child_action after (Some kind) = a.Take after
@@ -180,18 +180,18 @@ part_action r.BoundAlready index next touches = bound_action (index + 1) next
 part_action r.TextEnd index next touches = end_action next
 part_action part index next touches = child_action (index + 1) next
 
--- what goes on with an operand
+-- what continues an operand
 abbrev pub continue_action : SyntaxKind → Action
 continue_action TOKEN_DOT = a.Wrap NODE_SELECT (p.InRow SELECT) application_level
 continue_action TOKEN_OR = a.ApplyOr
 continue_action TOKEN_QUESTION = a.Wrap NODE_HAS_ATTR (p.InRow HAS_ATTR) has_attr_level
 continue_action kind = if is_fn_arg kind then a.Apply else a.Wrap NODE_BIN_OP (p.Right (right_of kind)) (max_bp_of kind)
 
--- an operator goes on whose level is between these
+-- an operator continues an operand if its level is between these
 abbrev pub may_continue : ℕ → ℕ → SyntaxKind → Bool
 may_continue min_bp max_bp kind = nat_le 1 (binding_power kind) && (nat_le min_bp (binding_power kind) && nat_le (binding_power kind) max_bp)
 
--- after an operand: what goes on with it at a level between two, or its end
+-- after an operand: what continues it at a level between two, or its end
 abbrev pub more_action : ℕ → ℕ → Option SyntaxKind → Action
 more_action min_bp max_bp None = a.EndOperand
 more_action min_bp max_bp (Some kind) = if may_continue min_bp max_bp kind then continue_action kind else a.EndOperand
@@ -206,7 +206,7 @@ slot_action (Some (End kind)) index next touches = close_action kind
 abbrev pub action_at_slot : ℕ → Option SyntaxKind → Bool → Action
 action_at_slot index next touches = slot_action (slot_at index) index next touches
 
--- what is done at a position, by the next token that is not trivia, and by whether it touches the one before
+-- the action at a position, by the next item and by whether it touches the one before
 abbrev pub action_at : Position → Option SyntaxKind → Bool → Action
 action_at (p.InRow index) next touches = action_at_slot index next touches
 action_at (p.AfterOperand min_bp max_bp) next touches = more_action min_bp max_bp next

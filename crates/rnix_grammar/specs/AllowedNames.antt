@@ -1,4 +1,4 @@
--- Where which names may stand.
+-- Where each name is allowed.
 use Rattle.std.specs.Prelude.{ℕ, Bool, true, false, List, Option, Some, None, if◌then◌else◌}
 use Rattle.rnix_kinds.specs.declared.kinds.SyntaxKind.{SyntaxKind}
 use Rattle.rnix_kinds.specs.declared.kinds.SyntaxKind.TheVariants.{TOKEN_CUR_POS, NODE_CUR_POS, NODE_IDENT}
@@ -22,11 +22,11 @@ abbrev pub is_position : SyntaxKind → List ℕ → Bool
 is_position TOKEN_CUR_POS text = true
 is_position kind text = is_cur_pos text
 
--- the name may be an argument: each may but `__curPos`
+-- the name may be an argument: any may, except `__curPos`
 abbrev pub is_called : Token → Bool
 is_called t = if is_or t.kind then true else (if is_cur_pos t.text then false else true)
 
--- the name may stand where this is left of a row
+-- the name is allowed where this is left of a row
 abbrev pub is_name_at : Row → Token → Bool
 is_name_at (Attr · r) t = true
 is_name_at (Names · r) t = true
@@ -37,7 +37,7 @@ is_name_at (Argument · r) t = is_called t
 is_name_at (r or s) t = is_name_at r t
 is_name_at r t = is_plain t
 
--- a token may be that of a name or of the current position where a row goes on
+-- a token may be that of a name or of the current position where this is left of a row
 abbrev pub is_named_by : Row → SyntaxKind → Token → Bool
 is_named_by q NODE_IDENT t = is_name_at q t
 is_named_by q NODE_CUR_POS t = is_position t.kind t.text
@@ -48,6 +48,6 @@ abbrev pub is_named_in : Row → SyntaxKind → Option Token → Bool
 is_named_in q kind None = true
 is_named_in q kind (Some t) = is_named_by q kind t
 
--- a node where a row goes on is a name or the current position only where its token may be one
+-- a node is a name or the current position only if its token may be one where this is left of a row
 abbrev pub is_named : Row → SyntaxKind → AnnotatedForest → Bool
 is_named q kind c = is_named_in q kind (only_token c)

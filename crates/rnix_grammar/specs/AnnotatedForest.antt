@@ -1,4 +1,4 @@
--- Trees as they are read: each leaf keeps the token that it stands for, and each error node says what it is.
+-- Annotated trees: each leaf keeps its token, and each error node says why it is there.
 use Rattle.std.specs.Prelude.{◌≡◌, ℕ, ◌+◌, Bool, true, false, List, [], ◌∷◌, ◌++◌, Option, Some, None, length, nat_eq}
 use Rattle.rnix_kinds.specs.declared.kinds.SyntaxKind.{SyntaxKind}
 use Rattle.rnix_kinds.specs.declared.kinds.SyntaxKind.TheVariants.{TOKEN_IDENT, TOKEN_OR, TOKEN_CUR_POS, NODE_IDENT, NODE_CUR_POS, NODE_ERROR}
@@ -19,13 +19,13 @@ pub record Token : Type 0 where
 abbrev pub lexeme_of : Token → Lexeme
 lexeme_of t = (t.kind, t.text)
 
--- tokens one after another, the first at the given offset
+-- tokens with their ranges, one after another, the first at the given offset
 abbrev pub placed_from : ℕ → List Lexeme → List Token
 placed_from n [] = []
 placed_from n (l ∷ ls) = record { kind = l.0; text = l.1; start = n; end = n + length l.1 } ∷ placed_from (n + length l.1) ls
 
--- what an error node is: a token that begins no operand, a run of tokens where others are wanted,
--- the tokens behind the root's expression, a second name of a pattern, the tokens that are nested too deep
+-- why an error node is there: a token that begins no operand, a run of tokens where others are wanted,
+-- the tokens after the root's expression, a second name of a pattern, the tokens that are nested too deep
 pub data Note : Type 0 where
   Stray : Note
   Unwanted : ExpectedSet → Note
@@ -33,14 +33,14 @@ pub data Note : Type 0 where
   DoubleBind : Note
   TooDeep : Note
 
--- a row of trees: a leaf has its kind and its token, an error node has its note
+-- an annotated forest: a leaf has its kind and its token, an error node has its note
 pub data AnnotatedForest : Type 0 where
   blank : AnnotatedForest
   token : SyntaxKind → Token → AnnotatedForest → AnnotatedForest
   branch : SyntaxKind → AnnotatedForest → AnnotatedForest → AnnotatedForest
   fault : Note → AnnotatedForest → AnnotatedForest → AnnotatedForest
 
--- one row behind another
+-- one forest after another
 infixl 20 ◌⊕◌
 abbrev pub ◌⊕◌ : AnnotatedForest → AnnotatedForest → AnnotatedForest
 blank ⊕ g = g
@@ -48,19 +48,19 @@ blank ⊕ g = g
 (branch k c f) ⊕ g = branch k c (f ⊕ g)
 (fault n c f) ⊕ g = fault n c (f ⊕ g)
 
--- a row of one tree
+-- a forest of one tree
 abbrev pub one_token : SyntaxKind → Token → AnnotatedForest
 one_token k t = token k t blank
 
--- a row of one node
+-- a forest of one node
 abbrev pub one_branch : SyntaxKind → AnnotatedForest → AnnotatedForest
 one_branch k c = branch k c blank
 
--- a row of one error node
+-- a forest of one error node
 abbrev pub one_fault : Note → AnnotatedForest → AnnotatedForest
 one_fault n c = fault n c blank
 
--- tokens as a row of leaves of their own kinds
+-- tokens as a forest of leaves of their own kinds
 abbrev pub row_of : List Token → AnnotatedForest
 row_of [] = blank
 row_of (t ∷ ts) = token t.kind t (row_of ts)
@@ -77,14 +77,14 @@ abbrev pub is_some : List Token → Bool
 is_some [] = false
 is_some (t ∷ ts) = true
 
--- the trees alone
+-- the trees without tokens and notes
 abbrev pub forget : AnnotatedForest → Forest
 forget blank = empty
 forget (token k t f) = leaf k t.text (forget f)
 forget (branch k c f) = node k (forget c) (forget f)
 forget (fault n c f) = node NODE_ERROR (forget c) (forget f)
 
--- the kind of a token's leaf below a node: the name `or` is a name like others, and `__curPos` has a kind of its own where it is the
+-- the kind of a token's leaf: `or` as a name is a TOKEN_IDENT like other names, and `__curPos` is a TOKEN_CUR_POS where it is the
 -- current position
 abbrev pub leaf_kind_as : SyntaxKind → SyntaxKind → SyntaxKind
 leaf_kind_as NODE_IDENT TOKEN_OR = TOKEN_IDENT
@@ -92,7 +92,7 @@ leaf_kind_as NODE_IDENT TOKEN_CUR_POS = TOKEN_IDENT
 leaf_kind_as NODE_CUR_POS TOKEN_IDENT = TOKEN_CUR_POS
 leaf_kind_as parent kind = kind
 
--- the kind of a token's leaf below a node of the kind
+-- the kind of a token's leaf below a node of a kind
 abbrev pub leaf_kind : SyntaxKind → Token → SyntaxKind
 leaf_kind parent t = leaf_kind_as parent t.kind
 
@@ -103,7 +103,7 @@ HaveLeafKinds parent (token k t f) = (k ≡ leaf_kind parent t) × HaveLeafKinds
 HaveLeafKinds parent (branch k c f) = HaveLeafKinds k c × HaveLeafKinds parent f
 HaveLeafKinds parent (fault n c f) = HaveLeafKinds NODE_ERROR c × HaveLeafKinds parent f
 
--- a token before a row, unless it is trivia
+-- a token before a forest, unless it is trivia
 abbrev pub token_if : Bool → SyntaxKind → Token → AnnotatedForest → AnnotatedForest
 token_if true k t f = f
 token_if false k t f = token k t f
@@ -139,7 +139,7 @@ kind_in (Some t) = Some t.kind
 abbrev pub head_kind : List Token → Option SyntaxKind
 head_kind ts = kind_in (head_of ts)
 
--- the next item touches what was read last
+-- the next item touches what precedes it
 abbrev pub touches : ℕ → List Token → Bool
 touches n [] = false
 touches n (t ∷ ts) = nat_eq t.start n

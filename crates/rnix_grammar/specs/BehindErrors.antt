@@ -1,11 +1,11 @@
--- Where a row goes on behind an error node.
+-- What is left of a row after an error node.
 use Rattle.std.specs.Prelude.{List, Option, Some, None}
 use Rattle.rnix_kinds.specs.declared.kinds.SyntaxKind.{SyntaxKind}
 use Rattle.rnix_kinds.specs.declared.kinds.SyntaxKind.TheVariants.{NODE_LITERAL}
 use Rattle.rnix_grammar.specs.AnnotatedForest.{Note, Stray, Unwanted, Extra, DoubleBind, TooDeep}
 use Rattle.rnix_grammar.specs.Rules.{Row, never, done, after, run_at}
 
--- what is left after a run of tokens, if one may stand
+-- what is left after a run of unwanted tokens, if one is allowed
 abbrev pub after_run : Option (List SyntaxKind × Row) → Row
 after_run None = never
 after_run (Some w) = w.1

@@ -1,4 +1,4 @@
--- Which children, without trivia, are a row of a node's kind, and which begin one.
+-- Which children, trivia aside, are a row of a node's kind, and which begin one.
 use Rattle.std.specs.Prelude.{◌≡◌, Bool, true, List, [], ◌∷◌}
 use Rattle.rnix_kinds.specs.declared.kinds.SyntaxKind.{SyntaxKind}
 use Rattle.rnix_grammar.specs.Rules.{Row, row, after, may_end}
@@ -8,7 +8,7 @@ abbrev pub after_all : Row → List SyntaxKind → Row
 after_all r [] = r
 after_all r (kind ∷ kinds) = after_all (after r kind) kinds
 
--- these kinds are a row of children of a node of the kind
+-- these kinds of children are a row of a node of the kind
 abbrev pub is_row : SyntaxKind → List SyntaxKind → Bool
 is_row node kinds = may_end (after_all (row node) kinds)
 

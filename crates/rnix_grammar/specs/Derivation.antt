@@ -1,4 +1,4 @@
--- Which expressions of the strict grammar some items have: derivations.
+-- Derivations: the expressions of the strict grammar that some items form.
 use Rattle.std.specs.Prelude.{◌≡◌, ◌≤◌, Bool, true, ◌&&◌, List, [], ◌∷◌, map}
 use Rattle.rnix_kinds.specs.declared.kinds.SyntaxKind.TheVariants.{NODE_ROOT}
 use Rattle.rnix_kinds.specs.SyntaxKind.{is_token}
@@ -11,7 +11,7 @@ use Rattle.rnix_grammar.specs.PathPieces.{ArePaths}
 use Rattle.rnix_grammar.specs.Nest.{nest}
 use Rattle.rnix_grammar.specs.Grammar.{IsExpression}
 
--- the items behind those of a row
+-- the items after those of a forest
 abbrev pub beyond : Forest → List Token → List Token
 beyond empty ts = ts
 beyond (leaf k t f) ts = beyond f (tail_of ts)
@@ -30,8 +30,8 @@ has_tokens_alone empty = true
 has_tokens_alone (leaf k t f) = is_token k && has_tokens_alone f
 has_tokens_alone (node k c f) = has_tokens_alone c && has_tokens_alone f
 
--- A tree is an expression of the strict grammar, nests no more than 512 expressions that count, and has the items as its leaves, one by one; the
--- pieces of its paths touch, and no item that touches a path would go on with it.
+-- The tree is an expression of the strict grammar, nests at most 512 counted expressions, and has the items as its leaves, one by one. The
+-- pieces of its paths touch, and no item that touches a path would continue it.
 pub record IsDerivation (tree : Forest) (ts : List Token) : Type 0 where
   pub strict : IsExpression tree
   pub shallow : nest NODE_ROOT tree ≤ depth_limit

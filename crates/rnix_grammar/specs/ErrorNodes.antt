@@ -1,4 +1,4 @@
--- What error nodes hold, and in which nodes they stand.
+-- What error nodes contain, and which parents they have.
 use Rattle.std.specs.Prelude.{◌≡◌, true, false, List, [], ◌∷◌, Some, length}
 use Rattle.rnix_kinds.specs.declared.kinds.SyntaxKind.{SyntaxKind}
 use Rattle.rnix_kinds.specs.declared.kinds.SyntaxKind.TheVariants.{NODE_ROOT, NODE_PATTERN, NODE_ERROR}
@@ -11,8 +11,8 @@ abbrev pub AreUnwanted : ExpectedSet → List Token → Type 0
 AreUnwanted until [] = Unit {0}
 AreUnwanted until (t ∷ ts) = (stops until (Some t.kind) ≡ false) × AreUnwanted until ts
 
--- In a node of the kind an error node holds some tokens: one, for an operand; some that are not wanted, and none that is; those behind a whole text,
--- in the root; a second name of a pattern, in the pattern; or all that are left where the limit of nesting is met.
+-- An error node below a node of a kind contains one token for an operand; or unwanted tokens, and no wanted one; or, below the root, the tokens after the
+-- expression; or, below a pattern, its second name; or all tokens that are left where the nesting limit is reached.
 abbrev pub IsErrorNode : Note → SyntaxKind → List Token → Type 0
 IsErrorNode Stray parent ts = length ts ≡ 1
 IsErrorNode (Unwanted until) parent ts = (is_some ts ≡ true) × AreUnwanted until ts
@@ -20,7 +20,7 @@ IsErrorNode Extra parent ts = (is_some ts ≡ true) × (parent ≡ NODE_ROOT)
 IsErrorNode DoubleBind parent ts = (is_some ts ≡ true) × (parent ≡ NODE_PATTERN)
 IsErrorNode TooDeep parent ts = Unit {0}
 
--- so it is with each error node of a row of a kind
+-- each error node of a forest, whose parent is of the kind, is such a node
 abbrev pub AreErrorNodes : SyntaxKind → AnnotatedForest → Type 0
 AreErrorNodes parent blank = Unit {0}
 AreErrorNodes parent (token k t f) = AreErrorNodes parent f

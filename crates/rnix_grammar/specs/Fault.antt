@@ -21,7 +21,7 @@ pub data Fault : Type 0 where
   duplicated_args : Extent → List ℕ → Fault
   too_deep : Fault
 
--- the fault that an error of the program stands for
+-- the value of an error of the program
 abbrev pub fault_of : ParseError → Fault
 fault_of (Unexpected range) = unexpected_at (bounds_of range)
 fault_of (UnexpectedExtra range) = extra (bounds_of range)
@@ -32,11 +32,11 @@ fault_of (UnexpectedEOFWanted wanted) = unexpected_eof_wanted wanted.items
 fault_of (DuplicatedArgs range name) = duplicated_args (bounds_of range) (string_bytes name)
 fault_of RecursionLimitExceeded = too_deep
 
--- two ranges are one
+-- two ranges are equal
 abbrev pub same_extent : Extent → Extent → Bool
 same_extent a b = a.start == b.start && a.end == b.end
 
--- two faults are of one variant with the same fields
+-- two faults are the same variant with the same fields
 abbrev pub same_fault : Fault → Fault → Bool
 same_fault (unexpected_at a) (unexpected_at b) = same_extent a b
 same_fault (extra a) (extra b) = same_extent a b
@@ -48,11 +48,11 @@ same_fault (duplicated_args a name) (duplicated_args b other) = same_extent a b 
 same_fault too_deep too_deep = true
 same_fault _ _ = false
 
--- what is said of a range, and the range
+-- a message about a range, followed by the range
 abbrev pub range_text : List ℕ → Extent → List ℕ
 range_text what range = what ++ codes " at " ++ extent_text range
 
--- kinds behind the first, each behind a comma
+-- the kinds after the first, each after a comma
 abbrev pub more_kinds_text : List SyntaxKind → List ℕ
 more_kinds_text kinds = flat_map (λ kind. codes ", " ++ name_of kind) kinds
 
@@ -61,15 +61,15 @@ abbrev pub kinds_text : List SyntaxKind → List ℕ
 kinds_text [] = codes "[]"
 kinds_text (kind ∷ kinds) = codes "[" ++ name_of kind ++ more_kinds_text kinds ++ codes "]"
 
--- what was wanted
+-- the wanted kinds
 abbrev pub wanted_text : List SyntaxKind → List ℕ
 wanted_text kinds = codes ", wanted any of " ++ kinds_text kinds
 
--- where a name stands again
+-- the repetition of a name
 abbrev pub again_text : Extent → List ℕ
 again_text range = codes "` is duplicated in " ++ extent_text range
 
--- how an error is printed
+-- the printed text of an error
 abbrev pub fault_text : Fault → List ℕ
 fault_text (unexpected_at range) = range_text (codes "error node") range
 fault_text (extra range) = range_text (codes "unexpected token") range

@@ -1,4 +1,4 @@
--- The strict grammar: which trees, without trivia and error nodes, are expressions. A tree is written as its kind and the row of its children.
+-- The strict grammar: which trees, without trivia and error nodes, are expressions. A tree is written as its kind and its children.
 use Rattle.std.specs.Prelude.{◌≡◌, ◌≤◌, ℕ, Bool, true, false, List, [], ◌∷◌}
 use Rattle.rnix_kinds.specs.declared.kinds.SyntaxKind.{SyntaxKind}
 use Rattle.rnix_kinds.specs.declared.kinds.SyntaxKind.TheVariants.{TOKEN_ASSERT, TOKEN_ASSIGN, TOKEN_AT, TOKEN_COLON, TOKEN_COMMA, TOKEN_CUR_POS, TOKEN_DOT, TOKEN_ELLIPSIS, TOKEN_ELSE, TOKEN_IDENT, TOKEN_IF, TOKEN_IN, TOKEN_INHERIT, TOKEN_INTERPOL_END, TOKEN_INTERPOL_START, TOKEN_INVERT, TOKEN_L_BRACE, TOKEN_L_BRACK, TOKEN_L_PAREN, TOKEN_LET, TOKEN_OR, TOKEN_PATH_ABS, TOKEN_PATH_HOME, TOKEN_PATH_REL, TOKEN_PATH_SEARCH, TOKEN_QUESTION, TOKEN_R_BRACE, TOKEN_R_BRACK, TOKEN_R_PAREN, TOKEN_REC, TOKEN_SEMICOLON, TOKEN_STRING_CONTENT, TOKEN_STRING_END, TOKEN_STRING_START, TOKEN_SUB, TOKEN_THEN, TOKEN_WITH, NODE_APPLY, NODE_ASSERT, NODE_ATTR_SET, NODE_ATTRPATH, NODE_ATTRPATH_VALUE, NODE_BIN_OP, NODE_CUR_POS, NODE_DYNAMIC, NODE_HAS_ATTR, NODE_IDENT, NODE_IDENT_PARAM, NODE_IF_ELSE, NODE_INHERIT, NODE_INHERIT_FROM, NODE_INTERPOL, NODE_LAMBDA, NODE_LEGACY_LET, NODE_LET_IN, NODE_LIST, NODE_LITERAL, NODE_PAREN, NODE_PAT_BIND, NODE_PAT_ENTRY, NODE_PATTERN, NODE_PATH_ABS, NODE_PATH_HOME, NODE_PATH_REL, NODE_PATH_SEARCH, NODE_SELECT, NODE_STRING, NODE_UNARY_OP, NODE_WITH}
@@ -8,21 +8,21 @@ use Rattle.rnix_grammar.specs.TokenKinds.{is_path_piece}
 use Rattle.rnix_grammar.specs.Levels.{expression_level, inversion_level, has_attr_level, negation_level, application_level, selection_level, binding_power, left_of, right_of}
 use Rattle.rnix_grammar.specs.NodeClasses.{is_infix, is_plain_literal}
 
--- a name, and the trees behind it
+-- a name, followed by other trees
 abbrev pub name : List ℕ → Forest → Forest
 name t f = node NODE_IDENT (leaf TOKEN_IDENT t empty) f
 
--- what may stand behind the `}` of a pattern, which has been bound to a name before it or not: nothing, or `@` and a name if it has not
+-- what may follow the `}` of a pattern: nothing, or `@` and a name if no name precedes the pattern
 pub data PatternEnd : Bool → Forest → Type 0 where
   pattern_end : {bound : Bool} → PatternEnd bound empty
   bound_behind : {s t : List ℕ} → is_or t ≡ false → PatternEnd false (node NODE_PAT_BIND (leaf TOKEN_AT s (name t empty)) empty)
 
 mutual
-  -- an expression that may stand where one of a level is asked for; the lowest level is that of all expressions, the tightest that of simple ones
+  -- an expression that is allowed at a level; all expressions are allowed at the lowest level, only simple ones at the highest
   pub data Strict : ℕ → SyntaxKind → Forest → Type 0 where
-    -- what stands at a level stands at each looser one
+    -- what is allowed at a level is allowed at each lower one
     looser : {m n : ℕ} {k : SyntaxKind} {c : Forest} → n ≤ m → Strict m k c → Strict n k c
-    -- an atom; `a.b` and `a.b or c`; an atom behind which stands a lone `or`
+    -- an atom; `a.b` and `a.b or c`; an atom followed by a lone `or`
     atom : {k : SyntaxKind} {c : Forest} → Atom k c → Strict selection_level k c
     select : {k : SyntaxKind} {a p : Forest} {s : List ℕ} → Atom k a → Attrpath p
         → Strict selection_level NODE_SELECT (node k a (leaf TOKEN_DOT s (node NODE_ATTRPATH p empty)))
@@ -70,7 +70,7 @@ mutual
     path_home : {f : Forest} {s : List ℕ} → PathEnd f → Atom NODE_PATH_HOME (leaf TOKEN_PATH_HOME s f)
     path_search : {s : List ℕ} → Atom NODE_PATH_SEARCH (leaf TOKEN_PATH_SEARCH s empty)
     literal : {j : SyntaxKind} {s : List ℕ} → is_plain_literal j ≡ true → Atom NODE_LITERAL (leaf j s empty)
-    -- neither `or` nor `__curPos` is a name that stands for a value
+    -- a name as an expression is neither `or` nor `__curPos`
     named : {s : List ℕ} → is_or s ≡ false → is_cur_pos s ≡ false → Atom NODE_IDENT (leaf TOKEN_IDENT s empty)
     current_position : {s : List ℕ} → is_cur_pos s ≡ true → Atom NODE_CUR_POS (leaf TOKEN_CUR_POS s empty)
 
@@ -85,12 +85,12 @@ mutual
     content : {f : Forest} {s : List ℕ} → Pieces f → Pieces (leaf TOKEN_STRING_CONTENT s f)
     interpolated : {c f : Forest} → Interpol c → Pieces f → Pieces (node NODE_INTERPOL c f)
 
-  -- behind the first token of a path: nothing, or an interpolation and the rest
+  -- after the first token of a path: nothing, or an interpolation and the rest
   pub data PathEnd : Forest → Type 0 where
     path_end : PathEnd empty
     path_on : {c f : Forest} → Interpol c → PathPieces f → PathEnd (node NODE_INTERPOL c f)
 
-  -- behind an interpolation of a path: interpolations and pieces of paths
+  -- after an interpolation of a path: interpolations and pieces of paths
   pub data PathPieces : Forest → Type 0 where
     pieces_end : PathPieces empty
     piece : {j : SyntaxKind} {f : Forest} {s : List ℕ} → is_path_piece j ≡ true → PathPieces f → PathPieces (leaf j s f)
@@ -113,7 +113,7 @@ mutual
     last_attr : {k : SyntaxKind} {c : Forest} → Attr k c → Attrpath (node k c empty)
     attr_dot : {k : SyntaxKind} {c f : Forest} {s : List ℕ} → Attr k c → Attrpath f → Attrpath (node k c (leaf TOKEN_DOT s f))
 
-  -- the first row is entries of a set or a let, and then the second row
+  -- the first forest is the entries of a set or a let, followed by the second
   pub data Entries : Forest → Forest → Type 0 where
     entries_end : {g : Forest} → Entries g g
     inheriting : {c f g : Forest} → Inherit c → Entries f g → Entries (node NODE_INHERIT c f) g
@@ -138,14 +138,14 @@ mutual
     names_end : {s : List ℕ} → Names (leaf TOKEN_SEMICOLON s empty)
     inherited : {k : SyntaxKind} {c f : Forest} → Attr k c → Names f → Names (node k c f)
 
-  -- the parameter of a function: a name, or a pattern, which a name and `@` may stand before
+  -- the parameter of a function: a name, or a pattern, which a name and `@` may precede
   pub data Parameter : SyntaxKind → Forest → Type 0 where
     parameter : {t : List ℕ} → is_or t ≡ false → Parameter NODE_IDENT_PARAM (name t empty)
     pattern : {f : Forest} {s : List ℕ} → Formals false [] f → Parameter NODE_PATTERN (leaf TOKEN_L_BRACE s f)
     bound_pattern : {f : Forest} {s t u : List ℕ} → is_or t ≡ false → Formals true [] f
         → Parameter NODE_PATTERN (node NODE_PAT_BIND (name t (leaf TOKEN_AT s empty)) (leaf TOKEN_L_BRACE u f))
 
-  -- the rest of a pattern, which has been bound to a name or not, and whose entries so far have the names: no entry has a name again
+  -- the rest of a pattern; known are whether a name precedes it and the names of its entries so far, which no further entry repeats
   pub data Formals : Bool → List (List ℕ) → Forest → Type 0 where
     formals_end : {bound : Bool} {names : List (List ℕ)} {f : Forest} {s : List ℕ} → PatternEnd bound f → Formals bound names (leaf TOKEN_R_BRACE s f)
     ellipsis : {bound : Bool} {names : List (List ℕ)} {f : Forest} {s t : List ℕ} → PatternEnd bound f

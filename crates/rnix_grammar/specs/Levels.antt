@@ -6,11 +6,11 @@ use Rattle.rnix_kinds.specs.SyntaxKind.{is_fn_arg}
 use Rattle.rnix_grammar.specs.declared.level.Associativity.{Associativity}
 use Rattle.rnix_grammar.specs.declared.level.Associativity.TheVariants.{Left, Right, Neither}
 
--- any expression may stand at this level
+-- any expression is allowed at this level
 abbrev pub expression_level : ℕ
 expression_level = 0
 
--- no operator has this level: it is the power of tokens that end an expression, and nothing can follow one that extends as far right as possible
+-- no operator has this level: it is that of tokens that end an expression, and the highest allowed after an expression that extends as far as possible
 abbrev pub no_level : ℕ
 no_level = 0
 
@@ -59,38 +59,38 @@ operator TOKEN_DIV = Some (11, Left)
 operator TOKEN_CONCAT = Some (concatenation_level, Right)
 operator kind = None
 
--- how tightly a token that is no binary operator binds what stands before it
+-- how tightly a token that is not a binary operator binds what precedes it
 abbrev pub plain_binding_power : SyntaxKind → ℕ
 plain_binding_power TOKEN_QUESTION = has_attr_level
 plain_binding_power TOKEN_DOT = selection_level
 plain_binding_power TOKEN_OR = selection_level
 plain_binding_power kind = if is_fn_arg kind then application_level else no_level
 
--- an operator's level, or another number where there is none
+-- an operator's level, or another number if the token is not an operator
 abbrev pub level_or : ℕ → Option (ℕ × Associativity) → ℕ
 level_or n (Some o) = o.0
 level_or n None = n
 
--- how tightly a token binds what stands before it; no level is that of a token that ends an expression
+-- how tightly a token binds what precedes it; a token that ends an expression has no level
 abbrev pub binding_power : SyntaxKind → ℕ
 binding_power kind = level_or (plain_binding_power kind) (operator kind)
 
--- the lowest level of an operand on the right: the operator's own where it groups to the right, else the next
+-- the lowest level of a right operand: the operator's own if it groups to the right, otherwise the next
 abbrev pub right_level : ℕ → Associativity → ℕ
 right_level level Right = level
 right_level level way = suc level
 
--- the same on the left
+-- the same for a left operand
 abbrev pub left_level : ℕ → Associativity → ℕ
 left_level level Left = level
 left_level level way = suc level
 
--- the highest level of an operator that may follow what an operator has made: its own where it groups to the left, else the one before
+-- the highest level of an operator that may follow an operation: the operation's own if it groups to the left, otherwise the one before
 abbrev pub max_bp_level : ℕ → Associativity → ℕ
 max_bp_level level Left = level
 max_bp_level level way = level - 1
 
--- what a function of level and grouping says of an operator, or another number where there is none
+-- a function of an operator's level and grouping, or another number if the token is not an operator
 abbrev pub side_of : (ℕ → Associativity → ℕ) → ℕ → Option (ℕ × Associativity) → ℕ
 side_of side n (Some o) = side o.0 o.1
 side_of side n None = n
@@ -103,6 +103,6 @@ right_of kind = side_of right_level selection_level (operator kind)
 abbrev pub left_of : SyntaxKind → ℕ
 left_of kind = side_of left_level selection_level (operator kind)
 
--- the highest level of an operator behind what an operator has made
+-- the highest level of an operator after an operation
 abbrev pub max_bp_of : SyntaxKind → ℕ
 max_bp_of kind = side_of max_bp_level application_level (operator kind)

@@ -1,4 +1,4 @@
--- Rows whose names stand where they may, and which errors a text lacks.
+-- Forests whose names are where they are allowed, and which errors a text lacks.
 use Rattle.std.specs.Prelude.{◌≡◌, Bool, true, false, List, [], ◌∷◌, if◌then◌else◌}
 use Rattle.rnix_kinds.specs.declared.kinds.SyntaxKind.{SyntaxKind}
 use Rattle.rnix_kinds.specs.declared.kinds.SyntaxKind.TheVariants.{NODE_PAT_BIND}
@@ -9,22 +9,22 @@ use Rattle.rnix_grammar.specs.Rules.{Row, ◌·◌, row, after}
 use Rattle.rnix_grammar.specs.AllowedNames.{is_named}
 use Rattle.rnix_grammar.specs.BehindErrors.{after_error}
 
--- a row begins with a token
+-- a forest begins with a token
 abbrev pub begins_with_token : AnnotatedForest → Bool
 begins_with_token (token k t f) = true
 begins_with_token f = false
 
--- the name that a pattern is bound to stands before `@` where the pattern begins, and behind it where the pattern ends
+-- the name of a pattern precedes `@` at the beginning of the pattern, and follows it at the end
 abbrev pub is_bind_at : Row → AnnotatedForest → Bool
 is_bind_at (EndOr kind · r) c = begins_with_token c
 is_bind_at r c = if begins_with_token c then false else true
 
--- such a name stands where it may, and so do other names and the current position
+-- the name of a pattern, any other name and the current position are allowed where this is left of a row
 abbrev pub is_name_allowed : Row → SyntaxKind → AnnotatedForest → Bool
 is_name_allowed q NODE_PAT_BIND c = is_bind_at q c
 is_name_allowed q kind c = is_named q kind c
 
--- so does each of a row, from what is left of it on
+-- so are all of a forest, where this is left of the row
 abbrev pub AreNamed : Row → AnnotatedForest → Type 0
 AreNamed q blank = Unit {0}
 AreNamed q (token k t f) = AreNamed (after q k) f

@@ -1,23 +1,23 @@
--- How deep a tree nests: how many positions that count are inside one another.
+-- How deep a tree nests: how many counted positions are inside one another.
 use Rattle.std.specs.Prelude.{◌≡◌, ℕ, suc, max, if◌then◌else◌}
 use Rattle.rnix_grammar.specs.Tables.{depth_limit}
 use Rattle.rnix_grammar.specs.AnnotatedForest.{Note, TooDeep, AnnotatedForest, blank, token, branch, fault}
 use Rattle.rnix_grammar.specs.Rules.{Row, row, after, counts}
 use Rattle.rnix_grammar.specs.BehindErrors.{after_error}
 
--- how many counted positions are inside one another, in a row from what is left of it on; an error node counts none
+-- how many counted positions are inside one another in a forest, where this is left of the row; an error node counts none
 abbrev pub depth_of : Row → AnnotatedForest → ℕ
 depth_of q blank = 0
 depth_of q (token k t f) = depth_of (after q k) f
 depth_of q (branch k c f) = max (if counts q then suc (depth_of (row k) c) else depth_of (row k) c) (depth_of (after q k) f)
 depth_of q (fault n c f) = depth_of (after_error q n) f
 
--- an error node over what is nested too deep is inside as many counted positions as may be; so many are around it
+-- an error node over what is nested too deep is inside as many counted positions as the limit allows; d of them are around it
 abbrev pub IsLimited : ℕ → Note → Type 0
 IsLimited d TooDeep = d ≡ depth_limit
 IsLimited d n = Unit {0}
 
--- and so it is for each error node in a row
+-- and so is each such error node in a forest
 abbrev pub AreLimited : ℕ → Row → AnnotatedForest → Type 0
 AreLimited d q blank = Unit {0}
 AreLimited d q (token k t f) = AreLimited d (after q k) f

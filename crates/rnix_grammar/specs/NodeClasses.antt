@@ -31,7 +31,7 @@ is_simple NODE_SELECT = true
 is_simple NODE_APPLY = true
 is_simple kind = is_atom kind
 
--- what `-` may stand before
+-- what may follow the prefix `-`
 abbrev pub is_negated : SyntaxKind → Bool
 is_negated NODE_UNARY_OP = true
 is_negated kind = is_simple kind
@@ -55,11 +55,11 @@ is_expression NODE_IF_ELSE = true
 is_expression NODE_ASSERT = true
 is_expression kind = is_operand kind
 
--- expressions that reach as far as they can, and so are no operands
+-- expressions that extend as far as possible, and so are not operands
 abbrev pub is_keyword_expression : SyntaxKind → Bool
 is_keyword_expression kind = if is_operand kind then false else is_expression kind
 
--- what may stand where an operand of a level is wanted
+-- the kinds that are allowed where an operand of a level is wanted
 abbrev pub fits : ℕ → SyntaxKind → Bool
 fits level kind =
     if nat_eq level expression_level then is_expression kind

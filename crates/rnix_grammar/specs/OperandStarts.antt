@@ -36,7 +36,7 @@ abbrev pub kind_if : Bool → SyntaxKind → SyntaxKind
 kind_if true k = k
 kind_if false k = NODE_ERROR
 
--- the kind of the first tree of an operand of a level; an item that begins none is an error
+-- the kind of the first tree of an operand of a level; an item that begins no operand becomes an error node
 abbrev pub first_kind : ℕ → SyntaxKind → List ℕ → Option SyntaxKind → Option SyntaxKind → SyntaxKind
 first_kind n TOKEN_L_PAREN text second third = NODE_PAREN
 first_kind n TOKEN_L_BRACK text second third = NODE_LIST
@@ -60,7 +60,7 @@ first_kind n TOKEN_ASSERT text second third = kind_if (nat_eq n expression_level
 first_kind n TOKEN_IF text second third = kind_if (nat_eq n expression_level) NODE_IF_ELSE
 first_kind n kind text second third = NODE_ERROR
 
--- how an operand begins whose first tree has the kind, by its first token: where the tree's row goes on, and the tightest operator that may follow it
+-- how the reader begins an operand whose first tree has the kind, by its first token: the position in the tree's row, and the tightest operator after it
 abbrev pub operand_start_for : SyntaxKind → SyntaxKind → OperandStart
 operand_start_for NODE_PAREN token = b.Node NODE_PAREN PAREN selection_level
 operand_start_for NODE_LIST token = b.Node NODE_LIST LIST selection_level

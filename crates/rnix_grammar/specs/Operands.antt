@@ -1,4 +1,4 @@
--- How an operand of a level begins and where it ends: it begins as its first three items say, and no item follows that could go on with it.
+-- How an operand of a level begins and ends: its first three items decide how it begins, and the item after it could not continue it.
 use Rattle.std.specs.Prelude.{ℕ, Bool, false, ◌||◌, ◌&&◌, List, [], ◌∷◌, if◌then◌else◌, nat_le}
 use Rattle.rnix_kinds.specs.declared.kinds.SyntaxKind.{SyntaxKind}
 use Rattle.rnix_kinds.specs.declared.kinds.SyntaxKind.TheVariants.{NODE_BIN_OP, NODE_HAS_ATTR, NODE_APPLY, NODE_SELECT, NODE_LAMBDA, NODE_ERROR}
@@ -9,7 +9,7 @@ use Rattle.rnix_grammar.specs.TokenKinds.{is_or, is_question, is_dot}
 use Rattle.rnix_grammar.specs.NodeClasses.{is_infix}
 use Rattle.rnix_grammar.specs.TreeLevels.{row_level, is_atom_row}
 
--- the kind of the first tree of an operand, down the first trees of operators, calls and selections; a function is known by its parameter
+-- the kind of the innermost first tree of an operand, inside operators, calls and selections; for a function, the kind of its parameter
 abbrev pub first_tree : AnnotatedForest → SyntaxKind
 first_tree (branch NODE_BIN_OP c f) = first_tree c
 first_tree (branch NODE_HAS_ATTR c f) = first_tree c
@@ -19,14 +19,14 @@ first_tree (branch NODE_LAMBDA (branch k c g) f) = k
 first_tree (branch k c f) = k
 first_tree f = NODE_ERROR
 
--- an item of the kind may go on with the tree before it
+-- an item of the kind may continue the tree before it
 abbrev pub follows : SyntaxKind → AnnotatedForest → Bool
 follows kind x =
     if is_infix kind then nat_le (left_of kind) (row_level x)
     else (if is_question kind then nat_le has_attr_level (row_level x)
     else (if is_fn_arg kind then nat_le application_level (row_level x) else ((is_dot kind || is_or kind) && is_atom_row x)))
 
--- the next item would go on with an operand of a level
+-- the next item would continue an operand of a level
 abbrev pub is_continued : ℕ → AnnotatedForest → List Token → Bool
 is_continued level x [] = false
 is_continued level x (t ∷ ts) = follows t.kind x && nat_le level (binding_power t.kind)

@@ -1,4 +1,4 @@
--- Which elements of a tree the errors are of, and what an error says of its element: its range, where it is and what it holds.
+-- Which elements of a tree the errors belong to, and what an error says of its element: its range, its parent and its children.
 use Rattle.std.specs.Prelude.{◌≡◌, ℕ, ◌+◌, Bool, true, false, ◌||◌, List, [], ◌∷◌, ◌++◌, Option, Some, None, if◌then◌else◌}
 use Rattle.rnix_kinds.specs.declared.kinds.SyntaxKind.{SyntaxKind}
 use Rattle.rnix_kinds.specs.declared.kinds.SyntaxKind.TheVariants.{NODE_ERROR, NODE_IDENT, NODE_PATTERN, NODE_PAT_ENTRY}
@@ -12,7 +12,7 @@ use Rattle.rnix_grammar.specs.Shape.{name_if, with_name}
 use Rattle.rnix_grammar.specs.Tables.{is_among, operand_kinds}
 use Rattle.rnix_grammar.specs.Rules.{is_one_of}
 
--- the error is that of an error node: not of the end of the text, and not of a repeated name
+-- the error is that of an error node: it is neither at the end of the text nor about a repeated name
 abbrev pub is_of_node : Fault → Bool
 is_of_node unexpected_eof = false
 is_of_node (unexpected_eof_wanted kinds) = false
@@ -74,8 +74,8 @@ is_among_if (Some name) names = is_among name names
 abbrev pub is_at_fault : SyntaxKind → Forest → List (List ℕ) → Bool
 is_at_fault k c names = is_error_node k || is_among_if (name_if k c) names
 
--- the numbers of a row's error nodes and of its entries that have the name of an entry before them, in the order in which they close; the first
--- element has the number n, and entries of these names stand before the row
+-- the numbers of a forest's error nodes and of its entries that repeat the name of an earlier entry, in the order in which they close; the first
+-- element has the number n, and entries of these names precede the forest
 abbrev pub at_fault_from : ℕ → List (List ℕ) → Forest → List ℕ
 at_fault_from n names empty = []
 at_fault_from n names (leaf k t f) = at_fault_from (n + 1) names f
@@ -83,7 +83,7 @@ at_fault_from n names (node k c f) =
     at_fault_from (n + 1) [] c
     ++ ((if is_at_fault k c names then n ∷ [] else []) ++ at_fault_from (n + 1 + element_count c) (with_name (name_if k c) names) f)
 
--- and so in a tree
+-- the same for a tree
 abbrev pub at_fault : Tree → List ℕ
 at_fault tree = at_fault_from 0 [] (forest_of tree)
 
@@ -93,7 +93,7 @@ pub record BeginsWith (tree : Tree) (m : ℕ) (kind : SyntaxKind) : Type 0 where
   pub parent : (item tree (m + 1)).parent ≡ Some m
   pub kind_is : (item tree (m + 1)).kind ≡ kind
 
--- each child of the element is a token, of none of the kinds
+-- each child of the element is a token that has none of the kinds
 abbrev pub HasOtherTokens : Tree → ℕ → List SyntaxKind → Type 0
 HasOtherTokens tree m kinds =
     (n : ℕ) → IsChild (record { tree = tree; number = m }) n → IsTokenIn tree n × (is_one_of kinds (item tree n).kind ≡ false)
@@ -104,8 +104,8 @@ pub record HasParent (tree : Tree) (m : ℕ) (kind : SyntaxKind) : Type 0 where
   pub is_parent : (item tree m).parent ≡ Some parent
   pub kind_is : (item tree parent).kind ≡ kind
 
--- Where tokens are wanted, the element begins with a token of the kind that the error names, and its children are tokens of none of the wanted kinds; where
--- an operand is, it has one child. The element of extra tokens is a child of the root, and that of a second name one of a pattern.
+-- If tokens are wanted, the element begins with a token of the kind that the error names, and its children are tokens of no wanted kind; where
+-- an operand is wanted, it has one child. The element of extra tokens is a child of the root, and that of a second name a child of a pattern.
 abbrev pub HasFormOf : Tree → Fault → ℕ → Type 0
 HasFormOf tree (unwanted kind range wanted) m =
     BeginsWith tree m kind × HasOtherTokens tree m wanted × (wanted ≡ operand_kinds → (item tree m).below ≡ 1)
@@ -119,12 +119,12 @@ pub record IsOfErrorNode (tree : Tree) (e : Fault) (m : ℕ) : Type 0 where
   pub range_is : IsRangeOf (range_in e) record { tree = tree; number = m }
   pub form : HasFormOf tree e m
 
--- an error is that of the element: of an entry, for a repeated name, and else of an error node
+-- an error belongs to the element, which is an entry if a name is repeated, and otherwise an error node
 abbrev pub IsErrorOf : Tree → Fault → ℕ → Type 0
 IsErrorOf tree (duplicated_args range name) m = IsEntryName tree m range name
 IsErrorOf tree e m = IsOfErrorNode tree e m
 
--- as many errors as elements, each of its element
+-- there are as many errors as elements, and each belongs to its element
 abbrev pub AreErrorsOf : Tree → List Fault → List ℕ → Type 0
 AreErrorsOf tree [] [] = Unit {0}
 AreErrorsOf tree (e ∷ es) (m ∷ ms) = IsErrorOf tree e m × AreErrorsOf tree es ms

@@ -1,4 +1,4 @@
--- How the items of a text are read along the rows: at each position of a row the next items decide what stands there.
+-- How items are read along the rows: at each position of a row the next items decide what follows.
 use Rattle.std.specs.Prelude.{◌≡◌, ℕ, suc, ◌<◌, true, false, List, [], ◌∷◌, ◌++◌, Some, length, if◌then◌else◌}
 use Rattle.rnix_kinds.specs.declared.kinds.SyntaxKind.{SyntaxKind}
 use Rattle.rnix_kinds.specs.declared.kinds.SyntaxKind.TheVariants.{NODE_ROOT, NODE_ERROR, NODE_LITERAL}
@@ -11,11 +11,11 @@ use Rattle.rnix_grammar.specs.UnwantedRun.{run_of}
 use Rattle.rnix_grammar.specs.FirstKinds.{IsOperandOf}
 use Rattle.rnix_grammar.specs.Rules.{Row, done, ◌·◌, row, second_name, after, may_end, missing, run_at, expects_end, IsExpected, is_first_expected, level_at, counts, IsFollowed}
 
--- one more operand may stand here, inside so many counted positions
+-- the limit allows an operand here, inside d counted positions
 abbrev pub IsRoom : Row → ℕ → Type 0
 IsRoom q d = counts q ≡ true → d < depth_limit
 
--- how many counted positions are around what stands here
+-- how many counted positions are around a child at this position
 abbrev pub deeper : Row → ℕ → ℕ
 deeper q d = if counts q then suc d else d
 
@@ -23,7 +23,7 @@ deeper q d = if counts q then suc d else d
 abbrev pub IsOver : Row → ℕ → List Token → Type 0
 IsOver q n us = (may_end q ≡ true) × IsExpected q n us false
 
--- an error node over some items stands here before others, inside so many counted positions; what is left of the row after it
+-- an error node over the items ts at the position q, inside d counted positions, before the items us; r is what is left of the row after it
 abbrev pub IsWrong : Note → ℕ → Row → Row → List Token → List Token → Type 0
 IsWrong Stray d q r ts us = (length ts ≡ 1) × IsRoom q d × IsOperandOf (level_at q blank) (one_fault Stray (row_of ts)) us × (after q NODE_LITERAL ≡ r)
 IsWrong (Unwanted until) d q r ts us = (is_some ts ≡ true) × (ts ≡ run_of until (ts ++ us)) × (run_at q ≡ Some (wanted_kinds until, r))
@@ -31,10 +31,10 @@ IsWrong Extra d q r ts us = (is_some ts ≡ true) × (us ≡ []) × (q ≡ TextE
 IsWrong DoubleBind d q r ts us = ⊥
 IsWrong TooDeep d q r ts us = (us ≡ []) × (counts q ≡ true) × (d ≡ depth_limit) × (after q NODE_LITERAL ≡ r)
 
--- A row of children without trivia, with the errors that it is reported by. Known are the parent's kind, how many counted positions are around the
--- row, where the item before it ends, what is left of the parent's row before it and after it, the trees before it, and the items after it.
+-- The children of a node from a position on, without trivia, with their errors. Given are the parent's kind, how many counted positions are around the
+-- children, where the item before them ends, what is left of the row before them and after them, the trees before them, and the items after them.
 pub data Reads : SyntaxKind → ℕ → ℕ → Row → Row → AnnotatedForest → List Token → AnnotatedForest → List Fault → Type 0 where
-  -- nothing more
+  -- no more children
   end : {p : SyntaxKind} {d n : ℕ} {q : Row} {b : AnnotatedForest} {us : List Token} → Reads p d n q q b us blank []
   -- an item
   leaf : {p : SyntaxKind} {d n : ℕ} {q q' : Row} {b : AnnotatedForest} {us : List Token} {t : Token} {f : AnnotatedForest} {es : List Fault}
@@ -53,7 +53,7 @@ pub data Reads : SyntaxKind → ℕ → ℕ → Row → Row → AnnotatedForest 
       → us ≡ [] → tokens_in f ≡ [] → missing q ≡ Some (e, r) → (expects_end q ≡ false → IsRoom q d)
       → Reads p d n r q' b us f es
       → Reads p d n q q' b us f (e ∷ es)
-  -- items that are wrong here
+  -- items that are wrong here, in an error node
   wrong : {p : SyntaxKind} {d n : ℕ} {q r q' : Row} {b f : AnnotatedForest} {us : List Token} {es : List Fault} (note : Note) (ts : List Token)
       → IsExpected q n (ts ++ (tokens_in f ++ us)) false → IsFollowed q b (head_kind ts) → IsWrong note d q r ts (tokens_in f ++ us)
       → Reads p d (end_from n ts) r q' (b ⊕ one_fault note (row_of ts)) us f es
@@ -64,6 +64,6 @@ pub data Reads : SyntaxKind → ℕ → ℕ → Row → Row → AnnotatedForest 
       → Reads p d (end_from n (tokens_in c)) done q' (b ⊕ one_fault DoubleBind c) us f es
       → Reads p d n (BoundAlready · done) q' b us (fault DoubleBind c f) ((ds ++ report DoubleBind (tokens_in c) ∷ []) ++ es)
 
--- a list of items is read as these trees below the root, with these errors
+-- the items of these trees are read as the children of the root, with these errors
 abbrev pub ReadsRoot : AnnotatedForest → List Fault → Type 0
 ReadsRoot f faults = Reads NODE_ROOT 0 0 (row NODE_ROOT) (TextEnd · done) blank [] f faults

@@ -1,4 +1,4 @@
--- The errors that error nodes are reported by.
+-- The errors that report error nodes and repeated entries.
 use Rattle.std.specs.Prelude.{Bool, true, false, List, [], ◌∷◌, Option, Some, None, if◌then◌else◌, ℕ}
 use Rattle.std.specs.Str.{bytes_eq}
 use Rattle.rnix_kinds.specs.declared.kinds.SyntaxKind.{SyntaxKind}
@@ -12,7 +12,7 @@ abbrev pub first_kind : List Token → SyntaxKind
 first_kind [] = NODE_ERROR
 first_kind (t ∷ ts) = t.kind
 
--- the error that an error node over these tokens is reported by
+-- the error that reports an error node over these tokens
 abbrev pub report : Note → List Token → Fault
 report Stray ts = unwanted (first_kind ts) (extent_of ts) operand_kinds
 report (Unwanted until) ts = unwanted (first_kind ts) (extent_of ts) (wanted_kinds until)
@@ -20,7 +20,7 @@ report Extra ts = extra (extent_of ts)
 report DoubleBind ts = double_bind (extent_of ts)
 report TooDeep ts = too_deep
 
--- the token that a row begins with, if it begins with one
+-- the token that a forest begins with, if it begins with one
 abbrev pub only_token : AnnotatedForest → Option Token
 only_token (token k t f) = Some t
 only_token f = None
@@ -35,7 +35,7 @@ abbrev pub is_same_name : List ℕ → Option Token → Bool
 is_same_name name None = false
 is_same_name name (Some t) = bytes_eq name t.text
 
--- an entry of the name stands in a row
+-- an entry of the name is in a forest
 abbrev pub has_entry : List ℕ → AnnotatedForest → Bool
 has_entry name blank = false
 has_entry name (token k t f) = has_entry name f
@@ -43,7 +43,7 @@ has_entry name (branch NODE_PAT_ENTRY c f) = if is_same_name name (entry_name c)
 has_entry name (branch k c f) = has_entry name f
 has_entry name (fault n c f) = has_entry name f
 
--- an entry with this name behind these siblings is reported, if it repeats one of theirs
+-- the error of an entry with this name after these siblings, if the name repeats one of theirs
 abbrev pub repeated_if : Option Token → AnnotatedForest → List Fault
 repeated_if None before = []
 repeated_if (Some t) before = if has_entry t.text before then duplicated_args (extent_of (t ∷ [])) t.text ∷ [] else []

@@ -1,4 +1,4 @@
--- The grammar: each kind of node has one row, the children that it has. A position in a row is what is left of it.
+-- The grammar: the row of a kind of node is the list of its children. A position in a row is what is left of it.
 use Rattle.std.specs.Prelude.{◌≡◌, ℕ, Bool, true, false, ◌||◌, ◌&&◌, List, [], ◌∷◌, map, Option, Some, None, if◌then◌else◌, nat_eq}
 use Rattle.std.specs.List.{list_any}
 use Rattle.rnix_kinds.specs.declared.kinds.SyntaxKind.{SyntaxKind}
@@ -16,7 +16,7 @@ use Rattle.rnix_grammar.specs.TreeLevels.{is_or_row}
 use Rattle.rnix_grammar.specs.Operands.{follows}
 use Rattle.rnix_grammar.specs.NodeClasses.{is_atom, is_simple, is_infix, is_attr, is_entry, fits}
 
--- what is left of a row: no such row, nothing more, a part and what is after it, or one of two
+-- what is left of a row: nothing fits, nothing more, a part and what follows it, or one of two rows
 infixr 30 ◌·◌
 infixr 20 ◌or◌
 pub data Row : Type 0 where
@@ -30,7 +30,7 @@ abbrev pub row_of : List Part → Row
 row_of [] = done
 row_of (p ∷ ps) = p · row_of ps
 
--- a row, or one of others if there are any
+-- a row, or one of some others, if there are any
 abbrev pub or_one_of : Row → Row → Row
 or_one_of r never = r
 or_one_of r s = r or s
@@ -53,12 +53,12 @@ abbrev pub only : Bool → Row → Row
 only true r = r
 only false r = never
 
--- a row, or another if it is none
+-- a row, or another one if the first does not fit
 abbrev pub or_else : Row → Row → Row
 or_else never s = s
 or_else r s = r
 
--- what is left after one more child inside the braces of a pattern, by what is after them
+-- what is left after one more child inside the braces of a pattern, where r follows the braces
 abbrev pub after_formals : Row → SyntaxKind → Row
 after_formals r TOKEN_R_BRACE = r
 after_formals r TOKEN_ELLIPSIS = Wanted TOKEN_R_BRACE · r
@@ -116,7 +116,7 @@ opening NODE_IDENT = TOKEN_IDENT
 opening NODE_PAT_BIND = TOKEN_AT
 opening token = token
 
--- the kinds that are wanted, if any, where a part should begin
+-- the kinds that an error lists as wanted, if any, where a part should begin
 abbrev pub wanted_in : Part → List SyntaxKind
 wanted_in (Wanted kind) = opening kind ∷ []
 wanted_in Attr = TOKEN_IDENT ∷ (TOKEN_OR ∷ (TOKEN_CUR_POS ∷ []))
@@ -127,16 +127,16 @@ wanted_in FormalsAfterComma = TOKEN_R_BRACE ∷ (TOKEN_ELLIPSIS ∷ (TOKEN_IDENT
 wanted_in Comma = TOKEN_R_BRACE ∷ []
 wanted_in p = []
 
--- the kind is one of these
+-- the kind is among these
 abbrev pub is_one_of : List SyntaxKind → SyntaxKind → Bool
 is_one_of kinds kind = list_any (λ k. same_kind k kind) kinds
 
--- the error for a part that is missing, if kinds are wanted there, and what is after it
+-- the error for a missing part, if kinds are wanted there, and what is left after it
 abbrev pub missing_wanted : List SyntaxKind → Row → Option (Fault × Row)
 missing_wanted [] r = None
 missing_wanted kinds r = Some (unexpected_eof_wanted kinds, r)
 
--- the error where the text ends before a row is complete, and what is left after the part that is missing
+-- the error where the text ends before the row is complete, and what is left after the missing part
 abbrev pub missing : Row → Option (Fault × Row)
 missing (Operand n counted · r) = Some (unexpected_eof, r)
 missing (Many n closer · r) = Some (unexpected_eof, r)
@@ -147,7 +147,7 @@ missing (Optional kind · r) = missing r
 missing (p · r) = missing_wanted (wanted_in p) r
 missing r = None
 
--- the kinds that a run of other items stops before, and what is left after the run
+-- the kinds before which a run of other items stops, and what is left after the run
 abbrev pub run_wanted : List SyntaxKind → Row → Option (List SyntaxKind × Row)
 run_wanted [] r = None
 run_wanted kinds r = Some (kinds, r)
@@ -183,22 +183,22 @@ expects_item (BoundAlready · r) touches k = same_kind TOKEN_AT k
 expects_item (p · r) touches k = is_one_of (wanted_in p) k
 expects_item r touches k = false
 
--- there is something
+-- there is an error to report
 abbrev pub is_there : Option (Fault × Row) → Bool
 is_there None = false
 is_there (Some w) = true
 
--- the end of the text is expected where a part is missing that is no operand
+-- the position accepts the end of the text: a part is missing that is not an operand
 abbrev pub expects_end : Row → Bool
 expects_end (Operand n counted · r) = false
 expects_end r = is_there (missing r)
 
--- the next item, or the end of the text, is expected; the item before it ended at n
+-- the next item, or the end of the text, is expected, where the item before it ends at n
 abbrev pub expects : Row → ℕ → List Token → Bool
 expects r n [] = expects_end r
 expects r n (t ∷ ts) = expects_item r (nat_eq t.start n) t.kind
 
--- it is, or is not; where a child is there whenever the node is, this is not asked
+-- whether it is expected; this is not asked where every such node has the child
 abbrev pub IsExpected : Row → ℕ → List Token → Bool → Type 0
 IsExpected (Child kind · r) n ts own = Unit {0}
 IsExpected (Atom · r) n ts own = Unit {0}
@@ -208,7 +208,7 @@ IsExpected (Binary · r) n ts own = Unit {0}
 IsExpected (r or s) n ts own = Unit {0}
 IsExpected r n ts own = expects r n ts ≡ own
 
--- a node stands where its first item is expected; operands, attribute paths and bindings stand where it is not, but for the name `or`
+-- whether a child comes where its first item is expected; operands other than the name `or`, attribute paths and bindings come where it is not
 abbrev pub is_first_expected : Row → SyntaxKind → AnnotatedForest → Bool
 is_first_expected (Argument · r) k c = is_or_row (one_branch k c)
 is_first_expected (Operand n counted · r) k c = false
@@ -217,20 +217,20 @@ is_first_expected (Entries closer · r) k c = same_kind NODE_INHERIT k
 is_first_expected (Attrpath · r) k c = false
 is_first_expected r k c = true
 
--- the level of the operand that stands here, if any; an `or` that is an argument has none
+-- the level of the operand at this position, if there is one; an `or` that is an argument has none
 abbrev pub level_at : Row → AnnotatedForest → Option ℕ
 level_at (Operand n counted · r) x = Some n
 level_at (Many n closer · r) x = Some n
 level_at (Argument · r) x = if is_or_row x then None else Some selection_level
 level_at r x = None
 
--- an operand that stands here is inside one more counted position
+-- an operand at this position is inside one more counted position
 abbrev pub counts : Row → Bool
 counts (Operand n counted · r) = counted
 counts (Many n closer · r) = true
 counts r = false
 
--- the first tree of an operator, a call or a selection stands before an item that goes on with it
+-- the first tree of an operator, a call or a selection is followed by an item that continues it
 abbrev pub IsFollowed : Row → AnnotatedForest → Option SyntaxKind → Type 0
 IsFollowed (Suffix token · r) x (Some k) = follows k x ≡ true
 IsFollowed (Binary · r) x (Some k) = follows k x ≡ true

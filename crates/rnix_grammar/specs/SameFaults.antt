@@ -1,4 +1,4 @@
--- Equality of errors: the test on faults says that they are one.
+-- Equality of errors: a test decides whether two faults are equal.
 use Rattle.std.proofs.Common.{bytes_eq, ◌≡◌, ◌&&◌, ◌==◌, List, ap, refl}
 use Rattle.std.specs.Bool.{Decides}
 use Rattle.std.specs.Cmp.{IsPartialEquivalence, partial_equiv_from_equiv, on_per}
@@ -21,7 +21,7 @@ same_extent-decides a b =
     Decides-like (same_extent a b) (λ e i. record { start = e.0 i; end = e.1 i }) (λ e. (ap (λ x. x.start) e, ap (λ x. x.end) e))
     (Decides-and (a.start == b.start) (a.end == b.end) (Decides-eqb a.start b.start) (Decides-eqb a.end b.end))
 
--- errors are the same where the test says so, and only there
+-- two errors are equal exactly if the test says so
 pub same_fault-decides : (a b : Fault) → Decides (same_fault a b) (a ≡ b)
 same_fault-decides (unexpected_at a) (unexpected_at b) = Decides-like (same_extent a b) (ap unexpected_at) (λ e. cc) (same_extent-decides a b)
 same_fault-decides (extra a) (extra b) = Decides-like (same_extent a b) (ap extra) (λ e. cc) (same_extent-decides a b)
@@ -39,6 +39,6 @@ same_fault-decides (duplicated_args a name) (duplicated_args b other) =
 same_fault-decides too_deep too_deep = (λ e. refl, λ e. refl)
 same_fault-decides a b = (λ e. cc, λ e. cc)
 
--- so equality is an equivalence
+-- so the test is an equivalence
 pub same_faults : IsPartialEquivalence (λ (a b : ParseError). same_fault (fault_of a) (fault_of b))
 same_faults = on_per fault_of (partial_equiv_from_equiv (equivalence_from same_fault same_fault-decides))

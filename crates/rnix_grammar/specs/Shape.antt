@@ -12,25 +12,25 @@ use Rattle.rnix_grammar.specs.CompleteRows.{is_row}
 use Rattle.rnix_grammar.specs.Trim.{AreNodesTrimmed}
 use Rattle.rnix_grammar.specs.Tables.{is_among}
 
--- the kinds of a row's trees, without trivia
+-- the kinds of a forest's trees, without trivia
 abbrev pub item_kinds : Forest → List SyntaxKind
 item_kinds empty = []
 item_kinds (leaf k t f) = if is_trivia k then item_kinds f else k ∷ item_kinds f
 item_kinds (node k c f) = k ∷ item_kinds f
 
--- without trivia, a row begins with a leaf
+-- without trivia, a forest begins with a leaf
 abbrev pub begins_with_leaf : Forest → Bool
 begins_with_leaf empty = false
 begins_with_leaf (leaf k t f) = if is_trivia k then begins_with_leaf f else true
 begins_with_leaf (node k c f) = false
 
--- a name that is bound to a pattern begins with the name where it is the first child, and with `@` elsewhere
+-- the node of a pattern's name begins with the name if it is the first child, and with `@` otherwise
 abbrev pub is_bind_formed : Bool → SyntaxKind → Forest → Bool
 is_bind_formed true NODE_PAT_BIND c = if begins_with_leaf c then false else true
 is_bind_formed false NODE_PAT_BIND c = begins_with_leaf c
 is_bind_formed first k c = true
 
--- and so in a row of children, which begins with the first child or goes on behind it
+-- the same for each of some children, which begin with the first child or follow it
 abbrev pub are_binds_formed : Bool → Forest → Bool
 are_binds_formed first empty = true
 are_binds_formed first (leaf k t f) = if is_trivia k then are_binds_formed first f else are_binds_formed false f
@@ -42,11 +42,11 @@ AreRows empty = Unit {0}
 AreRows (leaf k t f) = AreRows f
 AreRows (node k c f) = (is_row k (item_kinds c) ≡ true) × (are_binds_formed true c ≡ true) × AreRows c × AreRows f
 
--- each node of a tree has its row, and none below the root begins or ends with trivia
+-- the children of each node are a row of its kind, and no node below the root begins or ends with trivia
 abbrev pub IsShaped : Tree → Type 0
 IsShaped tree = (is_row tree.kind (item_kinds tree.children) ≡ true) × AreRows tree.children × AreNodesTrimmed tree.children
 
--- the text of the first leaf of a row that is no trivia
+-- the text of the first leaf of a forest that is not trivia
 abbrev pub leaf_text : Forest → Option (List ℕ)
 leaf_text empty = None
 leaf_text (leaf k t f) = if is_trivia k then leaf_text f else Some t
@@ -73,13 +73,13 @@ abbrev pub with_name : Option (List ℕ) → List (List ℕ) → List (List ℕ)
 with_name None names = names
 with_name (Some name) names = name ∷ names
 
--- the names of the entries in a row, in order
+-- the names of the entries in a forest, in order
 abbrev pub entry_names : Forest → List (List ℕ)
 entry_names empty = []
 entry_names (leaf k t f) = entry_names f
 entry_names (node k c f) = with_name (name_if k c) (entry_names f)
 
--- none of the names is one of those before it
+-- no name is one of those before it
 abbrev pub AreNew : List (List ℕ) → List (List ℕ) → Type 0
 AreNew before [] = Unit {0}
 AreNew before (name ∷ names) = (is_among name before ≡ false) × AreNew (before ++ (name ∷ [])) names
@@ -90,11 +90,11 @@ AreUnrepeated empty = Unit {0}
 AreUnrepeated (leaf k t f) = AreUnrepeated f
 AreUnrepeated (node k c f) = AreNew [] (entry_names c) × AreUnrepeated c × AreUnrepeated f
 
--- and so in a tree
+-- the same for all nodes of a tree
 abbrev pub IsUnrepeated : Tree → Type 0
 IsUnrepeated tree = AreUnrepeated (forest_of tree)
 
--- the same of a tree with trivia: a name is looked for in the trees without trivia, and an error node has all its tokens
+-- the errors of a forest's error nodes and of its repeated entries, in the order in which these close; some siblings precede the forest
 abbrev pub reports_within : AnnotatedForest → AnnotatedForest → List Fault
 reports_within b blank = []
 reports_within b (token k t f) = reports_within (b ⊕ one_token k t) f

@@ -1,4 +1,4 @@
--- What is wanted where: the kinds of tokens, and the limit of nesting.
+-- The kinds of tokens that are wanted at each place, and the nesting limit.
 use Rattle.std.specs.Prelude.{ℕ, Bool, true, false, List, [], ◌∷◌, Option, Some, None, codes, if◌then◌else◌}
 use Rattle.std.specs.List.{list_any}
 use Rattle.std.specs.Str.{bytes_eq}
@@ -8,7 +8,7 @@ use Rattle.rnix_green.specs.Equality.{same_kind}
 use Rattle.rnix_grammar.specs.declared.expected_set.ExpectedSet.{ExpectedSet}
 use Rattle.rnix_grammar.specs.declared.expected_set.ExpectedSet.TheVariants.{RParen, LBrace, RBrace, Semicolon, Assign, Colon, Then, Else, InterpolEnd, StringEnd, Ident, Piece, Attr, Entry, End}
 
--- the name that is read as the current position
+-- the name of the current position: `__curPos`
 abbrev pub is_cur_pos : List ℕ → Bool
 is_cur_pos name = bytes_eq name (codes "__curPos")
 
@@ -39,19 +39,19 @@ abbrev pub stops : ExpectedSet → Option SyntaxKind → Bool
 stops until None = true
 stops until (Some kind) = is_wanted until kind
 
--- what is wanted where an operand should begin
+-- the kinds that an error lists where an operand should begin
 abbrev pub operand_kinds : List SyntaxKind
 operand_kinds = TOKEN_L_PAREN ∷ (TOKEN_REC ∷ (TOKEN_L_BRACE ∷ (TOKEN_L_BRACK ∷ (TOKEN_STRING_START ∷ (TOKEN_IDENT ∷ [])))))
 
--- how many counted positions may be nested
+-- how many counted positions may be inside one another
 abbrev pub depth_limit : ℕ
 depth_limit = 512
 
--- the text is the word `or` (specs/Names asks the kind of a token instead)
+-- the text is the word `or`
 abbrev pub is_or : List ℕ → Bool
 is_or text = bytes_eq text (codes "or")
 
--- the name is one of these
+-- the name is among these
 abbrev pub is_among : List ℕ → List (List ℕ) → Bool
 is_among name [] = false
 is_among name (n ∷ ns) = if bytes_eq name n then true else is_among name ns

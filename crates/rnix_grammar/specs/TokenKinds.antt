@@ -1,4 +1,4 @@
--- Single kinds of tokens by name.
+-- Tests for single kinds of tokens.
 use Rattle.std.specs.Prelude.{Bool, true, false}
 use Rattle.rnix_kinds.specs.declared.kinds.SyntaxKind.{SyntaxKind}
 use Rattle.rnix_kinds.specs.declared.kinds.SyntaxKind.TheVariants.{TOKEN_QUESTION, TOKEN_DOT, TOKEN_PATH_ABS, TOKEN_PATH_REL, TOKEN_PATH_HOME, TOKEN_INTERPOL_START, TOKEN_OR, TOKEN_INHERIT}
@@ -20,7 +20,7 @@ is_path_piece TOKEN_PATH_REL = true
 is_path_piece TOKEN_PATH_HOME = true
 is_path_piece kind = false
 
--- the tokens that go on with an interpolated path that they touch
+-- the tokens that continue an interpolated path that they touch
 abbrev pub is_piece_start : SyntaxKind → Bool
 is_piece_start TOKEN_INTERPOL_START = true
 is_piece_start kind = is_path_piece kind

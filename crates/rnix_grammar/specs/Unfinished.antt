@@ -4,7 +4,7 @@ use Rattle.rnix_grammar.specs.AnnotatedForest.{Token, AnnotatedForest, blank, to
 use Rattle.rnix_grammar.specs.CompleteRows.{is_row}
 use Rattle.rnix_grammar.specs.Repaired.{repaired, kinds_of}
 
--- in a row before some items, no item stands behind an incomplete node once its errors are repaired
+-- no item follows a node of the forest that is incomplete once its errors are repaired; the forest precedes some items
 abbrev pub AreIncompleteLast : AnnotatedForest → List Token → Type 0
 AreIncompleteLast blank rest = Unit {0}
 AreIncompleteLast (token k t f) rest = AreIncompleteLast f rest

@@ -1,4 +1,4 @@
--- The items of a run that stands where others are wanted.
+-- The items of a run where others are wanted.
 use Rattle.std.specs.Prelude.{List, [], ◌∷◌, if◌then◌else◌}
 use Rattle.rnix_grammar.specs.declared.expected_set.ExpectedSet.{ExpectedSet}
 use Rattle.rnix_grammar.specs.Tables.{is_wanted}

@@ -1,4 +1,4 @@
--- The tokens that a strict tree stands for.
+-- The tokens of a strict tree.
 use Rattle.std.specs.Prelude.{ℕ, List, [], ◌∷◌, ◌++◌, if◌then◌else◌}
 use Rattle.rnix_kinds.specs.declared.kinds.SyntaxKind.{SyntaxKind}
 use Rattle.rnix_kinds.specs.declared.kinds.SyntaxKind.TheVariants.{TOKEN_IDENT, TOKEN_OR, TOKEN_CUR_POS}
@@ -12,7 +12,7 @@ kind_of_token TOKEN_IDENT text = if is_or text then TOKEN_OR else TOKEN_IDENT
 kind_of_token TOKEN_CUR_POS text = TOKEN_IDENT
 kind_of_token kind text = kind
 
--- the tokens that a tree stands for
+-- the tokens of a tree
 abbrev pub yield : Forest → List Lexeme
 yield empty = []
 yield (leaf k t f) = (kind_of_token k t, t) ∷ yield f

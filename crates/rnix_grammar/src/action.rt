@@ -14,12 +14,12 @@ use crate::position::Position;
 use crate::slot_table::{HAS_ATTR, SELECT, Slot, slot_at};
 use rnix_kinds::SyntaxKind;
 
-/// One step of the reader. The last position is where the row is resumed after it.
+/// One step of the reader. The last position of a variant is where the row continues afterwards.
 #[derive(Clone, Copy)]
 pub enum Action {
     /// The node is complete.
     Close,
-    /// An entry of a pattern is complete, which may repeat another's name.
+    /// An entry of a pattern is complete; it may repeat the name of another entry.
     CloseEntry,
     /// A pattern is complete.
     ClosePattern,
@@ -37,9 +37,9 @@ pub enum Action {
     Miss(u8),
     /// The text ends where certain kinds are wanted.
     MissWanted(ExpectedSet, u8),
-    /// The tokens before those that are wanted are an error.
+    /// The tokens before the next wanted one become an error node.
     Run(ExpectedSet, u8),
-    /// The next token is a node of its own.
+    /// The next token becomes a node of its own.
     Leaf(SyntaxKind, u8),
     /// The next token begins a node, which continues at the first position.
     Open(SyntaxKind, u8, u8),
@@ -51,11 +51,11 @@ pub enum Action {
     DoubleBind(u8),
     /// Starts an operand of a level; the flag says whether it adds one to the nesting depth.
     Read(u8, bool, u8),
-    /// The next token and the operand before it become a node, which continues at the position; at most operators of the level follow the node.
+    /// The operand and the next token begin a node, which continues at the position; operators up to the level may follow the node.
     Wrap(SyntaxKind, Position, u8),
-    /// An argument and the operand before it become a node.
+    /// The operand and the argument after it become a node.
     Apply,
-    /// `or` and the operand before it become a node.
+    /// The operand and the `or` after it become a node.
     ApplyOr,
 }
 
@@ -113,7 +113,7 @@ pub fn may_continue(min_bp: u8, max_bp: u8, kind: SyntaxKind) -> bool
     level != NO_LEVEL && min_bp <= level && level <= max_bp
 }
 
-/// Returns what the reader does at a position of a row, by the next token that is not trivia, and by whether it touches the one before.
+/// Returns what the reader does at a position of a row, by the next item and by whether it touches the item before.
 #[inline(always)]
 pub fn action_at_slot(index: u8, next: Option<SyntaxKind>, touches: bool) -> Action
     ensures { result ≡ action_at_slot index next touches }
@@ -125,7 +125,7 @@ pub fn action_at_slot(index: u8, next: Option<SyntaxKind>, touches: bool) -> Act
     }
 }
 
-// Whether nothing but the end of the node is to be done at the end of a row of the kind.
+// Whether all that is left to do at the end of a row of the kind is to end the node.
 #[inline(always)]
 fn is_plain_end(kind: SyntaxKind) -> bool
     ensures { result ≡ true → close_action kind ≡ Close }
@@ -136,7 +136,7 @@ fn is_plain_end(kind: SyntaxKind) -> bool
     )
 }
 
-/// Returns whether a row is complete at the position, and nothing but the end of its node is to be done.
+/// Returns whether a row is complete at the position, and all that is left to do is to end its node.
 #[inline(always)]
 pub fn is_past(index: u8) -> bool
     ensures { (next : Option SyntaxKind) (touches : Bool) → result ≡ true → action_at_slot index next touches ≡ Close }

@@ -31,7 +31,7 @@ pub enum ParseError {
     UnexpectedEOF,
     /// The text ends where one of the listed kinds is expected.
     UnexpectedEOFWanted(Vec<SyntaxKind>),
-    /// Two entries of a pattern have one name.
+    /// Two entries of a pattern have the same name.
     DuplicatedArgs(TextRange, String),
     /// Expressions are nested too deep.
     RecursionLimitExceeded,
@@ -85,7 +85,7 @@ fn same_kinds(a: &[SyntaxKind], b: &[SyntaxKind]) -> bool
     a == b
 }
 
-// Whether two tokens are of one kind in one range.
+// Whether two tokens have the same kind and the same range.
 fn same_token(kind: SyntaxKind, range: TextRange, other: SyntaxKind, position: TextRange) -> bool
     ensures { result ≡ (same_kind kind other && same_extent (bounds_of range) (bounds_of position)) }
 {
@@ -122,7 +122,7 @@ impl PartialEq for ParseError {
     }
 }
 
-/// Returns whether two errors are of one variant with the same fields.
+/// Returns whether two errors are the same variant with the same fields.
 pub fn same_errors(a: &ParseError, b: &ParseError) -> bool
     ensures { Decides result (fault_of a.now ≡ fault_of b.now) }
 {

@@ -25,7 +25,7 @@ pub enum ExpectedSet {
     Attr,
     /// What a pattern may contain.
     Entry,
-    /// The end of the text alone.
+    /// Only the end of the text.
     End,
 }
 

@@ -1,4 +1,4 @@
-//! The levels of precedence, by numbers: the binary operators have 1 to 8 and 10 to 12, from the lowest precedence to the highest.
+//! The levels of precedence, as numbers: the binary operators have 1 to 8 and 10 to 12, from the lowest precedence to the highest.
 
 ghost use Rattle.std.specs.Prelude.{◌≡◌, ◌≤◌, IfSome};
 ghost use Rattle.rnix_grammar.specs.Levels.{concatenation_level, operator, plain_binding_power, binding_power, right_of, max_bp_of};

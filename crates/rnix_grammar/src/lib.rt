@@ -1,4 +1,4 @@
-//! What the reader of Nix decides and reports: its errors, and the tables of its grammar.
+//! The tables of the grammar, by which the reader decides, and the errors that it reports.
 #![tactic(auto)]
 
 mod action;

@@ -34,7 +34,7 @@ pub enum OperandStart {
     Stray,
 }
 
-/// Returns whether `{` begins a pattern, by the next two tokens that are not trivia.
+/// Returns whether `{` begins a pattern, by the next two items.
 pub fn is_pattern(second: Option<SyntaxKind>, third: Option<SyntaxKind>) -> bool
     ensures { result ≡ is_pattern second third }
 {
@@ -109,7 +109,7 @@ fn open_ended(kind: SyntaxKind, slot: u8) -> OperandStart
     OperandStart::Node(kind, slot, NO_LEVEL)
 }
 
-/// Returns how an operand of a level begins, by the next three tokens that are not trivia.
+/// Returns how an operand of a level begins, by the next three items.
 #[inline(always)]
 pub fn operand_start_of(
     level: u8,

@@ -1,4 +1,4 @@
-//! What the reader does where a part of a row comes next, by the next token that is not trivia.
+//! What the reader does where a part of a row comes next, by the next item.
 
 ghost use Rattle.std.specs.Prelude.{◌≡◌, ◌<◌, if◌then◌else◌};
 ghost use Rattle.rnix_grammar.specs.Actions.{expected_set_of, token_action, name_action, wanted_action, many_action, entries_action, pieces_action, path_pieces_action, attr_action, names_action, source_action, formals_action, first_formals_action, comma_action, end_or_action, bound_action, more_attrs_action, end_action, child_action, part_action};
@@ -13,7 +13,7 @@ use crate::slot_table::{
 };
 use rnix_kinds::SyntaxKind;
 
-// What an error says is wanted where a child of the kind is missing.
+// What an error lists as wanted where a child of the kind is missing.
 fn expected_set_of(kind: SyntaxKind) -> ExpectedSet
     ensures { result ≡ expected_set_of kind }
 {
@@ -191,7 +191,7 @@ fn source_action(after: u8, next: Option<SyntaxKind>) -> Action
     }
 }
 
-// One of two positions of patterns, by whether a name is bound before the pattern.
+// One of two positions in a pattern, by whether a name precedes the pattern.
 fn of_pattern(bound: bool, after_bind: u8, alone: u8) -> u8
     ensures { result ≡ (if bound then after_bind else alone) }
 {
@@ -290,7 +290,7 @@ fn end_action(next: Option<SyntaxKind>) -> Action
     }
 }
 
-// A child that its node always has; no open node is before it.
+// A child that every such node has; no open node is at a position before one.
 fn child_action(after: u8, next: Option<SyntaxKind>) -> Action
     ensures { result ≡ child_action after next }
 {

@@ -39,7 +39,7 @@ pub enum Part {
     Formals,
     FormalsAfterComma,
     Comma,
-    /// A child of the kind, or not.
+    /// An optional child of the kind.
     Optional(SyntaxKind),
     /// The end of the row, or a child of the kind and the rest of the row.
     EndOr(SyntaxKind),

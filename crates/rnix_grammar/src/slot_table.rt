@@ -39,7 +39,7 @@ macro_rules! slots {
             Slot::Next(Wanted(TOKEN_R_BRACE)),
             Slot::Next(EndOr(NODE_PAT_BIND)),
             Slot::End(NODE_PATTERN),
-            // The same where a name is bound before the pattern.
+            // The same if a name precedes the pattern.
             Slot::Next(FormalsAfterComma),
             Slot::Next(BoundAlready),
             Slot::End(NODE_PATTERN),
@@ -59,7 +59,7 @@ macro_rules! slots {
 /// The rest of a row is the part at its index, followed by the rest at the next index.
 pub static SLOTS: [Slot; 169] = grammar!(slots);
 
-// Where rows begin, or continue after the children that a node is opened with, each as an offset in slots from another.
+// The indices where rows begin, or continue after the children that a node opens with, each as an offset from another index.
 pub const ROOT: u8 = 0;
 
 pub const PATH_ABS: u8 = ROOT + 16;

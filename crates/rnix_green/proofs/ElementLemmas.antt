@@ -62,7 +62,7 @@ parent_by : (t : Tree) (n : ℕ) → n < length (items_of t) → parent_kept n (
 parent_by t zero l = refl
 parent_by t (suc n) l = (let h = has_parent t (suc n) (omega arith) l in ap (λ p. Some (parent_or_root p)) h.is ∙ sym h.is)
 
--- the starts of the elements of a row
+-- the starts of the elements of a forest
 abbrev starts : ℕ → ℕ → Option ℕ → Forest → List ℕ
 starts n s p f = map (λ (i : Item). i.start) (items_from n s p f)
 
@@ -77,11 +77,11 @@ get_or_row [] vs (suc k) d l = absurd (omega arith)
 get_or_row (u ∷ us) vs zero d l = refl
 get_or_row (u ∷ us) vs (suc k) d l = get_or_row us vs k d (omega arith)
 
--- what stands behind the first of a list
+-- what follows the first of a list
 behind_first : (u : ℕ) (us : List ℕ) (k j d : ℕ) → k ≡ suc j → get_or (u ∷ us) k d ≡ get_or us j d
 behind_first u us k j d e = ap (λ i. get_or (u ∷ us) i d) e
 
--- so it is where an element ends in a row, m elements behind its first
+-- so it is where an element ends in a forest, m elements after its first
 abbrev EndsAtNext : ℕ → ℕ → Option ℕ → Forest → ℕ → ℕ → Type 0
 EndsAtNext n s p f m d = (at n s p f m).end ≡ get_or (starts n s p f) (m + 1 + (at n s p f m).below) d
 
@@ -130,7 +130,7 @@ module _ (n s : ℕ) (p : Option ℕ) (k : SyntaxKind) (c f : Forest) (d : ℕ) 
       ∙ sym (ap (λ z. get_or z (suc m + 1 + b) d) split ∙ behind_first s (xs ++ ys) (suc m + 1 + b) (m + 1 + b) d (omega arith))
       ∙ ap (λ (i : Item). get_or (starts n s p (node k c f)) (suc m + 1 + i.below) d) (sym e)
 
--- an element ends where the next one behind it starts
+-- an element ends where the next one after it starts
 ends_at_next : (n s : ℕ) (p : Option ℕ) (f : Forest) (m d : ℕ) → m < element_count f → d ≡ s + length (text_of f) → EndsAtNext n s p f m d
 ends_at_next n s p empty m d l e = absurd (omega arith)
 ends_at_next n s p (leaf k t f) zero d l e = sym (first_start (n + 1) (s + length t) p f d (omega (arith, length-append t (text_of f))))
@@ -148,7 +148,7 @@ ends_at_next n s p (node k c f) (suc m) d l e =
           (ends_at_next (n + 1 + element_count c) (s + length (text_of c)) p f (m - element_count c) d (omega arith) whole) x
     ]
 
--- an element of a tree ends where the next one behind it starts
+-- an element of a tree ends where the next one after it starts
 end_by : (t : Tree) (n : ℕ) → n < length (items_of t) → start_at t (n + 1 + (item t n).below) ≡ (item t n).end
 end_by t n l = sym (ends_at_next 0 0 None (forest_of t) n (length (text_of (forest_of t))) (omega (arith, elements_in_all t)) (omega arith))
 

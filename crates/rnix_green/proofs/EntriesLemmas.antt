@@ -10,7 +10,7 @@ use Rattle.rnix_green.specs.{Entries.{built_onto, built, wrapped_last, starts_fr
 use Rattle.rnix_green.proofs.ForestLemmas.{tree_count-join, tree_count-first, element_count-join, text_of-join, join_assoc, join_first_after}
 use Rattle.rnix_green.proofs.PostorderLemmas.{entries_of-join, length-post_of, packed_leaf, packed_node}
 
--- the first of two rows, by its elements
+-- the first of two forests, by its elements
 pub first_elements-join : (f g : Forest) → first_elements (element_count f) (join f g) ≡ f
 first_elements-join empty g = refl
 first_elements-join (leaf k t f) g = ap (leaf k t) (first_elements-join f g)
@@ -51,7 +51,7 @@ built_onto-entries g (node k c f) rest es =
     ∙ built_onto-entries (join g (node k c empty)) f rest es
     ∙ ap (λ x. built_onto x rest es) (join_assoc g (node k c empty) f)
 
--- the entries of a row make it again
+-- the entries of a forest make it again
 pub built-entries : (f : Forest) → built (text_of f) (entries_of f) ≡ f
 built-entries f =
     ap (λ x. built x (entries_of f)) (sym (append-nil (text_of f))) ∙ ap (λ x. built (text_of f ++ []) x) (sym (append-nil (entries_of f)))
@@ -65,7 +65,7 @@ built_is f text es os st h = rw (h.entries, h.text_is) (built-entries f)
 pub settled : (f : Forest) (text : List ℕ) (es : List Entry) (os : List Pending) (st : List ℕ) → IsBuilt f text es os st → IsBuilt (built text es) text es os st
 settled f text es os st h = rw (built_is f text es os st h) h
 
--- where the trees of two rows begin
+-- where the trees of two forests begin
 pub starts_from-join : (n : ℕ) (f g : Forest) → starts_from n (join f g) ≡ starts_from n f ++ starts_from (n + element_count f) g
 starts_from-join n empty g = ap (λ m. starts_from m g) (omega arith)
 starts_from-join n (leaf k t f) g =
@@ -73,7 +73,7 @@ starts_from-join n (leaf k t f) g =
 starts_from-join n (node k c f) g =
     ap (λ x. n ∷ x) (starts_from-join (n + 1 + element_count c) f g ∙ ap (λ m. starts_from (n + 1 + element_count c) f ++ starts_from m g) (omega arith))
 
--- a tree begins behind the elements of those before it
+-- a tree begins after the elements of those before it
 pub start_at : (n : ℕ) (f : Forest) (p d : ℕ) → p < tree_count f → get_or (starts_from n f) p d ≡ n + element_count (first_trees p f)
 start_at n empty p d h = absurd (omega arith)
 start_at n (leaf k t f) zero d h = omega arith
@@ -88,7 +88,7 @@ take-starts_from n empty (suc p) = refl
 take-starts_from n (leaf k t f) (suc p) = ap (λ x. n ∷ x) (take-starts_from (n + 1) f p)
 take-starts_from n (node k c f) (suc p) = ap (λ x. n ∷ x) (take-starts_from (n + 1 + element_count c) f p)
 
--- the first trees of a short row are all of it
+-- the first trees of a short forest are all of it
 pub first_trees_all : (n : ℕ) (f : Forest) → tree_count f ≤ n → first_trees n f ≡ f
 first_trees_all n empty h = elim n as (λ m. first_trees m empty ≡ empty) [ zero ↦ refl | suc m ↦ refl ]
 first_trees_all zero (leaf k t f) h = absurd (omega arith)
@@ -96,7 +96,7 @@ first_trees_all (suc n) (leaf k t f) h = ap (leaf k t) (first_trees_all n f (ome
 first_trees_all zero (node k c f) h = absurd (omega arith)
 first_trees_all (suc n) (node k c f) h = ap (node k c) (first_trees_all n f (omega arith))
 
--- two rows with text have text
+-- two forests with text have text
 pub HasText-join : (f g : Forest) → HasText f → HasText g → HasText (join f g)
 HasText-join empty g h i = i
 HasText-join (leaf k t f) g h i = (h.0, HasText-join f g h.1 i)
@@ -218,7 +218,7 @@ first_entry f text es os st p h =
           get_or_past st p (length es) l ∙ ap length h.entries ∙ length-post_of f ∙ ap element_count (sym (first_trees_all p f in_range))
     ]
 
--- no open node begins behind the entries
+-- no open node begins after the entries
 pub first_entry_le : (f : Forest) (text : List ℕ) (es : List Entry) (os : List Pending) (st : List ℕ) (p : ℕ) → IsBuilt f text es os st →
     get_or st p (length es) ≤ length es
 first_entry_le f text es os st p h =

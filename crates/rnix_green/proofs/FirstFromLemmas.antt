@@ -1,4 +1,4 @@
--- Where the elements of a tree begin to start at an offset or behind it.
+-- Where the elements of a tree begin to start at an offset or after it.
 use Rattle.std.proofs.Common.{◌≡◌, ℕ, ◌+◌, ◌-◌, ◌≤◌, ◌<◌, List, length, get_or, take, drop, Bool, true, false, None, nat_lt, ap, ◌∙◌, arith, inl, inr}
 use Rattle.std.{proofs.{Common.{length-drop, length-take-le, get_or-drop}, lemmas.{List.get_or-take, Bool.cases_lt}}, specs.List.Sorted.IsPartitionedBy}
 use Rattle.{std.specs.List.Sorted.IsPartitionPoint, rnix_kinds.specs.declared.kinds.SyntaxKind.TheVariants.TOKEN_ERROR}

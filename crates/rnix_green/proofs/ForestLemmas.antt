@@ -2,25 +2,25 @@
 use Rattle.{std.proofs.Common.{◌≡◌, ℕ, zero, suc, ◌+◌, ◌≤◌, ◌++◌, refl, ap, sym, append_assoc, arith}, rnix_green.specs.Forest.{Forest, empty, leaf, node}}
 use Rattle.rnix_green.specs.Forest.{join, tree_count, first_trees, trees_after, text_of, element_count}
 
--- three rows
+-- three forests
 pub join_assoc : (f g h : Forest) → join (join f g) h ≡ join f (join g h)
 join_assoc empty g h = refl
 join_assoc (leaf k t f) g h = ap (leaf k t) (join_assoc f g h)
 join_assoc (node k c f) g h = ap (node k c) (join_assoc f g h)
 
--- the text of two rows
+-- the text of two forests
 pub text_of-join : (f g : Forest) → text_of (join f g) ≡ text_of f ++ text_of g
 text_of-join empty g = refl
 text_of-join (leaf k t f) g = rw (text_of-join f g) (sym (append_assoc t (text_of f) (text_of g)))
 text_of-join (node k c f) g = rw (text_of-join f g) (sym (append_assoc (text_of c) (text_of f) (text_of g)))
 
--- the trees of two rows
+-- the trees of two forests
 pub tree_count-join : (f g : Forest) → tree_count (join f g) ≡ tree_count f + tree_count g
 tree_count-join empty g = omega arith
 tree_count-join (leaf k t f) g = omega (arith, tree_count-join f g)
 tree_count-join (node k c f) g = omega (arith, tree_count-join f g)
 
--- the elements of two rows
+-- the elements of two forests
 pub element_count-join : (f g : Forest) → element_count (join f g) ≡ element_count f + element_count g
 element_count-join empty g = omega arith
 element_count-join (leaf k t f) g = omega (arith, element_count-join f g)

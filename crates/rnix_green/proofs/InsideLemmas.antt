@@ -9,7 +9,7 @@ use Rattle.rnix_green.proofs.NestLemmas.{of_node, parented, next_parent, parent_
 pub elements_in_all : (t : Tree) → length (items_of t) ≡ element_count (forest_of t)
 elements_in_all t = length-items_from 0 0 None (forest_of t)
 
--- what is inside the element a is a row of its own
+-- what is inside the element a is a forest of its own
 pub record Inner (t : Tree) (a : ℕ) : Type 0 where
   pub children : Forest
   pub start : ℕ
@@ -111,7 +111,7 @@ below_parent t m q l e =
           record { low = omega (arith, h.high); high = omega (arith, over, ap (λ i. (item t i).below) same) }
     ]
 
--- what stands behind an element, inside its parent, has the same parent
+-- what follows an element, inside its parent, has the same parent
 pub sibling_behind : (t : Tree) (m p : ℕ) → m < length (items_of t) → (item t m).parent ≡ Some p → m + 1 + (item t m).below ≤ p + (item t p).below
     → (item t (m + 1 + (item t m).below)).parent ≡ Some p
 sibling_behind t m p l e fits =

@@ -1,4 +1,4 @@
--- The elements and the text of a tree give the tree back.
+-- A tree can be rebuilt from its elements and its text.
 use Rattle.std.proofs.Common.{◌≡◌, ℕ, zero, suc, ◌+◌, ◌-◌, ◌<◌, List, [], ◌∷◌, ◌++◌, length, take, drop, Option, Some, None, true, map, refl, ap, sym, subst}
 use Rattle.std.proofs.{Common.{◌∙◌, arith, length-append, append_assoc}, lemmas.List.{take_at, drop_at, append-nil, drop-drop, map-append, length-map}}
 use Rattle.{std.specs.Prelude.slice_get, rnix_green.specs.{declared.{packed.Packed.Packed, builder.OpenNode.OpenNode as Pending}, Forest.{Forest, empty, leaf}}}
@@ -9,36 +9,36 @@ use Rattle.rnix_green.specs.{Entries.{IsBuilder, made, open_pairs, is_node_last,
 use Rattle.rnix_green.proofs.{EntriesLemmas.{first_elements-join, elements_after-join}, PackedLemmas.packed_again, PostorderLemmas.length-post_of}
 use Rattle.rnix_green.proofs.PieceLemmas.{length-items_from}
 
--- the first element of a row starts where the row does, or where what follows does
-start_of_first-row : (whole : List ℕ) (n s : ℕ) (p : Option ℕ) (f : Forest) (es : List Packed) → s + length (text_of f) ≡ start_of_first whole es →
+-- the first element of a forest starts where the forest does, or where what follows does
+start_of_first-trees : (whole : List ℕ) (n s : ℕ) (p : Option ℕ) (f : Forest) (es : List Packed) → s + length (text_of f) ≡ start_of_first whole es →
     s < limit → start_of_first whole (kept_from n s p f ++ es) ≡ s
-start_of_first-row whole n s p empty es e l = omega arith
-start_of_first-row whole n s p (leaf k t f) es e l = packed_again s l
-start_of_first-row whole n s p (node k c f) es e l = packed_again s l
+start_of_first-trees whole n s p empty es e l = omega arith
+start_of_first-trees whole n s p (leaf k t f) es e l = packed_again s l
+start_of_first-trees whole n s p (node k c f) es e l = packed_again s l
 
--- the elements of a row, whose text stands at the start s, and further elements
-pub forest_from-row : (whole : List ℕ) (n s : ℕ) (p : Option ℕ) (f : Forest) (rest : List ℕ) (es : List Packed) → drop s whole ≡ text_of f ++ rest →
+-- the elements of a forest, whose text is at the start s, and further elements
+pub forest_from-trees : (whole : List ℕ) (n s : ℕ) (p : Option ℕ) (f : Forest) (rest : List ℕ) (es : List Packed) → drop s whole ≡ text_of f ++ rest →
     s + length (text_of f) ≡ start_of_first whole es → s + length (text_of f) < limit → element_count f < limit →
     forest_from whole (kept_from n s p f ++ es) ≡ join f (forest_from whole es)
-forest_from-row whole n s p empty rest es e b l m = refl
-forest_from-row whole n s p (leaf k t f) rest es e b l m =
+forest_from-trees whole n s p empty rest es e b l m = refl
+forest_from-trees whole n s p (leaf k t f) rest es e b l m =
     let behind : s + length t + length (text_of f) ≡ start_of_first whole es = omega (arith, length-append t (text_of f)) in
     let low : s + length t + length (text_of f) < limit = omega (arith, length-append t (text_of f)) in
     let here : len_or_start_in (packed k s (parent_or_root p) 0) ≡ s = packed_again s (omega arith) in
     let next : start_of_first whole (kept_from (n + 1) (s + length t) p f ++ es) ≡ s + length t =
-    start_of_first-row whole (n + 1) (s + length t) p f es behind (omega arith) in
+    start_of_first-trees whole (n + 1) (s + length t) p f es behind (omega arith) in
     let len : s + length t - s ≡ length t = omega arith in
     let at : drop s whole ≡ t ++ (text_of f ++ rest) = e ∙ append_assoc t (text_of f) rest in
     let text : take (s + length t - s) (drop s whole) ≡ t =
     ap (λ m. take m (drop s whole)) len ∙ ap (take (length t)) at ∙ take_at t (text_of f ++ rest) (length t) refl in
     let later : drop (s + length t) whole ≡ text_of f ++ rest =
     sym (drop-drop (length t) s whole) ∙ ap (drop (length t)) at ∙ drop_at t (text_of f ++ rest) (length t) refl in
-    let row = forest_from whole (kept_from (n + 1) (s + length t) p f ++ es) in
-    ap (λ x. leaf k (take (x - word_of s) (drop (word_of s) whole)) row) next
-    ∙ ap (λ x. leaf k (take (s + length t - x) (drop x whole)) row) here
-    ∙ ap (λ x. leaf k x row) text
-    ∙ ap (leaf k t) (forest_from-row whole (n + 1) (s + length t) p f rest es later behind low (omega arith))
-forest_from-row whole n s p (node k c f) rest es e b l m =
+    let trees = forest_from whole (kept_from (n + 1) (s + length t) p f ++ es) in
+    ap (λ x. leaf k (take (x - word_of s) (drop (word_of s) whole)) trees) next
+    ∙ ap (λ x. leaf k (take (s + length t - x) (drop x whole)) trees) here
+    ∙ ap (λ x. leaf k x trees) text
+    ∙ ap (leaf k t) (forest_from-trees whole (n + 1) (s + length t) p f rest es later behind low (omega arith))
+forest_from-trees whole n s p (node k c f) rest es e b l m =
     let xs = kept_from (n + 1) s (Some n) c in
     let ys = kept_from (n + 1 + element_count c) (s + length (text_of c)) p f in
     let behind : s + length (text_of c) + length (text_of f) ≡ start_of_first whole es = omega (arith, length-append (text_of c) (text_of f)) in
@@ -47,23 +47,23 @@ forest_from-row whole n s p (node k c f) rest es e b l m =
     let later : drop (s + length (text_of c)) whole ≡ text_of f ++ rest =
     sym (drop-drop (length (text_of c)) s whole) ∙ ap (drop (length (text_of c))) at ∙ drop_at (text_of c) (text_of f ++ rest) (length (text_of c)) refl in
     let next : s + length (text_of c) ≡ start_of_first whole (ys ++ es) =
-    sym (start_of_first-row whole (n + 1 + element_count c) (s + length (text_of c)) p f es behind (omega arith)) in
+    sym (start_of_first-trees whole (n + 1 + element_count c) (s + length (text_of c)) p f es behind (omega arith)) in
     let split : map kept_of (items_from (n + 1) s (Some n) c ++ items_from (n + 1 + element_count c) (s + length (text_of c)) p f) ≡ xs ++ ys =
     map-append kept_of (items_from (n + 1) s (Some n) c) (items_from (n + 1 + element_count c) (s + length (text_of c)) p f) in
     let all : forest_from whole (map kept_of (items_from (n + 1) s (Some n) c ++ items_from (n + 1 + element_count c) (s + length (text_of c)) p f) ++ es)
     ≡ join c (join f (forest_from whole es)) =
     ap (λ x. forest_from whole (x ++ es)) split ∙ ap (forest_from whole) (append_assoc xs ys es)
-    ∙ forest_from-row whole (n + 1) s (Some n) c (text_of f ++ rest) (ys ++ es) at next (omega arith) (omega arith)
-    ∙ ap (join c) (forest_from-row whole (n + 1 + element_count c) (s + length (text_of c)) p f rest es later behind low (omega arith)) in
-    let row = map kept_of (items_from (n + 1) s (Some n) c ++ items_from (n + 1 + element_count c) (s + length (text_of c)) p f) ++ es in
+    ∙ forest_from-trees whole (n + 1) s (Some n) c (text_of f ++ rest) (ys ++ es) at next (omega arith) (omega arith)
+    ∙ ap (join c) (forest_from-trees whole (n + 1 + element_count c) (s + length (text_of c)) p f rest es later behind low (omega arith)) in
+    let kept_elements = map kept_of (items_from (n + 1) s (Some n) c ++ items_from (n + 1 + element_count c) (s + length (text_of c)) p f) ++ es in
     let len_or_start = word_of s in
-    ap (λ x. tree_before x k (take (start_of_first whole row - len_or_start) (drop len_or_start whole)) (forest_from whole row))
+    ap (λ x. tree_before x k (take (start_of_first whole kept_elements - len_or_start) (drop len_or_start whole)) (forest_from whole kept_elements))
     (packed_again (suc (element_count c)) (omega arith))
     ∙ ap (λ x. node k (first_elements (element_count c) x) (elements_after (element_count c) x)) all
     ∙ ap (λ x. node k x (elements_after (element_count c) (join c (join f (forest_from whole es))))) (first_elements-join c (join f (forest_from whole es)))
     ∙ ap (node k c) (elements_after-join c (join f (forest_from whole es)))
 
--- what is kept stands for the tree
+-- the stored elements represent the tree
 pub tree_from_kept : (t : Tree) (es : List Packed) (text : List ℕ) → IsKept t es text → tree_from es text ≡ t
 tree_from_kept t es text h =
     let whole : length text ≡ length (text_of (forest_of t)) = ap length h.text_is in
@@ -71,16 +71,16 @@ tree_from_kept t es text h =
     ap length h.elements ∙ length-map (items_of t) kept_of ∙ length-items_from 0 0 None (forest_of t) in
     let same : forest_from text (kept_from 0 0 None (forest_of t)) ≡ forest_of t =
     ap (forest_from text) (sym (append-nil (kept_from 0 0 None (forest_of t))))
-    ∙ forest_from-row text 0 0 None (forest_of t) [] [] (h.text_is ∙ sym (append-nil (text_of (forest_of t)))) (omega arith)
+    ∙ forest_from-trees text 0 0 None (forest_of t) [] [] (h.text_is ∙ sym (append-nil (text_of (forest_of t)))) (omega arith)
     (omega (arith, h.short)) (omega (arith, h.few))
     ∙ join_empty (forest_of t) in
     ap (λ x. as_tree (forest_from text x)) h.elements ∙ ap as_tree same
 
--- and so for the tree that it stands for
+-- and so the tree that is rebuilt from them
 pub kept : (t : Tree) (es : List Packed) (text : List ℕ) → IsKept t es text → IsKept (tree_from es text) es text
 kept t es text h = rw (tree_from_kept t es text h) h
 
--- a row of one node is a tree
+-- a forest of one node is a tree
 pub one_node : (f : Forest) → is_one_node f ≡ true → forest_of (as_tree f) ≡ f
 one_node empty h = cc
 one_node (leaf k t f) h = cc
@@ -114,7 +114,7 @@ copied_kept text cut copy entries os st elements h o c p e =
     subst (IsKept (as_tree (made text entries)) elements) (sym (p ∙ c))
     (finished_kept _ text _ os st elements h o (e ∙ ap (λ t. kept_from 0 0 None (made t entries)) c))
 
--- what is kept of a row of one node stands for it
+-- the stored elements of a forest of one node represent it
 pub finished_is : (f : Forest) (text : List ℕ) (elements : List Packed) (t : Tree) → is_one_node f ≡ true → IsKept (as_tree f) elements text →
     t ≡ tree_from elements text → forest_of t ≡ f
 finished_is f text elements t o h e = ap forest_of (e ∙ tree_from_kept (as_tree f) elements text h) ∙ one_node f o
@@ -125,7 +125,7 @@ last_get [] x (suc n) h = absurd (omega arith)
 last_get (e ∷ es) x zero h = absurd (omega arith)
 last_get (e ∷ es) x (suc n) h = last_get es x n (omega arith)
 
--- a row of one tree is a node if the last entry is
+-- a forest of one tree is a node if the last entry is
 pub one_node_test : (f : Forest) → tree_count f ≡ 1 → is_one_node f ≡ is_node_last (entries_of f)
 one_node_test empty h = absurd (omega arith)
 one_node_test (leaf k t empty) h = refl
@@ -136,7 +136,7 @@ one_node_test (node k c empty) h = ap is_node_entry
 one_node_test (node k c (leaf j u f)) h = absurd (omega arith)
 one_node_test (node k c (node j d f)) h = absurd (omega arith)
 
--- a builder is complete if no node is open, and one tree is there, a node
+-- a builder is complete if no node is open and it has exactly one tree, a node
 pub complete_is : (f : Forest) (text : List ℕ) (es : List Entry) (os : List Pending) (st : List ℕ) → IsBuilt f text es os st → length os ≡ 0 → length st ≡ 1 →
     is_node_last es ≡ is_complete_of record { finished = f; open_nodes = open_pairs os }
 complete_is f text es [] st h o s = ap is_node_last h.entries ∙ sym (one_node_test f (sym h.counted ∙ s))

@@ -19,7 +19,7 @@ abbrev with_pair : List Frame → Packed → ℕ → List Frame
 with_pair frames x remaining =
     frames ++ record { kind = x.kind; size = size_in x; number = remaining - 1 - 1 + length frames; first = remaining - 1 - 1 } ∷ []
 
--- something stands before a node of two elements
+-- something comes before a node of two elements
 pub pair_fits : (forest : Forest) (es : List Packed) (remaining offset : ℕ) (frames : List Frame) (x : Packed) →
     remaining + length frames ≤ length es → remaining ≢ 0 → x ≡ get_or es (remaining - 1) x → size_in x ≡ 2 → HasMore (reverse frames) remaining →
     IsWork forest (entries_before remaining es) offset (reverse frames) (drop (remaining + length frames) es) → 0 < remaining - 1

@@ -38,7 +38,7 @@ in_right n m q j xs ys e l h =
           ap (λ x. x.is_node) (get_or-append_right xs ys j (q - n) no_item e (omega (arith, h.low)) ∙ ap (λ k. get_or ys k no_item) same) ∙ h.is_node;
     }
 
--- the parent of an element is that of the row, or a node before the element
+-- the parent of an element is that of the forest, or a node before the element
 pub parent_of : (n s : ℕ) (p : Option ℕ) (f : Forest) (m q : ℕ) → m < element_count f → (get_or (items_from n s p f) m no_item).parent ≡ Some q →
     (p ≡ Some q) ⊎ IsNodeBefore n m q (items_from n s p f)
 parent_of n s p empty m q l e = absurd (omega arith)

@@ -1,4 +1,4 @@
--- Where an element and what is inside it stand among the elements of a row.
+-- Where an element and what is inside it are among the elements of a forest.
 use Rattle.std.proofs.Common.{◌≡◌, ℕ, suc, ◌+◌, ◌-◌, ◌≤◌, ◌<◌, List, [], ◌∷◌, ◌++◌, length, drop, get_or, Bool, true, false, Option, Some, None, refl, ap, sym}
 use Rattle.std.proofs.{Common.{◌∙◌, subst, arith, inl, inr, append_assoc, length-append}, lemmas.{Bool.cases_lt, List.{drop_at, append-nil}}}
 use Rattle.std.{proofs.lemmas.List.{get_or_append_left, get_or-append_right}, specs.Prelude.{if◌then◌else◌, nat_lt, ◌==◌}}
@@ -7,7 +7,7 @@ use Rattle.rnix_green.specs.{Tree.{Item, items_from, items_of, forest_of, no_ite
 use Rattle.rnix_green.{specs.PreorderNumbers.{siblings_between, passed_over}, proofs.NumberTests.{is_same, is_above, is_below, is_not_below, below_true, below_false}}
 use Rattle.rnix_green.proofs.{NumberTests.other, PieceLemmas.length-items_from, SiblingLemmas.{passed_trees, no_sibling}}
 
--- the part of the element m, among the items of a row that is numbered from n
+-- the part of the element m, among the items of a forest that is numbered from n
 pub record IsPart (n m : ℕ) (part : Forest) (is : List Item) : Type 0 where
   pub start : ℕ
   pub parent : Option ℕ
@@ -16,11 +16,11 @@ pub record IsPart (n m : ℕ) (part : Forest) (is : List Item) : Type 0 where
   pub split : is ≡ before ++ (items_from m start parent part ++ after)
   pub counted : n + length before ≡ m
 
--- the first of a row
+-- the first of a forest
 first_part : (n s : ℕ) (p : Option ℕ) (part : Forest) (rest : List Item) → IsPart n n part (items_from n s p part ++ rest)
 first_part n s p part rest = record { start = s; parent = p; before = []; after = rest; split = refl; counted = omega arith }
 
--- some elements in front, and some behind
+-- some elements in front, and some after
 later_part : (n j m : ℕ) (part : Forest) (xs is ys : List Item) → n + length xs ≡ j → IsPart j m part is → IsPart n m part (xs ++ (is ++ ys))
 later_part n j m part xs is ys e h = record {
   start = h.start;
@@ -34,7 +34,7 @@ later_part n j m part xs is ys e h = record {
   counted = omega (arith, length-append xs h.before, h.counted);
 }
 
--- an element of a row is a part of it
+-- an element of a forest is a part of it
 pub part_in : (n s : ℕ) (p : Option ℕ) (f : Forest) (m : ℕ) → n ≤ m → m < n + element_count f → IsPart n m (part_of m n f) (items_from n s p f)
 part_in n s p empty m l h = absurd (omega arith)
 part_in n s p (leaf k t f) m l h =

@@ -15,7 +15,7 @@ length-post_of (leaf k t f) = ap suc (length-post_of f)
 length-post_of (node k c f) =
     omega (arith, length-post_of c, length-post_of f, length-append (entries_of c) (Node k (element_count c) ∷ entries_of f))
 
--- the entries of two rows
+-- the entries of two forests
 pub entries_of-join : (f g : Forest) → entries_of (join f g) ≡ entries_of f ++ entries_of g
 entries_of-join empty g = refl
 entries_of-join (leaf k t f) g = ap (λ x. Leaf k (length t) ∷ x) (entries_of-join f g)
@@ -23,7 +23,7 @@ entries_of-join (node k c f) g =
     ap (λ x. entries_of c ++ (Node k (element_count c) ∷ x)) (entries_of-join f g)
     ∙ sym (append_assoc (entries_of c) (Node k (element_count c) ∷ entries_of f) (entries_of g))
 
--- the items of two rows
+-- the items of two forests
 pub items_from-join : (n s : ℕ) (p : Option ℕ) (f g : Forest) →
     items_from n s p (join f g) ≡ items_from n s p f ++ items_from (n + element_count f) (s + length (text_of f)) p g
 items_from-join n s p empty g =
@@ -49,7 +49,7 @@ items_from-join n s p (node k c f) g =
     ∙ ap (λ m. ys ++ items_from (n + suc (element_count c + element_count f)) m p g) b)
     ∙ sym (append_assoc xs ys _))
 
--- what is kept of two rows
+-- what is kept of two forests
 kept_from-join : (n s : ℕ) (p : Option ℕ) (f g : Forest) →
     kept_from n s p (join f g) ≡ kept_from n s p f ++ kept_from (n + element_count f) (s + length (text_of f)) p g
 kept_from-join n s p f g =
@@ -71,7 +71,7 @@ after_node k d _ no_last = last_node empty k d
 after_node k d _ (last_leaf g j u) = last_leaf (node k d g) j u
 after_node k d _ (last_node g j c) = last_node (node k d g) j c
 
--- a row is empty, or has a last tree
+-- a forest is empty, or has a last tree
 pub last_of : (f : Forest) → Last f
 last_of empty = no_last
 last_of (leaf k t f) = after_leaf k t f (last_of f)

@@ -46,7 +46,7 @@ no_sibling is n end l =
     let none : end - n ≡ 0 = omega arith in
     ap (λ m. passed_over n 0 m (drop n is)) none ∙ passed_at_zero n (drop n is)
 
--- what is inside an element ends within the row
+-- what is inside an element ends within the forest
 pub below_fits : (n s : ℕ) (p : Option ℕ) (f : Forest) (m : ℕ) → m < element_count f → m + 1 + (get_or (items_from n s p f) m no_item).below ≤ element_count f
 below_fits n s p empty m l = absurd (omega arith)
 below_fits n s p (leaf k t f) zero l = omega arith
@@ -73,7 +73,7 @@ next_inside t m l =
     let count : length (items_of t) ≡ element_count (forest_of t) = length-items_from 0 0 None (forest_of t) in
     omega (arith, below_fits 0 0 None (forest_of t) m (omega arith))
 
--- the siblings of a row are its trees
+-- the siblings of a forest are its trees
 pub passed_trees : (n s : ℕ) (p : Option ℕ) (f : Forest) (rest : List Item) → passed_over n 0 (element_count f) (items_from n s p f ++ rest) ≡ tree_numbers n f
 passed_trees n s p empty rest = passed_at_zero n rest
 passed_trees n s p (leaf k u f) rest = ap (λ x. n ∷ x) (passed_trees (n + 1) (s + length u) p f rest)

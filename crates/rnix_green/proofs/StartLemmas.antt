@@ -3,13 +3,13 @@ use Rattle.std.proofs.Common.{subst, ◌≡◌, ℕ, zero, suc, ◌+◌, ◌-◌
 use Rattle.{std.proofs.{Common.length-append, lemmas.Bool.cases_lt}, rnix_green.specs.{Forest.{Forest, empty, leaf, node, text_of, element_count}, Tree.Item}}
 use Rattle.rnix_green.proofs.NestLemmas.{at, inside, beyond, behind}
 
--- an element lies in the text of its row
+-- an element lies in the text of its forest
 pub record IsBetween (s e : ℕ) (i : Item) : Type 0 where
   pub low : s ≤ i.start
   pub ordered : i.start ≤ i.end
   pub high : i.end ≤ e
 
--- an element stands inside the text of its row
+-- an element is inside the text of its forest
 pub in_text : (n s : ℕ) (p : Option ℕ) (f : Forest) (i : ℕ) → i < element_count f → IsBetween s (s + length (text_of f)) (at n s p f i)
 in_text n s p empty i l = absurd (omega arith)
 in_text n s p (leaf k t f) zero l = record { low = omega arith; ordered = omega arith; high = omega (arith, length-append t (text_of f)) }
@@ -98,7 +98,7 @@ in_order n s p (node k c f) (suc i) (suc j) l h =
       ends = λ h. omega (arith, ends, ap (λ (z : Item). z.end) e, ap (λ (z : Item). z.start) g);
     }
 
--- a leaf of a row whose range has the byte before the offset
+-- a leaf of a forest whose range has the byte before the offset
 pub record HasLeft (n s : ℕ) (p : Option ℕ) (f : Forest) (o : ℕ) : Type 0 where
   pub index : ℕ
   pub there : index < element_count f
@@ -106,7 +106,7 @@ pub record HasLeft (n s : ℕ) (p : Option ℕ) (f : Forest) (o : ℕ) : Type 0 
   pub low : (at n s p f index).start < o
   pub high : o ≤ (at n s p f index).end
 
--- a byte of a row's text is one of its tokens'
+-- a byte of a forest's text is one of its tokens'
 pub has_left : (n s : ℕ) (p : Option ℕ) (f : Forest) (o : ℕ) → s < o → o ≤ s + length (text_of f) → HasLeft n s p f o
 has_left n s p empty o l h = absurd (omega arith)
 has_left n s p (leaf k t f) o l h = elim (cases_lt (s + length t) o) [

@@ -27,7 +27,7 @@ taken_more text part m w h =
     sym (take-append-drop m (take n text)) ∙ ap (λ x. x ++ drop m (take n text)) first
     ∙ ap (λ x. take m text ++ x) (drop-take m (length part) text ∙ h)
 
--- and what is left behind it
+-- and what is left after it
 pub remaining_more : (text part : List ℕ) (m : ℕ) → drop (m + length part) text ≡ drop (length part) (drop m text)
 remaining_more text part m = sym (drop-drop (length part) m text)
 

@@ -3,7 +3,7 @@ use Rattle.std.specs.Prelude.{ℕ, suc, ◌+◌, List, [], ◌++◌}
 use Rattle.rnix_kinds.specs.declared.kinds.SyntaxKind.{SyntaxKind}
 use Rattle.rnix_green.specs.Forest.{Forest, leaf, node, text_of, element_count}
 
--- the node before other trees; behind a leaf; behind another node; inside another node, which is before other trees
+-- the node before other trees; after a leaf; after another node; inside another node, which is before other trees
 pub data Context : Type 0 where
   here : Forest → Context
   behind_leaf : SyntaxKind → List ℕ → Context → Context

@@ -52,7 +52,7 @@ taken d part t = record { draft = d; remaining = drop (length part) t.remaining 
 abbrev pub IsNext : List ℕ → TextDraft → Type 0
 IsNext part t = take (length part) t.remaining ≡ part
 
--- one more leaf behind the trees
+-- one more leaf after the trees
 abbrev pub with_leaf : SyntaxKind → List ℕ → Forest → Forest
 with_leaf k t f = join f (leaf k t empty)
 
@@ -77,12 +77,12 @@ closed_over f ((k, first_child) ∷ outer) = record { finished = wrapped k first
 abbrev pub node_closed : Draft → Draft
 node_closed d = closed_over d.finished d.open_nodes
 
--- at or behind the place of the innermost open node
+-- at or after the place of the innermost open node
 abbrev pub is_inside : ℕ → List OpenNode → Bool
 is_inside n [] = true
 is_inside n ((k, first_child) ∷ outer) = nat_le first_child n
 
--- one more node over one leaf: it is opened behind the trees, the leaf is added, and it is closed
+-- one more node over one leaf: it is opened after the trees, the leaf is added, and it is closed
 abbrev pub leaf_node_added : SyntaxKind → SyntaxKind → List ℕ → Draft → Draft
 leaf_node_added i k t d = node_closed (leaf_added k t (node_opened i (tree_count d.finished) d))
 
@@ -90,7 +90,7 @@ leaf_node_added i k t d = node_closed (leaf_added k t (node_opened i (tree_count
 abbrev pub is_checkpoint_of : Draft → ℕ → Bool
 is_checkpoint_of d n = nat_le n (tree_count d.finished) && is_inside n d.open_nodes
 
--- the row is one tree, and that is a node
+-- the forest is one tree, and that is a node
 abbrev pub is_one_node : Forest → Bool
 is_one_node (node k c empty) = true
 is_one_node f = false

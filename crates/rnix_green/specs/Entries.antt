@@ -10,12 +10,12 @@ use Rattle.rnix_green.specs.declared.packed.Packed.{Packed}
 use Rattle.rnix_green.specs.Packed.{limit}
 use Rattle.rnix_green.specs.Postorder.{Entry, Leaf, Node, entry_of, entries_of}
 
--- the last trees of a row, those with n elements in all, become the children of one node
+-- the last trees of a forest, those with n elements in all, become the children of one node
 abbrev pub wrapped_last : SyntaxKind → ℕ → Forest → Forest
 wrapped_last k n f =
     join (first_elements (element_count f - n) f) (node k (elements_after (element_count f - n) f) empty)
 
--- the trees f, and what the entries make behind them, where the leaves take the text
+-- the trees f, and what the entries make after them, where the leaves take the text
 abbrev pub built_onto : Forest → List ℕ → List Entry → Forest
 built_onto f text [] = f
 built_onto f text (Leaf k n ∷ es) = built_onto (with_leaf k (take n text) f) (drop n text) es

@@ -1,21 +1,21 @@
--- Trees. A forest is a row of trees: a leaf has a kind and a text, a node has a kind and a forest of children.
+-- Trees. A forest is a list of trees: a leaf has a kind and a text, a node has a kind and a forest of children.
 use Rattle.std.specs.Prelude.{ℕ, zero, suc, ◌+◌, List, [], ◌∷◌, ◌++◌}
 use Rattle.std.specs.Str.{IsUtf8}
 use Rattle.rnix_kinds.specs.declared.kinds.SyntaxKind.{SyntaxKind}
 
--- the row of no trees; a leaf, and the trees after it; a node with its children, and the trees after it
+-- no trees; a leaf, and the trees after it; a node with its children, and the trees after it
 pub data Forest : Type 0 where
   empty : Forest
   leaf : SyntaxKind → List ℕ → Forest → Forest
   node : SyntaxKind → Forest → Forest → Forest
 
--- two rows, one after the other
+-- two forests, one after the other
 abbrev pub join : Forest → Forest → Forest
 join empty g = g
 join (leaf k t f) g = leaf k t (join f g)
 join (node k c f) g = node k c (join f g)
 
--- how many trees the row has
+-- how many trees the forest has
 abbrev pub tree_count : Forest → ℕ
 tree_count empty = 0
 tree_count (leaf k t f) = suc (tree_count f)

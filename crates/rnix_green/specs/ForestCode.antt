@@ -16,7 +16,7 @@ written empty = []
 written (leaf k t f) = (k, inl t) ∷ written f
 written (node k c f) = (k, inr (tree_count c)) ∷ (written c ++ written f)
 
--- one more element in front; a node takes its children from the trees behind it
+-- one more element in front; a node takes its children from the trees after it
 abbrev pub read_before : SyntaxKind → List ℕ ⊎ ℕ → Forest → Forest
 read_before k (inl t) f = leaf k t f
 read_before k (inr n) f = node k (first_trees n f) (trees_after n f)
@@ -26,13 +26,13 @@ abbrev pub read_back : List Written → Forest
 read_back [] = empty
 read_back ((k, e) ∷ es) = read_before k e (read_back es)
 
--- the first of two rows, one after the other
+-- the first of two forests, one after the other
 pub first_of_join : (f g : Forest) → first_trees (tree_count f) (join f g) ≡ f
 first_of_join empty g = refl
 first_of_join (leaf k t f) g = ap (leaf k t) (first_of_join f g)
 first_of_join (node k c f) g = ap (node k c) (first_of_join f g)
 
--- the second of two rows, one after the other
+-- the second of two forests, one after the other
 pub rest_of_join : (f g : Forest) → trees_after (tree_count f) (join f g) ≡ g
 rest_of_join empty g = refl
 rest_of_join (leaf k t f) g = rest_of_join f g
@@ -51,13 +51,13 @@ read_back-append (node k c f) es =
       rest_of_join c (join f (read_back es)),
     )
 
--- nothing behind a row
+-- nothing after a forest
 pub join_empty : (f : Forest) → join f empty ≡ f
 join_empty empty = refl
 join_empty (leaf k t f) = ap (leaf k t) (join_empty f)
 join_empty (node k c f) = ap (node k c) (join_empty f)
 
--- nothing behind a list
+-- nothing after a list
 append_nil : (xs : List Written) → xs ++ [] ≡ xs
 append_nil [] = refl
 append_nil (x ∷ xs) = ap (λ ys. x ∷ ys) (append_nil xs)

@@ -30,7 +30,7 @@ size_of i = cond i.is_node (suc i.below) 0
 abbrev pub kept_of : Item → Packed
 kept_of i = packed i.kind i.start (parent_or_root i.parent) (size_of i)
 
--- what is kept of the elements of a row, where the first has the given number, start and parent
+-- what is kept of the elements of a forest, where the first has the given number, start and parent
 abbrev pub kept_from : ℕ → ℕ → Option ℕ → Forest → List Packed
 kept_from n s p f = map kept_of (items_from n s p f)
 
@@ -38,7 +38,7 @@ kept_from n s p f = map kept_of (items_from n s p f)
 abbrev pub start_at : Tree → ℕ → ℕ
 start_at t n = slice_index_or (map (λ i. i.start) (items_of t)) n (length (text_of (forest_of t)))
 
--- the first trees of a row, those with n elements in all
+-- the first trees of a forest, those with n elements in all
 abbrev pub first_elements : ℕ → Forest → Forest
 first_elements zero f = empty
 first_elements (suc n) empty = empty
@@ -52,7 +52,7 @@ elements_after (suc n) empty = empty
 elements_after (suc n) (leaf k t f) = elements_after n f
 elements_after (suc n) (node k c f) = elements_after (n - element_count c) f
 
--- one more element in front, of a size and a text; a node takes what is inside it from the trees behind it
+-- one more element in front, of a size and a text; a node takes what is inside it from the trees after it
 abbrev pub tree_before : ℕ → SyntaxKind → List ℕ → Forest → Forest
 tree_before zero k t f = leaf k t f
 tree_before (suc below) k t f = node k (first_elements below f) (elements_after below f)
@@ -62,13 +62,13 @@ abbrev pub start_of_first : List ℕ → List Packed → ℕ
 start_of_first text [] = length text
 start_of_first text (e ∷ es) = len_or_start_in e
 
--- the row whose elements these are
+-- the forest whose elements these are
 abbrev pub forest_from : List ℕ → List Packed → Forest
 forest_from text [] = empty
 forest_from text (e ∷ es) =
     tree_before (size_in e) e.kind (take (start_of_first text es - len_or_start_in e) (drop (len_or_start_in e) text)) (forest_from text es)
 
--- the tree that a row of one node is
+-- the tree that a forest of one node is
 abbrev pub as_tree : Forest → Tree
 as_tree (node k c f) = record { kind = k; children = c }
 as_tree f = record { kind = TOKEN_ERROR; children = empty }

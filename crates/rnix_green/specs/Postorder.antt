@@ -21,7 +21,7 @@ entry_by (suc below) k n = Node k below
 abbrev pub entry_of : Packed → Entry
 entry_of e = entry_by (size_in e) e.kind (len_or_start_in e)
 
--- each leaf, and each node behind its children
+-- each leaf, and each node after its children
 abbrev pub entries_of : Forest → List Entry
 entries_of empty = []
 entries_of (leaf k t f) = Leaf k (length t) ∷ entries_of f
@@ -37,7 +37,7 @@ abbrev pub parent_number : List Frame → Option ℕ
 parent_number [] = None
 parent_number (fr ∷ frs) = Some fr.number
 
--- the entries of rows side by side, the last one first
+-- the entries of forests side by side, the last one first
 abbrev pub rest_entries : List Forest → List Entry
 rest_entries [] = []
 rest_entries (g ∷ gs) = rest_entries gs ++ entries_of g
@@ -51,7 +51,7 @@ rest_text (g ∷ gs) = rest_text gs + length (text_of g)
 abbrev pub frame_kept : Frame → ℕ → Option ℕ → Packed
 frame_kept fr start parent = packed fr.kind start (parent_or_root parent) fr.size
 
--- all elements: es in the innermost frame, and left of each frame a row that is not read
+-- all elements: es in the innermost frame, and left of each frame a forest that is not read
 abbrev pub around : List Frame → List Forest → List Packed → List Packed
 around [] gs es = es
 around (fr ∷ frs) [] es = es

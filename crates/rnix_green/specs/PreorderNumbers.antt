@@ -1,9 +1,9 @@
--- The numbers of the trees of a row, and of elements that are side by side.
+-- The numbers of the trees of a forest, and of elements that are side by side.
 use Rattle.std.specs.Prelude.{ℕ, zero, suc, ◌+◌, ◌-◌, List, [], ◌∷◌, drop}
 use Rattle.rnix_green.specs.Forest.{Forest, empty, leaf, node, element_count}
 use Rattle.rnix_green.specs.Tree.{Item}
 
--- the numbers of a row's trees, where the first has the number n
+-- the numbers of a forest's trees, where the first has the number n
 abbrev pub tree_numbers : ℕ → Forest → List ℕ
 tree_numbers n empty = []
 tree_numbers n (leaf k t f) = n ∷ tree_numbers (n + 1) f

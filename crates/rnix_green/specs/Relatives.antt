@@ -76,7 +76,7 @@ IsFirstChildNode e = IsThat e.tree (IsFirst (IsChildNode e) e.number)
 abbrev pub IsLastChildNode : Located → Option Located → Type 0
 IsLastChildNode e = IsThat e.tree (IsLast (IsChildNode e) (length (items_of e.tree)))
 
--- the next element behind e with its parent
+-- the next element after e with its parent
 abbrev pub IsNextSibling : Located → Option Located → Type 0
 IsNextSibling e = IsThat e.tree (IsFirst (IsSibling e) e.number)
 
@@ -84,7 +84,7 @@ IsNextSibling e = IsThat e.tree (IsFirst (IsSibling e) e.number)
 abbrev pub IsPrevSibling : Located → Option Located → Type 0
 IsPrevSibling e = IsThat e.tree (IsLast (IsSibling e) e.number)
 
--- the next node behind e with its parent
+-- the next node after e with its parent
 abbrev pub IsNextSiblingNode : Located → Option Located → Type 0
 IsNextSiblingNode e = IsThat e.tree (IsFirst (IsSiblingNode e) e.number)
 
@@ -100,7 +100,7 @@ IsFirstToken e = IsThat e.tree (IsFirst (IsTokenInside e) e.number)
 abbrev pub IsLastToken : Located → Option Located → Type 0
 IsLastToken e = IsThat e.tree (IsLast (IsTokenInside e) (length (items_of e.tree)))
 
--- the next token of the tree behind the number of e
+-- the next token of the tree after the number of e
 abbrev pub IsNextToken : Located → Option Located → Type 0
 IsNextToken e = IsThat e.tree (IsFirst (IsTokenIn e.tree) e.number)
 

@@ -29,7 +29,7 @@ children_of e = map (spot_at e.tree) (tree_numbers (e.number + 1) (children_in (
 abbrev pub Step : Type 0
 Step = Bool × ℕ
 
--- each element of a row is entered, then what is inside it is walked, then it is left
+-- each element of a forest is entered, then what is inside it is walked, then it is left
 abbrev pub steps_from : ℕ → Forest → List Step
 steps_from n empty = []
 steps_from n (leaf k t f) = (true, n) ∷ (false, n) ∷ steps_from (n + 1) f

@@ -1,4 +1,4 @@
--- Every kind stands in the list of all, so what holds of all kinds is shown by one computation.
+-- Every kind is in the list of all, so what holds of all kinds is shown by one computation.
 use Rattle.std.proofs.Common.{◌≡◌, ◌<◌, ◌≤◌, ◌+◌, ℕ, zero, suc, Bool, true, List, [], ◌∷◌, refl, ap, sym, ◌∙◌, get_or, arith, inl, inr}
 use Rattle.std.{proofs.lemmas.{Option.slice_get_cases, Bool.{Decides.nat_tests, and_parts}}, specs.Prelude.{if◌then◌else◌, nat_lt, ◌==◌, ◌&&◌, slice_get}}
 use Rattle.{std.specs.{Prelude.{Option, Some, None, IfSome, IfNone}, List.{All, list_all}}, rnix_kinds.specs.declared.kinds.SyntaxKind.SyntaxKind}
@@ -62,7 +62,7 @@ numbered n (x ∷ xs) (suc i) k h e =
     let next = numbered (suc n) xs i k (and_parts (discriminant_of x == n) (are_numbered (suc n) xs) h).1 e in
     omega (arith, next)
 
--- a kind that stands in the list of all kinds has the number of its place
+-- a kind that is in the list of all kinds has the number of its place
 pub number_in_all : (i : ℕ) (found : Option SyntaxKind) → found ≡ slice_get ALL i → IfSome found (λ kind. discriminant_of kind ≡ i)
 unfolding are_numbered
 number_in_all i None e = tt

@@ -5,7 +5,7 @@ ghost use Rattle.rnix_kinds.specs.SyntaxKind.{discriminant_of, kind_count};
 
 use crate::kinds::{ALL, SyntaxKind};
 
-// The kind at this place of a list.
+// The kind at an index of a list.
 fn kind_at(kinds: &[SyntaxKind], index: usize) -> Option<SyntaxKind>
     ensures { result ≡ slice_get kinds.now index }
 {

@@ -66,7 +66,7 @@ fn joined(modes: &Modes, text: &str)
     let _top = modes.top();
 }
 
-/// Iterates over the tokens of a text. A clause sees the tokens that are left.
+/// Iterates over the tokens of a text. To clauses its value is the list of the remaining tokens.
 #[derive(Drop)]
 pub struct Tokenizer<'a> {
     rest: &'a str,
@@ -98,7 +98,7 @@ impl<'a> Tokenizer<'a> {
         }
     }
 
-    /// Returns the text that is left. Its tokens are the tokens that are left.
+    /// Returns the remaining text. Its tokens are the remaining tokens.
     pub fn rest(&self) -> &'a str
         ensures { AreSound result.now self.now }
     {
@@ -142,7 +142,7 @@ pub fn one_list(text: &str)
     let _len = text.len();
 }
 
-/// The definitions of lengths give the longest runs, rows and operators.
+/// By the definitions, runs, sequences of pieces and operators are as long as possible.
 pub fn longest(text: &str, multiline: bool)
     ensures run { (test : ℕ → Bool) → IsLongest (IsRun test text.now) (prefix_len test text.now) }
     ensures content { IsLongestContent multiline text.now (content_len multiline text.now) }

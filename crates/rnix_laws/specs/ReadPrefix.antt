@@ -9,7 +9,7 @@ use Rattle.rnix_proof_layout.specs.AlikeItems.{AreAlike}
 use Rattle.rnix_proof_prefix.specs.Prefix.{BeginAllFrom, end_undecided}
 use Rattle.rnix_parser.specs.ReadAlike.{items_of}
 
--- if the first k items of two texts are alike, and the second text is read without errors, each error of the first text that has a range begins behind
+-- if the first k items of two texts are alike, and the second text is read without errors, each error of the first text that has a range begins after
 -- these items, unless they end with `{` and `...`
 abbrev pub HasCorrectPrefix : List ℕ → List ℕ → Type 0
 HasCorrectPrefix x y =

@@ -1,4 +1,4 @@
--- Texts whose items are alike are read as one tree but for trivia.
+-- Texts whose items are alike are read as the same tree apart from trivia.
 use Rattle.{std.proofs.Common.{◌≡◌, ℕ, List, None, ap, sym, ◌∙◌, subst}, rnix_kinds.specs.Lexical.Tokens.{Lexeme, tokens_of}, rnix_green.specs.Tree.Tree}
 use Rattle.rnix_grammar.specs.{Fault.Fault, AnnotatedForest.{Token, AnnotatedForest, forget, tokens_in, without_trivia, placed_from}, Layout.items}
 use Rattle.{rnix_grammar.specs.{Reading.IsReading, Parsed.IsParsed}, rnix_proof_lemmas.proofs.{ReportLemmas.without_trivia_tokens, SpelledLemmas.AreRuled}}

@@ -1,4 +1,4 @@
--- All that is promised of a text follows from its reading.
+-- Everything that is promised about a text follows from its reading.
 use Rattle.{std.proofs.Common.{◌≡◌, ◌↔◌, ◌≤◌, true, List, [], refl, ap, sym, ◌∙◌, subst}, rnix_kinds.specs.declared.kinds.SyntaxKind.TheVariants.NODE_ROOT}
 use Rattle.{rnix_kinds.specs.Lexical.Tokens.Lexeme, rnix_green.specs.{Forest.Forest, Tree.Tree}, rnix_grammar.specs.{Tables.depth_limit, AnnotatedForest.Token}}
 use Rattle.rnix_grammar.specs.{AnnotatedForest.{AnnotatedForest, blank, forget, tokens_in, without_trivia, placed_from, HaveLeafKinds}, Layout.items}
@@ -13,7 +13,7 @@ use Rattle.rnix_proof_rows.proofs.WithAllTrivia.{placed_leaf_kinds, placed_fault
 use Rattle.rnix_proof_rows.proofs.{ReadsLeafKinds.reads_leaf_kinds, ReadsShapes.{AreErrorFreeRows, repaired_none, root_rows}, ErrorFreeDerivations.derived}
 use Rattle.{rnix_proof_soundness.proofs.Converse.converse, rnix_proof_strict.proofs.GrammarLeaves.expression_fine, rnix_parser.proofs.Found.derivation_found}
 
--- a tree without trivia, and its errors, as they must be to be a derivation
+-- the conditions under which a tree without trivia is a derivation
 record IsFit (f : AnnotatedForest) (ts : List Token) (es : List Fault) : Type 0 where
   pub tokens : tokens_in f ≡ ts
   pub bare : es ≡ [] → AreErrorFreeRows f
@@ -23,7 +23,7 @@ record IsFit (f : AnnotatedForest) (ts : List Token) (es : List Fault) : Type 0 
   pub strict : es ≡ [] → has_no_extension NODE_ROOT (repaired f) ≡ true → IsExpression (repaired f)
   pub found : (t : Forest) → IsDerivation t ts → (es ≡ []) × (forget f ≡ t)
 
--- so it is one exactly if there is no error and no accepted extension
+-- it is a derivation exactly if there is no error and no accepted extension
 exact : (f : AnnotatedForest) (ts : List Token) (es : List Fault) → IsFit f ts es → ArePaths f [] →
     ((es ≡ []) × (has_no_extension NODE_ROOT (forget f) ≡ true)) ↔ ((t : Forest) × IsDerivation t ts)
 exact f ts es w paths = (there, back)
@@ -41,7 +41,7 @@ exact f ts es w paths = (there, back)
         let r = w.found h.0 h.1 in
         (r.0, ap (has_no_extension NODE_ROOT) r.1 ∙ (expression_fine h.1.strict).extension)
 
--- all that is promised of a tree and its errors follows from their being a reading
+-- everything that is promised about a tree and its errors follows from their being a reading
 pub all_follows : (ls : List Lexeme) (tree : Tree) (faults : List Fault) → AreRuled ls → IsReading ls tree faults → IsParsed ls tree faults
 all_follows ls tree faults ruled r =
     let ts : List Token = placed_from 0 ls in

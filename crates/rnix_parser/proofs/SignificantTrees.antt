@@ -43,7 +43,7 @@ pub tree_found : {ls : List Lexeme} {tree : Tree} {faults : List Fault} → IsPa
     → (d : Forest) → IsDerivation d (items (placed_from 0 ls)) → (faults ≡ []) × (significant tree.children ≡ d)
 tree_found p d h = let r = p.found d h in (r.0, significant_tree p ∙ r.1)
 
--- without errors the limit of nesting holds
+-- without errors the nesting limit holds
 pub tree_nested : {ls : List Lexeme} {tree : Tree} {faults : List Fault} → IsParsed ls tree faults
     → faults ≡ [] → nest NODE_ROOT (significant tree.children) ≤ depth_limit
 tree_nested p h = subst (λ f. nest NODE_ROOT f ≤ depth_limit) (sym (significant_tree p)) (p.nested h)

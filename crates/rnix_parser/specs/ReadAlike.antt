@@ -13,7 +13,7 @@ use Rattle.rnix_parser.specs.Significant.{significant}
 abbrev pub items_of : List ℕ → List Token
 items_of text = items (placed_from 0 (tokens_of text))
 
--- if the items of two texts are alike, the texts are read as one tree but for trivia, with the same errors of the same items
+-- if the items of two texts are alike, they are read as the same tree apart from trivia, with the same errors of the same items
 abbrev pub AreReadAlike : List ℕ → List ℕ → Type 0
 AreReadAlike x y =
     AreAlike None 0 0 (items_of x) (items_of y)

@@ -15,17 +15,17 @@ ghost use Rattle.rnix_grammar.specs.Tables.{depth_limit};
 ghost use Rattle.rnix_parser.specs.ReadingLaws.{HaveOneDerivation, OfParsed};
 ghost use Rattle.rnix_parser.specs.Significant.{significant};
 
-/// A text has one derivation at most: two strict trees of its items, neither nested deeper than the limit, each path with all the pieces that
-/// touch it, are equal.
+/// A text has at most one derivation: two strict trees of its items are equal if neither nests deeper than the limit, and each path has all the pieces
+/// that touch it.
 pub fn one_derivation(text: &str)
     ensures { HaveOneDerivation (items (placed_from 0 (tokens_of text.now))) }
 {
     let _len = text.len();
 }
 
-/// The tree that a text is parsed to, without its trivia, as a derivation of the text's items. A derivation is found: then there are no errors, and
-/// this tree is it. Without errors it is nested no deeper than the limit, and is an expression of the strict grammar unless it uses one of the
-/// extensions that are accepted beyond it; it is a derivation exactly if, besides, the pieces of its paths touch.
+/// The tree of a text, without trivia, and the derivations of the text's items. If the items have a derivation, there are no errors, and this tree is the
+/// derivation. Without errors the tree nests no deeper than the limit, and is an expression of the strict grammar unless it has an accepted extension; it
+/// is a derivation exactly if, in addition, the pieces of its paths touch.
 pub fn tree_derivation(text: &str)
     ensures found { OfParsed text.now (λ tree faults. (d : Forest) → IsDerivation d (items (placed_from 0 (tokens_of text.now)))
         → (faults ≡ []) × (significant tree.children ≡ d)) }

@@ -1,4 +1,4 @@
-//! The parser: from tokens to a tree and errors, with all that is promised of them.
+//! The parser: from tokens to a tree and errors, with all promises about them.
 #![tactic(auto)]
 
 mod derivation;

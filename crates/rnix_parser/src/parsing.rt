@@ -10,15 +10,15 @@ use rnix_kinds::Tokenizer;
 use rnix_reader::read_tokens;
 use std::alloc::{AllocError, Global};
 
-/// Returns the tree of the tokens that are left, with a NODE_ROOT at its top, and the errors in the order in which they were found. Ranges are bytes
-/// from the first of these tokens on.
+/// Returns the tree of the remaining tokens, whose root is a NODE_ROOT, and the errors in the order in which they were found. Ranges are counted in
+/// bytes from the first of these tokens.
 pub fn parse(
     alloc: Global,
     tokens: Tokenizer<'_>,
 ) -> Result<(GreenNode, Vec<ParseError>), AllocError>
     ensures { IfOk result (λ parsed. IsParsed tokens.entry parsed.0 (map fault_of parsed.1.items)) }
 {
-    // Nothing is computed here. The contract of the call says that the state of the tokenizer agrees with the text that is left.
+    // This call computes nothing. Its contract says that the state of the tokenizer agrees with the remaining text.
     let _text = tokens.rest();
     read_tokens(alloc, tokens)
 }

@@ -16,34 +16,34 @@ ghost use Rattle.rnix_grammar.specs.Parsed.{IsParsed};
 ghost use Rattle.rnix_parser.specs.ReadAlike.{items_of, AreReadAlike};
 ghost use Rattle.rnix_parser.specs.ReadingLaws.{OfRead, OfReadings, HaveOneReading, AreOneText, elements_in};
 
-/// Tokens have one reading at most: two trees with their errors that are readings of one list of tokens are equal.
+/// Tokens have at most one reading: two readings of the same tokens have equal trees and equal errors.
 pub fn one_reading()
     ensures { (tokens : List Lexeme) → HaveOneReading tokens }
 {}
 
-/// Each text has a reading, whether memory is found for it or not.
+/// Each text has a reading, whether or not memory is found for it.
 pub fn has_reading(text: &str)
     ensures { (tree : Tree) × ((faults : List Fault) × IsReading (tokens_of text.now) tree faults) }
 {
     let _len = text.len();
 }
 
-/// Two texts of which one tree is read are one text, with one list of errors.
+/// Two texts that are read as the same tree are equal, and so are their errors.
 pub fn one_text(first: &str, second: &str)
     ensures { AreOneText first.now second.now }
 {
     let _len = first.len().min(second.len());
 }
 
-/// Two texts whose items have the same kinds and texts, one by one, and touch alike inside paths are read as one tree but for trivia. Their errors are the
-/// same, one by one, but for their ranges, and these are those of the same items.
+/// Two texts whose items have the same kinds and texts, one by one, and touch alike inside paths have the same tree apart from trivia. Their errors are the
+/// same, one by one, apart from their ranges, which are those of the same items.
 pub fn layout(first: &str, second: &str)
     ensures { AreReadAlike first.now second.now }
 {
     let _len = first.len().min(second.len());
 }
 
-/// All that is promised of the tree and the errors of a text follows from their being its reading.
+/// Everything that is promised about the tree and the errors of a text follows from their being its reading.
 pub fn all_follows(text: &str)
     ensures { OfRead text.now (λ tree faults. IsParsed (tokens_of text.now) tree faults) }
 {
@@ -59,8 +59,8 @@ pub fn error_forms()
     ensures limited { OfReadings (λ annotated faults. AreLimited 0 (row NODE_ROOT) annotated) }
 {}
 
-/// A tree has at most two nodes for each item of its text, and three more. With the leaves it has at most three elements for each token of the text,
-/// or for each byte, and three more.
+/// The tree of a text has at most two nodes per item, plus three. With the leaves it has at most three elements per token of the text, or per byte,
+/// plus three.
 pub fn size(text: &str)
     ensures items { OfRead text.now (λ tree faults. elements_in tree ≤ 2 * length (items_of text.now) + length (tokens_of text.now) + 3) }
     ensures tokens { OfRead text.now (λ tree faults. elements_in tree ≤ 3 * length (tokens_of text.now) + 3) }
@@ -69,7 +69,7 @@ pub fn size(text: &str)
     let _len = text.len();
 }
 
-/// The text of the tree that a text is read as is that text, byte for byte.
+/// The text of a text's tree is that text, byte for byte.
 pub fn tree_text(text: &str)
     ensures { OfRead text.now (λ tree faults. text_of (forest_of tree) ≡ text.now) }
 {

@@ -23,7 +23,7 @@ margin depth = if nat_lt 100 depth then decimal depth ++ codes " " else indent d
 abbrev pub element_line : ℕ → Located → List ℕ
 element_line depth e = margin depth ++ name_of (item_of e).kind ++ range_end (extent_of e)
 
--- the lines of a walk from a level on: one for each element that is entered, and those behind it are one deeper until it is left
+-- the lines of a walk from a level on: one for each element that is entered, and those after it are one deeper until it is left
 abbrev pub walk_lines : ℕ → List Event → List ℕ
 walk_lines depth [] = []
 walk_lines depth ((true, spot) ∷ events) = element_line depth spot.1 ++ walk_lines (depth + 1) events

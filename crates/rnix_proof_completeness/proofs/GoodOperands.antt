@@ -17,14 +17,14 @@ use Rattle.rnix_proof_lemmas.proofs.EachBeginning.{highest, kind_up_to, first_up
 use Rattle.rnix_proof_completeness.proofs.OverTokens.{Over, over_leaf, over_node, stands_so, Opens, opened_so}
 use Rattle.rnix_proof_completeness.proofs.PartReads.{Follow, Before, depth_in, room, Rest, Any, Node, Next, Placed, node_on, is_part, part_so, uncounted}
 
--- the tokens that go on with an expression before them, and how tightly it has to bind
+-- the tokens that continue an expression before them, and how tightly it has to bind
 abbrev pub takes_left : SyntaxKind → Bool
 takes_left i = is_infix i || (is_question i || is_fn_arg i)
 
 abbrev pub operand_level : SyntaxKind → ℕ
 operand_level i = if is_infix i then left_of i else (if is_question i then 13 else 15)
 
--- what binds at the first level may stand before operators up to the second: looser ones, and all that take it as their operand
+-- what binds at the first level may precede operators up to the second: looser ones, and all that take it as their operand
 abbrev pub agree : ℕ → ℕ → Bool
 agree l h = nat_le l (suc h) && list_all (λ i. if takes_left i then (if nat_le (operand_level i) l then binds_at_most h (Some i) else true) else true) all_kinds
 
@@ -115,7 +115,7 @@ argument_is : (i : SyntaxKind) (text : List ℕ) (second third : Option SyntaxKi
 argument_is TOKEN_IDENT text second third h = refl
 argument_is _ text second third h = cc
 
--- An expression of the grammar that stands at a level: how tightly it binds, the tightest operators behind it, its row, and how it begins.
+-- An expression of the grammar that is at a level: how tightly it binds, the tightest operators after it, its row, and how it begins.
 pub record Good (n : ℕ) (k : SyntaxKind) (c : Forest) : Type 0 where
   pub level : ℕ
   pub max_bp : ℕ
@@ -126,7 +126,7 @@ pub record Good (n : ℕ) (k : SyntaxKind) (c : Forest) : Type 0 where
   pub tight : (b : AnnotatedForest) → Over c b → nat_le level (level_of k b) ≡ true
   pub begins : (b f : AnnotatedForest) (us : List Token) → Over c b → binds_at_most 16 (head_kind us) ≡ true → Begun level (branch k b f) (tokens_in b ++ us)
 
--- and it stands at each looser level
+-- and it is at each looser level
 pub good_looser : {m n : ℕ} {k : SyntaxKind} {c : Forest} → n ≤ m → Good m k c → Good n k c
 good_looser {m} {n} {k} l g = record {
   level = g.level;
@@ -152,7 +152,7 @@ good_node {n} g = node_looser (λ o z. binds_at_most_more (below n) g.max_bp o (
     by zero l e = omega arith
     by (suc n) l e = omega (arith, l, e)
 
--- it may stand before a token that takes it as its operand
+-- it may precede a token that takes it as its operand
 pub good_before : {n : ℕ} {k : SyntaxKind} {c : Forest} (g : Good n k c) (i : SyntaxKind) → takes_left i ≡ true → operand_level i ≤ n
     → binds_at_most g.max_bp (Some i) ≡ true
 good_before {n} g i t l = whenever_both takes_left (λ j. nat_le (operand_level j) g.level) (λ j. binds_at_most g.max_bp (Some j))
@@ -170,12 +170,12 @@ both_no : (v w : Bool) → (v ≡ true → w ≡ false) → (v && w) ≡ false
 both_no true w h = h refl
 both_no false w h = refl
 
--- what goes on with a tree binds
+-- what continues a tree binds
 follows_binding_power : (i : SyntaxKind) (x : AnnotatedForest) → follows i x ≡ true → nat_le 1 (binding_power i) ≡ true
 follows_binding_power TOKEN_DOT x h = refl
 follows_binding_power _ x h = cc
 
--- where only looser operators follow, none goes on with an operand
+-- where only looser operators follow, none continues an operand
 stops_here : (level : ℕ) (x : AnnotatedForest) (ts : List Token) → binds_at_most (below level) (head_kind ts) ≡ true → is_continued level x ts ≡ false
 stops_here level x [] h = refl
 stops_here level x (t ∷ ts) h = both_no (follows t.kind x) (nat_le level (binding_power t.kind))
@@ -228,7 +228,7 @@ next_node {N} {M} {F} {k} {c} {t} test h opens behind = record { next = first }
     first f us (over_node {b = b} {f = e} o v) z = ap (λ ts. N (head_kind ts)) (append_assoc (tokens_in b) (tokens_in e) us)
         ∙ opened_head test N h (tokens_in b ++ (tokens_in e ++ us)) (opens b (tokens_in e ++ us) o (behind.next e us v z))
 
--- where an operand stands there is room for it
+-- where an operand is there is room for it
 pub counted_fits : (w : Bool) (p k : SyntaxKind) (c t : Forest) (d : ℕ) → counts_no_child p ≡ (if w then false else true) → is_expression k ≡ true
     → d + nest p (node k c t) ≤ depth_limit
     → (w ≡ true → suc d ≤ depth_limit) × ((if w then suc d else d) + depth_in k c ≤ depth_limit)
@@ -280,7 +280,7 @@ series_on {p} {r} {n} {closer} {G} {F} {k} {c} {t} g f x y behind rest = node_on
       unreported k x b e,
     )
 
--- the first tree of a row
+-- the first tree of a forest
 pub first_on : {p : SyntaxKind} {q r : Row} {H : Before} {N F : Follow} {k : SyntaxKind} {c t : Forest} → after q k ≡ r → is_part q ≡ true
     → ((m : ℕ) (ts : List Token) (w : Bool) → IsExpected q m ts w) → ((g b : AnnotatedForest) → repeats k g b ≡ [])
     → ((b : AnnotatedForest) → Over c b → H (one_branch k b)) → Node N k c → Next N F t
@@ -332,7 +332,7 @@ argument_on {p} {F} {k} {c} g behind rest =
           unreported k x b (fits_expression 16 k g.fit),
         )
 
--- a row that begins with an expression begins as it does
+-- a forest that begins with an expression begins as it does
 pub begins_first : {n : ℕ} {j : SyntaxKind} {a t : Forest} (l : ℕ) (k : SyntaxKind)
     → ((b f e : AnnotatedForest) → first_tree (branch j b f) ≡ first_tree (branch k (branch j b f) e))
     → l ≤ n → Good n j a → Next (binds_at_most 16) (binds_at_most 16) t → (b f : AnnotatedForest) (us : List Token) → Over (node j a t) b
@@ -365,7 +365,7 @@ atom_level : (k : SyntaxKind) (b : AnnotatedForest) → is_atom k ≡ true → n
 atom_level NODE_PAREN b h = refl
 atom_level _ b h = cc
 
--- it stands at the highest level
+-- it is at the highest level
 pub good_atom : {k : SyntaxKind} {c : Forest} → GoodAtom k c → Good 16 k c
 good_atom {k} a = record {
   level = 16;

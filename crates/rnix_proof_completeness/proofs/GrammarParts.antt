@@ -73,12 +73,12 @@ pub names_after : (k : SyntaxKind) → is_attr k ≡ true
 names_after NODE_IDENT h = refl
 names_after _ h = cc
 
--- inherited names, where a source may stand before them and where none may
+-- inherited names, where a source may precede them and where none may
 pub record GoodNames (f : Forest) : Type 0 where
   pub source : Rest NODE_INHERIT (Optional NODE_INHERIT_FROM · Names · Wanted TOKEN_SEMICOLON · done) Any anything f
   pub names : Rest NODE_INHERIT (Names · Wanted TOKEN_SEMICOLON · done) Any anything f
 
--- entries stand at what is left of a row, which they do not leave
+-- entries are at what is left of a row, which they do not leave
 pub record Gathers (closer : SyntaxKind) (r : Row) : Type 0 where
   pub inherit_stays : after (Entries closer · r) NODE_INHERIT ≡ Entries closer · r
   pub inherit_own : (b : Bool) (x : AnnotatedForest)
@@ -185,7 +185,7 @@ lambda_begins {k} w known b f us (over_node {b = x} {f = h} o (over_leaf {x = y}
     by [] w = w
     by (t ∷ ts) w = (w, known)
 
--- what stands behind the braces of a pattern
+-- what follows the braces of a pattern
 abbrev pub tail_of : Bool → Row
 tail_of true = BoundAlready · done
 tail_of false = EndOr NODE_PAT_BIND · done

@@ -1,4 +1,4 @@
--- A tree of the grammar over its tokens, and how a row of such trees is read, tree by tree.
+-- A tree of the grammar over its tokens, and how a forest of such trees is read, tree by tree.
 use Rattle.std.{specs.List.list_all, proofs.Common.{◌≡◌, ℕ, Bool, true, false, List, [], ◌∷◌, ◌++◌, Some, refl, sym, subst, if◌then◌else◌, nat_eq}}
 use Rattle.{rnix_kinds.{specs.declared.kinds.SyntaxKind.SyntaxKind, proofs.AllKinds.{all_kinds, implied}}, rnix_green.specs.Forest.{Forest, empty, leaf, node}}
 use Rattle.rnix_grammar.specs.AnnotatedForest.{Token, AnnotatedForest, blank, token, branch, fault, ◌⊕◌, one_token, one_branch, tokens_in, forget, head_kind}
@@ -22,11 +22,11 @@ over_trees (token k x f) v = over_leaf v.1 refl (over_trees f v.2)
 over_trees (branch k c f) v = over_node (over_trees c v.0) (over_trees f v.1)
 over_trees (fault n c f) v = absurd v
 
--- a row is read without errors, and is over
+-- a forest is read without errors, and is over
 abbrev pub IsRead : SyntaxKind → ℕ → ℕ → Row → AnnotatedForest → AnnotatedForest → List Token → Type 0
 IsRead p d n q g f us = (r : Row) × Reads p d n q r g us f [] × IsOver r (end_from n (tokens_in f)) us
 
--- a token, and the rest of a row
+-- a token, and the rest of a forest
 pub token_read : {p : SyntaxKind} {q : Row} {d n : ℕ} {g f : AnnotatedForest} {us : List Token} {k : SyntaxKind} {x : Token} → k ≡ leaf_kind p x
     → IsExpected q n (x ∷ (tokens_in f ++ us)) true → IsFollowed q g (Some k) → IsRead p d x.end (after q k) (g ⊕ one_token k x) f us
     → IsRead p d n q g (token k x f) us
@@ -34,7 +34,7 @@ token_read {p} {q} {d} {n} {g} {f} {us} {k} {x} e i w h =
     subst (λ z. IsFollowed q g (Some z) → IsRead p d x.end (after q z) (g ⊕ one_token z x) f us → IsRead p d n q g (token z x f) us) (sym e)
     (λ v r. (r.0, read.leaf i v r.1, r.2)) w h
 
--- a node, before a rest of a row that ends at another
+-- a node, before a rest of a forest that ends at another
 pub node_reads : {p : SyntaxKind} {q s z : Row} {d n : ℕ} {g f : AnnotatedForest} {us : List Token} {k : SyntaxKind} {c : AnnotatedForest} → after q k ≡ s
     → IsRoom q d
     → IsRead k (deeper q d) n (row k) blank c (tokens_in f ++ us) → IsExpected q n (tokens_in c ++ (tokens_in f ++ us)) (is_first_expected q k c)
@@ -44,7 +44,7 @@ node_reads {p} {q} {s} {z} {d} {n} {g} {f} {us} {k} {c} a room inside i w o e h 
     subst (λ es. Reads p d n q z g us (branch k c f) (([] ++ es) ++ [])) e
     (read.inner room inside.1 inside.2 i w o (subst (λ y. Reads p d (end_from n (tokens_in c)) y z (g ⊕ one_branch k c) us f []) (sym a) h))
 
--- a node, and the rest of a row
+-- a node, and the rest of a forest
 pub node_read : {p : SyntaxKind} {q s : Row} {d n : ℕ} {g f : AnnotatedForest} {us : List Token} {k : SyntaxKind} {c : AnnotatedForest} → after q k ≡ s
     → IsRoom q d
     → IsRead k (deeper q d) n (row k) blank c (tokens_in f ++ us) → IsExpected q n (tokens_in c ++ (tokens_in f ++ us)) (is_first_expected q k c)

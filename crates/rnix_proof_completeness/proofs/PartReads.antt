@@ -11,7 +11,7 @@ use Rattle.rnix_proof_completeness.proofs.OverTokens.{opened_so}
 use Rattle.rnix_grammar.specs.declared.rules.Part.TheVariants as p
 use Rattle.rnix_grammar.specs.Reads as read
 
--- how deep the row of a node nests; the name that an entry of a pattern begins with does not count
+-- how deep the children of a node nest; the name that an entry of a pattern begins with does not count
 abbrev pub depth_in : SyntaxKind → Forest → ℕ
 depth_in NODE_PAT_ENTRY (node k c e) = nest NODE_PAT_ENTRY e
 depth_in k c = nest k c
@@ -26,7 +26,7 @@ spread : (w : Bool) (d m n o l : ℕ) → o ≡ max (if w then suc m else m) n �
 spread true d m n o l e h = (omega (arith, e, h), omega (arith, e, h), λ x. omega (arith, e, h))
 spread false d m n o l e h = (omega (arith, e, h), omega (arith, e, h), λ x. absurd (true_is_not_false (sym x)))
 
--- where there is room for a row there is for the row of its first node, which may count, and for the rest
+-- where there is room for a forest there is for the children of its first node, which may count, and for the rest
 pub room : (p k : SyntaxKind) (c t : Forest) (d : ℕ) → d + nest p (node k c t) ≤ depth_limit
     → (d + depth_in k c ≤ depth_limit) × (d + nest p t ≤ depth_limit) × (nests p k ≡ true → suc d + depth_in k c ≤ depth_limit)
 room p k c t d h = spread (nests p k) d (depth_in k c) (nest p t) (nest p (node k c t)) depth_limit (nest_is p k c t) h
@@ -38,7 +38,7 @@ Follow = Option SyntaxKind → Bool
 abbrev pub Before : Type 1
 Before = AnnotatedForest → Type 0
 
--- The rest of a row below a node of a kind is read without errors, where the trees before it are as they have to be, and so is the item behind it.
+-- The rest of a row below a node of a kind is read without errors, where the trees before it are as they have to be, and so is the item after it.
 pub record Rest (p : SyntaxKind) (q : Row) (G : Before) (F : Follow) (t : Forest) : Type 0 where
   pub reads : (d n : ℕ) (g f : AnnotatedForest) (us : List Token) → Over t f → ArePaths f us → d + nest p t ≤ depth_limit → G g → F (head_kind us) ≡ true
       → IsRead p d n q g f us
@@ -62,7 +62,7 @@ node_of {F = F} {k = k} {c = c} e z r = record { reads = whole }
 pub plain_node : {F : Follow} {k : SyntaxKind} {c : Forest} → depth_in k c ≡ nest k c → Rest k (row k) Any F c → Node F k c
 plain_node e r = node_of {G = Any} e tt r
 
--- what comes next at the rest of a row passes a test, where what is behind it passes another
+-- what comes next at the rest of a row passes a test, where what is after it passes another
 pub record Next (N F : Follow) (t : Forest) : Type 0 where
   pub next : (f : AnnotatedForest) (us : List Token) → Over t f → F (head_kind us) ≡ true → N (head_kind (tokens_in f ++ us)) ≡ true
 
@@ -111,7 +111,7 @@ finished {F = F} = finish refl over
     over n [] z = refl
     over n (t ∷ ts) z = refl
 
--- a token, which the trees before it may have to stand before
+-- a token, which may be required after the trees before it
 pub leaf_on : {p : SyntaxKind} {q : Row} {G H : Before} {F : Follow} {k : SyntaxKind} {s : List ℕ} {t : Forest}
     → k ≡ leaf_kind_as p (kind_of_token k s) → ((b : Bool) → stands_so q b (kind_of_token k s) true ≡ true)
     → ((g : AnnotatedForest) → G g → IsFollowed q g (Some k))

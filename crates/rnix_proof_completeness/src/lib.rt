@@ -1,2 +1,2 @@
-//! Strict rows are read as they are.
+//! Trees of the strict grammar are read as they are.
 #![tactic(auto)]

@@ -1,4 +1,4 @@
--- What is known of the frames while the items of a text are read.
+-- What holds of the open frames while the items of a text are read.
 use Rattle.std.proofs.{Common.{◌≡◌, ℕ, ◌≤◌, Bool, true, false, List, [], ◌∷◌, refl, sym, subst, if◌then◌else◌, ◌&&◌, nat_le}, lemmas.Bool.and_parts}
 use Rattle.{rnix_kinds.specs.declared.kinds.SyntaxKind.{SyntaxKind, TheVariants.NODE_BIN_OP}, rnix_green.specs.Equality.same_kind}
 use Rattle.rnix_grammar.specs.{declared.position.Position.Position, Tables.depth_limit, Rules.Row, Fault.Fault, Reports.{report, repeats}}
@@ -15,7 +15,7 @@ is_in_row_of (p.InRow i) k = is_waiting (remaining_at i) && same_kind (kind_at i
 is_in_row_of (p.AfterOperand min_bp max_bp) k = false
 is_in_row_of (p.Right level) k = nat_le level 16 && same_kind NODE_BIN_OP k
 
--- such a position is in the row of a node
+-- such a position is one in a row
 pub in_row : (x : Position) (k : SyntaxKind) → is_in_row_of x k ≡ true → is_in_row x ≡ true
 in_row (p.InRow i) k h = (and_parts (is_waiting (remaining_at i)) (same_kind (kind_at i) k) h).0
 in_row (p.AfterOperand min_bp max_bp) k h = absurd (true_is_not_false (sym h))
@@ -36,13 +36,13 @@ is_sound (Node k) = if is_error k then false else true
 is_sound SecondBind = true
 is_sound Operand = false
 
--- an open node or second name, at a position of its row, not too deep
+-- an open node or second name, at a position of its row and within the nesting limit
 pub record IsOpen (f : Frame) : Type 0 where
   pub sound : is_sound f.head ≡ true
   pub in_row_of : is_in_row_of f.position (kind_of f.head) ≡ true
   pub shallow : f.depth ≤ depth_limit
 
--- its row is open
+-- such a frame is a node or a second name
 pub sound_open : (h : Head) → is_sound h ≡ true → is_open h ≡ true
 sound_open Operand e = e
 sound_open _ e = refl
@@ -51,22 +51,22 @@ sound_open _ e = refl
 pub left_of : (f : Frame) → IsOpen f → is_remaining (rest_at f.position) ≡ true
 left_of f o = row_remaining f.position (in_row f.position (kind_of f.head) o.in_row_of)
 
--- what some frames have above them: an open node with its row so far, or an operand or a second name
+-- what is above some frames: an open node with its children so far, or an operand or a second name
 pub data Above : Type 0 where
   One : SyntaxKind → AnnotatedForest → Above
   Other : Above
 
 abbrev pub above : Head → AnnotatedForest → Above
-above (Node k) row = One k row
-above h row = Other
+above (Node k) trees = One k trees
+above h trees = Other
 
--- The frames below: open nodes, and operands of which an open node becomes the first tree, whatever it holds in the end.
+-- The frames below: open nodes, and operands whose first tree will be the open node above them, whatever that comes to contain.
 pub data Below : Above → List Frame → Type 0 where
-  no_frame : {k : SyntaxKind} {row : AnnotatedForest} → Below (One k row) []
+  no_frame : {k : SyntaxKind} {trees : AnnotatedForest} → Below (One k trees) []
   a_row : {w : Above} {f : Frame} {fs : List Frame} → IsOpen f → Below (above f.head f.children) fs → Below w (f ∷ fs)
-  an_operand : {k : SyntaxKind} {row : AnnotatedForest} {fs : List Frame} (min_bp max_bp d : ℕ) → d ≤ depth_limit
-      → ((rest : AnnotatedForest) → MayGrow min_bp max_bp (one_branch k (row ⊕ rest))) → Below Other fs
-      → Below (One k row) (opened Operand (p.AfterOperand min_bp max_bp) d blank ∷ fs)
+  an_operand : {k : SyntaxKind} {trees : AnnotatedForest} {fs : List Frame} (min_bp max_bp d : ℕ) → d ≤ depth_limit
+      → ((rest : AnnotatedForest) → MayGrow min_bp max_bp (one_branch k (trees ⊕ rest))) → Below Other fs
+      → Below (One k trees) (opened Operand (p.AfterOperand min_bp max_bp) d blank ∷ fs)
 
 -- the innermost frame is a node or a second name
 pub record AtOpen (f : Frame) (fs : List Frame) : Type 0 where
@@ -80,37 +80,37 @@ pub record AtOperand (min_bp max_bp d : ℕ) (x : AnnotatedForest) (fs : List Fr
   pub shallow : d ≤ depth_limit
   pub below : Below Other fs
 
--- a text is being read: a node, a second name or an operand is innermost
+-- while a text is read, the innermost frame is a node, a second name or an operand
 pub data Reading : List Frame → Type 0 where
   node : {f : Frame} {fs : List Frame} → AtOpen f fs → Reading (f ∷ fs)
   operand : {min_bp max_bp d : ℕ} {x : AnnotatedForest} {fs : List Frame} → AtOperand min_bp max_bp d x fs
       → Reading (opened Operand (p.AfterOperand min_bp max_bp) d x ∷ fs)
 
--- the frames below an open frame stay as they are when its row gets more trees
-below_more : (h : Head) (row x : AnnotatedForest) {fs : List Frame} → Below (above h row) fs → Below (above h (row ⊕ x)) fs
-below_more (Node k) row x no_frame = no_frame
-below_more (Node k) row x (a_row i b) = a_row i b
-below_more (Node k) row x (an_operand min_bp max_bp d l grows b) =
-    an_operand min_bp max_bp d l (λ rest. subst (λ (z : AnnotatedForest). MayGrow min_bp max_bp (one_branch k z)) (sym (⊕-assoc row x rest))
+-- the frames below an open frame stay as they are when it gets more children
+below_more : (h : Head) (trees x : AnnotatedForest) {fs : List Frame} → Below (above h trees) fs → Below (above h (trees ⊕ x)) fs
+below_more (Node k) trees x no_frame = no_frame
+below_more (Node k) trees x (a_row i b) = a_row i b
+below_more (Node k) trees x (an_operand min_bp max_bp d l grows b) =
+    an_operand min_bp max_bp d l (λ rest. subst (λ (z : AnnotatedForest). MayGrow min_bp max_bp (one_branch k z)) (sym (⊕-assoc trees x rest))
     (grows (x ⊕ rest))) b
-below_more SecondBind row x b = b
-below_more Operand row x b = b
+below_more SecondBind trees x b = b
+below_more Operand trees x b = b
 
 -- an open frame moves to another position of its row
-went : (f : Frame) (fs : List Frame) (y : Position) (row : AnnotatedForest) → AtOpen f fs → is_in_row_of y (kind_of f.head) ≡ true → Below (above f.head row) fs
-    → AtOpen (put y row f) fs
-went f fs y row r h b = record { is = record { sound = r.is.sound; in_row_of = h; shallow = r.is.shallow }; below = b }
+went : (f : Frame) (fs : List Frame) (y : Position) (trees : AnnotatedForest) → AtOpen f fs → is_in_row_of y (kind_of f.head) ≡ true
+    → Below (above f.head trees) fs → AtOpen (put y trees f) fs
+went f fs y trees r h b = record { is = record { sound = r.is.sound; in_row_of = h; shallow = r.is.shallow }; below = b }
 
--- with more trees
+-- so does an open frame that gets more children
 pub grown : (f : Frame) (fs : List Frame) (y : Position) (x : AnnotatedForest) → AtOpen f fs → is_in_row_of y (kind_of f.head) ≡ true
     → AtOpen (put y (f.children ⊕ x) f) fs
 grown f fs y x r h = went f fs y (f.children ⊕ x) r h (below_more f.head f.children x r.below)
 
--- with the same trees
+-- so does an open frame with the same children
 pub stayed : (f : Frame) (fs : List Frame) (y : Position) → AtOpen f fs → is_in_row_of y (kind_of f.head) ≡ true → AtOpen (put y f.children f) fs
 stayed f fs y r h = went f fs y f.children r h r.below
 
--- an open frame is below what opens above it
+-- an open frame may be below a frame that opens above it
 pub waits : {w : Above} (f : Frame) (fs : List Frame) → AtOpen f fs → Below w (f ∷ fs)
 waits f fs r = a_row r.is r.below
 
@@ -121,25 +121,25 @@ pub opens_on : (k : SyntaxKind) (z : Position) (d : ℕ) (x : AnnotatedForest) (
     → AtOpen (opened (Node k) z d x) fs
 opens_on k z d x fs s h l b = record { is = record { sound = s; in_row_of = h; shallow = l }; below = b }
 
--- an operand or a second name has a frame below it
+-- below an operand or a second name there is a frame
 pub alone : Below Other [] → ⊥
 alone b = elim b [ ]
 
 -- a complete frame becomes a tree of the frame below
-pub landed : (h : Head) (row : AnnotatedForest) (g : Frame) (fs : List Frame) → Below (above h row) (g ∷ fs)
-    → Reading (put g.position (g.children ⊕ made h row) g ∷ fs)
-landed (Node k) row _ fs (an_operand min_bp max_bp d l grows b) = operand (record {
+pub landed : (h : Head) (trees : AnnotatedForest) (g : Frame) (fs : List Frame) → Below (above h trees) (g ∷ fs)
+    → Reading (put g.position (g.children ⊕ made h trees) g ∷ fs)
+landed (Node k) trees _ fs (an_operand min_bp max_bp d l grows b) = operand (record {
   single = a_node;
-  grows = subst (λ (z : AnnotatedForest). MayGrow min_bp max_bp (one_branch k z)) (⊕-blank row) (grows blank);
+  grows = subst (λ (z : AnnotatedForest). MayGrow min_bp max_bp (one_branch k z)) (⊕-blank trees) (grows blank);
   shallow = l;
   below = b;
 })
-landed (Node k) row g fs (a_row i b) = node (grown g fs g.position (one_branch k row) (record { is = i; below = b }) i.in_row_of)
-landed SecondBind row g fs (a_row i b) = node (grown g fs g.position (made SecondBind row) (record { is = i; below = b }) i.in_row_of)
-landed Operand row g fs (a_row i b) = node (grown g fs g.position row (record { is = i; below = b }) i.in_row_of)
+landed (Node k) trees g fs (a_row i b) = node (grown g fs g.position (one_branch k trees) (record { is = i; below = b }) i.in_row_of)
+landed SecondBind trees g fs (a_row i b) = node (grown g fs g.position (made SecondBind trees) (record { is = i; below = b }) i.in_row_of)
+landed Operand trees g fs (a_row i b) = node (grown g fs g.position trees (record { is = i; below = b }) i.in_row_of)
 
 -- the errors that a frame reports when it is complete, given the trees before it
 abbrev pub closing : Head → AnnotatedForest → AnnotatedForest → List Fault
-closing (Node k) before row = repeats k before row
-closing SecondBind before row = report DoubleBind (tokens_in row) ∷ []
-closing Operand before row = []
+closing (Node k) before trees = repeats k before trees
+closing SecondBind before trees = report DoubleBind (tokens_in trees) ∷ []
+closing Operand before trees = []

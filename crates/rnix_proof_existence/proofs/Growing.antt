@@ -1,4 +1,4 @@
--- Which trees may be operands, and how they may go on, by their kinds and levels.
+-- Which trees may be operands, and how they may continue, by their kinds and levels.
 use Rattle.{std.proofs.Common.{◌≡◌, ℕ, ◌≤◌, Bool, true, false, refl, arith, ap, if◌then◌else◌}, rnix_kinds.specs.declared.kinds.SyntaxKind.SyntaxKind}
 use Rattle.{rnix_kinds.specs.declared.kinds.SyntaxKind.TheVariants.{NODE_APPLY, NODE_BIN_OP, NODE_IDENT, NODE_LITERAL}, rnix_grammar.specs.Levels.binding_power}
 use Rattle.rnix_grammar.specs.{Levels.max_bp_of, AnnotatedForest.{AnnotatedForest, branch, one_branch}, NodeClasses.{is_atom, is_infix, fits}, TreeLevels.row_level}
@@ -6,12 +6,12 @@ use Rattle.{rnix_grammar.specs.TreeLevels.{is_or_row, is_atom_row, calls_or}, rn
 use Rattle.rnix_proof_lemmas.proofs.{LevelLemmas.{operates, atom_fits, simple_fits, fits_looser}, FollowLemmas.{FollowedTo, followed_atom, followed_selection}}
 use Rattle.rnix_proof_lemmas.proofs.FollowLemmas.{followed_call, followed_infix}
 
--- the kind by which a row goes on behind a tree: an error node counts as a literal
+-- the kind by which a row continues after a tree: an error node counts as a literal
 abbrev pub seen_kind : AnnotatedForest → SyntaxKind
 seen_kind (branch k c f) = k
 seen_kind f = NODE_LITERAL
 
--- One tree may be an operand of a level, and go on with what binds no tighter than another level.
+-- A single tree may be an operand of a level, and is continued by what binds no tighter than another level.
 pub record MayGrow (min_bp max_bp : ℕ) (x : AnnotatedForest) : Type 0 where
   pub fit : fits min_bp (seen_kind x) ≡ true
   pub tight : fits max_bp (seen_kind x) ≡ true
@@ -29,7 +29,7 @@ pub atom_seen : (x : AnnotatedForest) → is_atom_row x ≡ true → is_atom (se
 atom_seen (branch k c f) h = h
 atom_seen _ h = cc
 
--- a tree that fits its own level may be an operand of each looser one, and goes on with what may follow it
+-- a tree that fits its own level may be an operand of each looser one, and is continued by what may follow it
 pub grows_by : (min_bp max_bp : ℕ) (x : AnnotatedForest) → fits (row_level x) (seen_kind x) ≡ true → min_bp ≤ row_level x → max_bp ≤ row_level x
     → FollowedTo max_bp x
     → is_or_row x ≡ false
@@ -42,12 +42,12 @@ grows_by min_bp max_bp x f l h w o = record {
   no_or = o;
 }
 
--- an atom goes on with everything
+-- everything may continue an atom
 pub atom_grows : (min_bp : ℕ) (x : AnnotatedForest) → is_atom_row x ≡ true → row_level x ≡ 16 → is_or_row x ≡ false → min_bp ≤ 16 → MayGrow min_bp 16 x
 atom_grows min_bp x h v o l =
     grows_by min_bp 16 x (atom_fits (row_level x) (seen_kind x) (atom_seen x h)) (omega (arith, v, l)) (omega (arith, v)) (followed_atom x v h) o
 
--- a call goes on with arguments, and with what is looser
+-- arguments may continue a call, and so may what is looser
 pub call_grows : (min_bp : ℕ) (c : AnnotatedForest) → min_bp ≤ row_level (one_branch NODE_APPLY c) → MayGrow min_bp 15 (one_branch NODE_APPLY c)
 call_grows min_bp c l = by (calls_or c) refl
   where

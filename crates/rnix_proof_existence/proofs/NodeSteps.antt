@@ -1,4 +1,4 @@
--- Each step at an open node or a second name keeps what is known of the frames, and what ends behind it ends before it.
+-- Each step at an open node or a second name preserves what is known of the frames, and if the text can be read on after it, so it can before it.
 use Rattle.std.proofs.Common.{◌≡◌, inl, ℕ, suc, ◌≤◌, ◌<◌, Bool, true, false, List, [], ◌∷◌, ◌++◌, Option, Some, refl, ap, sym, ◌∙◌, subst, append_assoc}
 use Rattle.std.proofs.{Common.{append-nil, arith, if◌then◌else◌, nat_le, ◌&&◌}, lemmas.Bool.{and_parts, Decides.nat_tests}}
 use Rattle.rnix_kinds.specs.declared.kinds.SyntaxKind.{SyntaxKind, TheVariants.{NODE_IDENT, NODE_PAT_ENTRY, NODE_ERROR, NODE_LITERAL, TOKEN_AT}}

@@ -9,7 +9,7 @@ use Rattle.rnix_proof_lemmas.{specs.Machine.{kind_of, made, min_bp_of, perform},
 use Rattle.rnix_proof_lemmas.proofs.{AnnotatedForestLemmas.tokens_in-⊕, TokenEnds.end_behind, OpenHeads.is_open, RestAt.rest_at}
 use Rattle.rnix_proof_existence.proofs.{Growing.seen_kind, Frames.{Reading, closing}}
 
--- the items from ts up to us are those of a row; the item before them ends at n, and the last of them at m
+-- the items from ts up to us are those of a forest; the item before them ends at n, and the last of them at m
 pub record Spans (ts : List Token) (n : ℕ) (us : List Token) (m : ℕ) (x : AnnotatedForest) : Type 0 where
   pub items : ts ≡ tokens_in x ++ us
   pub item_end : m ≡ end_from n (tokens_in x)
@@ -17,7 +17,7 @@ pub record Spans (ts : List Token) (n : ℕ) (us : List Token) (m : ℕ) (x : An
 pub spanned : {us : List Token} {n : ℕ} {x : AnnotatedForest} → Spans (tokens_in x ++ us) n us (end_from n (tokens_in x)) x
 spanned = record { items = refl; item_end = refl }
 
--- two rows, one after the other
+-- two forests, one after the other
 pub spans_two : {ts us vs : List Token} {n m l : ℕ} (x y : AnnotatedForest) → Spans ts n us m x → Spans us m vs l y → Spans ts n vs l (x ⊕ y)
 spans_two {vs = vs} {n = n} x y v w = record {
   items = v.items ∙ ap (λ z. tokens_in x ++ z) w.items ∙ sym (tokens_two x y vs);
@@ -25,7 +25,7 @@ spans_two {vs = vs} {n = n} x y v w = record {
       ∙ ap (end_from n) (sym (tokens_in-⊕ x y));
 }
 
--- a row in place of one of the same items
+-- a forest in place of one of the same items
 spans_same : {ts us : List Token} {n m : ℕ} {x y : AnnotatedForest} → tokens_in x ≡ tokens_in y → Spans ts n us m x → Spans ts n us m y
 spans_same {us = us} {n = n} e v = record { items = v.items ∙ ap (λ z. z ++ us) e; item_end = v.item_end ∙ ap (end_from n) e }
 
@@ -62,7 +62,7 @@ pub record IsCompleteOperand (level : ℕ) (x : AnnotatedForest) (us : List Toke
 abbrev pub Grows : ℕ → ℕ → AnnotatedForest → List Token → ℕ → AnnotatedForest → List Token → ℕ → List Fault → Type 0
 Grows level d x ts n y us m ds = (l : ℕ) (all : List Token) (cs : List Fault) → IsRead level d l all x ts n cs → IsRead level d l all y us m (cs ++ ds)
 
--- what follows a row, and what follows a tree of a frame
+-- what follows the children of a frame, and what follows a tree of a frame
 abbrev AfterRow : Type 1
 AfterRow = Row → List Token → ℕ → AnnotatedForest → List Fault → Type 0
 
@@ -94,7 +94,7 @@ pub record OperandEnds (f g : Frame) (After : AfterFrame) (ts : List Token) (n :
 
 -- a row is complete, and its frame becomes a tree of the frame below
 abbrev pub Closes : Head → Frame → AfterFrame → AfterRow
-Closes h g After s us m row gs = IsOver s m us × After (put g.position (g.children ⊕ made h row) g) us m (gs ++ closing h g.children row)
+Closes h g After s us m trees gs = IsOver s m us × After (put g.position (g.children ⊕ made h trees) g) us m (gs ++ closing h g.children trees)
 
 -- Trees x are read in front of the rest of a row of kind k, inside d counted positions. Before them the last item ends at n, q is left of the row, and b is
 -- read of it. After them the items us are left, the last item ends at m, and r is left of the row. They have the errors ds.
@@ -121,14 +121,14 @@ row_fronted {b = b} {After = After} {gs = gs} {hs = hs} x ds v h reads o = recor
       (subst (λ (z : AnnotatedForest). After o.row_state o.remaining o.prev_end z (hs ++ o.inside)) (⊕-assoc b x o.rest) o.ends);
 }
 
--- the root's row and all errors, at the end of the text
+-- the root's children and all errors, at the end of the text
 abbrev pub Outcome : Type 0
 Outcome = AnnotatedForest × List Fault
 
 module _ (whole : Outcome) where
   -- the root's row is complete, and no item is left
   abbrev IsRoot : Head → AfterRow
-  IsRoot h s us m row gs = (h ≡ Node NODE_ROOT) × (s ≡ TextEnd · done) × (us ≡ []) × (row ≡ whole.0) × (gs ≡ whole.1)
+  IsRoot h s us m trees gs = (h ≡ Node NODE_ROOT) × (s ≡ TextEnd · done) × (us ≡ []) × (trees ≡ whole.0) × (gs ≡ whole.1)
 
   -- With these frames, items, end of the last item, and errors so far, the text is read to that outcome.
   abbrev pub EndsOn : List Frame → AfterFrame

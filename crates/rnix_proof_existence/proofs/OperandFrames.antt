@@ -17,7 +17,7 @@ use Rattle.rnix_proof_existence.proofs.OpenFrames.{open_ends, operand_ends, Oper
 use Rattle.rnix_grammar.specs.declared.position.Position.TheVariants as p
 use Rattle.rnix_grammar.specs.declared.operand_start.OperandStart.TheVariants as b
 
--- the row of a node begins with an item
+-- the children of a node begin with an item
 pub item_first : {d n : ℕ} {q : Row} (k : SyntaxKind) (t : Token) (us : List Token) → IsFront (row_of_kind k) → after (row_of_kind k) (leaf_kind k t) ≡ q
     → Fronts k d n (row_of_kind k) blank (item k t) us t.end q []
 item_first {n = n} k t us w g vs s f es v z = leaf_from v (w.expected n (t ∷ us) true) (w.followed blank (Some (leaf_kind k t))) g z
@@ -43,7 +43,7 @@ begins_as : (level : ℕ) (t : Token) (us : List Token) (how : OperandStart) (x 
 begins_as level t us how x e h =
     sym (kind_of_begin (first_kind level t.kind t.text (head_kind us) (second_kind us)) t.kind) ∙ ap kind_of e ∙ h
 
--- a complete operand of a level is read, goes into the row of the frame that waits for it, and what follows ends as it should
+-- a complete operand of a level is read, becomes a child of the frame that waits for it, and what follows ends as it should
 pub record OperandStartEnds (whole : Outcome) (level d : ℕ) (g : Frame) (fs : List Frame) (ts : List Token) (n : ℕ) (gs : List Fault) : Type 0 where
   pub remaining : List Token
   pub prev_end : ℕ

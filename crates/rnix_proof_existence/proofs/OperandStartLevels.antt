@@ -1,4 +1,4 @@
--- How an operand begins: its first tree, and what may go on with it.
+-- How an operand begins: its first tree, and what may continue it.
 use Rattle.std.{specs.List.list_all, proofs.{lemmas.Bool.and_parts, Common.{◌≡◌, ℕ, ◌≤◌, Bool, true, false, List, Option, Some, refl, ap, sym, ◌∙◌, arith}}}
 use Rattle.{std.proofs.Common.{if◌then◌else◌, nat_le, ◌&&◌}, rnix_kinds.specs.declared.kinds.SyntaxKind.{SyntaxKind, TheVariants.TOKEN_IDENT}}
 use Rattle.rnix_kinds.specs.declared.kinds.SyntaxKind.TheVariants.{TOKEN_L_BRACE, TOKEN_AT, TOKEN_LET, TOKEN_INVERT, NODE_APPLY}
@@ -38,12 +38,12 @@ abbrev own_level : Bool → SyntaxKind → ℕ
 own_level inverts NODE_UNARY_OP = if inverts then 9 else 14
 own_level inverts k = if is_keyword_expression k then 0 else 16
 
--- the highest level of what goes on with it
+-- the highest level of what continues it
 abbrev max_bp_at : Bool → SyntaxKind → ℕ
 max_bp_at inverts NODE_UNARY_OP = if inverts then 8 else 13
 max_bp_at inverts k = own_level inverts k
 
--- such a node fits its level, and what goes on with it is as tight as that
+-- such a node fits its level, and what continues it is at most as tight as that
 abbrev grows_so : Bool → SyntaxKind → Bool
 grows_so inverts k =
     fits (own_level inverts k) k && (nat_le (max_bp_at inverts k) (own_level inverts k) && list_all

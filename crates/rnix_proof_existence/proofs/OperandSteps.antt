@@ -1,4 +1,4 @@
--- Steps at an operand keep what is known of the frames, and what ends behind each of them ends before it.
+-- Steps at an operand preserve what is known of the frames, and if the text can be read on after one, so it can before it.
 use Rattle.std.proofs.Common.{◌≡◌, inr, ℕ, ◌≤◌, Bool, true, false, List, [], ◌∷◌, ◌++◌, Some, None, refl, ap, sym, ◌∙◌, subst, append_assoc, append-nil, arith}
 use Rattle.std.proofs.{Common.{◌||◌, ◌&&◌, if◌then◌else◌, nat_eq, nat_le}, lemmas.Bool.{and_parts, and_from, Decides.nat_tests}}
 use Rattle.rnix_kinds.specs.declared.kinds.SyntaxKind.{SyntaxKind, TheVariants.{TOKEN_DOT, TOKEN_OR, TOKEN_QUESTION, NODE_SELECT, NODE_APPLY, NODE_HAS_ATTR}}

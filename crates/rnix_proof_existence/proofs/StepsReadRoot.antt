@@ -20,7 +20,7 @@ runs_end : (whole : Outcome) {m n : Machine} → Runs false m n → Reading m.fr
 runs_end whole rest r ends = ends
 runs_end whole (further {m = m} s) r ends = let w = step whole m.remaining m.prev_end m.faults r in w.1 (runs_end whole s w.0 ends)
 
--- if the steps end with the root's row complete and no item left, that row is a reading of all the items
+-- if the steps end with the root's row complete and no item left, the root's children are a reading of all the items
 pub steps_read_root : (ts : List Token) (m : Machine) (f : Frame) → Runs false (initial_machine ts) m → m.frames ≡ f ∷ [] → f.head ≡ Node NODE_ROOT
     → f.position ≡ p.InRow (ROOT + 1) → m.remaining ≡ []
     → (ts ≡ tokens_in f.children) × ReadsRoot f.children m.faults

@@ -11,7 +11,7 @@ abbrev extents : List Token → List Extent
 extents [] = []
 extents (t ∷ ts) = record { start = t.start; end = t.end } ∷ extents ts
 
--- items that are alike are the same but for their places
+-- items that are alike are the same except for their places
 token_is : (t u : Token) → t.kind ≡ u.kind → t.text ≡ u.text → at t (record { start = u.start; end = u.end } ∷ []) ≡ u
 token_is t u e h = λ i. record { kind = e i; text = h i; start = u.start; end = u.end }
 
@@ -32,7 +32,7 @@ alike_touching prev n m (t ∷ ts) [] h = absurd h
 abbrev pub OneRow : Type 0
 OneRow = (f g : AnnotatedForest) (ds es : List Fault) → ReadsRoot f ds → ReadsRoot g es → tokens_in f ≡ tokens_in g → (f ≡ g) × (ds ≡ es)
 
--- so readings of items that are alike are one but for places
+-- so readings of items that are alike are the same except for places
 pub alike_readings : (one : OneRow) (f g : AnnotatedForest) (ds es : List Fault) → ReadsRoot f ds → ReadsRoot g es
     → AreAlike None 0 0 (tokens_in f) (tokens_in g)
     → (forget f ≡ forget g) × AreSameFaults (tokens_in f) (tokens_in g) ds es

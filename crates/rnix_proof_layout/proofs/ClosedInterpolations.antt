@@ -61,7 +61,7 @@ closes end e at_operand w = dead w
 closes end e at_end w = dead w
 closes {p} {q = q} {s = s} {us = us} (leaf {t = t} {f = f} x o h) e i w =
     either (after q (leaf_kind p t)) (t ∷ []) (tokens_in f) us (goes_on q i (leaf_kind p t) (reads_viable h (end_viable s w))) (λ j. closes h e j w)
-    (λ g. inr (λ prev. ap (λ f. last_kind (Some t.kind) (tokens_in f)) (past_ends h g.0 (end_viable s w)).row
+    (λ g. inr (λ prev. ap (λ f. last_kind (Some t.kind) (tokens_in f)) (past_ends h g.0 (end_viable s w)).no_trees
     ∙ ap Some (sym (ap (λ p. leaf_kind p t) e) ∙ g.1)))
 closes {p} {q = q} {s = s} {us = us} (inner {k = k} {c = c} {f = f} o r v x z y h) e i w =
     either (after q k) (tokens_in c) (tokens_in f) us (goes_on q i k (reads_viable h (end_viable s w))) (λ j. closes h e j w)

@@ -41,7 +41,7 @@ report_same xs ys Extra ts ps h = h
 report_same xs ys DoubleBind ts ps h = h
 report_same xs ys TooDeep ts ps h = tt
 
--- the errors of the end of the text
+-- the errors at the end of the text
 pub ended_same : (xs ys : List Token) (e : Fault) → is_ended e ≡ true → IsSameFault xs ys e e
 ended_same xs ys unexpected_eof h = tt
 ended_same xs ys (unexpected_eof_wanted kinds) h = refl

@@ -65,7 +65,7 @@ pub tokens_after : (f : AnnotatedForest) (us : List Token) (ps : List Extent)
     → moved (tokens_in f ++ us) ps ≡ tokens_in (moved_trees f ps) ++ moved us (past (tokens_in f) ps)
 tokens_after f us ps = moved_two (tokens_in f) us ps ∙ ap (λ xs. xs ++ moved us (past (tokens_in f) ps)) (sym (tokens_moved f ps))
 
--- tokens as a row
+-- tokens as a forest of leaves
 pub row_moved : (ts : List Token) (ps : List Extent) → moved_trees (row_of ts) ps ≡ row_of (moved ts ps)
 row_moved [] ps = refl
 row_moved (t ∷ ts) ps = ap (λ f. token t.kind (at t ps) f) (row_moved ts (later ps))

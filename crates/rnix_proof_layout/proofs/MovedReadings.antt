@@ -54,7 +54,7 @@ over_same : (s : Row) (prev : Option SyntaxKind) (n m : ℕ) (us : List Token) (
 over_same s prev n m us f ps j touch h =
     (h.0, subst (λ z. IsExpected s m z false) (tokens_after f us ps) (expected_same s prev n m (tokens_in f ++ us) ps false j touch h.1))
 
--- two rows of trees and what follows
+-- two forests and what follows
 both_after : (c f : AnnotatedForest) (us : List Token) (ps : List Extent) → moved (tokens_in c ++ (tokens_in f ++ us)) ps
     ≡ tokens_in (moved_trees c ps) ++ (tokens_in (moved_trees f (past (tokens_in c) ps)) ++ moved us (past (tokens_in f) (past (tokens_in c) ps)))
 both_after c f us ps = tokens_after c (tokens_in f ++ us) ps ∙ ap (λ z. tokens_in (moved_trees c ps) ++ z) (tokens_after f us (past (tokens_in c) ps))

@@ -9,7 +9,7 @@ use Rattle.{rnix_proof_lemmas.proofs.ReachableRows.{IsKnown, every_known}, rnix_
 use Rattle.rnix_proof_layout.proofs.{MovedItems.{tokens_after, row_moved, head_moved, second_moved, length_moved, some_moved, run_moved}, Unplaced.unplaced}
 use Rattle.rnix_proof_layout.proofs.{Unplaced.{unplaced_moved, alike, row_level_same, first_same, follows_same, asked_same}, Touch.asks_touch}
 
--- the next item goes on with a tree, at other places
+-- the next item continues a tree, at other places
 goes_same : (level : ℕ) (x y : AnnotatedForest) (ts : List Token) (ps : List Extent) → unplaced x ≡ unplaced y
     → is_continued level x ts ≡ is_continued level y (moved ts ps)
 goes_same level x y [] ps e = refl
@@ -33,7 +33,7 @@ operand_same (Some level) x us ps h = (
   sym (goes_same level x (moved_trees x ps) us (past (tokens_in x) ps) (sym (unplaced_moved x ps))) ∙ h.2,
 )
 
--- at a place of a row
+-- at a position of a row
 pub operand_at : (q : Row) (x : AnnotatedForest) (us : List Token) (ps : List Extent) → IsOperandOf (level_at q x) x us
     → IsOperandOf (level_at q (moved_trees x ps)) (moved_trees x ps) (moved us (past (tokens_in x) ps))
 operand_at q x us ps h =

@@ -33,7 +33,7 @@ asks_touch (Names · r) = asks_touch r
 asks_touch (Optional kind · r) = asks_touch r
 asks_touch r = false
 
--- there a path goes on, or no item is left
+-- there a path continues, or no item is left
 abbrev pub Joins : Row → Option SyntaxKind → List Token → Type 0
 Joins q prev ts = (ts ≡ []) ⊎ (asks_touch q ≡ true → is_in_path prev ≡ true)
 

@@ -24,7 +24,7 @@ unplaced-⊕ (token k t f) g = ap (λ x. token k (unplaced_token t) x) (unplaced
 unplaced-⊕ (branch k c f) g = ap (λ x. branch k (unplaced c) x) (unplaced-⊕ f g)
 unplaced-⊕ (fault n c f) g = ap (λ x. fault n (unplaced c) x) (unplaced-⊕ f g)
 
--- moved trees are the same but for places
+-- moved trees are the same except for places
 pub unplaced_moved : (f : AnnotatedForest) (ps : List Extent) → unplaced (moved_trees f ps) ≡ unplaced f
 unplaced_moved blank ps = refl
 unplaced_moved (token k t f) ps = ap (λ x. token k (unplaced_token t) x) (unplaced_moved f (later ps))

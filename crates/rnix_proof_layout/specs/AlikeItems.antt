@@ -8,7 +8,7 @@ use Rattle.rnix_grammar.specs.TokenKinds.{is_path_piece, is_piece_start}
 use Rattle.rnix_grammar.specs.Fault.{Fault, unexpected_at, extra, unwanted, double_bind, unexpected_eof, unexpected_eof_wanted, duplicated_args, too_deep}
 use Rattle.rnix_grammar.specs.AnnotatedForest.{Token, extent_of}
 
--- after an item of the kind a path goes on, if the next item touches it
+-- after an item of the kind a path continues, if the next item touches it
 abbrev pub ends_piece : SyntaxKind → Bool
 ends_piece k = is_path_piece k || same_kind TOKEN_INTERPOL_END k
 
@@ -17,11 +17,11 @@ abbrev pub is_in_path : Option SyntaxKind → Bool
 is_in_path None = false
 is_in_path (Some k) = ends_piece k
 
--- an item of the kind goes on with the path that the item before may be in, if it touches that
+-- an item of the kind continues the path that the item before may be in, if it touches that
 abbrev pub may_join : Option SyntaxKind → SyntaxKind → Bool
 may_join prev k = is_in_path prev && is_piece_start k
 
--- the items have the same kinds and texts, and where a path may go on they touch in both lists or in none; known are the kind of the item before
+-- the items have the same kinds and texts, and where a path may continue they touch in both lists or in none; known are the kind of the item before
 -- and where it ends in the first and in the second list
 abbrev pub AreAlike : Option SyntaxKind → ℕ → ℕ → List Token → List Token → Type 0
 AreAlike prev n m [] [] = Unit {0}
@@ -37,7 +37,7 @@ pub record AreOfSameItems (xs ys : List Token) (a b : Extent) : Type 0 where
   pub here : a ≡ extent_of (take count (drop first xs))
   pub there : b ≡ extent_of (take count (drop first ys))
 
--- two errors are the same but for their ranges, which are those of the same items
+-- two errors are the same except for their ranges, which are those of the same items
 abbrev pub IsSameFault : List Token → List Token → Fault → Fault → Type 0
 IsSameFault xs ys (unexpected_at a) (unexpected_at b) = AreOfSameItems xs ys a b
 IsSameFault xs ys (extra a) (extra b) = AreOfSameItems xs ys a b

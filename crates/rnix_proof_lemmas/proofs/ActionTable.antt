@@ -10,7 +10,7 @@ use Rattle.rnix_proof_lemmas.proofs.{EachKind.{Each, each_kind}, EachIndex.{Each
 use Rattle.rnix_grammar.specs.declared.position.Position.TheVariants as p
 use Rattle.rnix_grammar.specs.declared.action.Action.TheVariants as a
 
--- a node of a kind that is no operand may stand here, and s is left after it
+-- a node of a kind that is no operand may be here, and s is left after it
 abbrev pub IsNodeHere : Row → Bool → Option SyntaxKind → SyntaxKind → Row → Type 0
 IsNodeHere r touch next k s = (counts r ≡ false) × (level_at r blank ≡ None) × (expects_next r touch next ≡ is_first_expected r k blank) × (after r k ≡ s)
 
@@ -57,7 +57,7 @@ abbrev pub is_waiting : Row → Bool
 is_waiting never = false
 is_waiting r = is_remaining r
 
--- a position of a row: not behind an operand
+-- a position of a row: not after an operand
 abbrev pub is_in_row : Position → Bool
 is_in_row (p.InRow i) = is_waiting (remaining_at i)
 is_in_row (p.AfterOperand min_bp max_bp) = false

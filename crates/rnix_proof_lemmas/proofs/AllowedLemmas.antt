@@ -13,7 +13,7 @@ use Rattle.rnix_grammar.specs.declared.position.Position.TheVariants as p
 use Rattle.rnix_grammar.specs.declared.rules.Part.TheVariants as r
 use Rattle.rnix_grammar.specs.declared.action.Action.TheVariants as a
 
--- the frame kind of a position, by the part that comes next; tokens, operands and names stand at positions of several frame kinds
+-- the frame kind of a position, by the part that comes next; tokens, operands and names are at positions of several frame kinds
 abbrev pub sort_by_part : Part → FrameKind → FrameKind
 sort_by_part (r.Many level closer) own = NodeFrame
 sort_by_part (r.Entries closer) own = NodeFrame
@@ -47,14 +47,14 @@ sort_after (Some (Next r.TextEnd)) i own = own
 sort_after (Some (Next part)) i own = frame_kind (p.InRow (i + 1))
 sort_after slot i own = own
 
--- a token stands in no second name, and an operand where one may stand
+-- a token is in no second name, and an operand where one may be
 abbrev may_stand : Option Slot → FrameKind → Bool
 may_stand (Some (Next (r.Operand level counted))) sort = may_hold sort OperandFrame
 may_stand (Some (Next (r.Wanted NODE_IDENT))) sort = true
 may_stand (Some (Next part)) sort = is_open sort
 may_stand slot sort = true
 
--- the end of the text stands at one position
+-- the end of the text is at one position
 abbrev index_by : Option Slot → ℕ → ℕ
 index_by (Some (Next r.TextEnd)) i = ROOT + 1
 index_by slot i = i
@@ -65,7 +65,7 @@ ReportsMissingChild (Some (Next (r.Wanted NODE_IDENT))) = Unit {0}
 ReportsMissingChild (Some (Next (r.Wanted kind))) = wanted_kinds (expected_set_of kind) ≡ kind ∷ []
 ReportsMissingChild slot = Unit {0}
 
--- what an index is by its slot: its frame kind, that of the position after it, what may stand there, and the steps that follow where the text has ended
+-- what an index is by its slot: its frame kind, that of the position after it, what may be there, and the steps that follow where the text has ended
 abbrev SlotAgrees : Option Slot → ℕ → Type 0
 SlotAgrees slot i =
     (frame_kind (p.InRow i) ≡ sort_by slot (frame_kind (p.InRow i))) × (sort_after slot i (frame_kind (p.InRow i)) ≡ frame_kind (p.InRow i))

@@ -7,7 +7,7 @@ use Rattle.rnix_proof_lemmas.specs.LeafKinds.{is_node}
 use Rattle.rnix_grammar.specs.Derivation.{beyond, annotate, has_tokens_alone}
 use Rattle.rnix_proof_lemmas.specs.LeafKinds.{HaveTokenKinds}
 
--- a row over items, and what is left of them
+-- a forest over items, and what is left of them
 pub record IsAnnotated (f : Forest) (ts : List Token) (ls : List Lexeme) : Type 0 where
   pub tokens : tokens_in (annotate f ts) ++ beyond f ts ≡ ts
   pub forest : forget (annotate f ts) ≡ f
@@ -37,7 +37,7 @@ first_of k t m x ts h = by (ap heads h) (ap tails h)
         let text : t ≡ x.text = ap (λ (l : Lexeme). l.1) e in
         (sym (ap (λ (l : Lexeme). l.0) e) ∙ ap (kind_of_token k) text, sym text, u)
 
--- a row of trees over the items that it stands for, and more
+-- a forest over the items that it stands for, and more
 pub annotate_row : (f : Forest) (ts : List Token) (ls : List Lexeme) → has_tokens_alone f ≡ true → yield f ++ ls ≡ map lexeme_of ts → IsAnnotated f ts ls
 annotate_row empty ts ls h e = record { tokens = refl; forest = refl; spelled = tt; rest = sym e }
 annotate_row (leaf k t f) [] ls h e = absurd (cc)

@@ -1,4 +1,4 @@
--- The first and the last token of a row.
+-- The first and the last token of a forest.
 use Rattle.std.proofs.Common.{◌≡◌, true, false, List, [], ◌∷◌, ◌++◌, refl, ap, ◌∙◌}
 use Rattle.{rnix_kinds.specs.{declared.kinds.SyntaxKind.SyntaxKind, SyntaxKind.is_trivia}, rnix_grammar.specs.AnnotatedForest.{Token, AnnotatedForest}}
 use Rattle.rnix_grammar.specs.{AnnotatedForest.{blank, token, branch, fault, ◌⊕◌, tokens_in}, Layout.{trivia_before, trivia_if}}
@@ -9,7 +9,7 @@ use Rattle.rnix_proof_lemmas.proofs.AnnotatedForestLemmas.{tokens_in-⊕}
 pub data IsSome : List SyntaxKind → Type 0 where
   some : (k : SyntaxKind) (ks : List SyntaxKind) → IsSome (k ∷ ks)
 
--- the last of some kinds is the last of more with these behind
+-- the last of some kinds is the last of more with these after
 pub ends_behind : (xs ys : List SyntaxKind) → IsSome ys → EndsWithItem ys → EndsWithItem (xs ++ ys)
 ends_behind [] ys s h = h
 ends_behind (x ∷ []) _ (some k ks) h = h
@@ -24,7 +24,7 @@ pub some_behind : (xs ys : List SyntaxKind) → IsSome ys → IsSome (xs ++ ys)
 some_behind [] ys h = h
 some_behind (x ∷ xs) ys h = some x (xs ++ ys)
 
--- the last of two rows of kinds is no trivia if the last of each is none
+-- the last of two lists of kinds is no trivia if the last of each is none
 pub ends_both : (xs ys : List SyntaxKind) → EndsWithItem xs → EndsWithItem ys → EndsWithItem (xs ++ ys)
 ends_both [] ys h j = j
 ends_both (x ∷ []) [] h j = h
@@ -36,16 +36,16 @@ pub begins_part : (xs ys : List SyntaxKind) → BeginsWithItem (xs ++ ys) → Be
 begins_part [] ys h = tt
 begins_part (x ∷ xs) ys h = h
 
--- the kinds of two rows of tokens
+-- the kinds of two lists of tokens
 pub token_kinds-++ : (ts us : List Token) → token_kinds (ts ++ us) ≡ token_kinds ts ++ token_kinds us
 token_kinds-++ [] us = refl
 token_kinds-++ (t ∷ ts) us = ap (λ x. t.kind ∷ x) (token_kinds-++ ts us)
 
--- the kinds of the tokens of a row
+-- the kinds of the tokens of a forest
 abbrev pub kinds_in : AnnotatedForest → List SyntaxKind
 kinds_in f = token_kinds (tokens_in f)
 
--- the kinds of two rows, one behind the other
+-- the kinds of the tokens of two forests, one after the other
 pub kinds_in-⊕ : (f g : AnnotatedForest) → kinds_in (f ⊕ g) ≡ kinds_in f ++ kinds_in g
 kinds_in-⊕ f g = ap token_kinds (tokens_in-⊕ f g) ∙ token_kinds-++ (tokens_in f) (tokens_in g)
 

@@ -1,4 +1,4 @@
--- The names of the entries of a pattern, in rows.
+-- The names of the entries of a pattern, in forests.
 use Rattle.std.proofs.Common.{◌≡◌, ℕ, Bool, true, false, List, Option, None, refl, ap, sym, ◌∙◌, if◌then◌else◌, ◌&&◌}
 use Rattle.{rnix_kinds.specs.declared.kinds.SyntaxKind.{SyntaxKind, TheVariants.NODE_PAT_ENTRY}, rnix_grammar.specs.AnnotatedForest.{Token, AnnotatedForest}}
 use Rattle.rnix_grammar.specs.{AnnotatedForest.{blank, token, branch, fault, ◌⊕◌}, Reports.{entry_name, is_same_name, has_entry}}
@@ -14,12 +14,12 @@ pub has_branch : (name : List ℕ) (k : SyntaxKind) (c f : AnnotatedForest)
 has_branch name NODE_PAT_ENTRY c f = refl
 has_branch name _ c f = refl
 
--- an entry in two rows
+-- an entry in two forests
 pub either_assoc : (x y z : Bool) → (if x then true else (if y then true else z)) ≡ (if (if x then true else y) then true else z)
 either_assoc true y z = refl
 either_assoc false y z = refl
 
--- an entry of the name stands in one of two rows
+-- an entry of the name is in one of two forests
 pub has-⊕ : (name : List ℕ) (b c : AnnotatedForest) → has_entry name (b ⊕ c) ≡ (if has_entry name b then true else has_entry name c)
 has-⊕ name blank c = refl
 has-⊕ name (token k t f) c = has-⊕ name f c

@@ -1,4 +1,4 @@
--- Which items go on with a tree, by the tree's level.
+-- Which items continue a tree, by the tree's level.
 use Rattle.std.{specs.List.list_all, proofs.{lemmas.Bool.and_from, Common.{◌≡◌, ℕ, ◌≤◌, Bool, true, false, refl, sym, ◌∙◌, subst, arith, ◌||◌, ◌&&◌}}}
 use Rattle.std.proofs.Common.{if◌then◌else◌, nat_eq, nat_le}
 use Rattle.rnix_kinds.{specs.{declared.kinds.SyntaxKind.{SyntaxKind, TheVariants.NODE_PAREN}, SyntaxKind.is_fn_arg}, proofs.AllKinds.{all_kinds, every}}
@@ -7,14 +7,14 @@ use Rattle.rnix_grammar.specs.{NodeClasses.{is_atom, is_infix}, AnnotatedForest.
 use Rattle.{rnix_grammar.specs.{TreeLevels.{level_of, is_atom_row}, Operands.follows}, rnix_proof_lemmas.proofs.{EntryNames.if_not, Basics.true_is_not_false}}
 use Rattle.rnix_proof_lemmas.proofs.{Basics.not_if, LevelLemmas.{within, at_most, same_number, at_most_true}, TokenEnds.left_least}
 
--- how an item goes on with a tree of a level that is an atom or not: as an operator, by `?`, as an argument, or by `.` or `or`
+-- how an item continues a tree of a level that is an atom or not: as an operator, by `?`, as an argument, or by `.` or `or`
 pub data Follows (j : SyntaxKind) (v : ℕ) (w : Bool) : Type 0 where
   by_operator : is_infix j ≡ true → left_of j ≤ v → Follows j v w
   by_question : binding_power j ≡ 13 → 13 ≤ v → Follows j v w
   by_argument : binding_power j ≡ 15 → 15 ≤ v → Follows j v w
   by_name : binding_power j ≡ 16 → w ≡ true → Follows j v w
 
--- an item goes on with a tree in one of these ways
+-- an item continues a tree in one of these ways
 pub follows_by : (j : SyntaxKind) (x : AnnotatedForest) → follows j x ≡ true → Follows j (row_level x) (is_atom_row x)
 follows_by j x h = by (is_infix j) (is_question j) (is_fn_arg j) (is_dot j || is_or j) refl refl refl refl h
   where
@@ -36,14 +36,14 @@ pub atom_is_selection_level : (k : SyntaxKind) (c : AnnotatedForest) → is_atom
 atom_is_selection_level NODE_PAREN c h = refl
 atom_is_selection_level _ c h = cc
 
--- so is a row of one atom
+-- so is a forest of one atom
 pub atom_level : (x : AnnotatedForest) → is_atom_row x ≡ true → row_level x ≡ 16
 atom_level (branch k c f) h = atom_is_selection_level k c h
 atom_level (fault n c f) h = refl
 atom_level blank h = absurd (true_is_not_false (sym h))
 atom_level (token k t f) h = absurd (true_is_not_false (sym h))
 
--- what goes on with a tree binds no tighter than the tree
+-- what continues a tree binds no tighter than the tree
 pub follows_level : (i : SyntaxKind) (x : AnnotatedForest) → follows i x ≡ true → binding_power i ≤ row_level x
 follows_level i x h = by (follows_by i x h) refl refl
   where
@@ -53,12 +53,12 @@ follows_level i x h = by (follows_by i x h) refl refl
     by (by_argument p l) d e = omega (arith, l, d, p)
     by (by_name p e) d u = omega (arith, p, atom_level x (sym u ∙ e))
 
--- What goes on with a tree is what binds no tighter than the level.
+-- What continues a tree is what binds no tighter than the level.
 abbrev pub FollowedTo : ℕ → AnnotatedForest → Type 0
 FollowedTo max_bp x = (j : SyntaxKind) → ((1 ≤ binding_power j → binding_power j ≤ max_bp → follows j x ≡ true)
     × (follows j x ≡ true → (1 ≤ binding_power j) × (binding_power j ≤ max_bp)))
 
--- an item of the kind may go on with a tree of the level, which is an atom or is not
+-- an item of the kind may continue a tree of the level, which is an atom or is not
 abbrev pub goes_after : SyntaxKind → ℕ → Bool → Bool
 goes_after kind level atom =
     if is_infix kind then nat_le (left_of kind) level
@@ -77,7 +77,7 @@ both_ways p max_bp false h = (
   λ e. absurd (true_is_not_false (sym e)),
 )
 
--- what is so of all kinds says what goes on with a tree of the level
+-- what is so of all kinds says what continues a tree of the level
 pub followed_by : (level : ℕ) (atom : Bool) (max_bp : ℕ) → list_all (is_followed level atom max_bp) all_kinds ≡ true → (x : AnnotatedForest)
     → row_level x ≡ level → is_atom_row x ≡ atom → FollowedTo max_bp x
 followed_by level atom max_bp h x e f j =
@@ -118,6 +118,6 @@ pub followed_infix : (k : SyntaxKind) → is_infix k ≡ true → (x : Annotated
 followed_infix k h = followed_by (binding_power k) false (max_bp_of k)
     (implied is_infix (λ i. list_all (is_followed (binding_power i) false (max_bp_of i)) all_kinds) refl k h)
 
--- no item goes on with a lone token
+-- no item continues a lone token
 pub follows_token : (i k : SyntaxKind) (t : Token) (f : AnnotatedForest) → follows i (token k t f) ≡ true → ⊥
 follows_token i k t f h = let w = (followed_keyword (token k t f) refl refl i).1 h in omega (arith, w.0, w.1)

@@ -6,7 +6,7 @@ use Rattle.rnix_grammar.specs.{AnnotatedForest.{without_trivia, token_if, leaf_k
 use Rattle.rnix_grammar.specs.Layout.{trivia_before, item_if, items, tail_of, is_last, trivia_after, rest_after, remaining_after, with_trivia}
 use Rattle.rnix_proof_lemmas.proofs.{AnnotatedForestLemmas.tokens_two, Basics.true_is_not_false}
 
--- no trivia stand before the first item
+-- no trivia come before the first item
 pub trivia-from_item : (ts : List Token) → trivia_before (from_item ts) ≡ blank
 trivia-from_item [] = refl
 trivia-from_item (t ∷ ts) = advance (trivia-from_item ts) (is_trivia t.kind) refl
@@ -30,7 +30,7 @@ abbrev pub items_head : List Token → List Token
 items_head [] = []
 items_head (t ∷ ts) = t ∷ items ts
 
--- the items are the first one and those behind it
+-- the items are the first one and those after it
 pub items-view : (ts : List Token) → items ts ≡ items_head (from_item ts)
 items-view [] = refl
 items-view (t ∷ ts) =
@@ -47,7 +47,7 @@ items-++ (x ∷ xs) ys =
     elim (is_trivia x.kind) as (λ z. item_if z x (items (xs ++ ys)) ≡ item_if z x (items xs)
     ++ items ys) [ true ↦ items-++ xs ys | false ↦ ap (λ z. x ∷ z) (items-++ xs ys) ]
 
--- the first item, and what comes behind it
+-- the first item, and what comes after it
 pub record IsFirst (t : Token) (us ts : List Token) : Type 0 where
   pub here : from_item ts ≡ t ∷ tail_of (from_item ts)
   pub item : is_trivia t.kind ≡ false
@@ -95,7 +95,7 @@ without_trivia-trivia (t ∷ ts) = advance (without_trivia-trivia ts) (is_trivia
     advance ih true e = ap (λ y. token_if y t.kind t (without_trivia (trivia_before ts))) e ∙ ih
     advance ih false e = refl
 
--- and so where they stand behind a node
+-- and so where they come after a node
 without_trivia-trivia_after : (x : Bool) (ts : List Token) → without_trivia (trivia_after x ts) ≡ blank
 without_trivia-trivia_after true ts = without_trivia-trivia ts
 without_trivia-trivia_after false ts = refl
@@ -104,7 +104,7 @@ without_trivia-trivia_after false ts = refl
 without_trivia-behind : (ts : List Token) (f : AnnotatedForest) → without_trivia (trivia_before ts ⊕ f) ≡ without_trivia f
 without_trivia-behind ts f = without_trivia-⊕ (trivia_before ts) f ∙ ap (λ x. x ⊕ without_trivia f) (without_trivia-trivia ts)
 
--- the items behind the node of what is too deep
+-- the items after the node of what is too deep
 pub items-rest_after : (x : Bool) (ts : List Token) → items (rest_after x ts) ≡ items ts
 items-rest_after true ts = items-from_item ts
 items-rest_after false ts = refl
@@ -114,7 +114,7 @@ pub record IsBared (f : AnnotatedForest) (ts us : List Token) : Type 0 where
   pub same : without_trivia (with_trivia f ts) ≡ f
   pub remaining : items (remaining_after f ts) ≡ us
 
--- a forest of the first items, with trivia and then without, is the forest, and behind it the other items are left
+-- a forest of the first items, with trivia and then without, is the forest, and after it the other items are left
 pub bared : (f : AnnotatedForest) (ts us : List Token) → items ts ≡ tokens_in f ++ us → IsBared f ts us
 bared blank ts us e = record { same = refl; remaining = e }
 bared (token k t f) ts us e =
@@ -155,12 +155,12 @@ trivia_tokens (t ∷ ts) =
     elim (is_trivia t.kind) as (λ x. tokens_in (trivia_if x t (trivia_before ts)) ++ from_item_if x t ts (from_item ts) ≡ t ∷ ts)
     [ true ↦ ap (λ x. t ∷ x) (trivia_tokens ts) | false ↦ refl ]
 
--- the trivia behind a node, and what is left
+-- the trivia after a node, and what is left
 rest_tokens : (x : Bool) (ts : List Token) → tokens_in (trivia_after x ts) ++ rest_after x ts ≡ ts
 rest_tokens true ts = trivia_tokens ts
 rest_tokens false ts = refl
 
--- a row behind the trivia before it
+-- a forest after the trivia before it
 behind_trivia : (ts us : List Token) (f : AnnotatedForest) → tokens_in f ++ us ≡ from_item ts → tokens_in (trivia_before ts ⊕ f) ++ us ≡ ts
 behind_trivia ts us f e = tokens_two (trivia_before ts) f us ∙ ap (λ x. tokens_in (trivia_before ts) ++ x) e ∙ trivia_tokens ts
 
@@ -213,7 +213,7 @@ trivia_keeps_kind NODE_IDENT k h = trivia_name k h
 trivia_keeps_kind NODE_CUR_POS k h = trivia_leaf_kind k h
 trivia_keeps_kind _ k h = refl
 
--- two rows whose leaves have the kinds of their tokens below their parents
+-- two forests whose leaves have the kinds of their tokens below their parents
 pub leaf_kind-⊕ : (p : SyntaxKind) (f g : AnnotatedForest) → HaveLeafKinds p f → HaveLeafKinds p g → HaveLeafKinds p (f ⊕ g)
 leaf_kind-⊕ p blank g h k = k
 leaf_kind-⊕ p (token j t f) g h k = (h.0, leaf_kind-⊕ p f g h.1 k)
@@ -229,7 +229,7 @@ trivia_leaf_kinds p (t ∷ ts) = advance (trivia_leaf_kinds p ts) (is_trivia t.k
     advance ih true e = (trivia_keeps_kind p t.kind e, ih)
     advance ih false e = tt
 
--- and so behind a node
+-- and so after a node
 trivia_after_leaf_kinds : (p : SyntaxKind) (x : Bool) (ts : List Token) → HaveLeafKinds p (trivia_after x ts)
 trivia_after_leaf_kinds p true ts = trivia_leaf_kinds p ts
 trivia_after_leaf_kinds p false ts = tt

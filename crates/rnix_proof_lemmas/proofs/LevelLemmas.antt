@@ -39,7 +39,7 @@ fits_looser n (suc m) k l h = by (cases_lt n (suc m)) (λ o. fits_looser n m k o
     by (inl o) more = more (omega (arith, o))
     by (inr o) more = let e : n ≡ suc m = omega (arith, l, o) in ap (λ i. fits i k) e ∙ h
 
--- what may be an argument may stand anywhere
+-- what may be an argument may be anywhere
 pub simple_fits : (n : ℕ) (k : SyntaxKind) → is_simple k ≡ true → fits n k ≡ true
 simple_fits n k h = fits_looser n (15 + n) k (omega arith) (fits_tight (15 + n) k (omega arith) ∙ h)
 
@@ -67,7 +67,7 @@ within l m n h = let q = and_parts (nat_le l m) (nat_le m n) h in (at_most l m q
 pub binding_power_max : (j : SyntaxKind) → binding_power j ≤ 16
 binding_power_max j = at_most (binding_power j) 16 (every (λ k. nat_le (binding_power k) 16) refl j)
 
--- what goes on behind an operator and its right operand
+-- what continues after an operator and its right operand
 pub record Operates (k : SyntaxKind) : Type 0 where
   pub positive : 1 ≤ binding_power k
   pub most : binding_power k ≤ 12

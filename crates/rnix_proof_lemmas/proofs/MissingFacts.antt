@@ -39,12 +39,12 @@ listed : (e : Fault) → IsListed e → IsNamedList e
 listed (unexpected_eof_wanted kinds) h = (expected_set_of kinds, λ e. true_is_not_false (sym (ap is_end e) ∙ h.0), h.1)
 listed _ h = h
 
--- an error of the end of the text
+-- an error at the end of the text
 abbrev IsMissing : Option (Fault × Row) → Type 0
 IsMissing None = Unit {0}
 IsMissing (Some w) = (is_ended w.0 ≡ true) × IsListed w.0
 
--- what is missing is reported by an error of the end of the text
+-- what is missing is reported by an error at the end of the text
 pub missing_ended : {i : SyntaxKind} {q r : Row} {e : Fault} → IsKnown i q → missing q ≡ Some (e, r) → (is_ended e ≡ true) × IsNamedList e
 missing_ended {i} {q} {r} {e} k m =
     let both : IsMissing (Some (e, r)) = subst IsMissing m (each_known (λ i r. IsMissing (missing r)) (λ i. tt) (assumption) i q k) in

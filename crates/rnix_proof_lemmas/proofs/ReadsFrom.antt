@@ -36,7 +36,7 @@ plain_from {k = k} {d} {n} {u = u} {c = c} {vs = vs} {ds = ds} i v w z e o x y g
     inner_from v w (subst (λ d. Reads k d n (row k) u blank vs c ds) (sym (i.deep d)) z) e o x (i.room d) y
     (i.operand (one_branch k c) (one_branch k c) vs) g h j
 
--- the row of a name is its item
+-- the children of a name are its item
 pub name_reads : {d n : ℕ} {us : List Token} (t : Token) → after (row NODE_IDENT) (leaf_kind NODE_IDENT t) ≡ done
     → Reads NODE_IDENT d n (row NODE_IDENT) done blank us (one_token (leaf_kind NODE_IDENT t) t) []
 name_reads t g = leaf_from refl tt tt g end

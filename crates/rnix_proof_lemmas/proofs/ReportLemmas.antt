@@ -9,7 +9,7 @@ onto_items : (x : Bool) (k : SyntaxKind) (t : Token) (f : AnnotatedForest) (us :
 onto_items true k t f us e = e
 onto_items false k t f us e = ap (λ z. t ∷ z) e
 
--- the tokens of a row without trivia are the items of the row's
+-- the tokens of a forest without trivia are the items among the forest's tokens
 pub without_trivia_tokens : (f : AnnotatedForest) → tokens_in (without_trivia f) ≡ items (tokens_in f)
 without_trivia_tokens blank = refl
 without_trivia_tokens (token k t f) = onto_items (is_trivia t.kind) k t (without_trivia f) (items (tokens_in f)) (without_trivia_tokens f)

@@ -35,7 +35,7 @@ spelled_from n [] h = tt
 spelled_from n (l ∷ ls) h =
     (spelled_by l.0 l.1 (All-head (λ (l : Lexeme). MayBe l.0 l.1) l ls h), spelled_from (n + length l.1) ls (All-tail (λ (l : Lexeme). MayBe l.0 l.1) l ls h))
 
--- the tokens of the first of two rows
+-- the tokens of the first of two forests
 pub spelled_first : (ts us : List Token) → AreSpelled (ts ++ us) → AreSpelled ts
 spelled_first [] us h = tt
 spelled_first (t ∷ ts) us h = (h.0, spelled_first ts us h.1)
@@ -45,7 +45,7 @@ pub spelled_rest : (ts us : List Token) → AreSpelled (ts ++ us) → AreSpelled
 spelled_rest [] us h = h
 spelled_rest (t ∷ ts) us h = spelled_rest ts us h.1
 
--- so are those that are left of a row without its trivia
+-- so are those that are left of a forest without its trivia
 spelled-++ : (ts us : List Token) → AreSpelled ts → AreSpelled us → AreSpelled (ts ++ us)
 spelled-++ [] us h k = k
 spelled-++ (t ∷ ts) us h k = (h.0, spelled-++ ts us h.1 k)
@@ -55,7 +55,7 @@ spelled_if : (w : Bool) (k : SyntaxKind) (t : Token) (f : AnnotatedForest) → i
 spelled_if true k t f h s = s
 spelled_if false k t f h s = (h, s)
 
--- and so are those of a row without trivia
+-- and so are those of a forest without trivia
 pub without_trivia_spelled : (f : AnnotatedForest) → AreSpelled (tokens_in f) → AreSpelled (tokens_in (without_trivia f))
 without_trivia_spelled blank h = tt
 without_trivia_spelled (token k t f) h = spelled_if (is_trivia t.kind) k t (without_trivia f) h.0 (without_trivia_spelled f h.1)

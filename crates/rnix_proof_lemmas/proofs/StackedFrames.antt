@@ -1,4 +1,4 @@
--- Each frame stands at a position of its frame kind and may stand inside the one below, and the lowest is the root.
+-- Each frame is at a position of its frame kind and may be inside the one below, and the lowest is the root.
 use Rattle.std.proofs.Common.{◌≡◌, ℕ, suc, Bool, true, false, List, [], ◌∷◌, Option, Some, None, refl, sym, ap, ◌∙◌, if◌then◌else◌, nat_le}
 use Rattle.rnix_kinds.specs.declared.kinds.SyntaxKind.{SyntaxKind}
 use Rattle.{rnix_kinds.specs.declared.kinds.SyntaxKind.TheVariants.{NODE_APPLY, NODE_ROOT}, rnix_grammar.specs.declared.position.Position.Position}
@@ -43,7 +43,7 @@ head_root (Node k) e = absurd (cc)
 head_root SecondBind e = absurd (cc)
 head_root Operand e = absurd (cc)
 
--- the root stands alone
+-- the root is alone
 pub root_alone : (head : Head) (position : Position) (fs : List Frame) → IsStackedOn head position fs → frame_kind position ≡ Root → fs ≡ []
 root_alone head position [] w e = refl
 root_alone head position (g ∷ fs) w e = absurd (true_is_not_false (sym w.1 ∙ ap (may_hold (frame_kind g.position)) e ∙ no_holder (frame_kind g.position)))
@@ -87,7 +87,7 @@ entry_stacked : (trivia : Bool) (f : Frame) (fs : List Frame) (ts : List Token) 
 entry_stacked trivia f [] ts n es w = w
 entry_stacked trivia f (g ∷ fs) ts n es w = w.2
 
--- an operand begins where one may stand
+-- an operand begins where one may be
 begun_stacked : (trivia : Bool) (second : Option SyntaxKind) (how : OperandStart) (level d : ℕ) (t : Token) (f : Frame) (fs : List Frame) (ts : List Token)
     (n : ℕ)
     (es : List Fault)
@@ -163,7 +163,7 @@ perform_stacked trivia action f fs ts n es al w = by action al
         (refl, refl, instead f.head f.position (min_bp_of f.position) 15 fs al.1 w)
     by a.ApplyOr al = instead f.head f.position (min_bp_of f.position) 15 fs al.1 w
 
--- so it is behind each step
+-- so it is after each step
 pub step_stacked : (trivia : Bool) (m : Machine) → AreStacked m.frames → AreStacked (step trivia m).frames
 step_stacked trivia m w = by m.frames w
   where

@@ -49,7 +49,7 @@ pub reads_row : {k : SyntaxKind} {d n : ℕ} {s : Row} {b : AnnotatedForest} {us
     → Reads k d n (row k) s b us f es → may_end s ≡ true → has_row k ≡ true
 reads_row {k} h w = viable_row k (reads_viable h (end_viable _ w))
 
--- nothing goes on behind no row, so what may end later is viable
+-- nothing continues after no row, so what may end later is viable
 pub nowhere : (ks : List SyntaxKind) → after_all never ks ≡ never
 nowhere [] = refl
 nowhere (k ∷ ks) = nowhere ks
@@ -64,13 +64,13 @@ complete_has_row k ks h = viable_row k (later_viable (row k) ks h)
 
 -- what a row is after its last part
 pub record Ended (f : AnnotatedForest) (es : List Fault) : Type 0 where
-  pub row : f ≡ blank
+  pub no_trees : f ≡ blank
   pub faults : es ≡ []
 
 no_more : {A : Type 0} {r : Row} → r ≡ never → is_viable r ≡ true → A
 no_more e l = absurd (true_is_not_false (sym l ∙ ap is_viable e))
 
--- no error node stands there
+-- no error node is there
 wrong_past : {A : Type 0} (note : Note) (d : ℕ) (r : Row) (ts us : List Token) → IsWrong note d done r ts us → is_viable r ≡ true → A
 wrong_past Stray d r ts us w l = no_more (sym w.3) l
 wrong_past (Unwanted until) d r ts us w l = absurd (cc)
@@ -78,11 +78,11 @@ wrong_past Extra d r ts us w l = absurd (cc)
 wrong_past DoubleBind d r ts us w l = absurd w
 wrong_past TooDeep d r ts us w l = no_more (sym w.3) l
 
--- nothing stands there
+-- nothing is there
 pub past_ends : {k : SyntaxKind} {d n : ℕ} {q s : Row} {b : AnnotatedForest} {us : List Token} {f : AnnotatedForest} {es : List Fault}
     → Reads k d n q s b us f es
     → q ≡ done → is_viable s ≡ true → Ended f es
-past_ends end e l = record { row = refl; faults = refl }
+past_ends end e l = record { no_trees = refl; faults = refl }
 past_ends {k} {q = q} (leaf {t = t} x o h) e l = no_more (ap (λ q. after q (leaf_kind k t)) e) (reads_viable h l)
 past_ends {q = q} (inner {k = j} o s y x w z h) e l = no_more (ap (λ q. after q j) e) (reads_viable h l)
 past_ends (missing_part u n m o h) e l = absurd (lost (sym m ∙ ap missing e))

@@ -20,7 +20,7 @@ use Rattle.rnix_grammar.specs.declared.position.Position.TheVariants as p
 use Rattle.rnix_grammar.specs.declared.action.Action.TheVariants as a
 use Rattle.rnix_grammar.specs.declared.operand_start.OperandStart.TheVariants as b
 
--- the items behind the first
+-- the items after the first
 pub items_behind : (ts : List Token) → items (after_item true ts) ≡ tail_of (items ts)
 items_behind ts = by_head (from_item ts) ∙ ap tail_of (sym (items-view ts))
   where
@@ -44,18 +44,18 @@ leaf_without_trivia k ts = by_head (from_item ts) refl ∙ ap (leaf_in k) (sym (
     by_head [] e = refl
     by_head (x ∷ xs) e = ap (λ y. token_if y (leaf_kind k x) x blank) (from_item_item ts x xs e)
 
--- trivia behind a row go
+-- trivia after a forest go
 pub with_leading_without_trivia : (f : AnnotatedForest) (ts : List Token) → without_trivia (with_leading true f ts) ≡ without_trivia f
 with_leading_without_trivia f ts = without_trivia-⊕ f (trivia_before ts) ∙ ap (λ x. without_trivia f ⊕ x) (without_trivia-trivia ts)
     ∙ ⊕-blank (without_trivia f)
 
--- a row with something behind it
+-- a forest with something after it
 pub added_without_trivia : (f : AnnotatedForest) (ts : List Token) (g : AnnotatedForest) {h : AnnotatedForest} → without_trivia g ≡ h
     → without_trivia (with_leading true f ts ⊕ g) ≡ without_trivia f ⊕ h
 added_without_trivia f ts g e = without_trivia-⊕ (with_leading true f ts) g ∙ ap (λ x. x ⊕ without_trivia g) (with_leading_without_trivia f ts)
     ∙ ap (λ x. without_trivia f ⊕ x) e
 
--- a run and what is left behind it are the items
+-- a run and what is left after it are the items
 pub run_prefix : (until : ExpectedSet) (ts : List Token) → ts ≡ run_of until ts ++ dropped (run_of until ts) ts
 run_prefix until [] = refl
 run_prefix until (t ∷ ts) =
@@ -75,9 +75,9 @@ run_bared run ts us e = bared (row_of run) (from_item ts) us (items-from_item ts
 cons_same : {f g : Frame} {fs gs : List Frame} → f ≡ g → fs ≡ gs → f ∷ fs ≡ g ∷ gs
 cons_same {f = f} {gs = gs} d e = ap (λ x. f ∷ x) e ∙ ap (λ x. x ∷ gs) d
 
--- frames with the same rows
-row_same : (h : Head) (q : Position) (d : ℕ) {f g : AnnotatedForest} → f ≡ g → opened h q d f ≡ opened h q d g
-row_same h q d e = ap (opened h q d) e
+-- frames with the same children
+children_same : (h : Head) (q : Position) (d : ℕ) {f g : AnnotatedForest} → f ≡ g → opened h q d f ≡ opened h q d g
+children_same h q d e = ap (opened h q d) e
 
 -- machines with the same frames, with the same left, reached as far
 machine_same : {fs gs : List Frame} {ts us : List Token} {n m : ℕ} {es : List Fault} → fs ≡ gs → ts ≡ us → n ≡ m → machine fs ts n es ≡ machine gs us m es
@@ -90,7 +90,7 @@ choice_same : (x : Bool) (k m : Machine) {k' m' : Machine} → without_trivia_ma
 choice_same true k m d e = d
 choice_same false k m d e = e
 
--- what is made of a row
+-- what becomes of the children of a frame
 made_without_trivia : (h : Head) (f : AnnotatedForest) → without_trivia (made h f) ≡ made h (without_trivia f)
 made_without_trivia (Node k) f = refl
 made_without_trivia _ f = assumption
@@ -101,7 +101,7 @@ closed_without_trivia : (f : Frame) (fs : List Frame) (ts : List Token) (n : ℕ
 closed_without_trivia f [] ts n es = refl
 closed_without_trivia f (g ∷ fs) ts n es =
     machine_same
-    (cons_same (row_same g.head g.position g.depth (without_trivia-⊕ g.children (made f.head f.children)
+    (cons_same (children_same g.head g.position g.depth (without_trivia-⊕ g.children (made f.head f.children)
     ∙ ap (λ x. without_trivia g.children ⊕ x) (made_without_trivia f.head f.children))) refl) refl refl
 
 -- an entry of a pattern is complete
@@ -119,7 +119,7 @@ limited_without_trivia f fs ts n es =
     let remaining : List Token = run_rest true run ts in
     machine_same
     (cons_same
-    (row_same f.head f.position f.depth
+    (children_same f.head f.position f.depth
     (with_leading_without_trivia (with_leading true f.children ts ⊕ one_fault TooDeep (run_leaves true run ts)) remaining
     ∙ added_without_trivia f.children ts (one_fault TooDeep (run_leaves true run ts)) (ap (one_fault TooDeep) w.same))) refl)
     (items-from_item remaining ∙ w.remaining) refl
@@ -127,7 +127,7 @@ limited_without_trivia f fs ts n es =
 -- the frame that waits for an operand
 waiting_without_trivia : (f : Frame) (fs : List Frame) (ts : List Token)
     → without_trivia_frames (put f.position (with_leading true f.children ts) f ∷ fs) ≡ put f.position (without_trivia f.children) f ∷ without_trivia_frames fs
-waiting_without_trivia f fs ts = cons_same (row_same f.head f.position f.depth (with_leading_without_trivia f.children ts)) refl
+waiting_without_trivia f fs ts = cons_same (children_same f.head f.position f.depth (with_leading_without_trivia f.children ts)) refl
 
 -- two items that touch nothing between them
 reach_two : (n : ℕ) (ts : List Token) → item_end true (item_end true n ts) (after_item true ts) ≡ item_end false (item_end false n (items ts))
@@ -135,7 +135,7 @@ reach_two : (n : ℕ) (ts : List Token) → item_end true (item_end true n ts) (
 reach_two n ts = item_end_items (item_end true n ts) (after_item true ts) ∙ ap (λ x. end_of x (items (after_item true ts))) (item_end_items n ts)
     ∙ ap (end_of (end_of n (items ts))) (items_behind ts)
 
--- what is left behind two items
+-- what is left after two items
 behind_two : (ts : List Token) → items (after_item true (after_item true ts)) ≡ tail_of (tail_of (items ts))
 behind_two ts = items_behind (after_item true ts) ∙ ap tail_of (items_behind ts)
 
@@ -148,39 +148,39 @@ begun_without_trivia : (how : OperandStart) (level d : ℕ) (t : Token) (f : Fra
     → without_trivia_machine (begun true how level d t f fs ts n es) ≡ begun false how level d t (without_trivia_frame f) (without_trivia_frames fs)
     (items ts) n es
 begun_without_trivia (b.Leaf k) level d t f fs ts n es =
-    machine_same (cons_same (row_same Operand (p.AfterOperand level 16) d (ap (one_branch k) (leaf_without_trivia k ts))) (waiting_without_trivia f fs ts))
+    machine_same (cons_same (children_same Operand (p.AfterOperand level 16) d (ap (one_branch k) (leaf_without_trivia k ts))) (waiting_without_trivia f fs ts))
     (items_behind ts) (item_end_items n ts)
 begun_without_trivia (b.Node k remaining max_bp) level d t f fs ts n es =
-    machine_same (cons_same (row_same (Node k) (p.InRow remaining) d (leaf_without_trivia k ts)) (cons_same refl (waiting_without_trivia f fs ts)))
+    machine_same (cons_same (children_same (Node k) (p.InRow remaining) d (leaf_without_trivia k ts)) (cons_same refl (waiting_without_trivia f fs ts)))
     (items_behind ts)
     (item_end_items n ts)
 begun_without_trivia b.LegacyLet level d t f fs ts n es =
     machine_same
     (cons_same
-    (row_same (Node NODE_LEGACY_LET) (p.InRow LEGACY_LET) d
+    (children_same (Node NODE_LEGACY_LET) (p.InRow LEGACY_LET) d
     (added_without_trivia (leaf true NODE_LEGACY_LET ts) (after_item true ts) (leaf true NODE_LEGACY_LET (after_item true ts)) (leaf_behind NODE_LEGACY_LET ts)
     ∙ ap (λ x. x ⊕ leaf_in NODE_LEGACY_LET (tail_of (items ts))) (leaf_without_trivia NODE_LEGACY_LET ts))) (cons_same refl (waiting_without_trivia f fs ts)))
     (behind_two ts) (reach_two n ts)
 begun_without_trivia b.NameLambda level d t f fs ts n es =
     machine_same
-    (cons_same (row_same (Node NODE_LAMBDA) (p.InRow LAMBDA) d (ap (λ x. one_branch NODE_IDENT_PARAM (one_branch NODE_IDENT x))
+    (cons_same (children_same (Node NODE_LAMBDA) (p.InRow LAMBDA) d (ap (λ x. one_branch NODE_IDENT_PARAM (one_branch NODE_IDENT x))
     (leaf_without_trivia NODE_IDENT ts)))
     (cons_same refl (waiting_without_trivia f fs ts))) (items_behind ts) (item_end_items n ts)
 begun_without_trivia b.BoundLambda level d t f fs ts n es =
     machine_same
     (cons_same
-    (row_same (Node NODE_PATTERN) (p.InRow BOUND_PATTERN) d
+    (children_same (Node NODE_PATTERN) (p.InRow BOUND_PATTERN) d
     (ap (one_branch NODE_PAT_BIND)
     (added_without_trivia (one_branch NODE_IDENT (leaf true NODE_IDENT ts)) (after_item true ts) (leaf true NODE_PAT_BIND (after_item true ts))
     (leaf_behind NODE_PAT_BIND ts)
     ∙ ap (λ x. one_branch NODE_IDENT x ⊕ leaf_in NODE_PAT_BIND (tail_of (items ts))) (leaf_without_trivia NODE_IDENT ts))))
     (cons_same refl (cons_same refl (waiting_without_trivia f fs ts)))) (behind_two ts) (reach_two n ts)
 begun_without_trivia b.PatternLambda level d t f fs ts n es =
-    machine_same (cons_same (row_same (Node NODE_PATTERN) (p.InRow PATTERN) d (leaf_without_trivia NODE_PATTERN ts))
+    machine_same (cons_same (children_same (Node NODE_PATTERN) (p.InRow PATTERN) d (leaf_without_trivia NODE_PATTERN ts))
     (cons_same refl (cons_same refl (waiting_without_trivia f fs ts))))
     (items_behind ts) (item_end_items n ts)
 begun_without_trivia b.Stray level d t f fs ts n es =
-    machine_same (cons_same (row_same Operand (p.AfterOperand level 16) d (ap (one_fault Stray) (leaf_without_trivia NODE_ERROR ts)))
+    machine_same (cons_same (children_same Operand (p.AfterOperand level 16) d (ap (one_fault Stray) (leaf_without_trivia NODE_ERROR ts)))
     (waiting_without_trivia f fs ts)) (items_behind ts) (item_end_items n ts)
 
 -- an operand of a level, or the end of the text
@@ -212,37 +212,37 @@ perform_without_trivia a.EndOperand f fs ts n es = closed_without_trivia f fs ts
 perform_without_trivia a.Extra f fs ts n es =
     let run : List Token = items ts in
     let w : IsBared (row_of run) (from_item ts) (dropped run run) = run_bared run ts (dropped run run) (all_prefix run) in
-    machine_same (cons_same (row_same f.head f.position f.depth (added_without_trivia f.children ts (one_fault Extra (run_leaves true run ts))
+    machine_same (cons_same (children_same f.head f.position f.depth (added_without_trivia f.children ts (one_fault Extra (run_leaves true run ts))
     (ap (one_fault Extra) w.same))) refl) w.remaining refl
 perform_without_trivia (a.Take after) f fs ts n es =
-    machine_same (cons_same (row_same f.head (p.InRow after) f.depth
+    machine_same (cons_same (children_same f.head (p.InRow after) f.depth
     (added_without_trivia f.children ts (leaf true (kind_of f.head) ts) (leaf_without_trivia (kind_of f.head) ts))) refl) (items_behind ts)
     (item_end_items n ts)
 perform_without_trivia (a.Run until after) f fs ts n es =
     let run : List Token = run_of until (items ts) in
     let w : IsBared (row_of run) (from_item ts) (dropped run (items ts)) = run_bared run ts (dropped run (items ts)) (run_prefix until (items ts)) in
-    machine_same (cons_same (row_same f.head (p.InRow after) f.depth
+    machine_same (cons_same (children_same f.head (p.InRow after) f.depth
     (added_without_trivia f.children ts (one_fault (Unwanted until) (run_leaves true run ts)) (ap (one_fault (Unwanted until)) w.same))) refl) w.remaining refl
 perform_without_trivia (a.Leaf k after) f fs ts n es =
-    machine_same (cons_same (row_same f.head (p.InRow after) f.depth
+    machine_same (cons_same (children_same f.head (p.InRow after) f.depth
     (added_without_trivia f.children ts (one_branch k (leaf true k ts)) (ap (one_branch k) (leaf_without_trivia k ts)))) refl) (items_behind ts)
     (item_end_items n ts)
 perform_without_trivia (a.Open k inside after) f fs ts n es =
     machine_same
-    (cons_same (row_same (Node k) (p.InRow inside) f.depth (leaf_without_trivia k ts)) (waiting_without_trivia (put (p.InRow after) f.children f) fs ts))
+    (cons_same (children_same (Node k) (p.InRow inside) f.depth (leaf_without_trivia k ts)) (waiting_without_trivia (put (p.InRow after) f.children f) fs ts))
     (items_behind ts) (item_end_items n ts)
 perform_without_trivia (a.OpenEmpty k inside after) f fs ts n es =
     machine_same (cons_same refl (waiting_without_trivia (put (p.InRow after) f.children f) fs ts)) (items-from_item ts) refl
 perform_without_trivia (a.Entry after) f fs ts n es =
-    machine_same (cons_same (row_same (Node NODE_PAT_ENTRY) (p.InRow PAT_ENTRY) f.depth (ap (one_branch NODE_IDENT) (leaf_without_trivia NODE_IDENT ts)))
+    machine_same (cons_same (children_same (Node NODE_PAT_ENTRY) (p.InRow PAT_ENTRY) f.depth (ap (one_branch NODE_IDENT) (leaf_without_trivia NODE_IDENT ts)))
     (waiting_without_trivia (put (p.InRow after) f.children f) fs ts))
     (items_behind ts) (item_end_items n ts)
 perform_without_trivia (a.DoubleBind after) f fs ts n es =
-    machine_same (cons_same (row_same SecondBind (p.InRow SECOND_BIND) f.depth (leaf_without_trivia NODE_ERROR ts))
+    machine_same (cons_same (children_same SecondBind (p.InRow SECOND_BIND) f.depth (leaf_without_trivia NODE_ERROR ts))
     (waiting_without_trivia (put (p.InRow after) f.children f) fs ts)) (items_behind ts) (item_end_items n ts)
 perform_without_trivia (a.Read level counted after) f fs ts n es = reading_without_trivia level counted (put (p.InRow after) f.children f) fs ts n es
 perform_without_trivia (a.Wrap k inside max_bp) f fs ts n es =
-    machine_same (cons_same (row_same (Node k) inside f.depth (added_without_trivia f.children ts (leaf true k ts) (leaf_without_trivia k ts))) refl)
+    machine_same (cons_same (children_same (Node k) inside f.depth (added_without_trivia f.children ts (leaf true k ts) (leaf_without_trivia k ts))) refl)
     (items_behind ts) (item_end_items n ts)
 perform_without_trivia a.Apply f fs ts n es =
     reading_without_trivia 16 false (opened (Node NODE_APPLY) (p.InRow APPLIED) f.depth f.children)
@@ -250,7 +250,7 @@ perform_without_trivia a.Apply f fs ts n es =
 perform_without_trivia a.ApplyOr f fs ts n es =
     machine_same
     (cons_same
-    (row_same Operand (p.AfterOperand (min_bp_of f.position) 15) f.depth
+    (children_same Operand (p.AfterOperand (min_bp_of f.position) 15) f.depth
     (ap (one_branch NODE_APPLY) (added_without_trivia f.children ts (one_branch NODE_IDENT (leaf true NODE_IDENT ts))
     (ap (one_branch NODE_IDENT) (leaf_without_trivia NODE_IDENT ts))))) refl)
     (items_behind ts) (item_end_items n ts)

@@ -16,7 +16,7 @@ abbrev pub is_there : Option SyntaxKind → Bool
 is_there None = false
 is_there (Some kind) = true
 
--- a row goes on at another position: it stays in its frame kind; where the text has ended it comes nearer to its end
+-- a row continues at another position: it stays in its frame kind; where the text has ended it comes nearer to its end
 abbrev pub IsNext : Position → Option SyntaxKind → ℕ → Type 0
 IsNext position None after = (frame_kind (p.InRow after) ≡ frame_kind position) × (measure (p.InRow after) < measure position)
 IsNext position (Some kind) after = frame_kind (p.InRow after) ≡ frame_kind position

@@ -10,7 +10,7 @@ use Rattle.rnix_grammar.specs.AnnotatedForest.{placed_from, forget}
 use Rattle.rnix_grammar.specs.Layout.{items}
 use Rattle.rnix_proof_lemmas.specs.Machine.{Node, Frame, Machine, initial_machine, with_leading, Runs}
 
--- the machine of steps reads these tokens to the end: its last frame is the root, and its row is the tree's
+-- the machine of steps reads these tokens to the end: its last frame is the root, and its children are the tree's
 pub record IsRead (lexemes : List Lexeme) (tree : Tree) (faults : List Fault) : Type 0 where
   pub root : Frame
   pub last : Machine

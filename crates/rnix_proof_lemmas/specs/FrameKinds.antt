@@ -1,4 +1,4 @@
--- Which heads stand at which positions, and inside which others.
+-- Which heads are at which positions, and inside which others.
 use Rattle.std.specs.Prelude.{◌≡◌, Bool, true, false, List, [], ◌∷◌, drop}
 use Rattle.rnix_kinds.specs.declared.kinds.SyntaxKind.{SyntaxKind}
 use Rattle.rnix_kinds.specs.declared.kinds.SyntaxKind.TheVariants.{NODE_ROOT, NODE_PATTERN, NODE_PAT_ENTRY, NODE_IDENT, NODE_CUR_POS, NODE_ERROR}
@@ -35,7 +35,7 @@ frame_kind_of_head (Node k) = frame_kind_of_node k
 frame_kind_of_head SecondBind = SecondBindFrame
 frame_kind_of_head Operand = OperandFrame
 
--- what may stand inside what: nothing inside a second name, no operand in a pattern itself, an entry inside a pattern, the root inside nothing
+-- what may be inside what: nothing inside a second name, no operand in a pattern itself, an entry inside a pattern, the root inside nothing
 abbrev pub may_hold : FrameKind → FrameKind → Bool
 may_hold SecondBindFrame s = false
 may_hold s Root = false
@@ -69,7 +69,7 @@ abbrev pub is_open : FrameKind → Bool
 is_open SecondBindFrame = false
 is_open sort = true
 
--- a head stands at a position of its frame kind, and may stand inside the frame below, as each frame below; the lowest is the root
+-- a head is at a position of its frame kind, and may be inside the frame below, as each frame below; the lowest is the root
 abbrev pub IsStackedOn : Head → Position → List Frame → Type 0
 IsStackedOn head position [] = (frame_kind_of_head head ≡ frame_kind position) × (frame_kind position ≡ Root)
 IsStackedOn head position (f ∷ fs) = (frame_kind_of_head head ≡ frame_kind position) × (may_hold (frame_kind f.position) (frame_kind position) ≡ true)

@@ -40,7 +40,7 @@ pub record Machine : Type 0 where
   pub prev_end : ℕ
   pub faults : List Fault
 
--- a frame at another position, with another row
+-- a frame at another position, with other children
 abbrev pub put : Position → AnnotatedForest → Frame → Frame
 put position children f = record { head = f.head; position = position; depth = f.depth; children = children }
 
@@ -58,12 +58,12 @@ abbrev pub skip_trivia : Bool → List Token → List Token
 skip_trivia true ts = from_item ts
 skip_trivia false ts = ts
 
--- a row with the trivia before the next item, where trivia are read
+-- a forest with the trivia before the next item, where trivia are read
 abbrev pub with_leading : Bool → AnnotatedForest → List Token → AnnotatedForest
 with_leading true f ts = f ⊕ trivia_before ts
 with_leading false f ts = f
 
--- the tokens behind the next item
+-- the tokens after the next item
 abbrev pub after_item : Bool → List Token → List Token
 after_item trivia ts = tail_of (skip_trivia trivia ts)
 
@@ -90,12 +90,12 @@ abbrev pub run_leaves : Bool → List Token → List Token → AnnotatedForest
 run_leaves true run ts = with_trivia (row_of run) (from_item ts)
 run_leaves false run ts = row_of run
 
--- the tokens behind as many others
+-- the tokens after as many others
 abbrev pub dropped : List Token → List Token → List Token
 dropped [] ts = ts
 dropped (x ∷ xs) ts = dropped xs (tail_of ts)
 
--- the tokens that are left behind a run
+-- the tokens that are left after a run
 abbrev pub run_rest : Bool → List Token → List Token → List Token
 run_rest true run ts = remaining_after (row_of run) (from_item ts)
 run_rest false run ts = dropped run ts
@@ -106,13 +106,13 @@ kind_of (Node k) = k
 kind_of SecondBind = NODE_ERROR
 kind_of Operand = NODE_ROOT
 
--- what a frame's row becomes as it is complete
+-- what the children of a frame become when it is complete
 abbrev pub made : Head → AnnotatedForest → AnnotatedForest
 made (Node k) children = one_branch k children
 made SecondBind children = one_fault DoubleBind children
 made Operand children = children
 
--- the lowest level with which an operand goes on
+-- the lowest level with which an operand continues
 abbrev pub min_bp_of : Position → ℕ
 min_bp_of (p.AfterOperand min_bp max_bp) = min_bp
 min_bp_of position = expression_level
@@ -126,7 +126,7 @@ abbrev pub closed : Frame → List Frame → List Token → ℕ → List Fault �
 closed f [] ts n es = machine (f ∷ []) ts n es
 closed f (g ∷ fs) ts n es = machine (put g.position (g.children ⊕ made f.head f.children) g ∷ fs) ts n es
 
--- a row without trivia
+-- a forest without trivia
 abbrev pub without_trivia_if : Bool → AnnotatedForest → AnnotatedForest
 without_trivia_if true f = without_trivia f
 without_trivia_if false f = f
@@ -136,7 +136,7 @@ abbrev pub entry_closed : Bool → Frame → List Frame → List Token → ℕ �
 entry_closed trivia f [] ts n es = machine (f ∷ []) ts n es
 entry_closed trivia f (g ∷ fs) ts n es = closed f (g ∷ fs) ts n (es ++ repeated (without_trivia_if trivia g.children) (without_trivia_if trivia f.children))
 
--- a node is opened with a row
+-- a node is opened with children
 abbrev pub open_on : Bool → Head → Position → AnnotatedForest → Position → Frame → List Frame → List Token → List Frame
 open_on trivia head inside children after f fs ts = opened head inside f.depth children ∷ (put after (with_leading trivia f.children ts) f ∷ fs)
 
@@ -185,7 +185,7 @@ begun trivia b.Stray level d t f fs ts n es =
     ∷ (put f.position (with_leading trivia f.children ts) f ∷ fs))
     (after_item trivia ts) (item_end trivia n ts) (es ++ report Stray (t ∷ []) ∷ [])
 
--- an operand of a level, where f goes on behind it
+-- an operand of a level, where f continues after it
 abbrev pub operand_on : Bool → ℕ → ℕ → Frame → List Frame → List Token → List Token → ℕ → List Fault → Machine
 operand_on trivia level d f fs ts [] n es = machine (f ∷ fs) ts n (es ++ unexpected_eof ∷ [])
 operand_on trivia level d f fs ts (t ∷ us) n es = begun trivia (operand_start_of level t.kind t.text (head_kind us) (second_kind us)) level d t f fs ts n es

@@ -23,7 +23,7 @@ abbrev pub steps_from : ℕ → Position → ℕ
 steps_from zero position = 0
 steps_from (suc n) position = steps_with (steps_from n) (action_at position None false)
 
--- no row has more positions, one behind another
+-- no row has more positions, one after another
 abbrev pub most_positions : ℕ
 most_positions = 7
 

@@ -4,7 +4,7 @@ use Rattle.rnix_grammar.specs.AnnotatedForest.{without_trivia}
 use Rattle.rnix_grammar.specs.Layout.{items}
 use Rattle.rnix_proof_lemmas.specs.Machine.{Frame, Machine, put, machine}
 
--- frames whose rows have no trivia
+-- frames whose children have no trivia
 abbrev pub without_trivia_frame : Frame → Frame
 without_trivia_frame f = put f.position (without_trivia f.children) f
 

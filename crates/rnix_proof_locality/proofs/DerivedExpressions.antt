@@ -10,7 +10,7 @@ use Rattle.rnix_proof_locality.specs.{Expressions.{Expression, is_expression_nod
 use Rattle.rnix_proof_locality.proofs.{StrictExpressions.{path_begins, IsStrict, AreStrict, strict_kind, root_strict}, PathsAlone.{path_before, paths_before}}
 use Rattle.rnix_grammar.specs.Grammar as G
 
--- the trees of a row, over its tokens, are the row
+-- the trees of a forest, over its tokens, are the forest
 beyond_own : (f : AnnotatedForest) (us : List Token) → HaveTokenKinds f → beyond (forget f) (tokens_in f ++ us) ≡ us
 beyond_own blank us v = refl
 beyond_own (token k t f) us v = beyond_own f us v.2
@@ -63,7 +63,7 @@ all_if : (w : Bool) (e : Expression) (es : List Expression) → (w ≡ true → 
 all_if true e es f h = All-cons IsDerived e es (f refl) h
 all_if false e es f h = h
 
--- so is each expression of a row
+-- so is each expression of a forest
 each_derived : (f : AnnotatedForest) (vs : List Token) → AreStrict (forget f) → HaveTokenKinds f → ArePaths f vs → All IsDerived (expressions f)
 each_derived blank vs s v a = All-nil IsDerived
 each_derived (token k t f) vs s v a = each_derived f vs s v.2 a

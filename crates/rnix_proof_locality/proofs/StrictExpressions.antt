@@ -7,7 +7,7 @@ use Rattle.{rnix_grammar.specs.{Tables.{is_or, is_cur_pos, depth_limit}, PathPie
 use Rattle.{rnix_proof_completeness.proofs.PartReads.{depth_in, room}, rnix_proof_locality.specs.Expressions.is_expression_node}
 use Rattle.rnix_grammar.specs.Grammar as G
 
--- the nodes of a row begin with tokens
+-- the nodes of a forest begin with tokens
 abbrev pub nodes_begin : Forest → Bool
 nodes_begin empty = true
 nodes_begin (leaf k t f) = nodes_begin f
@@ -24,17 +24,17 @@ pub record IsStrict (k : SyntaxKind) (c : Forest) : Type 0 where
   pub strict : G.Strict level k c
   pub shallow : suc (nest k c) ≤ depth_limit
 
--- each expression of a row is so, and each path
+-- each expression of a forest is so, and each path
 abbrev pub AreStrict : Forest → Type 0
 AreStrict empty = Unit {0}
 AreStrict (leaf k t f) = AreStrict f
 AreStrict (node k c f) = (is_expression_node k c ≡ true → IsStrict k c) × (path_begins k c ≡ true) × AreStrict c × AreStrict f
 
--- a row below a node of a kind is so, where it leaves room for one more around it
+-- a forest below a node of a kind is so, where it leaves room for one more around it
 record Row (p : SyntaxKind) (f : Forest) : Type 0 where
   each : suc (nest p f) ≤ depth_limit → AreStrict f
 
--- so is the row of a node of a kind
+-- so are the children of a node of a kind
 record Inside (k : SyntaxKind) (c : Forest) : Type 0 where
   each : suc (depth_in k c) ≤ depth_limit → AreStrict c
 
@@ -44,7 +44,7 @@ record Holds (k : SyntaxKind) (c : Forest) : Type 0 where
   begins : path_begins k c ≡ true
   inside : Inside k c
 
--- the room of a row is that of its first node and that of the rest
+-- the room of a forest is that of its first node and that of the rest
 room_inside : (p k : SyntaxKind) (c f : Forest) → suc (nest p (node k c f)) ≤ depth_limit
     → (suc (depth_in k c) ≤ depth_limit) × (suc (nest p f) ≤ depth_limit)
 room_inside p k c f h =
@@ -81,7 +81,7 @@ operand {p} {k} {n} {c} {f} s g r = record { each = whole }
         let own : suc (nest k c) ≤ depth_limit = subst (λ d. suc d ≤ depth_limit) (depth_expression k c g.kind) w.0 in
         (λ e. record { level = n; strict = s; shallow = own }, g.begins, g.inside.each w.0, r.each w.1)
 
--- the row of a node, which is no entry of a pattern
+-- the children of a node, which is no entry of a pattern
 inside : {k : SyntaxKind} {c : Forest} → depth_in k c ≡ nest k c → Row k c → Inside k c
 inside e r = record { each = λ h. r.each (subst (λ d. suc d ≤ depth_limit) e h) }
 
@@ -106,7 +106,7 @@ named_value t e =
 name_first : {p : SyntaxKind} {t : List ℕ} {f : Forest} → Row p f → Row p (G.name t f)
 name_first {p} {t} {f} r = record { each = λ h. (λ e. named_value t e, refl, tt, r.each (room_inside p NODE_IDENT (leaf TOKEN_IDENT t empty) f h).1) }
 
--- an entry of a pattern, behind its name
+-- an entry of a pattern, after its name
 entry_inside : {x : List ℕ} {f : Forest} → Row NODE_PAT_ENTRY f → Inside NODE_PAT_ENTRY (G.name x f)
 entry_inside {x} {f} r = record { each = λ h. (λ e. named_value x e, refl, tt, r.each h) }
 

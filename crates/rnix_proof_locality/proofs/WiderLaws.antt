@@ -23,7 +23,7 @@ or_level (G.atom h) = or_atom h
 or_alone : {s : List ℕ} → G.IsExpression (G.name s empty) → is_or s ≡ false
 or_alone (G.expression h) = or_level h
 
--- the nodes of a row that have the kind of an expression, the name `or` too
+-- the nodes of a forest that have the kind of an expression, the name `or` too
 abbrev nodes : AnnotatedForest → List Expression
 nodes blank = []
 nodes (token k t f) = nodes f

@@ -1,4 +1,4 @@
--- The expressions of a tree: its nodes that have the kind of an expression, but for two names that are none.
+-- The expressions of a tree: its nodes that have the kind of an expression, except for two names that are none.
 use Rattle.std.specs.Prelude.{Bool, true, false, List, [], ◌∷◌, ◌++◌, if◌then◌else◌}
 use Rattle.rnix_kinds.specs.declared.kinds.SyntaxKind.{SyntaxKind}
 use Rattle.rnix_kinds.specs.declared.kinds.SyntaxKind.TheVariants.{NODE_IDENT}
@@ -12,7 +12,7 @@ pub record Expression : Type 0 where
   pub kind : SyntaxKind
   pub children : AnnotatedForest
 
--- a row of this one tree
+-- a forest of this one tree
 abbrev pub alone : Expression → Forest
 alone e = node e.kind (forget e.children) empty
 
@@ -20,7 +20,7 @@ alone e = node e.kind (forget e.children) empty
 abbrev pub own_items : Expression → List Token
 own_items e = tokens_in e.children
 
--- a node of the kind over the row is an expression; as a NODE_IDENT, `or` and `__curPos` are names of attributes, arguments or parameters alone
+-- a node of the kind over the forest is an expression; as a NODE_IDENT, `or` and `__curPos` are names of attributes, arguments or parameters alone
 abbrev pub is_expression_node : SyntaxKind → Forest → Bool
 is_expression_node NODE_IDENT (leaf k t f) = if is_or t then false else (if is_cur_pos t then false else true)
 is_expression_node kind c = is_expression kind
@@ -30,7 +30,7 @@ abbrev pub expression_if : Bool → Expression → List Expression → List Expr
 expression_if true e es = e ∷ es
 expression_if false e es = es
 
--- the expressions of a row, each before those inside it
+-- the expressions of a forest, each before those inside it
 abbrev pub expressions : AnnotatedForest → List Expression
 expressions blank = []
 expressions (token k t f) = expressions f

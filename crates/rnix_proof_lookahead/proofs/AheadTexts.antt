@@ -1,4 +1,4 @@
--- Two texts that begin with the same items, behind which one of the same kind follows.
+-- Two texts that begin with the same items, after which one of the same kind follows.
 use Rattle.std.proofs.Common.{◌≡◌, ℕ, List, take, drop, None, ap, sym, ◌∙◌, subst}
 use Rattle.{rnix_kinds.specs.Lexical.Tokens.tokens_of, rnix_proof_lemmas.proofs.SpelledLemmas.AreRuled, rnix_parser.specs.ReadAlike.items_of}
 use Rattle.rnix_grammar.specs.{AnnotatedForest.{Token, AnnotatedForest, tokens_in, without_trivia, placed_from, end_from}, Parsed.IsParsed}

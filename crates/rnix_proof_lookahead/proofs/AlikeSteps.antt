@@ -1,4 +1,4 @@
--- Two lists of items that begin with the same items and go on with one of the same kind are read by the same steps, until that item is read.
+-- Two lists of items that begin with the same items and continue with one of the same kind are read by the same steps, until that item is read.
 use Rattle.std.proofs.Common.{◌≡◌, ◌⊎◌, inl, inr, ℕ, suc, ◌+◌, ◌<◌, Bool, true, false, List, [], ◌∷◌, ◌++◌, length, Option, Some, refl, ap, sym, ◌∙◌, subst}
 use Rattle.std.proofs.Common.{nat_le, arith}
 use Rattle.rnix_kinds.specs.declared.kinds.SyntaxKind.{SyntaxKind, TheVariants.{TOKEN_L_BRACE, NODE_APPLY}}
@@ -19,7 +19,7 @@ use Rattle.rnix_grammar.specs.declared.position.Position.TheVariants as p
 use Rattle.rnix_grammar.specs.declared.action.Action.TheVariants as a
 use Rattle.rnix_grammar.specs.declared.operand_start.OperandStart.TheVariants as b
 
--- the items behind the first are fewer than all and one
+-- the items after the first are fewer than all and one
 tail_short : (us : List Token) → length (tail_of us) < suc (length us)
 tail_short [] = omega arith
 tail_short (u ∷ us) = omega arith

@@ -3,13 +3,13 @@ use Rattle.std.proofs.{Common.{◌≡◌, ℕ, zero, suc, ◌+◌, ◌-◌, ◌�
 use Rattle.{rnix_kinds.specs.declared.kinds.SyntaxKind.SyntaxKind, rnix_green.specs.Forest.{Forest, empty, leaf, node, join}}
 use Rattle.rnix_proof_lookahead.specs.Completed.{leaf_count, node_or, completed}
 
--- the leaves of two rows
+-- the leaves of two forests
 pub leaf_count-join : (f g : Forest) → leaf_count (join f g) ≡ leaf_count f + leaf_count g
 leaf_count-join empty g = omega arith
 leaf_count-join (leaf k t f) g = omega (arith, leaf_count-join f g)
 leaf_count-join (node k c f) g = omega (arith, leaf_count-join f g)
 
--- and those of a row that ends with a node
+-- and those of a forest that ends with a node
 pub node_count : (p c : Forest) (i : SyntaxKind) → leaf_count (join p (node i c empty)) ≡ leaf_count p + leaf_count c
 node_count p c i = omega (arith, leaf_count-join p (node i c empty))
 

@@ -1,4 +1,4 @@
--- Where a run ends in items with others behind them.
+-- Where a run ends in items with others after them.
 use Rattle.std.proofs.Common.{◌≡◌, ◌⊎◌, inl, inr, ℕ, Bool, true, false, List, [], ◌∷◌, ◌++◌, refl, ap, if◌then◌else◌}
 use Rattle.rnix_grammar.specs.{declared.expected_set.ExpectedSet.ExpectedSet, Tables.is_wanted, UnwantedRun.run_of, AnnotatedForest.{Token, end_from}}
 use Rattle.{rnix_proof_lemmas.specs.Machine.dropped, rnix_proof_lemmas.proofs.Basics.choice}

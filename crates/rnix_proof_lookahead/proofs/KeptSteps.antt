@@ -61,7 +61,7 @@ kept_same old ts next e l =
     let none : length next.remaining ≡ length ts = ap length l in
     kept_more old empty ts next (e ∙ sym (join_empty old)) (omega (arith, none))
 
--- a row of trees grows
+-- a forest grows
 pub grown : (r : Forest) (f g : AnnotatedForest) → join r (forget (f ⊕ g)) ≡ join (join r (forget f)) (forget g)
 grown r f g = ap (join r) (forget-⊕ f g) ∙ sym (join_assoc r (forget f) (forget g))
 
@@ -137,7 +137,7 @@ begun_kept how level d t f fs ts n es = by how
     old : Forest
     old = trees_in (f ∷ fs)
 
-    -- behind one frame that is empty, or two
+    -- after one frame that is empty, or two
     one : (x : Forest) → join (join old empty) x ≡ join old x
     one x = ap (λ z. join z x) (join_empty old)
 
@@ -193,7 +193,7 @@ perform_kept action f fs ts n es = by action
     old : Forest
     old = trees_in (f ∷ fs)
 
-    -- the frame's row grows
+    -- the frame gets more children
     grows : (x : AnnotatedForest) (next : Machine) → trees_in next.frames ≡ join (trees_in fs) (forget (f.children ⊕ x))
         → leaf_count (forget x) + length next.remaining ≡ length ts → IsKept old ts next
     grows x next e c = kept_more old (forget x) ts next (e ∙ grown (trees_in fs) f.children x) c

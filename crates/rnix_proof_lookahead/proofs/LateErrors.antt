@@ -34,7 +34,7 @@ none_before m (extra a) h = ap (λ z. error_if z (extra (up_to m a)) ++ []) (not
 none_before m (unwanted kind a wanted) h = ap (λ z. error_if z (unwanted kind (up_to m a) wanted) ++ []) (not_before m a.start h)
 none_before m d h = refl
 
--- all that is left begins at the byte or behind it, and the errors before it are the same as some
+-- all that is left begins at the byte or after it, and the errors before it are the same as some
 pub record IsLateStep (m : ℕ) (es : List Fault) (next : Machine) : Type 0 where
   pub remaining : AreFrom m next.remaining
   pub faults : errors_before m next.faults ≡ errors_before m es

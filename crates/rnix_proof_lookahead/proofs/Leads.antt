@@ -29,7 +29,7 @@ taken_leads k old ts next c w l =
     let more : k < leaf_count (trees_in next.frames) = omega (arith, c, w.counts, l) in
     past_leads k (completed k old) next more (w.same k (omega (arith, c)) more)
 
--- the last of the first k items and more are read at once, in one row
+-- the last of the first k items and more are read at once, in one forest
 pub split_leads : (k : ℕ) (old c x : Forest) (next : Machine) → trees_in next.frames ≡ join old (join c x) → leaf_count old + leaf_count c ≡ k
     → 1 ≤ leaf_count x → Leads k (completed k (join old c)) next
 split_leads k old c x next e h l =
@@ -50,7 +50,7 @@ spanned_leads k old c x i next e h l =
     (ap (completed k) e ∙ completed_node k old (join c x) i (omega (arith, two, h, l)) ∙ ap (completed k) (sym (join_assoc old c x))
     ∙ completed_more k (join old c) x (omega (arith, first, h)))
 
--- items and others behind them as leaves
+-- items and others after them as leaves
 pub row_two : (ts us : List Token) → forget (row_of (ts ++ us)) ≡ join (forget (row_of ts)) (forget (row_of us))
 row_two [] us = refl
 row_two (t ∷ ts) us = ap (leaf t.kind t.text) (row_two ts us)

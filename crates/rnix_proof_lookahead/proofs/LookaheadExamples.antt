@@ -1,4 +1,4 @@
--- What the first items of some texts complete, and what is not so: that nothing behind them counts, or no touching.
+-- What the first items of some texts complete, and what is not so: that nothing after them counts, or no touching.
 use Rattle.std.proofs.Common.{◌≡◌, ℕ, Bool, true, false, List, [], ◌∷◌, ◌++◌, length, refl, ap, sym, codes}
 use Rattle.rnix_kinds.specs.declared.kinds.SyntaxKind.TheVariants.{TOKEN_COLON, TOKEN_IDENT, TOKEN_INTERPOL_END, TOKEN_INTERPOL_START}
 use Rattle.rnix_kinds.specs.declared.kinds.SyntaxKind.TheVariants.{TOKEN_L_PAREN, TOKEN_PATH_REL, TOKEN_R_PAREN, NODE_APPLY, NODE_IDENT, NODE_IDENT_PARAM, NODE_PAREN}

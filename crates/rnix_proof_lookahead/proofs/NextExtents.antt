@@ -1,4 +1,4 @@
--- Items that begin alike and go on with one of the same kind: what is so of the first ones, and of the next one at another place.
+-- Items that begin alike and continue with one of the same kind: what is so of the first ones, and of the next one at another place.
 use Rattle.std.proofs.Common.{ℕ, zero, suc, List, [], ◌∷◌, take, drop, Option, Some, ap, sym, ◌∙◌, nat_eq}
 use Rattle.{rnix_kinds.specs.declared.kinds.SyntaxKind.SyntaxKind, rnix_grammar.specs.AnnotatedForest.{Token, end_from, touches}}
 use Rattle.{rnix_proof_layout.specs.AlikeItems.{may_join, AreAlike}, rnix_proof_layout.proofs.{MovedItems.moved, Touch.last_kind}}

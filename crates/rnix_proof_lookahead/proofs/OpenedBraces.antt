@@ -10,7 +10,7 @@ use Rattle.rnix_grammar.specs.declared.expected_set.ExpectedSet.TheVariants as u
 
 module _ (k level d : ℕ) (t : Token) (f : Frame) (fs : List Frame) (us : List Token) (n : ℕ) (es : List Fault)
     (count : leaf_count (trees_in (f ∷ fs)) + 1 ≡ k) where
-  -- the brace behind all trees
+  -- the brace after all trees
   abbrev pub with_brace : Forest
   with_brace = join (trees_in (f ∷ fs)) (leaf t.kind t.text empty)
 

@@ -1,4 +1,4 @@
--- Two lists of items that begin with the same items and go on with one of the same kind: where both are read alike, and where they part.
+-- Two lists of items that begin with the same items and continue with one of the same kind: where both are read alike, and where they part.
 use Rattle.std.proofs.Common.{◌≡◌, ◌⊎◌, inl, inr, ℕ, ◌+◌, ◌≤◌, Bool, true, false, List, [], ◌∷◌, ◌++◌, length, refl, ap, sym, ◌∙◌, subst, arith}
 use Rattle.std.proofs.Common.{append-nil, if◌then◌else◌}
 use Rattle.rnix_green.specs.Forest.{Forest, join}
@@ -90,7 +90,7 @@ module _ (k e : ℕ) (x y : Token) (xs ys : List Token) (kinds : x.kind ≡ y.ki
         ap (λ z. ran until after f fs n es z (dropped z (q ++ us))) (same ∙ ap (λ z. q ++ z) none ∙ append-nil q)
         ∙ ap (λ z. ran until after f fs n es q z) (dropped_own q us)
 
-    -- or goes on
+    -- or continues
     over : (v : Token) (us : List Token) → run_of until (q ++ v ∷ us) ≡ q ++ run_of until (v ∷ us) → is_wanted until v.kind ≡ false
         → Leads k (completed k (join (trees_in (f ∷ fs)) (forget (row_of q)))) (run_on (v ∷ us))
     over v us same w =

@@ -1,4 +1,4 @@
--- The first items of two lists that begin with them, and go on with an item of the same kind, complete the same trees.
+-- The first items of two lists that begin with them, and continue with an item of the same kind, complete the same trees.
 use Rattle.std.proofs.Common.{◌≡◌, inl, inr, ℕ, zero, suc, ◌+◌, Bool, false, List, [], ◌∷◌, ◌++◌, length, take, drop, Some, None, refl, ap, sym, ◌∙◌, subst, arith}
 use Rattle.std.proofs.{Common.{nat_eq, length-append}, lemmas.List.take-append-drop}
 use Rattle.rnix_grammar.specs.{Fault.Fault, Actions.action_at, Reads.ReadsRoot, AnnotatedForest.{Token, AnnotatedForest, tokens_in, forget, end_from, touches}}
@@ -81,7 +81,7 @@ took zero ts x xs h = refl
 took (suc k) [] x xs h = absurd (not_nil (sym h))
 took (suc k) (t ∷ ts) x xs h = ap suc (took k ts x xs h)
 
--- the steps that read items which begin with the first k of others, and go on alike
+-- the steps that read items which begin with the first k of others, and continue alike
 abbrev pub SameAt : ℕ → ℕ → AnnotatedForest → AnnotatedForest → List Fault → List Fault → List Token → List Token → Type 0
 SameAt k e f g ds es us vs =
     (completed k (forget f) ≡ completed k (forget g)) × (AreOrdered e us → AreOrdered e vs → errors_before e ds ≡ errors_before e es)
@@ -116,7 +116,7 @@ same_trees k f g ds es r s alike =
     (same_at k q f there.trees ds there.faults r there.reads (drop k ts) (moved others (behind near (end_from 0 q) others)) (sym (take-append-drop k ts))
     there.all (next_on (last_kind None q) (end_from 0 q) end (drop k ts) others h.1) (took k ts)).0 ∙ ap (completed k) there.same
 
--- items behind others in order
+-- items after others in order
 ordered_behind : (n : ℕ) (q us : List Token) → AreOrdered n (q ++ us) → AreOrdered (end_from n q) us
 ordered_behind n [] us o = o
 ordered_behind n (t ∷ q) us o = ordered_behind t.end q us o.2

@@ -1,4 +1,4 @@
--- Errors of items before a byte and others behind it are the same before the byte, whatever these others are.
+-- Errors of items before a byte and others after it are the same before the byte, whatever these others are.
 use Rattle.std.proofs.{Common.{◌≡◌, ℕ, ◌≤◌, true, List, [], ◌∷◌, ◌++◌, refl, ap, sym, ◌∙◌, subst, arith, if◌then◌else◌, nat_le, nat_lt}, lemmas.Bool.Decides.nat_tests}
 use Rattle.rnix_green.specs.Range.{Extent}
 use Rattle.rnix_grammar.specs.{declared.expected_set.ExpectedSet.ExpectedSet, Fault.{Fault, extra, unwanted}, Tables.{is_wanted, wanted_kinds}, UnwantedRun.run_of}
@@ -7,13 +7,13 @@ use Rattle.rnix_proof_lemmas.{specs.Machine.{Machine, dropped}, proofs.Basics.ch
 use Rattle.rnix_proof_prefix.proofs.{Late.AreFrom, Ordered.AreOrdered}
 use Rattle.rnix_proof_lookahead.{specs.ErrorsBefore.{up_to, error_if, errors_before}, proofs.LateErrors.{errors_more, more_late}}
 
--- two machines have the same errors before a byte, and the items that are left begin there or behind it
+-- two machines have the same errors before a byte, and the items that are left begin there or after it
 pub record AreLateAlike (m : ℕ) (now there : Machine) : Type 0 where
   pub faults : errors_before m now.faults ≡ errors_before m there.faults
   pub first : AreFrom m now.remaining
   pub second : AreFrom m there.remaining
 
--- items end behind where they begin
+-- items end after where they begin
 end_late : (m : ℕ) (ts : List Token) → AreOrdered m ts → m ≤ end_from m ts
 end_late m [] o = omega arith
 end_late m (t ∷ ts) o = omega (arith, o.0, o.1, end_late t.end ts o.2)
@@ -27,7 +27,7 @@ pub ordered_run : (m : ℕ) (until : ExpectedSet) (ts : List Token) → AreOrder
 ordered_run m until [] o = tt
 ordered_run m until (t ∷ ts) o = choice (AreOrdered m) (is_wanted until t.kind) tt (o.0, o.1, ordered_run t.end until ts o.2)
 
--- a range that ends at the byte or behind it
+-- a range that ends at the byte or after it
 cut_end : (m n : ℕ) → m ≤ n → (if nat_le m n then m else n) ≡ m
 cut_end m n l = let test : nat_le m n ≡ true = grind (arith, nat_tests, l) in ap (λ z. if z then m else n) test
 
@@ -65,7 +65,7 @@ pub none_remaining_from : (m : ℕ) (ts : List Token) → AreFrom m (dropped ts 
 none_remaining_from m [] = tt
 none_remaining_from m (t ∷ ts) = none_remaining_from m ts
 
--- what is left of items behind others that are read
+-- what is left of items after others that are read
 pub dropped_both : (q run us : List Token) → dropped (q ++ run) (q ++ us) ≡ dropped run us
 dropped_both [] run us = refl
 dropped_both (t ∷ q) run us = dropped_both q run us

@@ -1,4 +1,4 @@
--- The trees that the first leaves of a row of trees complete.
+-- The trees that the first leaves of a forest complete.
 use Rattle.std.specs.Prelude.{ℕ, zero, suc, ◌+◌, ◌-◌, Bool, true, false, nat_le}
 use Rattle.rnix_kinds.specs.declared.kinds.SyntaxKind.{SyntaxKind}
 use Rattle.rnix_green.specs.Forest.{Forest, empty, leaf, node}

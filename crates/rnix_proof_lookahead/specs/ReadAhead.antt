@@ -11,7 +11,7 @@ use Rattle.rnix_proof_lookahead.specs.Completed.{completed}
 use Rattle.rnix_proof_lookahead.specs.ErrorsBefore.{errors_before}
 use Rattle.rnix_proof_lookahead.specs.AlikeStarts.{BeginAlike, AreNext}
 
--- if the first k items of two texts are alike, and the next ones but for their texts, the first k items complete the same trees
+-- if the first k items of two texts are alike, and the next ones except for their texts, the first k items complete the same trees
 abbrev pub AreCompletedAlike : List ℕ → List ℕ → Type 0
 AreCompletedAlike x y =
     (k : ℕ) → BeginAlike k None 0 0 (items_of x) (items_of y)

@@ -7,7 +7,7 @@ use Rattle.{rnix_proof_lemmas.proofs.StackedFrames.step_stacked, rnix_proof_pref
 use Rattle.rnix_proof_prefix.proofs.LateSteps.{late_runs}
 use Rattle.rnix_grammar.specs.OperandStarts.{operand_start_for}
 
--- all errors of what is read from here to the end of the text begin at a byte or behind it
+-- all errors of what is read from here to the end of the text begin at a byte or after it
 abbrev pub IsApart : ℕ → Machine → Type 0
 IsApart m now = AreStacked now.frames → (first : Machine) → Runs false now first → first.remaining ≡ [] → BeginAllFrom m first.faults
 

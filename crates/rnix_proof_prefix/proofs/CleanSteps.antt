@@ -17,10 +17,10 @@ use Rattle.rnix_grammar.specs.declared.operand_start.OperandStart.TheVariants as
 
 -- an open frame has no error to report
 abbrev pub IsClean : Head → AnnotatedForest → AnnotatedForest → Type 0
-IsClean (Node NODE_PAT_ENTRY) row below = repeated below row ≡ []
-IsClean (Node k) row below = Unit {0}
-IsClean SecondBind row below = ⊥
-IsClean Operand row below = Unit {0}
+IsClean (Node NODE_PAT_ENTRY) trees below = repeated below trees ≡ []
+IsClean (Node k) trees below = Unit {0}
+IsClean SecondBind trees below = ⊥
+IsClean Operand trees below = Unit {0}
 
 -- so it is with all frames
 abbrev pub AreClean : List Frame → Type 0
@@ -31,15 +31,15 @@ AreClean (f ∷ fs) = IsClean f.head f.children (row_below fs) × AreClean fs
 abbrev pub HasNone : Machine → Type 0
 HasNone now = AreClean now.frames × (now.faults ≡ [])
 
--- a row that is shorter has no more to report
-fewer : (row x below : AnnotatedForest) → repeated below (row ⊕ x) ≡ [] → repeated below row ≡ []
+-- a forest that is shorter has no more to report
+fewer : (trees x below : AnnotatedForest) → repeated below (trees ⊕ x) ≡ [] → repeated below trees ≡ []
 fewer (branch NODE_IDENT c f) x below h = h
 fewer _ x below h = refl
 
-clean_less : (h : Head) (row x below : AnnotatedForest) → IsClean h (row ⊕ x) below → IsClean h row below
-clean_less (Node NODE_PAT_ENTRY) row x below w = fewer row x below w
-clean_less SecondBind row x below w = w
-clean_less _ row x below w = tt
+clean_less : (h : Head) (trees x below : AnnotatedForest) → IsClean h (trees ⊕ x) below → IsClean h trees below
+clean_less (Node NODE_PAT_ENTRY) trees x below w = fewer trees x below w
+clean_less SecondBind trees x below w = w
+clean_less _ trees x below w = tt
 
 -- entries and second names alone have something to report
 abbrev is_quiet : FrameKind → Bool
@@ -47,10 +47,10 @@ is_quiet Entry = false
 is_quiet SecondBindFrame = false
 is_quiet s = true
 
-quiet : (h : Head) (row below : AnnotatedForest) → is_quiet (frame_kind_of_head h) ≡ true → IsClean h row below
-quiet (Node NODE_PAT_ENTRY) row below e = absurd (true_is_not_false (sym e))
-quiet SecondBind row below e = absurd (true_is_not_false (sym e))
-quiet _ row below e = tt
+quiet : (h : Head) (trees below : AnnotatedForest) → is_quiet (frame_kind_of_head h) ≡ true → IsClean h trees below
+quiet (Node NODE_PAT_ENTRY) trees below e = absurd (true_is_not_false (sym e))
+quiet SecondBind trees below e = absurd (true_is_not_false (sym e))
+quiet _ trees below e = tt
 
 -- what has no errors in the end had none
 no_error : (es : List Fault) (e : Fault) → es ++ e ∷ [] ≡ [] → es ≡ []
@@ -155,11 +155,11 @@ clean_runs here k w = w
 clean_runs (further {m = now} r) k w = clean_step now k (clean_runs r (step_stacked false now k) w)
 
 -- frames that are begun, with nothing to report, have nothing to report before any byte
-clean_late : (m : ℕ) (h : Head) (row below : AnnotatedForest) → IsClean h row below → IsLate 0 h row below → IsLate m h row below
-clean_late m (Node NODE_PAT_ENTRY) row below c w =
+clean_late : (m : ℕ) (h : Head) (trees below : AnnotatedForest) → IsClean h trees below → IsLate 0 h trees below → IsLate m h trees below
+clean_late m (Node NODE_PAT_ENTRY) trees below c w =
     (w.0, w.1, subst (BeginAllFrom m) (sym (ap (λ z. repeated_if z below) (sym w.1) ∙ c)) tt)
-clean_late m SecondBind row below c w = absurd c
-clean_late m _ row below c w = tt
+clean_late m SecondBind trees below c w = absurd c
+clean_late m _ trees below c w = tt
 
 pub all_late : (m : ℕ) (fs : List Frame) → AreClean fs → AreLate 0 fs → AreLate m fs
 all_late m [] c w = tt

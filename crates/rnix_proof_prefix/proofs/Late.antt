@@ -9,7 +9,7 @@ use Rattle.rnix_proof_lemmas.specs.{Allowed.is_there, FrameKinds.{FrameKind, Ent
 use Rattle.rnix_proof_lemmas.{specs.FrameKinds.{frame_kind_of_node, IsStackedOn}, proofs.Basics.{true_is_not_false, choice}}
 use Rattle.{rnix_proof_lemmas.proofs.{AnnotatedForestLemmas.tokens_in-⊕, UnwantedRuns.run_begins}, rnix_proof_prefix.specs.Prefix.{BeginsFrom, BeginAllFrom}}
 
--- all tokens begin at a byte or behind it
+-- all tokens begin at a byte or after it
 abbrev pub AreFrom : ℕ → List Token → Type 0
 AreFrom m [] = Unit {0}
 AreFrom m (t ∷ ts) = (m ≤ t.start) × AreFrom m ts
@@ -51,17 +51,17 @@ pub more_from : (m : ℕ) (ds es : List Fault) → BeginAllFrom m ds → BeginAl
 more_from m [] es h g = g
 more_from m (d ∷ ds) es h g = (h.0, more_from m ds es h.1 g)
 
--- the row of the frame below
+-- the children of the frame below
 abbrev pub row_below : List Frame → AnnotatedForest
 row_below [] = blank
 row_below (g ∷ fs) = g.children
 
--- what an open frame has to report begins at a byte or behind it: an entry of a pattern if it repeats a name, a second name in any case
+-- what an open frame has to report begins at a byte or after it: an entry of a pattern if it repeats a name, a second name in any case
 abbrev pub IsLate : ℕ → Head → AnnotatedForest → AnnotatedForest → Type 0
-IsLate m (Node NODE_PAT_ENTRY) row below = (t : Token) × (entry_name row ≡ Some t) × BeginAllFrom m (repeated_if (Some t) below)
-IsLate m (Node k) row below = Unit {0}
-IsLate m SecondBind row below = StartsFrom m (tokens_in row)
-IsLate m Operand row below = Unit {0}
+IsLate m (Node NODE_PAT_ENTRY) trees below = (t : Token) × (entry_name trees ≡ Some t) × BeginAllFrom m (repeated_if (Some t) below)
+IsLate m (Node k) trees below = Unit {0}
+IsLate m SecondBind trees below = StartsFrom m (tokens_in trees)
+IsLate m Operand trees below = Unit {0}
 
 -- so it is with all frames
 abbrev pub AreLate : ℕ → List Frame → Type 0
@@ -79,16 +79,16 @@ entry_name-⊕ : (f g : AnnotatedForest) (t : Token) → entry_name f ≡ Some t
 entry_name-⊕ (branch NODE_IDENT c f) g t e = e
 entry_name-⊕ _ g t e = absurd (cc)
 
--- a row that grows has the same to report
-pub late_more : (m : ℕ) (h : Head) (row x below : AnnotatedForest) → IsLate m h row below → IsLate m h (row ⊕ x) below
-late_more m (Node NODE_PAT_ENTRY) row x below w = (w.0, entry_name-⊕ row x w.0 w.1, w.2)
-late_more m SecondBind row x below w = subst (StartsFrom m) (sym (tokens_in-⊕ row x)) (starts_more m (tokens_in row) (tokens_in x) w)
-late_more m _ row x below w = tt
+-- a forest that grows has the same to report
+pub late_more : (m : ℕ) (h : Head) (trees x below : AnnotatedForest) → IsLate m h trees below → IsLate m h (trees ⊕ x) below
+late_more m (Node NODE_PAT_ENTRY) trees x below w = (w.0, entry_name-⊕ trees x w.0 w.1, w.2)
+late_more m SecondBind trees x below w = subst (StartsFrom m) (sym (tokens_in-⊕ trees x)) (starts_more m (tokens_in trees) (tokens_in x) w)
+late_more m _ trees x below w = tt
 
 -- a plain node has nothing to report
-pub plain_late : (m : ℕ) (k : SyntaxKind) (row below : AnnotatedForest) → frame_kind_of_node k ≡ NodeFrame → IsLate m (Node k) row below
-plain_late m NODE_PAT_ENTRY row below e = absurd (cc)
-plain_late m k row below e = tt
+pub plain_late : (m : ℕ) (k : SyntaxKind) (trees below : AnnotatedForest) → frame_kind_of_node k ≡ NodeFrame → IsLate m (Node k) trees below
+plain_late m NODE_PAT_ENTRY trees below e = absurd (cc)
+plain_late m k trees below e = tt
 
 -- an entry opens with the next item
 pub entry_late : (m : ℕ) (ts : List Token) (below : AnnotatedForest) → StartsFrom m ts
@@ -125,12 +125,13 @@ head_entry (Node NODE_PAT_ENTRY) e = refl
 head_entry _ e = cc
 
 -- what an entry reports as it closes
-pub entry_reports : (m : ℕ) (h : Head) (row below : AnnotatedForest) → frame_kind_of_head h ≡ Entry → IsLate m h row below → BeginAllFrom m (repeated below row)
-entry_reports m h row below e w =
-    let v : IsLate m (Node NODE_PAT_ENTRY) row below = subst (λ z. IsLate m z row below) (head_entry h e) w in
+pub entry_reports : (m : ℕ) (h : Head) (trees below : AnnotatedForest) → frame_kind_of_head h ≡ Entry → IsLate m h trees below
+    → BeginAllFrom m (repeated below trees)
+entry_reports m h trees below e w =
+    let v : IsLate m (Node NODE_PAT_ENTRY) trees below = subst (λ z. IsLate m z trees below) (head_entry h e) w in
     subst (λ z. BeginAllFrom m (repeated_if z below)) (sym v.1) v.2
 
 -- what a second name reports as it closes
-pub second_reports : (m : ℕ) (h : Head) (row below : AnnotatedForest) → frame_kind_of_head h ≡ SecondBindFrame → IsLate m h row below
-    → BeginsFrom m (report DoubleBind (tokens_in row))
-second_reports m h row below e w = report_from m DoubleBind (tokens_in row) (subst (λ z. IsLate m z row below) (head_second h e) w)
+pub second_reports : (m : ℕ) (h : Head) (trees below : AnnotatedForest) → frame_kind_of_head h ≡ SecondBindFrame → IsLate m h trees below
+    → BeginsFrom m (report DoubleBind (tokens_in trees))
+second_reports m h trees below e w = report_from m DoubleBind (tokens_in trees) (subst (λ z. IsLate m z trees below) (head_second h e) w)

@@ -15,7 +15,7 @@ use Rattle.rnix_grammar.specs.declared.position.Position.TheVariants as p
 use Rattle.rnix_grammar.specs.declared.action.Action.TheVariants as a
 use Rattle.rnix_grammar.specs.declared.operand_start.OperandStart.TheVariants as b
 
--- an item that begins no operand begins at a byte or behind it
+-- an item that begins no operand begins at a byte or after it
 abbrev pub StrayFrom : ℕ → OperandStart → Token → Type 0
 StrayFrom m b.Stray t = m ≤ t.start
 StrayFrom m how t = Unit {0}
@@ -78,7 +78,7 @@ perform_late : (m : ℕ) (action : Action) (f : Frame) (fs : List Frame) (ts : L
     → HasLate m (perform false action f fs ts n es)
 perform_late m action f fs ts n es al st l w e = by action al
   where
-    -- the frame's row grows
+    -- the frame gets more children
     grown : (x : AnnotatedForest) (next_position : Position) → AreLate m (put next_position (f.children ⊕ x) f ∷ fs)
     grown x next_position = (late_more m f.head f.children x (row_below fs) w.0, w.1)
 

@@ -7,17 +7,17 @@ use Rattle.{rnix_proof_lemmas.proofs.ReachableRows.known_row, rnix_proof_layout.
 use Rattle.rnix_proof_layout.proofs.{MovedItems.{at, moved, moved_trees, tokens_moved, forget_moved}, Touch.{Touching, last_kind}}
 use Rattle.rnix_proof_layout.proofs.{JoinedRows.row_joins, MovedReadings.{moves, IsMoved}}
 
--- where an item is placed behind another: there or one byte on, as it touches that or not
+-- where an item is placed after another: there or one byte on, as it touches that or not
 abbrev pub beside : Bool → ℕ → ℕ
 beside true n = n
 beside false n = suc n
 
--- items one after another behind one that ends at n, the first touching that or not, the others as before
+-- items one after another after one that ends at n, the first touching that or not, the others as before
 abbrev pub behind : Bool → ℕ → List Token → List Extent
 behind w n [] = []
 behind w n (u ∷ us) = record { start = beside w n; end = beside w n } ∷ behind (touches u.end us) (beside w n) us
 
--- the first k items at the places of others, and the rest behind them
+-- the first k items at the places of others, and the rest after them
 abbrev pub extents : ℕ → Bool → ℕ → List Token → List Token → List Extent
 extents zero w n ts us = behind w n us
 extents (suc k) w n [] us = []
@@ -28,7 +28,7 @@ pub beside_same : (w : Bool) (n : ℕ) → w ≡ nat_eq (beside w n) n
 beside_same true n = grind (arith, nat_tests)
 beside_same false n = grind (arith, nat_tests)
 
--- the next item touches what ends at m as is given, where a path may go on
+-- the next item touches what ends at m as is given, where a path may continue
 abbrev pub TouchesAs : Bool → Option SyntaxKind → ℕ → List Token → Type 0
 TouchesAs w prev m [] = Unit {0}
 TouchesAs w prev m (u ∷ us) = may_join prev u.kind ≡ true → nat_eq u.start m ≡ w

@@ -1,4 +1,4 @@
--- The items of a text in order: each begins where another ended or behind it.
+-- The items of a text in order: each begins where another ended or after it.
 use Rattle.{std.proofs.Common.{ℕ, ◌≤◌, ◌+◌, true, false, List, [], ◌∷◌, ◌++◌, length, arith}, rnix_kinds.specs.{Lexical.Tokens.Lexeme, SyntaxKind.is_trivia}}
 use Rattle.{rnix_grammar.specs.{AnnotatedForest.{Token, placed_from, end_from}, Layout.{items, item_if}}, rnix_proof_prefix.proofs.Late.AreFrom}
 
@@ -23,7 +23,7 @@ ordered_items n (t ∷ ts) h =
     elim (is_trivia t.kind) as (λ x. AreOrdered n (item_if x t (items ts)))
     [ true ↦ earlier n t.end (items ts) (omega (arith, h.0, h.1)) (ordered_items t.end ts h.2) | false ↦ (h.0, h.1, ordered_items t.end ts h.2) ]
 
--- tokens behind others begin where these end or behind that
+-- tokens after others begin where these end or after that
 ordered_from : (m n : ℕ) (ts : List Token) → m ≤ n → AreOrdered n ts → AreFrom m ts
 ordered_from m n [] l h = tt
 ordered_from m n (t ∷ ts) l h = (omega (arith, l, h.0), ordered_from m t.end ts (omega (arith, l, h.0, h.1)) h.2)

@@ -52,12 +52,12 @@ module _ (m : ℕ) (xs zs : List Token) (late : AreFrom m xs) where
         after.1
         (shared_step fs t q n es k lateness (subst (BeginAllFrom m) (sym c.1) tt) d)
 
--- all items begin at the first byte or behind it
+-- all items begin at the first byte or after it
 from_start : (ts : List Token) → AreFrom 0 ts
 from_start [] = tt
 from_start (t ∷ ts) = (omega arith, from_start ts)
 
--- the errors of some items, which begin with the same items as others that are read without errors, begin behind these
+-- the errors of some items, which begin with the same items as others that are read without errors, begin after these
 pub late_errors : (m : ℕ) (q xs zs : List Token) (first second : Machine) → AreFrom m xs → end_undecided q ≡ false
     → Runs false (initial_machine (q ++ xs)) first → Runs false (initial_machine (q ++ zs)) second → first.remaining ≡ [] → second.remaining ≡ []
     → HasNone second

@@ -16,7 +16,7 @@ use Rattle.rnix_grammar.specs.declared.position.Position.TheVariants as p
 use Rattle.rnix_grammar.specs.declared.action.Action.TheVariants as a
 use Rattle.rnix_grammar.specs.declared.operand_start.OperandStart.TheVariants as b
 
--- a machine with more items behind those that are left
+-- a machine with more items after those that are left
 abbrev pub onto : List Token → Machine → Machine
 onto ts now = machine now.frames (now.remaining ++ ts) now.prev_end now.faults
 
@@ -64,7 +64,7 @@ pattern_counts TOKEN_R_BRACE third other = inl (inr (inl refl))
 pattern_counts TOKEN_ELLIPSIS third other = inl (inr (inr refl))
 pattern_counts _ third other = inr refl
 
--- items behind the first end as all do
+-- items after the first end as all do
 tail_decided : (ts : List Token) → end_undecided ts ≡ false → end_undecided (tail_of ts) ≡ false
 tail_decided [] h = refl
 tail_decided (t ∷ []) h = refl
@@ -79,7 +79,7 @@ module _ (m : ℕ) (xs zs : List Token) (late : AreFrom m xs) where
     pub second : there ≡ onto zs at
     pub decided : end_undecided at.remaining ≡ false
 
-  -- or errors begin behind the shared items in the first, or the second has an error
+  -- or errors begin after the shared items in the first, or the second has an error
   abbrev pub Goes : Machine → Machine → Type 0
   Goes here there = IsShared here there ⊎ (IsApart m here ⊎ (there.faults ≡ [] → ⊥))
 
@@ -109,7 +109,7 @@ module _ (m : ℕ) (xs zs : List Token) (late : AreFrom m xs) where
   begun_last how other e second i level d t f fs us n es w g =
       inr (inl (late_apart m _ (begun_late m second how level d t f fs xs n es i tt late w g)))
 
-  -- the next item and the last of the shared items behind it begin an operand
+  -- the next item and the last of the shared items after it begin an operand
   module _ (level d : ℕ) (f : Frame) (fs : List Frame) (t u : Token) (n : ℕ) (es : List Fault) (w : AreLate m (f ∷ fs)) (g : BeginAllFrom m es)
       (h : end_undecided (t ∷ (u ∷ [])) ≡ false) where
     abbrev Begun : OperandStart → OperandStart → Type 0

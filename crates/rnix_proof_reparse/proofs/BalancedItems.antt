@@ -124,7 +124,7 @@ node_levels k n m h g =
     same_number n m (sym (ap (λ a. if a then nat_eq m (suc n) else (if closes_level k then nat_eq n (suc m) else nat_eq n m)) w.0
     ∙ ap (λ b. if b then nat_eq n (suc m) else nat_eq n m) w.1) ∙ g)
 
--- the lexemes of two rows, and more
+-- the lexemes of two forests, and more
 lexemes_two : (xs ys : List Token) (ls : List Lexeme) → map lexeme_of (xs ++ ys) ++ ls ≡ map lexeme_of xs ++ (map lexeme_of ys ++ ls)
 lexemes_two xs ys ls = ap (λ z. z ++ ls) (map-append lexeme_of xs ys) ∙ append_assoc (map lexeme_of xs) (map lexeme_of ys) ls
 
@@ -132,7 +132,7 @@ lexemes_two xs ys ls = ap (λ z. z ++ ls) (map-append lexeme_of xs ys) ∙ appen
 none_open : (q : Row) (m : ℕ) (ls : List Lexeme) → open_in q ≡ 0 → are_balanced ls m ≡ are_balanced ls (open_in q + m)
 none_open q m ls e = let same : m ≡ open_in q + m = omega (arith, e) in ap (are_balanced ls) same
 
--- the items of a row that is read open and close what the row says
+-- the items of a forest that is read open and close what its row says
 pub balanced_row : {p : SyntaxKind} {d n : ℕ} {q q' : Row} {b : AnnotatedForest} {us : List Token} {f : AnnotatedForest} {es : List Fault}
     → Reads p d n q q' b us f es → es ≡ [] → IsKnown p q → is_viable q' ≡ true → (m : ℕ) (ls : List Lexeme)
     → are_balanced (map lexeme_of (tokens_in f) ++ ls) (open_in q + m) ≡ are_balanced ls (open_in q' + m)
@@ -234,7 +234,7 @@ not_over {q = q} x r u h v = by (is_over q) refl
     some (fault j c y) e = cc
 
     by : (w : Bool) → is_over q ≡ w → is_over q ≡ false
-    by true e = absurd (some x (past_ends h (over_is q e) v).row)
+    by true e = absurd (some x (past_ends h (over_is q e) v).no_trees)
     by false e = e
 
 neutral_item : (p : SyntaxKind) (t : Token) (m : ℕ) (ls : List Lexeme) → opens_level (leaf_kind p t) ≡ false → closes_level (leaf_kind p t) ≡ false

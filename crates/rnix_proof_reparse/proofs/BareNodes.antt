@@ -26,7 +26,7 @@ use Rattle.rnix_proof_reparse.proofs.PlacedAgain.{StartsWithItem, StopsWithItem,
 use Rattle.rnix_proof_reparse.proofs.SwappedEdges.{AreSome, some_first}
 use Rattle.rnix_proof_reparse.proofs.FoundNodes.{kinds_of_nodes, parts_of_leaves, no_leaf, no_empty, no_end, no_node}
 
--- a token that is trivia or not, before such rows
+-- a token that is trivia or not, before such forests
 abbrev swapped_if : {k : SyntaxKind} {c e f g : AnnotatedForest} (j : SyntaxKind) (t : Token) (w : Bool) → Swapped k c e f g
     → Swapped k c e (token_if w j t f) (token_if w j t g)
 swapped_if j t true s = s
@@ -148,7 +148,7 @@ between_parts l s d r t (token j x g) e h =
       forest = m.forest;
     }
 
--- a row of one node
+-- a forest of one node
 pub record IsOneNode (k : SyntaxKind) (c : Forest) (a : AnnotatedForest) : Type 0 where
   pub children : AnnotatedForest
   pub is : a ≡ branch k children blank

@@ -121,7 +121,7 @@ open_followed list next = tt
 open_followed paren next = tt
 open_followed string next = tt
 
--- behind the opening bracket
+-- after the opening bracket
 pub opened : {k l : SyntaxKind} {d m : ℕ} {q s : Row} {b x : AnnotatedForest} {t : Token} {us : List Token} {es : List Fault}
     → Reads k d m q s b us (token l t x) es → es ≡ [] → (l ≡ leaf_kind k t) × Reads k d t.end (after q l) s (b ⊕ one_token l t) us x []
 opened (missing_part u f o y h) z = absurd (not_nil z)
@@ -152,7 +152,7 @@ read_there {k} {l} {r} w t u x {d = d} {s = s} h ended kind a z n v us colonless
     → v + depth_of (row k) (token j t (x ⊕ one_token r u)) ≤ depth_limit → IsNodeRead k v n (token j (starting t a) (x ⊕ one_token r (ending u z))) us)
     (sym o.0) (λ w h fit. there_from t u x w h ended kind a z n v us colonless fit) w o.1 fit
 
--- where the last item of such a row ends
+-- where the last item of such a forest ends
 end_closed : (n : ℕ) (x : AnnotatedForest) (r : SyntaxKind) (u : Token) → end_from n (tokens_in (x ⊕ one_token r u)) ≡ u.end
 end_closed n x r u = ap (end_from n) (tokens_in-⊕ x (one_token r u)) ∙ end_more n (tokens_in x) (u ∷ [])
 
@@ -176,7 +176,7 @@ begins_moved w t u x e b a z =
     (closing_sees w u e z [] refl)) in
     sym (more.3 0) ∙ b
 
--- so it may stand where another stands
+-- so it may be where another stands
 pub may_stand : {k l r : SyntaxKind} (w : IsBracketed k l r) (t u : Token) (x : AnnotatedForest) (a b : Token) (y : AnnotatedForest)
     → t.kind ≡ l → u.kind ≡ r → a.kind ≡ l → b.kind ≡ r → BeginsItself k l t x r u → BeginsItself k l a y r b
     → {d m : ℕ} {s : Row} → Reads k d m (row k) s blank [] (token l a (y ⊕ one_token r b)) [] → may_end s ≡ true

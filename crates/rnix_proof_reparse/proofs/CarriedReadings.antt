@@ -1,4 +1,4 @@
--- A row that is read without errors is read so before other items that are seen alike, behind trees that are seen alike, and at another depth.
+-- A forest that is read without errors is read so before other items that are seen alike, after trees that are seen alike, and at another depth.
 use Rattle.std.proofs.Common.{◌≡◌, ℕ, suc, ◌+◌, ◌<◌, ◌≤◌, max, Bool, true, false, List, [], ◌∷◌, ◌++◌, Option, Some, None, refl, ap, sym, ◌∙◌, subst, arith}
 use Rattle.std.proofs.Common.{if◌then◌else◌}
 use Rattle.rnix_kinds.specs.declared.kinds.SyntaxKind.{SyntaxKind}
@@ -20,7 +20,7 @@ use Rattle.rnix_proof_reparse.specs.Bracketed.{IsBracketed}
 use Rattle.rnix_proof_reparse.proofs.SwappedNodes.{Swapped, followed_swapped, repeats_before, swapped_first}
 use Rattle.rnix_proof_reparse.proofs.SeenItems.{Sees, sees_cons, sees_more, sees_node, head_seen, expected_seen, over_seen, seen_self, operand_seen}
 
--- trees before a row: the same, the same but for the children of a bracketed node, or for the place of the first token
+-- trees before a forest: the same, the same except for the children of a bracketed node, or for the place of the first token
 pub data Kept (k : SyntaxKind) (c e : AnnotatedForest) : AnnotatedForest → AnnotatedForest → Type 0 where
   same : {f : AnnotatedForest} → Kept k c e f f
   swapped : {f g : AnnotatedForest} → Swapped k c e f g → Kept k c e f g
@@ -40,7 +40,7 @@ pub clean_node : {p j : SyntaxKind} {d n : ℕ} {q q' s : Row} {b x f : Annotate
 clean_node {p} {j} {d} {n} {q} {q'} {s} {b} {x} {f} {us} room hr over i o op none h =
     subst (λ z. Reads p d n q q' b us (branch j x f) z) (ap (λ z. ([] ++ z) ++ []) none) (inner room hr over i o op h)
 
--- the depth of a node and of the row behind it
+-- the depth of a node and of the forest after it
 pub record IsRoomy (q : Row) (d x y : ℕ) : Type 0 where
   pub here : IsRoom q d
   pub inside : deeper q d + x ≤ depth_limit
@@ -121,7 +121,7 @@ module _ {k l r : SyntaxKind} (w : IsBracketed k l r) {c e : AnnotatedForest} wh
   kept_repeats j d (swapped s) = repeats_before w j d s
   kept_repeats j d (placed {j = i} {t = t} {u = u} {f = f}) = repeats_placed j d i t u f
 
-  -- a node before other rows that are seen alike
+  -- a node before other forests that are seen alike
   pub carried : {p j : SyntaxKind} {m n : ℕ} {q q' s : Row} {b g x y : AnnotatedForest} {vs : List Token} (us : List Token) (f : AnnotatedForest) → IsRoom q m
       → Sees (tokens_in f ++ us) (tokens_in y ++ vs) → Reads j (deeper q m) n (row j) s blank (tokens_in y ++ vs) x []
       → IsOver s (end_from n (tokens_in x)) (tokens_in f ++ us) → IsExpected q n (tokens_in x ++ (tokens_in f ++ us)) (is_first_expected q j x)
@@ -158,7 +158,7 @@ module _ {k l r : SyntaxKind} (w : IsBracketed k l r) {c e : AnnotatedForest} wh
       (none_right ds (repeats j b x) none)
       (carry h (none_right (ds ++ repeats j b x) es z) m deep.behind (kept_first (one_branch j x) kept) vs sees)
 
--- where no more trees are read the row is as it was
+-- where no more trees are read the forest is as it was
 nothing_more : {p : SyntaxKind} {d n : ℕ} {q q' : Row} {b : AnnotatedForest} {us : List Token} {f : AnnotatedForest} {es : List Fault}
     → Reads p d n q q' b us f es → f ≡ blank → es ≡ [] → q ≡ q'
 nothing_more end e z = refl
@@ -179,7 +179,7 @@ sees_closed x j u us z vs h =
     (subst (λ a. Sees (tokens_in x ++ (u ∷ us)) a) (sym (tokens_two x (one_token j (ending u z)) vs)) (sees_more (tokens_in x) (u ∷ us) (ending u z ∷ vs) h))
 
 module _ {k l r : SyntaxKind} (w : IsBracketed k l r) {c e : AnnotatedForest} where
-  -- a row that ends with a token of its own
+  -- a forest that ends with a token of its own
   pub close : (x : AnnotatedForest) (j : SyntaxKind) (u : Token) {p : SyntaxKind} {d n : ℕ} {q q' : Row} {b : AnnotatedForest} {us : List Token}
       {es : List Fault}
       → Reads p d n q q' b us (x ⊕ one_token j u) es → es ≡ [] → (m : ℕ) → m + depth_of q (x ⊕ one_token j u) ≤ depth_limit

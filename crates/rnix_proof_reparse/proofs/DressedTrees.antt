@@ -50,7 +50,7 @@ later_same : (ts : List Token) → map lexeme_of (tail_of ts) ≡ later_lexemes 
 later_same [] = refl
 later_same (t ∷ ts) = refl
 
--- behind the first item
+-- after the first item
 behind_first : (ts : List Token) → map lexeme_of (tail_of (from_item ts)) ≡ later_lexemes (item_lexemes (map lexeme_of ts))
 behind_first ts = later_same (from_item ts) ∙ ap later_lexemes (from_lexemes ts)
 

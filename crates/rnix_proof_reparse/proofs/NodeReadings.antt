@@ -61,7 +61,7 @@ pub record IsAlone (k : SyntaxKind) (x : AnnotatedForest) : Type 0 where
   pub ended : may_end rest ≡ true
   pub begins : BeginsAs 0 (one_branch k x) ((tokens_in x ++ []) ++ [])
 
--- the only node of a row
+-- the only node of a forest
 record IsOnly (k : SyntaxKind) (x : AnnotatedForest) (q : Row) (d n : ℕ) (us : List Token) : Type 0 where
   rest : Row
   reads : Reads k (deeper q d) n (row k) rest blank us x []

@@ -21,14 +21,14 @@ StopsWithItem [] = Unit {0}
 StopsWithItem (t ∷ []) = is_trivia t.kind ≡ false
 StopsWithItem (t ∷ (u ∷ ts)) = StopsWithItem (u ∷ ts)
 
--- each node of a row begins and ends with items
+-- each node of a forest begins and ends with items
 abbrev pub HaveItemEdges : AnnotatedForest → Type 0
 HaveItemEdges blank = Unit {0}
 HaveItemEdges (token k t f) = HaveItemEdges f
 HaveItemEdges (branch k c f) = StartsWithItem (tokens_in c) × StopsWithItem (tokens_in c) × HaveItemEdges c × HaveItemEdges f
 HaveItemEdges (fault n c f) = ⊥
 
--- tokens behind others
+-- tokens after others
 stops_behind : (t : Token) (ts : List Token) → StopsWithItem (t ∷ ts) → StopsWithItem ts
 stops_behind t [] h = tt
 stops_behind t (u ∷ ts) h = h
@@ -62,7 +62,7 @@ some_items t (u ∷ ts) h e = by (is_trivia t.kind) refl (some_items u ts h)
 trivia_leaf : (p k : SyntaxKind) (t : Token) → k ≡ leaf_kind p t → is_trivia t.kind ≡ true → t.kind ≡ k
 trivia_leaf p k t e i = trivia_keeps_kind p t.kind i ∙ sym e
 
--- trees with their trivia, behind trivia
+-- trees with their trivia, after trivia
 abbrev IsSome : AnnotatedForest → Type 0
 IsSome blank = ⊥
 IsSome f = Unit {0}
@@ -125,7 +125,7 @@ node_placed k c f ts w = (
   ap (λ z. remaining_after f (remaining_after c z)) w.1,
 )
 
--- a row before others, which ends with an item
+-- a forest before others, which ends with an item
 abbrev IsPlaced : AnnotatedForest → AnnotatedForest → List Token → List Token → Type 0
 IsPlaced f g ts us = (with_trivia g ts ≡ f) × (remaining_after g ts ≡ us)
 
@@ -164,7 +164,7 @@ row_placed p (branch k c f) us l e h =
       w.1 ∙ ap (remaining_after (without_trivia f)) inside.1 ∙ behind.1,
     )
 
--- a whole row
+-- a whole forest
 pub placed_again : (p : SyntaxKind) (f : AnnotatedForest) → HaveLeafKinds p f → HaveItemEdges f → with_all_trivia (without_trivia f) (tokens_in f) ≡ f
 placed_again p blank l e = refl
 placed_again p (fault n c f) l e = absurd e

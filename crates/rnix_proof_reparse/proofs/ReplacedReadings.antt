@@ -1,4 +1,4 @@
--- A row that is read without errors is read so where the children of one bracketed node are others that are read so there.
+-- A reading without errors stays one when the children of one bracketed node are replaced by others that are read without errors there.
 use Rattle.std.proofs.Common.{◌≡◌, ℕ, suc, ◌+◌, ◌≤◌, Bool, true, false, List, [], ◌∷◌, ◌++◌, Some, refl, ap, sym, ◌∙◌, subst, arith, append_assoc}
 use Rattle.std.proofs.Common.{if◌then◌else◌, ◌&&◌}
 use Rattle.std.specs.List.{list_all}
@@ -26,7 +26,7 @@ use Rattle.rnix_proof_reparse.proofs.SwappedNodes.{follows_swapped, first_expect
 use Rattle.rnix_proof_reparse.proofs.SeenItems.{Sees, sees_self, sees_cons, sees_more, sees_node, head_seen, expected_seen, AreSeenAlike, operand_seen}
 use Rattle.rnix_proof_reparse.proofs.CarriedReadings.{same, swapped, clean_node, carried, carry, no_second, room_remaining, deeper_room}
 
--- what follows begins with neither `:` nor `@`, which would make a function after `}`
+-- the next item is neither `:` nor `@`, which would make a function after `}`
 abbrev pub IsColonless : List Token → Type 0
 IsColonless us = is_pattern (Some TOKEN_R_BRACE) (head_kind us) ≡ false
 
@@ -38,7 +38,7 @@ IsColonlessAfter (past_branch s) us = IsColonlessAfter s us
 IsColonlessAfter (past_fault s) us = IsColonlessAfter s us
 IsColonlessAfter (inside {f = f} s) us = IsColonlessAfter s (tokens_in f ++ us)
 
--- how many expressions that count are around what is inside the node, in a row below a node of a kind
+-- how many counted expressions are around what is inside the node, in the children of a node of a kind
 abbrev pub levels : {k : SyntaxKind} {c e f g : AnnotatedForest} → SyntaxKind → Swapped k c e f g → ℕ
 levels {k} p here = if nests p k then 1 else 0
 levels p (past_token s) = levels p s
@@ -52,7 +52,7 @@ pub record IsNodeRead (k : SyntaxKind) (d n : ℕ) (x : AnnotatedForest) (us : L
   pub reads : Reads k d n (row k) rest blank us x []
   pub over : IsOver rest (end_from n (tokens_in x)) us
 
--- what counts along a row counts by the kinds of nodes
+-- a child that is counted along a row is counted by the kinds of nodes
 abbrev goes_on : Row → SyntaxKind → Bool
 goes_on q j = has_row j && is_viable (after q j)
 
@@ -83,7 +83,7 @@ pub end_more : (n : ℕ) (xs ys : List Token) → end_from n (xs ++ ys) ≡ end_
 end_more n [] ys = refl
 end_more n (x ∷ xs) ys = end_more x.end xs ys
 
--- the other children: what is seen at them, where they end, and that they are read
+-- the other children: their first items, where they end, and that they are read
 pub record MayStand (k : SyntaxKind) (c e : AnnotatedForest) (m : ℕ) : Type 0 where
   pub sees : (us : List Token) → IsColonless us → Sees (tokens_in c ++ us) (tokens_in e ++ us)
   pub ends : (n : ℕ) → end_from n (tokens_in c) ≡ end_from n (tokens_in e)
@@ -119,11 +119,11 @@ module _ {k l r : SyntaxKind} (w : IsBracketed k l r) {c e : AnnotatedForest} {m
   ends_swapped (inside {d = d} {h = h} {f = f} s) n =
       end_more n (tokens_in d) (tokens_in f) ∙ ap (λ z. end_from z (tokens_in f)) (ends_swapped s n) ∙ sym (end_more n (tokens_in h) (tokens_in f))
 
-  -- trees that differ so are seen alike
+  -- trees that differ only so have the same first items
   seen_swapped : {f g : AnnotatedForest} → Swapped k c e f g → AreSeenAlike f g
   seen_swapped s = record { level = row_level_swapped w s; first = first_swapped w s; follow = λ i. follows_swapped w i s }
 
-  -- a node that is, or holds, the other
+  -- the node that is replaced, or one that contains it
   node_replaced : {p j : SyntaxKind} {d n : ℕ} {q q' : Row} {b f : AnnotatedForest} {us : List Token} {es : List Fault} (x y : AnnotatedForest)
       → Swapped k c e (one_branch j x) (one_branch j y) → Sees (tokens_in x ++ (tokens_in f ++ us)) (tokens_in y ++ (tokens_in f ++ us))
       → end_from n (tokens_in x) ≡ end_from n (tokens_in y) → IsRoom q d → IsNodeRead j (deeper q d) n y (tokens_in f ++ us)

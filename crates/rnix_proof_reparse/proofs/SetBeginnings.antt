@@ -27,7 +27,7 @@ use Rattle.rnix_proof_reparse.proofs.CarriedReadings.{no_second}
 use Rattle.rnix_proof_reparse.proofs.BracketedNodes.{bracketed, BeginsItself, opened}
 use Rattle.rnix_proof_reparse.proofs.BalancedItems.{is_over, not_over}
 
--- a row that is read without errors
+-- a forest that is read without errors
 record IsRead (p : SyntaxKind) (q q' : Row) (f : AnnotatedForest) : Type 0 where
   depth : ℕ
   prev : ℕ
@@ -120,7 +120,7 @@ none_first t ts a e h us = ap (λ k. is_pattern (Some k) (head_kind (ts ++ us)))
 none_more : (ts us : List Token) → BeginNone ts → BeginNone (ts ++ us)
 none_more ts us h vs = ap (λ z. is_pattern (head_kind z) (second_kind z)) (append_assoc ts us vs) ∙ h (us ++ vs)
 
--- what is behind a name in an attribute path: a dot or nothing
+-- what is after a name in an attribute path: a dot or nothing
 dots : {d n : ℕ} {q q' : Row} {b f : AnnotatedForest} {us : List Token} {es : List Fault} → Reads NODE_ATTRPATH d n q q' b us f es → es ≡ []
     → may_end q' ≡ true → ((k : SyntaxKind) → is_viable (after q k) ≡ true → k ≡ TOKEN_DOT)
     → (f ≡ blank) ⊎ ((t : Token) × (g : AnnotatedForest) × (f ≡ token TOKEN_DOT t g) × (t.kind ≡ TOKEN_DOT))
@@ -161,7 +161,7 @@ record IsOneToken (f : AnnotatedForest) : Type 0 where
 name_one : {d n : ℕ} {s : Row} {b f : AnnotatedForest} {us : List Token} → Reads NODE_IDENT d n (row NODE_IDENT) s b us f [] → may_end s ≡ true → IsOneToken f
 name_one {s = s} h e =
     let w = first_leaf TOKEN_IDENT h refl e refl refl (only (λ k. is_viable (after (row NODE_IDENT) k)) TOKEN_IDENT refl) in
-    let none : w.rest ≡ blank = (past_ends w.reads.reads refl (end_viable s e)).row in
+    let none : w.rest ≡ blank = (past_ends w.reads.reads refl (end_viable s e)).no_trees in
     record { first = w.first; tokens = ap tokens_in w.is ∙ ap (λ x. w.first ∷ tokens_in x) none }
 
 -- an attribute path before `=`
@@ -231,7 +231,7 @@ entry_none : (k : SyntaxKind) (f : AnnotatedForest) {s : Row} → IsRead k (row 
 entry_none k f {s} r e (inl n) = inherit_none (subst (λ k. IsRead k (row k) s f) n r).reads e
 entry_none k f {s} r e (inr n) = binding_none (subst (λ k. IsRead k (row k) s f) n r).reads e
 
--- what is left of the row of a set behind its opening brace
+-- what is left of the row of a set after its opening brace
 abbrev entries : Row
 entries = after (row NODE_ATTR_SET) TOKEN_L_BRACE
 

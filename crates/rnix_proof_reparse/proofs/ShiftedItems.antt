@@ -86,7 +86,7 @@ alike_append prev n m (x ∷ xs) (y ∷ ys) us vs h g = (h.0, h.1, h.2, alike_ap
 alike_append prev n m [] (y ∷ ys) us vs h g = absurd h
 alike_append prev n m (x ∷ xs) [] us vs h g = absurd h
 
--- brackets go on with no path
+-- brackets continue no path
 bracket_pieces : {k l r : SyntaxKind} → IsBracketed k l r → (is_piece_start l ≡ false) × (is_piece_start r ≡ false)
 bracket_pieces set = (refl, refl)
 bracket_pieces list = (refl, refl)
@@ -102,7 +102,7 @@ bracket_items string = (refl, refl)
 no_join : {A : Type 0} (prev : Option SyntaxKind) (k : SyntaxKind) → is_piece_start k ≡ false → may_join prev k ≡ true → A
 no_join prev k e h = absurd (true_is_not_false (sym (and_parts (is_in_path prev) (is_piece_start k) h).1 ∙ e))
 
--- an item that goes on with no path, before others that are alike
+-- an item that continues no path, before others that are alike
 item_alike : (prev : Option SyntaxKind) (n m : ℕ) (t u : Token) (ts us : List Token) → is_trivia t.kind ≡ false → is_piece_start t.kind ≡ false
     → t.kind ≡ u.kind → t.text ≡ u.text → AreAlike (Some t.kind) t.end u.end (items ts) (items us) → AreAlike prev n m (items (t ∷ ts)) (items (u ∷ us))
 item_alike prev n m t u ts us e p k s h =

@@ -1,4 +1,4 @@
--- Where each node of a row begins and ends with items, so it is with other children of a node that begin and end with items.
+-- Where each node of a forest begins and ends with items, so it is with other children of a node that begin and end with items.
 use Rattle.std.proofs.Common.{List, [], ◌∷◌, ◌++◌}
 use Rattle.rnix_kinds.specs.declared.kinds.SyntaxKind.{SyntaxKind}
 use Rattle.rnix_grammar.specs.AnnotatedForest.{Token, AnnotatedForest, tokens_in}

@@ -14,7 +14,7 @@ use Rattle.rnix_grammar.specs.Rules.{Row, ◌·◌, is_first_expected, level_at,
 use Rattle.rnix_proof_lemmas.proofs.EachKind.{each_kind}
 use Rattle.rnix_proof_reparse.specs.Bracketed.{IsBracketed, set, list, paren, string}
 
--- two rows are the same but for the children of one node of a kind
+-- two forests are the same except for the children of one node of a kind
 pub data Swapped (k : SyntaxKind) (c e : AnnotatedForest) : AnnotatedForest → AnnotatedForest → Type 0 where
   here : {f : AnnotatedForest} → Swapped k c e (branch k c f) (branch k e f)
   past_token : {j : SyntaxKind} {t : Token} {f g : AnnotatedForest} → Swapped k c e f g → Swapped k c e (token j t f) (token j t g)
@@ -54,7 +54,7 @@ entry_here list name c e f = refl
 entry_here paren name c e f = refl
 entry_here string name c e f = refl
 
--- the operator behind the first tree
+-- the operator after the first tree
 operator_behind : (j : SyntaxKind) (d h f : AnnotatedForest) → operator_in (branch j d f) ≡ operator_in (branch j h f)
 operator_behind j d h blank = refl
 operator_behind j d h (token i t f) = refl
@@ -95,7 +95,7 @@ prefix_swapped (past_branch s) = refl
 prefix_swapped (past_fault s) = refl
 prefix_swapped (inside s) = refl
 
--- a row begins with the name `or`
+-- a forest begins with the name `or`
 or_leaf_swapped : {k : SyntaxKind} {c e f g : AnnotatedForest} → Swapped k c e f g → is_or_leaf f ≡ is_or_leaf g
 or_leaf_swapped here = refl
 or_leaf_swapped (past_token s) = refl
@@ -245,7 +245,7 @@ module _ {k l r : SyntaxKind} (w : IsBracketed k l r) {c e : AnnotatedForest} wh
   pub repeats_inside : (j : SyntaxKind) (b : AnnotatedForest) {d h : AnnotatedForest} → Swapped k c e d h → repeats j b d ≡ repeats j b h
   repeats_inside j b {d} {h} s = each_kind (λ j. repeats j b d ≡ repeats j b h) (assumption (ap (λ n. repeated_if n b) (name_swapped s))) j
 
--- rows before such rows, and after them
+-- forests before such forests, and after them
 pub swapped_first : {k : SyntaxKind} {c e f g : AnnotatedForest} (x : AnnotatedForest) → Swapped k c e f g → Swapped k c e (f ⊕ x) (g ⊕ x)
 swapped_first x here = here
 swapped_first x (past_token s) = past_token (swapped_first x s)

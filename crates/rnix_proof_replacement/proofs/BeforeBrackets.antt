@@ -1,4 +1,4 @@
--- A text that goes on to a bracket: its bytes, its runs and its characters before the bracket are the same, whatever follows the bracket.
+-- A text that continues to a bracket: its bytes, its runs and its characters before the bracket are the same, whatever follows the bracket.
 use Rattle.std.proofs.Common.{◌≡◌, ℕ, ◌+◌, ◌<◌, ◌≤◌, Bool, true, false, ◌||◌, ◌==◌, List, [], ◌∷◌, ◌++◌, length, get_or, take, drop, IsUtf8, refl}
 use Rattle.std.proofs.Common.{sym, ap, ◌∙◌, subst, inl, inr, arith, cond, append_assoc, length-append, length-drop}
 use Rattle.std.proofs.lemmas.List.{get_or_append_left, drop-append-le, take-append-le, Sums.{prefix_len_passes, take_while-cons}}

@@ -114,7 +114,7 @@ segment_unbracket k x =
 path_no_end : (k : PathStart) (x : List ℕ) → is_closing (path_cut k x).kind ≡ false
 path_no_end k x = cond_both (begins (codes "${") x) _ _ (λ (c : Cut). is_closing c.kind ≡ false) (λ e. refl) (λ e. (segment_unbracket k x).1)
 
--- a closing bracket, at which no path goes on
+-- a closing bracket, at which no path continues
 pub record ClosesText (t : List ℕ) : Type 0 where
   pub bracket : BeginsBracket t
   pub ends : (x : List ℕ) → path_goes_on (t ++ x) ≡ false

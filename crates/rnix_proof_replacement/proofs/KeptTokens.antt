@@ -15,7 +15,7 @@ use Rattle.rnix_proof_replacement.proofs.CutTokens.{AreCut, none, next}
 stop_low : (b : ℕ) → is_stop b ≡ true → b < 128
 stop_low b e = grind (arith, nat_tests)
 
--- the same paths end where paths go on alike
+-- the same paths end where paths continue alike
 pub settled_alike : (modes : List Mode) (x y : List ℕ) → path_goes_on y ≡ path_goes_on x → without_ended_paths modes y ≡ without_ended_paths modes x
 settled_alike [] x y e = refl
 settled_alike (Interpolation n ∷ modes) x y e = refl
@@ -31,7 +31,7 @@ tokens_or_none rest _ _ _ (none modes) = inl (refl, refl)
 tokens_or_none rest _ _ _ (next modes t cut tokens after some len is more) = inr (omega (arith, length-append t (texts tokens)))
 
 module _ (o : List ℕ) (bracket : BeginsBracket o) (s r : List ℕ) where
-  -- a string that is open there does not go on with a piece
+  -- an open string does not continue with a piece there
   abbrev pub StopsAlike : List Mode → Type 0
   StopsAlike after = (m : Bool) → top after ≡ Some (Quoted m) → piece_len m (o ++ s) ≡ 0 → piece_len m (o ++ r) ≡ 0
 

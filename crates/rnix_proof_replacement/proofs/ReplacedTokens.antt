@@ -15,7 +15,7 @@ use Rattle.rnix_proof_replacement.proofs.Depths.{AreOver, normal, string, raised
 use Rattle.rnix_proof_replacement.proofs.KeptTokens.{settled_alike, kept}
 use Rattle.rnix_proof_replacement.proofs.BracketTokens.{is_quote, IsOpened, opening_token, ClosesText, closing_token, closing_stops}
 
--- a path goes on alike at a bracket
+-- a path continues alike at a bracket
 bracket_goes_on : (o : List ℕ) → BeginsBracket o → (s r : List ℕ) → path_goes_on (o ++ r) ≡ path_goes_on (o ++ s)
 bracket_goes_on o bracket s r =
     ap (λ d. d || is_path (get_or (o ++ r) 0 0)) (dollar_same o bracket [] 0 r s (omega arith))

@@ -1,4 +1,4 @@
--- Rows with their trivia, as the items of the rows and the tokens make them.
+-- Forests with their trivia, as the items of the forests and the tokens make them.
 use Rattle.{std.proofs.Common.{◌≡◌, true, false, List, [], ◌∷◌, ◌++◌, refl, ap, sym, ◌∙◌, subst}, rnix_kinds.specs.declared.kinds.SyntaxKind.SyntaxKind}
 use Rattle.{rnix_kinds.specs.SyntaxKind.is_trivia, rnix_grammar.specs.AnnotatedForest.{Token, Note, TooDeep, AnnotatedForest, blank, token, branch, fault, ◌⊕◌}}
 use Rattle.rnix_grammar.specs.{AnnotatedForest.{one_branch, one_fault, without_trivia, token_if, leaf_kind, head_kind}, Layout.{from_item, from_item_if}}
@@ -7,14 +7,14 @@ use Rattle.rnix_proof_lemmas.{specs.{Allowed.is_there, Machine.{with_leading, af
 use Rattle.rnix_proof_lemmas.proofs.{AnnotatedForestLemmas.{⊕-assoc, ⊕-blank}, LayoutLemmas.{trivia-from_item, from_item-from_item, items_head, items-view}}
 use Rattle.rnix_proof_lemmas.proofs.{LayoutLemmas.from_item_item, WithoutTriviaLemmas.{with_leading_without_trivia, added_without_trivia, run_bared}}
 
--- what is left behind two rows
+-- what is left after two forests
 pub remaining_after-⊕ : (f g : AnnotatedForest) (ts : List Token) → remaining_after (f ⊕ g) ts ≡ remaining_after g (remaining_after f ts)
 remaining_after-⊕ blank g ts = refl
 remaining_after-⊕ (token k t f) g ts = remaining_after-⊕ f g (tail_of (from_item ts))
 remaining_after-⊕ (branch k c f) g ts = remaining_after-⊕ f g (remaining_after c (from_item ts))
 remaining_after-⊕ (fault n c f) g ts = remaining_after-⊕ f g (rest_after (is_last n) (remaining_after c (from_item ts)))
 
--- two rows with their trivia, the second from where the first ends
+-- two forests with their trivia, the second from where the first ends
 pub with_trivia-⊕ : (f g : AnnotatedForest) (ts : List Token) → with_trivia (f ⊕ g) ts ≡ with_trivia f ts ⊕ with_trivia g (remaining_after f ts)
 with_trivia-⊕ blank g ts = refl
 with_trivia-⊕ (token k t f) g ts =
@@ -30,14 +30,14 @@ with_trivia-⊕ (fault n c f) g ts =
     rw (with_trivia-⊕ f g later, sym (⊕-assoc own (with_trivia f later) (with_trivia g (remaining_after f later))))
     (sym (⊕-assoc (trivia_before ts) (fault n (with_trivia c (from_item ts)) (own ⊕ with_trivia f later)) (with_trivia g (remaining_after f later))))
 
--- some tree stands in a row
+-- some tree is in a forest
 abbrev pub HasTree : AnnotatedForest → Type 0
 HasTree blank = ⊥
 HasTree (token k t f) = Unit {0}
 HasTree (branch k c f) = Unit {0}
 HasTree (fault n c f) = Unit {0}
 
--- a tree behind a row stands in both
+-- a tree after a forest is in both
 pub tree_behind : (f g : AnnotatedForest) → HasTree g → HasTree (f ⊕ g)
 tree_behind blank g h = h
 tree_behind (token k t f) g h = tt
@@ -56,10 +56,10 @@ from_no_leading_trivia ts = from_item-from_item ts
 pub no_leading_trivia : (ts : List Token) → HasNoLeadingTrivia ts → trivia_before ts ≡ blank
 no_leading_trivia ts h = ap trivia_before (sym h) ∙ trivia-from_item ts
 
--- a row is what its items and the tokens make of it, and these tokens are left behind it
-pub record HasTrivia (row : AnnotatedForest) (ts us : List Token) : Type 0 where
-  pub same : with_trivia (without_trivia row) ts ≡ row
-  pub remaining : remaining_after (without_trivia row) ts ≡ us
+-- a forest is what its items and the tokens make of it, and these tokens are left after it
+pub record HasTrivia (trees : AnnotatedForest) (ts us : List Token) : Type 0 where
+  pub same : with_trivia (without_trivia trees) ts ≡ trees
+  pub remaining : remaining_after (without_trivia trees) ts ≡ us
 
 -- nothing is read yet
 pub with_trivia_blank : (ts : List Token) → HasTrivia blank ts ts
@@ -77,45 +77,46 @@ ahead (token k t f) ts h = record { same = rw (from_item-from_item ts, trivia-fr
 ahead (branch k c f) ts h = record { same = rw (from_item-from_item ts, trivia-from_item ts) refl; remaining = rw (from_item-from_item ts) refl }
 ahead (fault n c f) ts h = record { same = rw (from_item-from_item ts, trivia-from_item ts) refl; remaining = rw (from_item-from_item ts) refl }
 
--- a row with trivia and trees behind it
-pub with_trivia_added : (row g : AnnotatedForest) (ts us vs : List Token) → HasTrivia row ts us → HasTrivia g (from_item us) vs → HasTree (without_trivia g)
-    → HasTrivia (with_leading true row us ⊕ g) ts vs
-with_trivia_added row g ts us vs h j t =
-    let parts : without_trivia (with_leading true row us ⊕ g) ≡ without_trivia row ⊕ without_trivia g = added_without_trivia row us g refl in
+-- a forest with trivia and trees after it
+pub with_trivia_added : (trees g : AnnotatedForest) (ts us vs : List Token) → HasTrivia trees ts us → HasTrivia g (from_item us) vs → HasTree (without_trivia g)
+    → HasTrivia (with_leading true trees us ⊕ g) ts vs
+with_trivia_added trees g ts us vs h j t =
+    let parts : without_trivia (with_leading true trees us ⊕ g) ≡ without_trivia trees ⊕ without_trivia g = added_without_trivia trees us g refl in
     let a : IsAhead (without_trivia g) us = ahead (without_trivia g) us t in
     record {
-      same = rw (parts, with_trivia-⊕ (without_trivia row) (without_trivia g) ts, h.same, h.remaining, a.same, j.same) (sym (⊕-assoc row (trivia_before us) g));
-      remaining = rw (parts, remaining_after-⊕ (without_trivia row) (without_trivia g) ts, h.remaining, a.remaining) j.remaining;
+      same = rw (parts, with_trivia-⊕ (without_trivia trees) (without_trivia g) ts, h.same, h.remaining, a.same, j.same)
+          (sym (⊕-assoc trees (trivia_before us) g));
+      remaining = rw (parts, remaining_after-⊕ (without_trivia trees) (without_trivia g) ts, h.remaining, a.remaining) j.remaining;
     }
 
--- a tree is in a row with trivia and trees behind it
-pub tree_added : (row : AnnotatedForest) (us : List Token) (g : AnnotatedForest) → HasTree (without_trivia g)
-    → HasTree (without_trivia (with_leading true row us ⊕ g))
-tree_added row us g h = subst HasTree (sym (added_without_trivia row us g refl)) (tree_behind (without_trivia row) (without_trivia g) h)
+-- a tree is in a forest with trivia and trees after it
+pub tree_added : (trees : AnnotatedForest) (us : List Token) (g : AnnotatedForest) → HasTree (without_trivia g)
+    → HasTree (without_trivia (with_leading true trees us ⊕ g))
+tree_added trees us g h = subst HasTree (sym (added_without_trivia trees us g refl)) (tree_behind (without_trivia trees) (without_trivia g) h)
 
--- a node over a row
-pub with_trivia_branch : (k : SyntaxKind) (row : AnnotatedForest) (ts us : List Token) → HasNoLeadingTrivia ts → HasTrivia row ts us
-    → HasTrivia (one_branch k row) ts us
-with_trivia_branch k row ts us b h = record {
+-- a node over a forest
+pub with_trivia_branch : (k : SyntaxKind) (trees : AnnotatedForest) (ts us : List Token) → HasNoLeadingTrivia ts → HasTrivia trees ts us
+    → HasTrivia (one_branch k trees) ts us
+with_trivia_branch k trees ts us b h = record {
   same = rw (no_leading_trivia ts b, b, h.same) refl;
-  remaining = ap (remaining_after (without_trivia row)) b
+  remaining = ap (remaining_after (without_trivia trees)) b
       ∙ h.remaining;
 }
 
--- an error node over a row, behind which trivia need not stand
-pub with_trivia_fault : (n : Note) (row : AnnotatedForest) (ts us : List Token) → is_last n ≡ false → HasNoLeadingTrivia ts → HasTrivia row ts us
-    → HasTrivia (one_fault n row) ts us
-with_trivia_fault n row ts us e b h = record { same = rw (no_leading_trivia ts b, b, e, h.same) refl; remaining = rw (b, e) h.remaining }
+-- an error node over a forest, after which there need be no trivia
+pub with_trivia_fault : (n : Note) (trees : AnnotatedForest) (ts us : List Token) → is_last n ≡ false → HasNoLeadingTrivia ts → HasTrivia trees ts us
+    → HasTrivia (one_fault n trees) ts us
+with_trivia_fault n trees ts us e b h = record { same = rw (no_leading_trivia ts b, b, e, h.same) refl; remaining = rw (b, e) h.remaining }
 
--- the node of what is too deep, with the trivia behind it
-pub with_trivia_last : (row : AnnotatedForest) (ts us : List Token) → HasNoLeadingTrivia ts → HasTrivia row ts us
-    → HasTrivia (with_leading true (one_fault TooDeep row) us) ts (from_item us)
-with_trivia_last row ts us b h =
-    let bare : without_trivia (with_leading true (one_fault TooDeep row) us) ≡ one_fault TooDeep (without_trivia row) =
-    with_leading_without_trivia (one_fault TooDeep row) us in
+-- the node of what is too deep, with the trivia after it
+pub with_trivia_last : (trees : AnnotatedForest) (ts us : List Token) → HasNoLeadingTrivia ts → HasTrivia trees ts us
+    → HasTrivia (with_leading true (one_fault TooDeep trees) us) ts (from_item us)
+with_trivia_last trees ts us b h =
+    let bare : without_trivia (with_leading true (one_fault TooDeep trees) us) ≡ one_fault TooDeep (without_trivia trees) =
+    with_leading_without_trivia (one_fault TooDeep trees) us in
     record {
-      same = ap (λ x. with_trivia x ts) bare ∙ rw (no_leading_trivia ts b, b, h.same, h.remaining) (ap (fault TooDeep row) (⊕-blank (trivia_before us)));
-      remaining = ap (λ x. remaining_after x ts) bare ∙ ap (λ x. from_item (remaining_after (without_trivia row) x)) b ∙ ap from_item h.remaining;
+      same = ap (λ x. with_trivia x ts) bare ∙ rw (no_leading_trivia ts b, b, h.same, h.remaining) (ap (fault TooDeep trees) (⊕-blank (trivia_before us)));
+      remaining = ap (λ x. remaining_after x ts) bare ∙ ap (λ x. from_item (remaining_after (without_trivia trees) x)) b ∙ ap from_item h.remaining;
     }
 
 -- the next item as a leaf

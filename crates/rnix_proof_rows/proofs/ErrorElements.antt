@@ -14,14 +14,14 @@ use Rattle.{rnix_grammar.specs.Ranges.{IsErrorOf, AreErrorsOf, IsEntryName}, rni
 use Rattle.rnix_proof_rows.proofs.{ReadsFilled.{HasTokens, HaveFaultTokens}, PlacedTokens.{ArePlaced, between, row_extent, placed_first}, RowsIn.{IsRowIn, row_first}}
 use Rattle.rnix_proof_rows.proofs.RowsIn.{row_text}
 
--- errors and elements, one list behind another
+-- errors and elements, one list after another
 pub errors-++ : (t : Tree) (es fs : List Fault) (ms ns : List ℕ) → AreErrorsOf t es ms → AreErrorsOf t fs ns → AreErrorsOf t (es ++ fs) (ms ++ ns)
 errors-++ t [] fs [] ns h k = k
 errors-++ t [] fs (m ∷ ms) ns h k = absurd h
 errors-++ t (e ∷ es) fs [] ns h k = absurd h
 errors-++ t (e ∷ es) fs (m ∷ ms) ns h k = (h.0, errors-++ t es fs ms ns h.1 k)
 
--- what holds of a row in a tree with its tokens
+-- what holds of a forest in a tree with its tokens
 pub record IsSound (q : SyntaxKind) (s : ℕ) (f : AnnotatedForest) : Type 0 where
   pub placed : ArePlaced s (tokens_in f)
   pub leaf_kind : HaveLeafKinds q f
@@ -29,7 +29,7 @@ pub record IsSound (q : SyntaxKind) (s : ℕ) (f : AnnotatedForest) : Type 0 whe
   pub marked : HaveFaultTokens f
   pub formed : AreFormed q f
 
--- the node of the number p, in which a row is, is of the kind q, and no other node than the first is a root
+-- the node of the number p, in which a forest is, is of the kind q, and no other node than the first is a root
 pub record IsRowOf (t : Tree) (p : ℕ) (q : SyntaxKind) : Type 0 where
   pub kind_is : (item t p).kind ≡ q
   pub root : q ≡ NODE_ROOT → p ≡ 0
@@ -46,7 +46,7 @@ first_token t m s (token k x f) h o b =
     }
 first_token t m s _ h o b = absurd (true_is_not_false (sym b))
 
--- each element of a row of such tokens is one
+-- each element of a forest of such tokens is one
 other_at : (kinds : List SyntaxKind) (n s : ℕ) (p : Option ℕ) (c : AnnotatedForest) (i : ℕ) → i < element_count (forget c) → AreOthers kinds c
     → ((at n s p (forget c) i).is_node ≡ false) × (is_one_of kinds (at n s p (forget c) i).kind ≡ false)
 other_at kinds n s p blank i l h = absurd (omega arith)
@@ -67,7 +67,7 @@ other_tokens t m s kinds c h b o = λ n child.
       ap (λ (i : Item). is_one_of kinds i.kind) here ∙ other.1,
     )
 
--- a row of such tokens has as many elements
+-- a forest of such tokens has as many elements
 tokens_counted : (kinds : List SyntaxKind) (c : AnnotatedForest) → AreOthers kinds c → element_count (forget c) ≡ length (tokens_in c)
 tokens_counted kinds blank h = refl
 tokens_counted kinds (token k x f) h = let more = tokens_counted kinds f h.1 in omega (arith, more)
@@ -127,7 +127,7 @@ report_error t q p m s n c f some form under first h w = by n some form
 pub none_some : {A : Type 0} (x : Token) → None ≡ Some x → A
 none_some x h = absurd (cc)
 
--- the name that a row begins with is that of a node
+-- the name that a forest begins with is that of a node
 name_node : (k : SyntaxKind) (c f : AnnotatedForest) (x : Token) → entry_name (branch k c f) ≡ Some x → (k ≡ NODE_IDENT) × (only_token c ≡ Some x)
 name_node NODE_IDENT c f x h = (refl, h)
 name_node _ c f x h = none_some x h
@@ -164,7 +164,7 @@ name_here t e s x _ f k h a (name j) =
       name_is = sym (append-nil x.text) ∙ sym (row_text t n s (Some e) NODE_IDENT (forget (token j x blank)) (forget f) h);
     }
 
--- the name that the row of an entry begins with
+-- the name that the forest of an entry begins with
 pub row_name : (t : Tree) (e s : ℕ) (c : AnnotatedForest) (x : Token) → (item t e).kind ≡ NODE_PAT_ENTRY → IsRowIn t (e + 1) s (Some e) (forget c)
     → ArePlaced s (tokens_in c)
     → AreNamesSingleTokens c → begins_with_node c ≡ true → entry_name (without_trivia c) ≡ Some x → IsEntryName t e (extent_in (x ∷ [])) x.text

@@ -1,5 +1,5 @@
--- In a row that is read, the error node for an operand or for a run holds items alone, none of a kind that its error names as wanted; the items behind a
--- whole text stand in the root, and a second name in its pattern.
+-- In a reading, the error node for an operand or for a run contains only items, none of a kind that its error lists as wanted; the items after a
+-- whole text are in the root, and a second name is in its pattern.
 use Rattle.std.{specs.List.list_all, proofs.Common.{◌≡◌, ℕ, Bool, true, false, List, [], ◌∷◌, ◌++◌, length, Option, Some, None, refl, ap, sym, ◌∙◌, subst, append-nil}}
 use Rattle.{std.proofs.{Common.{append_assoc, if◌then◌else◌, ◌&&◌, arith}, lemmas.Bool.and_from}, rnix_kinds.specs.declared.kinds.SyntaxKind.SyntaxKind}
 use Rattle.rnix_kinds.specs.declared.kinds.SyntaxKind.TheVariants.{NODE_APPLY, NODE_BIN_OP, NODE_ERROR, NODE_HAS_ATTR, NODE_IDENT, NODE_LITERAL}
@@ -18,22 +18,22 @@ use Rattle.rnix_proof_rows.proofs.{RowsWithoutAttrpath.is_free, FirstItems.{is_a
 use Rattle.rnix_proof_lemmas.proofs.EachBeginning.{each_first_tree}
 use Rattle.rnix_proof_rows.proofs.ErrorNodeRows.{ends_root, ends_pattern, holds}
 
--- no item that begins an operand at every level is read as an error node
+-- no item that begins an operand at every level becomes an error node
 abbrev may_lead : Bool → SyntaxKind → Bool
 may_lead true kind = if is_one_of operand_kinds kind then false else true
 may_lead false kind = true
 
--- so it is with the first of some items, if they are read as a tree of the kind
+-- nor does the first of some items, if they are read as a tree of the kind
 abbrev MayLead : SyntaxKind → List Token → Type 0
 MayLead k [] = Unit {0}
 MayLead k (t ∷ ts) = may_lead (is_error_node k) t.kind ≡ true
 
--- what begins an operand may lead its first tree
+-- an item that begins an operand may begin its first tree
 item_leads : (level : ℕ) (kind : SyntaxKind) (text : List ℕ) (next later : Option SyntaxKind)
     → may_lead (is_error_node (first_kind level kind text next later)) kind ≡ true
 item_leads = each_first_tree (λ kind next k. may_lead (is_error_node k) kind ≡ true) (λ next. assumption)
 
--- an operand begins with what may lead its first tree
+-- an operand begins with an item that may begin its first tree
 operand_leads : (level : ℕ) (x : AnnotatedForest) (ts : List Token) → BeginsAs level x ts → MayLead (first_tree x) ts
 operand_leads level x [] h = tt
 operand_leads level x (t ∷ ts) h =
@@ -45,17 +45,17 @@ first_is_operand (Atom · r) = true
 first_is_operand (First n · r) = true
 first_is_operand r = false
 
--- there the first item may lead the first tree
+-- there the first item may begin the first tree
 abbrev Leads : Row → AnnotatedForest → List Token → Type 0
 Leads q f ts = Where (first_is_operand q) (MayLead (first_tree f) ts)
 
--- no other position begins so: behind a child
+-- no other position begins so: after a child
 later_leads : {p : SyntaxKind} (q : Row) (k : SyntaxKind) (f : AnnotatedForest) (ts : List Token) → IsKnown p q → Leads (after q k) f ts
 later_leads {p} q k f ts i = where_none _ (first_is_operand (after q k))
     (not_if (first_is_operand (after q k)) (every (λ k. if first_is_operand (after q k) then false else true)
     (every_known (λ p q. list_all (λ k. if first_is_operand (after q k) then false else true) all_kinds) (λ p. refl) refl p q i) k))
 
--- behind what is missing, and behind a run
+-- after a missing part, and after a run
 abbrev begins_later : {A : Type 0} → Option (A × Row) → Bool
 begins_later None = false
 begins_later (Some w) = first_is_operand w.1
@@ -69,7 +69,7 @@ run_leads : {p : SyntaxKind} {q r : Row} {kinds : List SyntaxKind} (f : Annotate
 run_leads {p} {q} {r} f ts i m = where_none _ (first_is_operand r) (sym (ap begins_later m)
     ∙ not_if (begins_later (run_at q)) (every_known (λ p q. if begins_later (run_at q) then false else true) (λ p. refl) refl p q i))
 
--- behind an error node
+-- after an error node
 wrong_leads : {p : SyntaxKind} (note : Note) (d : ℕ) (q r : Row) (ts vs us : List Token) (f : AnnotatedForest) → IsKnown p q → IsWrong note d q r ts vs
     → Leads r f us
 wrong_leads Stray d q r ts vs us f i w = subst (λ z. Leads z f us) w.3 (later_leads q NODE_LITERAL f us i)
@@ -86,7 +86,7 @@ first_inside NODE_APPLY c f h = refl
 first_inside NODE_BIN_OP c f h = refl
 first_inside _ c f h = absurd (true_is_not_false (sym h))
 
--- an argument that is no operand is the name `or`, whose row does not begin so
+-- an argument that is not an operand is the name `or`, whose row does not begin so
 called_or : {A : Type 0} (q : Row) (k : SyntaxKind) (c : AnnotatedForest) → is_argument q ≡ true → first_is_operand (row k) ≡ true
     → level_at q (one_branch k c) ≡ None → A
 called_or (Argument · r) k c a e g = by k e g
@@ -96,7 +96,7 @@ called_or (Argument · r) k c a e g = by k e g
     by _ e g = absurd (cc)
 called_or _ k c a e g = absurd (true_is_not_false (sym a))
 
--- where no level is asked for, a node whose row begins so is the first operand of another
+-- where no level is required, a node whose row begins so is the first operand of another
 abbrev holds_operands : Row → Bool
 holds_operands q = list_all (λ k. if is_viable (after q k) && first_is_operand (row k) then first_is_operand q else true) all_kinds
 
@@ -111,7 +111,7 @@ first_operand {p} q k c i l e g = by (is_argument q) refl
         (sym (ap (λ w. if w then holds_operands q else true) (ap is_free (sym (level_alone q (one_branch k c) a) ∙ g)))
         ∙ every_known (λ p q. if is_free (level_at q blank) then holds_operands q else true) (λ p. refl) refl p q i) k (and_from _ _ l e)
 
--- so what leads a node leads its first operand
+-- so the item that begins a node begins its first operand
 inner_leads : {p : SyntaxKind} (q : Row) (k : SyntaxKind) (c f : AnnotatedForest) (vs : List Token) → IsKnown p q → is_viable (after q k) ≡ true
     → IsOperandOf (level_at q (one_branch k c)) (one_branch k c) vs
     → Leads q (branch k c f) (tokens_in c ++ vs) → Leads (row k) c (tokens_in c ++ vs)
@@ -127,18 +127,18 @@ inner_leads q k c f vs i l o h = by (first_is_operand (row k)) refl (level_at q 
     by true e None g w =
         subst (λ (j : SyntaxKind). MayLead j (tokens_in c ++ vs)) (first_inside k c f e) (where_one (first_is_operand q) (first_operand q k c i l e g) h)
 
--- tokens alone, and none of one of the kinds
+-- only tokens, and none of one of the kinds
 abbrev pub AreOthers : List SyntaxKind → AnnotatedForest → Type 0
 AreOthers kinds blank = Unit {0}
 AreOthers kinds (token k t f) = (is_one_of kinds k ≡ false) × AreOthers kinds f
 AreOthers kinds f = ⊥
 
--- a run of items that are not wanted
+-- a run of unwanted items
 others_row : (until : ExpectedSet) (ts : List Token) → AreUnwanted until ts → AreOthers (wanted_kinds until) (row_of ts)
 others_row until [] h = tt
 others_row until (t ∷ ts) h = (h.0, others_row until ts h.1)
 
--- a single item where no level is asked for is the first operand of another
+-- a single item where no level is required is the first operand of another node
 stray_first : {p : SyntaxKind} (q : Row) → IsKnown p q → is_viable (after q NODE_LITERAL) ≡ true → level_at q blank ≡ None → first_is_operand q ≡ true
 stray_first {p} q i l g = sym (ap (λ w. if w then first_is_operand q else true) (and_from _ _ l (ap is_free g)))
     ∙ every_known (λ p q. if is_viable (after q NODE_LITERAL) && is_free (level_at q blank) then first_is_operand q else true) (λ p. refl) refl p q i
@@ -160,8 +160,8 @@ stray_other q (t ∷ []) us f i l n o h = ((by (level_at q blank) refl o, tt), r
     by (Some level) e w = none (operand_leads level (one_fault Stray (row_of (t ∷ []))) (t ∷ (tokens_in f ++ us)) w.1)
     by None e w = none (where_one (first_is_operand q) (stray_first q i l e) h)
 
--- In a node of the kind, an error node for an operand or for a run holds others than are wanted, and for an operand one; one for what is behind a whole text
--- is in the root, and one for a second name in a pattern.
+-- Below a node of the kind, an error node for an operand or for a run contains no wanted item, and for an operand just one item; one for what follows a whole
+-- text is in the root, and one for a second name is in a pattern.
 abbrev pub IsFormed : Note → SyntaxKind → AnnotatedForest → Type 0
 IsFormed Stray parent c = AreOthers operand_kinds c × (length (tokens_in c) ≡ 1)
 IsFormed (Unwanted until) parent c = AreOthers (wanted_kinds until) c
@@ -169,7 +169,7 @@ IsFormed Extra parent c = parent ≡ NODE_ROOT
 IsFormed DoubleBind parent c = parent ≡ NODE_PATTERN
 IsFormed TooDeep parent c = Unit {0}
 
--- so it is with each error node of a row of a kind, and no other node is a root
+-- so it is with each error node of a forest, whose parent is of the kind, and no other node is a root
 abbrev pub AreFormed : SyntaxKind → AnnotatedForest → Type 0
 AreFormed parent blank = Unit {0}
 AreFormed parent (token k t f) = AreFormed parent f
@@ -195,7 +195,7 @@ formed {p} Extra d q r ts us f i l w h = ends_root (subst (IsKnown p) w.2 i)
 formed DoubleBind d q r ts us f i l w h = absurd w
 formed TooDeep d q r ts us f i l w h = tt
 
--- each error node of a row
+-- each error node of a forest
 forms : {p : SyntaxKind} {d n : ℕ} {q q' : Row} {b : AnnotatedForest} {us : List Token} {f : AnnotatedForest} {es : List Fault} → Reads p d n q q' b us f es
     → IsKnown p q → is_viable q' ≡ true → Leads q f (tokens_in f ++ us) → AreFormed p f
 forms end i l h = tt

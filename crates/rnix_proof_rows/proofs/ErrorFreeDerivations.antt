@@ -7,7 +7,7 @@ use Rattle.rnix_grammar.specs.{Yield.{kind_of_token, yield}, Tables.{is_or, dept
 use Rattle.{rnix_grammar.specs.{PathPieces.ArePaths, Nest.nest}, rnix_proof_lemmas.{specs.Spelled.{is_spelled, AreSpelled}, proofs.Basics.true_is_not_false}}
 use Rattle.{rnix_proof_lemmas.proofs.SpelledLemmas.{spelled_first, spelled_rest}, rnix_proof_rows.proofs.ReadsShapes.AreErrorFreeRows}
 
--- the trees of a row without error nodes, over its tokens, are the row
+-- the trees of a forest without error nodes, over its tokens, are the forest
 pub beyond_row : (f : AnnotatedForest) (us : List Token) → AreErrorFreeRows f → beyond (forget f) (tokens_in f ++ us) ≡ us
 beyond_row blank us h = refl
 beyond_row (token k t f) us h = beyond_row f us h
@@ -15,7 +15,7 @@ beyond_row (branch k c f) us h =
     rw (append_assoc (tokens_in c) (tokens_in f) us) (ap (beyond (forget f)) (beyond_row c (tokens_in f ++ us) h.2) ∙ beyond_row f us h.3)
 beyond_row (fault n c f) us h = absurd h
 
--- an error-free row, annotated with its own tokens, is itself
+-- an error-free forest, annotated with its own tokens, is itself
 pub annotate_row_same : (f : AnnotatedForest) (us : List Token) → AreErrorFreeRows f → annotate (forget f) (tokens_in f ++ us) ≡ f
 annotate_row_same blank us h = refl
 annotate_row_same (token k t f) us h = ap (token k t) (annotate_row_same f us h)
@@ -65,7 +65,7 @@ yields_same p (branch k c f) h t s =
     ∙ sym (map-append lexeme_of (tokens_in c) (tokens_in f))
 yields_same p (fault n c f) h t s = absurd h
 
--- where the pieces of its paths touch, such a row is a derivation of its tokens
+-- where the pieces of its paths touch, such a forest is a derivation of its tokens
 pub derived : (f : AnnotatedForest) → AreErrorFreeRows f → HaveLeafKinds NODE_ROOT f → AreSpelled (tokens_in f) → IsExpression (forget f)
     → nest NODE_ROOT (forget f) ≤ depth_limit → ArePaths f []
     → IsDerivation (forget f) (tokens_in f)

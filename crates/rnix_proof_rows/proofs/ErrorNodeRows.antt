@@ -1,4 +1,4 @@
--- What the error nodes of a row that is read hold, and in which nodes they stand.
+-- What the error nodes of a forest that is read hold, and in which nodes they stand.
 use Rattle.{std.proofs.Common.{◌≡◌, ℕ, Bool, true, false, List, [], ◌∷◌, ◌++◌, refl, sym, subst}, rnix_kinds.specs.declared.kinds.SyntaxKind.SyntaxKind}
 use Rattle.rnix_kinds.specs.declared.kinds.SyntaxKind.TheVariants.{NODE_ERROR, NODE_PATTERN, NODE_ROOT}
 use Rattle.rnix_grammar.specs.{declared.rules.Part.TheVariants.{BoundAlready, TextEnd}, Fault.Fault, Rules.{Row, done, ◌·◌}, AnnotatedForest.{Token, Note}}
@@ -31,7 +31,7 @@ leaves_alone : (ts : List Token) → AreErrorNodes NODE_ERROR (row_of ts)
 leaves_alone [] = tt
 leaves_alone (t ∷ ts) = leaves_alone ts
 
--- so does each error node of a row
+-- so does each error node of a forest
 pub error_nodes : {i : SyntaxKind} {d n : ℕ} {q q' : Row} {b : AnnotatedForest} {us : List Token} {f : AnnotatedForest} {es : List Fault}
     → Reads i d n q q' b us f es
     → IsKnown i q → AreErrorNodes i f

@@ -43,7 +43,7 @@ errors_remaining-++ (x ∷ xs) ys =
     ++ errors_remaining ys)
     [ true ↦ ap (λ z. x.1.1.number ∷ z) (errors_remaining-++ xs ys) | false ↦ errors_remaining-++ xs ys ]
 
--- those of steps behind others
+-- those of steps after others
 errors_at-++ : (t : Tree) (xs ys : List Step) → errors_at t (xs ++ ys) ≡ errors_at t xs ++ errors_at t ys
 errors_at-++ t xs ys = ap errors_remaining (map-append (event_at t) xs ys) ∙ errors_remaining-++ (map (event_at t) xs) (map (event_at t) ys)
 
@@ -61,7 +61,7 @@ own_error t n true u ms e = ap (λ z. if z then n ∷ errors_among t ms else err
 own_error t n false true ms e = ap (λ z. if z then n ∷ errors_among t ms else errors_among t ms) e
 own_error t n false false ms e = refl
 
--- a walk over a row leaves those of its elements at fault that are error nodes
+-- a walk over a forest leaves those of its elements at fault that are error nodes
 pub walk_errors : (t : Tree) (n s : ℕ) (p : Option ℕ) (names : List (List ℕ)) (f : Forest) → IsRowIn t n s p f
     → errors_at t (steps_from n f) ≡ errors_among t (at_fault_from n names f)
 walk_errors t n s p names empty h = refl

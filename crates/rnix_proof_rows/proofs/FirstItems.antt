@@ -18,7 +18,7 @@ use Rattle.rnix_proof_lemmas.proofs.EachBeginning.{highest, where_allowed}
 use Rattle.std.specs.Option.{is_some}
 use Rattle.rnix_proof_rows.proofs.RowsWithoutAttrpath.{is_free, is_same, same_true}
 
--- the first item of a pattern that stands before a function's body
+-- the first item of a pattern that comes before a function's body
 abbrev pub begins_pattern : SyntaxKind → Bool
 begins_pattern TOKEN_IDENT = true
 begins_pattern TOKEN_L_BRACE = true
@@ -92,7 +92,7 @@ Names q k (t ∷ ts) = is_named_by q k t ≡ true
 abbrev pub Known : Row → SyntaxKind → AnnotatedForest → List Token → Type 0
 Known q k c ts = Names q k ts × Fronts k (row k) c ts
 
--- a name that is neither `or` nor `__curPos` may stand wherever a name may
+-- a name that is neither `or` nor `__curPos` may be wherever a name may
 plain_named : (q : Row) (t : Token) → is_or t.kind ≡ false → is_cur_pos t.text ≡ false → is_name_at q t ≡ true
 plain_named (Optional kind · r) t e g = plain_named r t e g
 plain_named (r or s) t e g = plain_named r t e g
@@ -174,7 +174,7 @@ abbrev pub is_argument : Row → Bool
 is_argument (Argument · r) = true
 is_argument r = false
 
--- rows where a name or a parameter may stand, and no operand
+-- rows where a name or a parameter may be, and no operand
 abbrev is_settled : SyntaxKind → Row → Bool
 is_settled p q = if is_argument q then false else (if is_first q then (if begins_with_operand p then false else true) else is_free (level_at q blank))
 
@@ -252,7 +252,7 @@ asked (_ · r) n t ts k c h f e = same_true _ _ e
 asked never n t ts k c h f e = absurd (true_is_not_false h)
 asked (r or s) n t ts k c h f e = absurd (true_is_not_false f)
 
--- where a row begins with a node, or a name or a parameter may stand
+-- where a row begins with a node, or a name or a parameter may be
 by_item : {p : SyntaxKind} (q : Row) (k : SyntaxKind) (c f : AnnotatedForest) (n : ℕ) (ts : List Token) → IsKnown p q → is_settled p q ≡ true
     → is_constrained k ≡ true
     → is_viable (after q k) ≡ true → (is_first q ≡ false → is_child q ≡ false) → IsExpected q n ts (is_first_expected q k c) → Fronts p q (branch k c f) ts
@@ -266,7 +266,7 @@ by_item {p} q k c f n (t ∷ ts) i s o l a x h = settled_known q (nat_eq t.start
     by true e h = h
     by false e h = asked q n t ts k c (a e) e x
 
--- behind a token that is there whenever its node is no name and no parameter stands
+-- after a token that is there whenever its node is no name and no parameter stands
 abbrev none_constrained : Row → Bool
 none_constrained q = list_all (λ k. if is_viable (after q k) then (if is_constrained k then false else true) else true) all_kinds
 

@@ -73,7 +73,7 @@ binds {d = d} {us = us} (wrong {r = r} {f = f} note ts x o v h) i w e =
 binds (second s y h) i w e = absurd (cc)
 binds (inner {k = k} o s y x j z h) i w e = binds_node k s y.0 (ap (λ q. is_viable (after q k)) (sym e) ∙ reads_viable h (end_viable _ w))
 
--- behind its pattern it begins with `@`
+-- after its pattern it begins with `@`
 bound_behind : (r : Row) (n : ℕ) (c : AnnotatedForest) (vs : List Token) → Binds c → IsExpected (EndOr NODE_PAT_BIND · r) n (tokens_in c ++ vs) true
     → begins_with_token c ≡ true
 bound_behind r n (token k t f) vs b x = refl
@@ -140,7 +140,7 @@ none_named q (token k t f) h = none_named (after q k) f h
 none_named q (branch k c f) h = absurd h
 none_named q (fault note c f) h = none_named (after_error q note) f h
 
--- behind the first tree a row does not begin with a node that is there whenever its node is
+-- after the first tree a row does not begin with a node that is there whenever its node is
 pub where_none : (P : Type 0) (w : Bool) → w ≡ false → Where w P
 where_none P true e = absurd (true_is_not_false e)
 where_none P false e = tt
@@ -149,7 +149,7 @@ later_fronts : {p : SyntaxKind} (q : Row) (k : SyntaxKind) (f : AnnotatedForest)
 later_fronts {p} q k f ts i = where_none _ (is_first (after q k)) (not_if (is_first (after q k)) (every (λ k. if is_first (after q k) then false else true)
     (every_known (λ p q. list_all (λ k. if is_first (after q k) then false else true) all_kinds) (λ p. refl) refl p q i) k))
 
--- nor behind an error node
+-- nor after an error node
 abbrev runs_later : Option (List SyntaxKind × Row) → Bool
 runs_later None = true
 runs_later (Some w) = if is_first w.1 then false else true
@@ -163,7 +163,7 @@ wrong_fronts {p} Extra d q r ts vs us f i w = subst (λ z. Fronts p z f us) (sym
 wrong_fronts DoubleBind d q r ts vs us f i w = absurd w
 wrong_fronts {p} TooDeep d q r ts vs us f i w = subst (λ z. Fronts p z f us) w.3 (later_fronts q NODE_LITERAL f us i)
 
--- each name of a row stands where it may
+-- each name of a forest stands where it may
 named_row : {p : SyntaxKind} {d n : ℕ} {q q' : Row} {b : AnnotatedForest} {us : List Token} {f : AnnotatedForest} {es : List Fault} → Reads p d n q q' b us f es
     → IsKnown p q → is_viable q' ≡ true → Fronts p q f (tokens_in f ++ us) → AreNamed q f
 named_row end i l h = tt

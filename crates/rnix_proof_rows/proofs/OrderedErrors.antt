@@ -1,4 +1,4 @@
--- The errors of a row are, one by one, those of its error nodes and of its entries that repeat a name, as these close.
+-- The errors of a forest are, one by one, those of its error nodes and of its entries that repeat a name, as these close.
 use Rattle.std.proofs.Common.{◌≡◌, ℕ, ◌+◌, Bool, true, false, List, [], ◌∷◌, length, Option, Some, None, refl, ap, sym, ◌∙◌, arith, subst, if◌then◌else◌}
 use Rattle.{std.proofs.Common.{bytes_eq, ◌||◌}, rnix_kinds.specs.declared.kinds.SyntaxKind.{SyntaxKind, TheVariants.{NODE_ERROR, NODE_PAT_ENTRY}}}
 use Rattle.{rnix_kinds.specs.SyntaxKind.is_trivia, rnix_green.specs.{Forest.{text_of, element_count}, Tree.{Tree, Item, item}}}
@@ -16,7 +16,7 @@ swapped : (x y : Bool) → (if x then true else (if y then true else false)) ≡
 swapped true true = refl
 swapped _ _ = refl
 
--- the names before a row, with that of one more node
+-- the names before a forest, with that of one more node
 lists_node : (names : List (List ℕ)) (b : AnnotatedForest) (k : SyntaxKind) (c : AnnotatedForest) → Lists names b
     → Lists (with_name (name_of (name_of_items k c)) names) (b ⊕ one_branch k c)
 lists_node names b k c h = λ name. has-⊕ name b (one_branch k c) ∙ ap (λ x. if has_entry name b then true else x) (has_branch name k c blank)
@@ -82,7 +82,7 @@ node_error t n names b k c e o l h =
     (sym (repeats_named k b (without_trivia c)))
     (entry_error t n names b (name_of_items k (without_trivia c)) l (λ x g. (let w = named_entry k (without_trivia c) x g in h x w.0 w.1))))
 
--- the errors of a row are those of its elements
+-- the errors of a forest are those of its elements
 pub row_errors : (t : Tree) (q : SyntaxKind) (n s p : ℕ) (b : AnnotatedForest) (names : List (List ℕ)) (f : AnnotatedForest)
     → IsRowIn t n s (Some p) (forget f) → IsRowOf t p q → IsSound q s f → Lists names (without_trivia b)
     → AreErrorsOf t (reports_within b f) (at_fault_from n names (forget f))

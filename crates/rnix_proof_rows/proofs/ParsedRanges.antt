@@ -10,11 +10,11 @@ use Rattle.rnix_proof_rows.proofs.{ErrorForms.root_forms, WithTriviaForms.forms_
 abbrev pub tree_of : AnnotatedForest → Tree
 tree_of f = record { kind = NODE_ROOT; children = forget f }
 
--- the row below the root
+-- the children of the root
 pub row_below : (f : AnnotatedForest) → IsRowIn (tree_of f) 1 0 (Some 0) (forget f)
 row_below f = row_inside (tree_of f) 0 0 None NODE_ROOT (forget f) empty (row_of_tree (tree_of f))
 
--- the row of a whole text has its tokens, one behind another, and its error nodes have tokens
+-- the forest of a whole text has its tokens, one after another, and its error nodes have tokens
 pub root_sound : {tokens : List Lexeme} {tree : Tree} {faults : List Fault} (h : IsParsed tokens tree faults)
     → ReadsRoot (without_trivia h.reading.annotated) faults → IsSound NODE_ROOT 0 h.reading.annotated
 root_sound {tokens = tokens} h stands = record {

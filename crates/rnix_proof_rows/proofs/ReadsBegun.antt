@@ -1,4 +1,4 @@
--- In a repaired row, but for numbers that stand for no token, each node's children begin a row of its kind.
+-- In a repaired forest, except for numbers that stand for no token, each node's children begin a row of its kind.
 use Rattle.std.proofs.Common.{◌≡◌, ℕ, true, false, List, [], ◌∷◌, ◌++◌, refl, ap, sym, ◌∙◌, subst, if◌then◌else◌}
 use Rattle.{rnix_kinds.specs.declared.kinds.SyntaxKind.SyntaxKind, rnix_green.specs.Forest.{Forest, empty}, rnix_grammar.specs.Fault.Fault}
 use Rattle.rnix_grammar.specs.AnnotatedForest.{Token, Note, Stray, TooDeep, AnnotatedForest, blank, token, branch, fault, row_of, tokens_in, is_some, leaf_kind}
@@ -10,7 +10,7 @@ use Rattle.rnix_proof_rows.proofs.{RowsWithoutAttrpath.{missing_no_attrpath, Has
 use Rattle.rnix_proof_rows.proofs.RepairedRows.{Simulates, simulates_self, simulates_same, simulates_both, simulates_completable, second_simulates}
 use Rattle.rnix_proof_rows.proofs.RepairedRows.{after_repair, wrong_simulates}
 
--- a row of error nodes without tokens holds nothing
+-- a forest of error nodes without tokens holds nothing
 nonempty_none : (f : AnnotatedForest) → HasNoNode f → tokens_in f ≡ [] → repaired_nonempty f ≡ empty
 nonempty_none blank h n = refl
 nonempty_none (token k t f) h n = absurd (not_nil n)

@@ -1,4 +1,4 @@
--- The errors of a row that is read.
+-- The errors of a forest that is read.
 use Rattle.std.proofs.Common.{◌≡◌, ◌⊎◌, inl, inr, ℕ, true, false, List, [], ◌∷◌, ◌++◌, Option, Some, None, refl, ap, sym, ◌∙◌, subst, append_assoc}
 use Rattle.{std.proofs.Common.if◌then◌else◌, rnix_kinds.specs.declared.kinds.SyntaxKind.{SyntaxKind, TheVariants.NODE_PAT_ENTRY}}
 use Rattle.rnix_grammar.specs.{Fault.{Fault, duplicated_args}, AnnotatedForest.{Token, Note, Stray, Unwanted, Extra, DoubleBind, TooDeep, AnnotatedForest}}
@@ -59,7 +59,7 @@ settled-++ : (es fs : List Fault) → NoErrorAfterEnd es → NoErrorAfterEnd fs 
 settled-++ [] fs h k r = k
 settled-++ (e ∷ es) fs h k r = (settled-++ es fs h.0 k (λ x. r (inr x)), λ x. none-++ es fs (h.1 x) (r (inl x)))
 
--- no token is wrong by an error of the end of the text
+-- no token is wrong by an error at the end of the text
 ended_placed : (e : Fault) → is_ended e ≡ true → is_misplaced e ≡ false
 ended_placed (Fault.unwanted k r ks) h = absurd (true_is_not_false (sym h))
 ended_placed _ h = cc
@@ -107,8 +107,8 @@ empty_report Extra d q r vs w = absurd (true_is_not_false (sym w.0))
 empty_report DoubleBind d q r vs w = absurd w
 empty_report TooDeep d q r vs w = refl
 
--- What is so of the errors of a row: those that are not of the end of the text are those of the error nodes and of repeated entries, as these close;
--- each list of wanted kinds is one of those that tokens are wanted by; where no token is, none is wrong; behind an error of the end of the text no item
+-- What is so of the errors of a forest: those that are not of the end of the text are those of the error nodes and of repeated entries, as these close;
+-- each list of wanted kinds is one of those that tokens are wanted by; where no token is, none is wrong; after an error at the end of the text no item
 -- is left, and no token is wrong.
 pub record Errors (f : AnnotatedForest) (us : List Token) (rs es : List Fault) : Type 0 where
   pub reports : others es ≡ rs
@@ -117,7 +117,7 @@ pub record Errors (f : AnnotatedForest) (us : List Token) (rs es : List Fault) :
   pub last : HasEnded es → us ≡ []
   pub settled : NoErrorAfterEnd es
 
--- those of a node, its own and those behind it
+-- those of a node, its own and those after it
 joined : (c f g : AnnotatedForest) (us vs : List Token) (ds os es ps rs : List Fault) → tokens_in g ≡ tokens_in c ++ tokens_in f → vs ≡ tokens_in f ++ us
     → Errors c vs ps ds
     → NeitherEndNorMisplaced os → Errors f us rs es → Errors g us (ps ++ (os ++ rs)) ((ds ++ os) ++ es)
@@ -135,7 +135,7 @@ joined c f g us vs ds os es ps rs t v h o w = record {
       (λ m. elim (has-++ ds os m) [ inl e ↦ w.none (none_remaining (tokens_in f) us (sym v ∙ h.last e)) | inr e ↦ absurd (o.ended e) ]);
 }
 
--- so it is with each row
+-- so it is with each forest
 pub reads_errors : {p : SyntaxKind} {d n : ℕ} {q q' : Row} {b : AnnotatedForest} {us : List Token} {f : AnnotatedForest} {es : List Fault}
     → Reads p d n q q' b us f es → IsKnown p q → Errors f us (reports_behind b f) es
 reads_errors end i = record { reports = refl; named = tt; none = λ n. tt; last = λ h. absurd h; settled = tt }

@@ -1,4 +1,4 @@
--- Which nodes of a row that is read have trees: those inside error nodes, and all where there is no error; which error nodes have tokens.
+-- Which nodes of a forest that is read have trees: those inside error nodes, and all where there is no error; which error nodes have tokens.
 use Rattle.std.{specs.List.list_all, proofs.Common.{◌≡◌, ℕ, Bool, true, false, List, [], ◌∷◌, ◌++◌, refl, ap, sym, ◌∙◌, ◌&&◌, if◌then◌else◌}}
 use Rattle.{std.proofs.lemmas.Bool.and_from, rnix_kinds.specs.declared.kinds.SyntaxKind.{SyntaxKind, TheVariants.{NODE_ERROR, NODE_IDENT, NODE_LITERAL}}}
 use Rattle.{rnix_kinds.{specs.SyntaxKind.is_trivia, proofs.AllKinds.{all_kinds, implied}}, rnix_green.specs.Equality.{same_kind, same_kind-decides}}
@@ -12,21 +12,21 @@ use Rattle.rnix_proof_lemmas.proofs.{ReachableRows.{known_second, known_after, k
 use Rattle.rnix_proof_rows.proofs.{RowsWithoutAttrpath.{begins_with_child, row_some}, AttachTriviaLemmas.HasTree, RepairedRows.start_half}
 use Rattle.rnix_proof_rows.proofs.ReadsShapes.{AreErrorFreeRows}
 
--- each node of a row has trees, and none is that of what is too deep
+-- each node of a forest has trees, and none is that of what is too deep
 abbrev pub AreFilled : AnnotatedForest → Type 0
 AreFilled blank = Unit {0}
 AreFilled (token k t f) = AreFilled f
 AreFilled (branch k c f) = HasTree c × AreFilled c × AreFilled f
 AreFilled (fault n c f) = (is_last n ≡ false) × HasTree c × AreFilled c × AreFilled f
 
--- so it is in each error node of a row, of which some may be empty
+-- so it is in each error node of a forest, of which some may be empty
 abbrev pub AreFaultsFilled : AnnotatedForest → Type 0
 AreFaultsFilled blank = Unit {0}
 AreFaultsFilled (token k t f) = AreFaultsFilled f
 AreFaultsFilled (branch k c f) = AreFaultsFilled c × AreFaultsFilled f
 AreFaultsFilled (fault n c f) = AreFilled c × AreFaultsFilled c × AreFaultsFilled f
 
--- a row of tokens has no nodes
+-- a forest of tokens has no nodes
 row_filled : (ts : List Token) → AreFilled (row_of ts)
 row_filled [] = tt
 row_filled (t ∷ ts) = row_filled ts
@@ -66,7 +66,7 @@ is_end (TextEnd · r) = true
 is_end (BoundAlready · r) = true
 is_end r = false
 
--- in a row of these no operand stands, no text ends, no second name, and each node is a name
+-- in a forest of these no operand stands, no text ends, no second name, and each node is a name
 abbrev is_name_alone : Row → Bool
 is_name_alone q = list_all (λ k. if has_row k && is_viable (after q k) then same_kind NODE_IDENT k else true) all_kinds
 
@@ -111,7 +111,7 @@ name_row_filled {q = q} (inner {k = k} {c = c} o s y x j z t) i l m =
     let some : is_some (tokens_in c) ≡ true = row_some s (known_row k) (ap (λ k. begins_with_child (row k)) name) y.0 in
     (tokens_tree c some, name_row_filled s (known_row k) (end_viable _ y.0) (ap is_name_row name), name_row_filled t (known_after k i) l m)
 
--- so no error node of a row that is read has an empty node
+-- so no error node of a forest that is read has an empty node
 pub reads_filled : {p : SyntaxKind} {d n : ℕ} {q q' : Row} {b : AnnotatedForest} {us : List Token} {f : AnnotatedForest} {es : List Fault}
     → Reads p d n q q' b us f es → AreFaultsFilled f
 reads_filled end = tt
@@ -128,7 +128,7 @@ HasTokens (Unwanted until) c = begins_with_token c ≡ true
 HasTokens TooDeep c = Unit {0}
 HasTokens n c = is_some (tokens_in c) ≡ true
 
--- each error node of a row has tokens, but for what is too deep, and nodes without a note are no error nodes
+-- each error node of a forest has tokens, except for what is too deep, and nodes without a note are no error nodes
 abbrev pub HaveFaultTokens : AnnotatedForest → Type 0
 HaveFaultTokens blank = Unit {0}
 HaveFaultTokens (token k t f) = HaveFaultTokens f
@@ -151,7 +151,7 @@ marked-row_of : (ts : List Token) → HaveFaultTokens (row_of ts)
 marked-row_of [] = tt
 marked-row_of (t ∷ ts) = marked-row_of ts
 
--- the error nodes of a row that is read have tokens
+-- the error nodes of a forest that is read have tokens
 pub reads_fault_tokens : {p : SyntaxKind} {d n : ℕ} {q q' : Row} {b : AnnotatedForest} {us : List Token} {f : AnnotatedForest} {es : List Fault}
     → Reads p d n q q' b us f es → HaveFaultTokens f
 reads_fault_tokens end = tt
@@ -190,7 +190,7 @@ fault_tokens_if : (x : Bool) (k : SyntaxKind) (t : Token) (f : AnnotatedForest) 
 fault_tokens_if true k t f h = h
 fault_tokens_if false k t f h = h
 
--- so it is of a row with its trivia if it is of the row without
+-- so it is of a forest with its trivia if it is of the forest without
 pub fault_tokens_without_trivia : (f : AnnotatedForest) → HaveFaultTokens (without_trivia f) → HaveFaultTokens f
 fault_tokens_without_trivia blank h = tt
 fault_tokens_without_trivia (token k t f) h = fault_tokens_without_trivia f (fault_tokens_if (is_trivia t.kind) k t (without_trivia f) h)

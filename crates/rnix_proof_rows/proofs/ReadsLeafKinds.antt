@@ -1,4 +1,4 @@
--- Leaves have the kinds of tokens; in a row that is read each leaf has the kind of its token, and each name holds that token alone.
+-- Leaves have the kinds of tokens; in a forest that is read each leaf has the kind of its token, and each name holds that token alone.
 use Rattle.std.proofs.Common.{◌≡◌, ℕ, Bool, true, false, List, refl, ap, ◌∙◌, [], ◌∷◌, ◌++◌, sym, subst}
 use Rattle.rnix_kinds.specs.declared.kinds.SyntaxKind.{SyntaxKind, TheVariants.{TOKEN_CUR_POS, TOKEN_IDENT, TOKEN_OR, NODE_CUR_POS, NODE_IDENT, NODE_ERROR}}
 use Rattle.rnix_kinds.specs.{declared.kinds.SyntaxKind.TheVariants.{NODE_LITERAL, NODE_PAT_ENTRY}, SyntaxKind.is_token}
@@ -28,7 +28,7 @@ run_leaf_kinds : (ts : List Token) → HaveLeafKinds NODE_ERROR (row_of ts)
 run_leaf_kinds [] = tt
 run_leaf_kinds (t ∷ ts) = (refl, run_leaf_kinds ts)
 
--- so each leaf in a row that is read
+-- so each leaf in a forest that is read
 pub reads_leaf_kinds : {p : SyntaxKind} {d n : ℕ} {q q' : Row} {b : AnnotatedForest} {us : List Token} {f : AnnotatedForest} {es : List Fault}
     → Reads p d n q q' b us f es → HaveLeafKinds p f
 reads_leaf_kinds end = tt
@@ -65,7 +65,7 @@ name_single end w e = refl
 name_single {p} (leaf {t = t} {f = f} x o h) w e =
     let k : SyntaxKind = leaf_kind p t in
     let one = child_is TOKEN_IDENT k done (ap (λ q. is_viable (after q k)) (sym e) ∙ reads_viable h w) in
-    one_single k t f (past_ends h (ap (λ q. after q k) e ∙ one.1) w).row
+    one_single k t f (past_ends h (ap (λ q. after q k) e ∙ one.1) w).no_trees
 name_single (missing_part u n l o h) w e = absurd (cc)
 name_single {d = d} {us = us} (wrong {r = r} {f = f} note ts x o v h) w e =
     no_wrong note d TOKEN_IDENT done r ts (tokens_in f ++ us) refl (subst (λ q. IsWrong note d q r ts (tokens_in f ++ us)) e v) (reads_viable h w)
@@ -100,7 +100,7 @@ run_names : (ts : List Token) → AreNamesSingleTokens (row_of ts)
 run_names [] = tt
 run_names (t ∷ ts) = run_names ts
 
--- the names of a row that is read are single tokens
+-- the names of a forest that is read are single tokens
 pub reads_single_names : {p : SyntaxKind} {d n : ℕ} {q q' : Row} {b : AnnotatedForest} {us : List Token} {f : AnnotatedForest} {es : List Fault}
     → Reads p d n q q' b us f es → AreSpelled (tokens_in f) → AreNamesSingleTokens f
 reads_single_names end h = tt

@@ -16,7 +16,7 @@ wrong_limited : (n : Note) (d : ℕ) (q r : Row) (ts us : List Token) → IsWron
 wrong_limited TooDeep d q r ts us h = h.2
 wrong_limited _ d q r ts us h = tt
 
--- a row inside some counted positions nests no deeper than may be, and what is nested too deep is inside as many as may be
+-- a forest inside some counted positions nests no deeper than may be, and what is nested too deep is inside as many as may be
 abbrev Nests : ℕ → Row → AnnotatedForest → Type 0
 Nests d q f = (d + depth_of q f ≤ depth_limit) × AreLimited d q f
 
@@ -34,12 +34,12 @@ room : (c : Bool) (d : ℕ) → (c ≡ true → d < depth_limit) → d ≤ depth
 room true d h l = let m : d < depth_limit = h refl in omega (arith, m)
 room false d h l = l
 
--- a node and the row behind it
+-- a node and the forest after it
 both : (c : Bool) (d m n : ℕ) → (if c then suc d else d) + m ≤ depth_limit → d + n ≤ depth_limit → d + max (if c then suc m else m) n ≤ depth_limit
 both true d m n h l = omega (arith, h, l)
 both false d m n h l = omega (arith, h, l)
 
--- so it is with each row that is read
+-- so it is with each forest that is read
 reads_nest : {p : SyntaxKind} {d n : ℕ} {q q' : Row} {b : AnnotatedForest} {us : List Token} {f : AnnotatedForest} {es : List Fault}
     → Reads p d n q q' b us f es → IsKnown p q → is_viable q' ≡ true → d ≤ depth_limit → Nests d q f
 reads_nest {d = d} end i l h = (omega (arith, h), tt)
@@ -93,7 +93,7 @@ counted {i} q k n s u r l h = implied (goes_counted i q) (λ k. counts q)
     by true = refl
     by false = refl
 
--- a node and the row behind it, by the kinds and along the row
+-- a node and the forest after it, by the kinds and along the row
 no_more : (v w : Bool) (m n k l : ℕ) → (v ≡ true → w ≡ true) → m ≤ k → n ≤ l → max (if v then suc m else m) n ≤ max (if w then suc k else k) l
 no_more true true m n k l i h j = omega (arith, h, j)
 no_more true false m n k l i h j = absurd (true_is_not_false (sym (i refl)))
@@ -130,7 +130,7 @@ entry_bounded p q k j d e f n behind later =
     (name_bounded (counts q) (nest NODE_PAT_ENTRY (forget e)) (nest p (forget f)) _
     (depth_of (after (row NODE_PAT_ENTRY) j) e) (depth_of (after q NODE_PAT_ENTRY) f)) behind later
 
--- a node in a row, by its kind and along the row
+-- a node in a forest, by its kind and along the row
 node_bounded : (p : SyntaxKind) (q : Row) (k : SyntaxKind) (c f : AnnotatedForest) → (begins_with_node c && is_formal k) ≡ false → AreErrorFreeRows c
     → (nests p k ≡ true → counts q ≡ true) → nest k (forget c) ≤ depth_of (row k) c → nest p (forget f) ≤ depth_of (after q k) f
     → nest p (forget (branch k c f)) ≤ depth_of q (branch k c f)
@@ -138,7 +138,7 @@ node_bounded p q k c f h r w inside later =
     subst (λ m. m ≤ depth_of q (branch k c f)) (sym (nest_other p k c (forget f) h r))
     (no_more (nests p k) (counts q) (nest k (forget c)) (nest p (forget f)) (depth_of (row k) c) (depth_of (after q k) f) w inside later)
 
--- so a row of nodes that have theirs nests by the kinds of nodes no deeper than along the row
+-- so a forest of nodes that have theirs nests by the kinds of nodes no deeper than along its row
 bounded : (p : SyntaxKind) (q : Row) (f : AnnotatedForest) → IsKnown p q → has_row p ≡ true → is_entry_start p q ≡ false → AreErrorFreeRows f
     → may_end (after_all q (kinds_of (forget f))) ≡ true → nest p (forget f) ≤ depth_of q f
 bounded p q blank i u s r w = omega arith

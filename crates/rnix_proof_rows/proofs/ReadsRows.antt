@@ -29,7 +29,7 @@ needs_token_rest (second {c = c} {f = f} s y h) n q0 k o = needs_token_rest h (n
 needs_token_rest (inner {k = j} {c = c} {f = f} w s y x v z h) n q0 k o =
     needs_token_rest h (none_right (tokens_in c) (tokens_in f) n) (after q0 j) (known_after j k) (needs_token_goes q0 j k o (reads_row s y.0))
 
--- nothing but a token may follow: nothing is missing there, no operand counts, no second name may stand there, and no node
+-- nothing but a token may follow: nothing is missing there, no operand counts, no second name may be there, and no node
 abbrev is_lost : Option (Fault × Row) → Bool
 is_lost None = false
 is_lost (Some w) = true
@@ -61,7 +61,7 @@ final q h =
       node = λ k e. not_if (is_viable (after q k)) (implied has_row (λ k. not (is_viable (after q k))) c.1 k e);
     }
 
--- so a row without tokens is empty there, when it is repaired
+-- so a forest without tokens is empty there, when it is repaired
 final_rest : {p : SyntaxKind} {d n : ℕ} {q q' : Row} {b : AnnotatedForest} {us : List Token} {f : AnnotatedForest} {es : List Fault}
     → Reads p d n q q' b us f es → IsKnown p q → is_viable q' ≡ true → IsFinal q → tokens_in f ≡ [] → kinds_of (repaired f) ≡ []
 final_rest end i l m n = refl

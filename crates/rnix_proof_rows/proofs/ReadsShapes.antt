@@ -1,4 +1,4 @@
--- A row that is read has no error exactly if each of its nodes has its shape, and nothing in it is reported.
+-- A reading has no errors exactly if each of its nodes has its shape, and nothing in it is reported.
 use Rattle.std.{specs.List.list_all, proofs.Common.{◌≡◌, ◌↔◌, inl, inr, ℕ, ◌+◌, Bool, true, false, List, [], ◌∷◌, ◌++◌, refl, ap, sym, ◌∙◌, arith}}
 use Rattle.{std.proofs.Common.{if◌then◌else◌, ◌&&◌}, rnix_kinds.specs.declared.kinds.SyntaxKind.{SyntaxKind, TheVariants.{NODE_ROOT, NODE_PATTERN}}}
 use Rattle.{rnix_kinds.{specs.declared.kinds.SyntaxKind.TheVariants.NODE_PAT_BIND, proofs.AllKinds.{all_kinds, every}}, rnix_green.specs.Forest.node}
@@ -12,20 +12,20 @@ use Rattle.rnix_proof_lemmas.proofs.{EachKind.each_kind, EntryNames.both_true, R
 use Rattle.{rnix_proof_lemmas.proofs.ViableRows.{end_viable, reads_viable}, rnix_proof_rows.proofs.NamedRows.{are_named, is_end_or}}
 use Rattle.rnix_proof_rows.proofs.{ErrorNodeRows.root_error_nodes, ReadsFaults.reads_errors, ReadsRows.{half, reads_counts}, RepairedRows.simulates_self}
 
--- behind the first child
+-- after the first child
 abbrev pub not_first : Bool → Bool
 not_first first = if first then false else true
 
--- where a bound name may stand the row may end exactly if a child stands before it
+-- where the name of a pattern is allowed, the row may end exactly if a child precedes the name
 abbrev Agrees : Bool → Row → Type 0
 Agrees first q = is_viable (after q NODE_PAT_BIND) ≡ true → is_end_or q ≡ not_first first
 
--- so it is where a row begins
+-- so it is at the beginning of a row
 agrees_start : (k : SyntaxKind) → Agrees true (row k)
 agrees_start k = λ l. where_one (is_viable (after (row k) NODE_PAT_BIND)) l
     (each_kind (λ k. Where (is_viable (after (row k) NODE_PAT_BIND)) (is_end_or (row k) ≡ false)) (assumption) k)
 
--- so it is behind a child
+-- so it is after a child
 abbrev binds_behind : Row → SyntaxKind → Bool
 binds_behind q k = if is_viable (after (after q k) NODE_PAT_BIND) then is_end_or (after q k) else true
 
@@ -33,13 +33,13 @@ agrees_later : {i : SyntaxKind} (q : Row) (k : SyntaxKind) → IsKnown i q → A
 agrees_later {i} q k n = λ l. sym (ap (λ w. if w then is_end_or (after q k) else true) l)
     ∙ every (binds_behind q) (every_known (λ i q. list_all (binds_behind q) all_kinds) (λ i. refl) refl i q n) k
 
--- a bound name without trivia is formed by whether it is the first child
+-- the name of a pattern, trivia aside, has the form for its place: that of the first child, or the other
 abbrev pub is_item_bind_formed : Bool → SyntaxKind → AnnotatedForest → Bool
 is_item_bind_formed true NODE_PAT_BIND c = if begins_with_token c then false else true
 is_item_bind_formed false NODE_PAT_BIND c = begins_with_token c
 is_item_bind_formed first k c = true
 
--- a bound name is formed by what is left of its row
+-- the name of a pattern has the form that what is left of the row requires
 bound_formed : (first : Bool) (q : Row) (c : AnnotatedForest) → is_end_or q ≡ not_first first → is_bind_at q c ≡ true
     → is_item_bind_formed first NODE_PAT_BIND c ≡ true
 bound_formed true (EndOr kind · r) c a h = absurd (true_is_not_false a)
@@ -47,34 +47,34 @@ bound_formed false (EndOr kind · r) c a h = h
 bound_formed true _ c a h = h
 bound_formed false _ c a h = absurd (true_is_not_false (sym a))
 
--- so it is formed by whether it is the first child
+-- so it has the form for its place among the children
 formed_item : (first : Bool) (q : Row) (k : SyntaxKind) (c : AnnotatedForest) → Agrees first q → is_viable (after q k) ≡ true → is_name_allowed q k c ≡ true
     → is_item_bind_formed first k c ≡ true
 formed_item first q NODE_PAT_BIND c a l h = bound_formed first q c (a l) h
 formed_item true q _ c a l h = refl
 formed_item false q _ c a l h = refl
 
--- bound names are formed in a row without trivia
+-- the names of patterns have their forms in a forest without trivia
 abbrev pub are_item_binds_formed : Bool → AnnotatedForest → Bool
 are_item_binds_formed first blank = true
 are_item_binds_formed first (token k t f) = are_item_binds_formed false f
 are_item_binds_formed first (branch k c f) = is_item_bind_formed first k c && are_item_binds_formed false f
 are_item_binds_formed first (fault n c f) = are_item_binds_formed false f
 
--- without trivia, every node has a row of its kind, its bound names are formed, and none is an error node
+-- trivia aside, the children of every node are a row of its kind, the names of patterns have their forms, and no node is an error node
 abbrev pub AreErrorFreeRows : AnnotatedForest → Type 0
 AreErrorFreeRows blank = Unit {0}
 AreErrorFreeRows (token k t f) = AreErrorFreeRows f
 AreErrorFreeRows (branch k c f) = (is_row k (kinds_of (forget c)) ≡ true) × (are_item_binds_formed true c ≡ true) × AreErrorFreeRows c × AreErrorFreeRows f
 AreErrorFreeRows (fault n c f) = ⊥
 
--- a row of such nodes, from what is left of it to what is left after them
+-- a forest of such nodes, from what is left of its row to what is left after them
 pub record IsErrorFreeRow (first : Bool) (q q' : Row) (f : AnnotatedForest) : Type 0 where
   pub nodes : AreErrorFreeRows f
   pub binds : are_item_binds_formed first f ≡ true
   pub reaches : after_all q (kinds_of (forget f)) ≡ q'
 
--- without errors every node has its row
+-- without errors, the children of every node are a row of its kind
 reads_rows : {p : SyntaxKind} {d n : ℕ} {q q' : Row} {b : AnnotatedForest} {us : List Token} {f : AnnotatedForest} {es : List Fault} (first : Bool)
     → Reads p d n q q' b us f es → es ≡ [] → is_viable q' ≡ true → IsKnown p q → AreNamed q f → Agrees first q → IsErrorFreeRow first q q' f
 reads_rows first end n l i w g = record { nodes = tt; binds = refl; reaches = refl }
@@ -96,14 +96,14 @@ reads_rows {q = q} {b = b} first (inner {k = k} {c = c} {f = f} {ds = ds} {es = 
       reaches = w.reaches;
     }
 
--- where no node is an error node nothing is repaired
+-- if no node is an error node, nothing is repaired
 pub repaired_none : (f : AnnotatedForest) → AreErrorFreeRows f → repaired f ≡ forget f
 repaired_none blank r = refl
 repaired_none (token k t f) r = ap (leaf_in k t.text) (repaired_none f r)
 repaired_none (branch k c f) r = ap (λ x. node k x (repaired f)) (repaired_none c r.2) ∙ ap (node k (forget c)) (repaired_none f r.3)
 repaired_none (fault n c f) r = absurd r
 
--- where every node has its row all are complete
+-- if the children of every node are a row of its kind, all nodes are complete
 pub incomplete_none : (f : AnnotatedForest) → AreErrorFreeRows f → incomplete (forget f) ≡ 0
 incomplete_none (token k t f) r = incomplete_none f r
 incomplete_none (branch k c f) r =
@@ -113,7 +113,7 @@ incomplete_none (branch k c f) r =
     omega (arith, one, below, more)
 incomplete_none _ r = first_of (omega arith, assumption, cc)
 
--- no error of the end of the text and no other is none
+-- without errors at the end of the text and without others there are none
 none_in_all : (es : List Fault) → ended_count es ≡ 0 → others es ≡ [] → es ≡ []
 none_in_all [] h k = refl
 none_in_all (e ∷ es) h k = by_first (is_ended e) refl
@@ -122,7 +122,7 @@ none_in_all (e ∷ es) h k = by_first (is_ended e) refl
     by_first true i = let one : ended_count (e ∷ es) ≡ 1 + ended_count es = ap (λ x. (if x then 1 else 0) + ended_count es) i in absurd (omega (arith, h, one))
     by_first false i = absurd (not_nil (ap (λ x. if x then others es else e ∷ others es) (sym i) ∙ k))
 
--- where every node has its row and nothing is reported there is no error
+-- if the children of every node are a row of its kind and nothing is reported, there is no error
 rows_read : {p : SyntaxKind} {d n : ℕ} {q q' : Row} {b : AnnotatedForest} {us : List Token} {f : AnnotatedForest} {es : List Fault}
     → Reads p d n q q' b us f es → may_end q' ≡ true → IsKnown p q → ((p ≡ NODE_PATTERN) → ⊥) → AreErrorNodes p f → AreErrorFreeRows f
     → may_end (after_all q (kinds_of (forget f))) ≡ true → reports_behind b f ≡ [] → es ≡ []
@@ -132,13 +132,13 @@ rows_read {q = q} {f = f} {es = es} s w i not o r h n =
     let counts = reads_counts q s w i i (simulates_self q) o in
     none_in_all es (elim (counts.none (omega (arith, row, all))) [ inl e ↦ e | inr e ↦ absurd (not e.0) ]) ((reads_errors s i).reports ∙ n)
 
--- a whole text without trivia: no error exactly if the root and each node below it have their rows, and nothing is reported
+-- a whole text without trivia has no error exactly if the children of the root and of each node are rows of their kinds, and nothing is reported
 pub record IsErrorFree (f : AnnotatedForest) : Type 0 where
   pub root : is_row NODE_ROOT (kinds_of (forget f)) ≡ true
   pub nodes : AreErrorFreeRows f
   pub silent : reports f ≡ []
 
--- a whole text has no error exactly if it is so
+-- a whole text has no error exactly if this holds
 pub root_rows : {f : AnnotatedForest} {es : List Fault} → ReadsRoot f es → (es ≡ []) ↔ IsErrorFree f
 root_rows {f = f} {es = es} s = (there, λ w. rows_read s refl (known_row NODE_ROOT) (λ e. cc) (root_error_nodes s) w.nodes w.root w.silent)
   where

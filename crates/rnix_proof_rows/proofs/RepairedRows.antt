@@ -1,5 +1,5 @@
 -- Which rows owe a token, and how a repaired row comes as far as the row that is read: after a run of unwanted tokens another row may be left, where
--- the same goes on.
+-- the same continues.
 use Rattle.std.{specs.List.list_all, proofs.Common.{◌≡◌, ℕ, zero, suc, Bool, true, false, List, [], ◌∷◌, Option, Some, None, refl, ap, sym, ◌∙◌, subst, ◌||◌}}
 use Rattle.{std.proofs.Common.if◌then◌else◌, rnix_kinds.specs.declared.kinds.SyntaxKind.{SyntaxKind, TheVariants.{NODE_LITERAL, NODE_PATTERN}}}
 use Rattle.rnix_kinds.{specs.{declared.kinds.SyntaxKind.TheVariants.TOKEN_STRING_END, SyntaxKind.is_token}, proofs.AllKinds.{all_kinds, implied}}
@@ -14,7 +14,7 @@ use Rattle.rnix_proof_lemmas.proofs.ViableRows.{later_viable}
 abbrev pub IsCompletable : Row → Type 0
 IsCompletable q = (kinds : List SyntaxKind) × (may_end (after_all q kinds) ≡ true)
 
--- the first of some kinds that goes on
+-- the first of some kinds that continues
 abbrev first_viable : Row → List SyntaxKind → SyntaxKind
 first_viable q [] = NODE_LITERAL
 first_viable q (k ∷ ks) = if is_viable (after q k) then k else first_viable q ks
@@ -70,12 +70,12 @@ needs_token_goes {i} q k n o h = implied has_row (λ k. needs_token (after q k))
     (sym (ap (λ w. if w then list_all (λ k. if has_row k then needs_token (after q k) else true) all_kinds else true) o)
     ∙ every_known (λ i q. stays_needs_token q) (λ i. refl) refl i q n) k h
 
--- behind a pattern a token must come
+-- after a pattern a token must come
 pub pattern_owes : {i : SyntaxKind} (q : Row) → IsKnown i q → is_viable (after q NODE_PATTERN) ≡ true → needs_token (after q NODE_PATTERN) ≡ true
 pattern_owes {i} q n l = sym (ap (λ w. if w then needs_token (after q NODE_PATTERN) else true) l) ∙
     every_known (λ i q. if is_viable (after q NODE_PATTERN) then needs_token (after q NODE_PATTERN) else true) (λ i. refl) refl i q n
 
--- where the second row goes on the first goes on as well, and they end together
+-- where the second row continues the first continues as well, and they end together
 pub record Simulates (q0 q : Row) : Type 0 where
   pub goes : (k : SyntaxKind) → is_viable (after q k) ≡ true → after q0 k ≡ after q k
   pub ends : may_end q0 ≡ may_end q
@@ -94,7 +94,7 @@ pub simulates_both : {q0 q r : Row} → Simulates q0 q → Simulates q r → Sim
 simulates_both m n =
     record { goes = λ k l. m.goes k (ap is_viable (n.goes k l) ∙ l) ∙ n.goes k l; ends = m.ends ∙ n.ends; needs = λ o. m.needs (n.needs o) }
 
--- where a run stands the same goes on as behind it
+-- where a run stands the same continues as after it
 abbrev SimulatesRun : Row → Option (List SyntaxKind × Row) → Type 0
 SimulatesRun q None = Unit {0}
 SimulatesRun q (Some w) =
@@ -109,17 +109,17 @@ run_simulates {i} q r ks n h =
       needs = λ o. where_one (needs_token r) o w.2;
     }
 
--- behind a second name
+-- after a second name
 pub second_simulates : Simulates (BoundAlready · done) done
 second_simulates = record { goes = λ k l. absurd (true_is_not_false (sym l)); ends = refl; needs = λ o. absurd (true_is_not_false (sym o)) }
 
--- behind an error node, and its repair
+-- after an error node, and its repair
 abbrev pub after_repair : Note → Row → Row
 after_repair Stray q = after q NODE_LITERAL
 after_repair TooDeep q = after q NODE_LITERAL
 after_repair n q = q
 
--- a row goes on behind a repair
+-- a row continues after a repair
 pub after_repair_all : (n : Note) (q : Row) (f : Forest) → after_all q (kinds_of (repair n f)) ≡ after_all (after_repair n q) (kinds_of f)
 after_repair_all Stray q f = refl
 after_repair_all _ q f = cc
@@ -139,7 +139,7 @@ needs_token_after_repair _ q k o = o
 literal_simulates : {q0 q r : Row} → Simulates q0 q → after q NODE_LITERAL ≡ r → is_viable r ≡ true → Simulates (after q0 NODE_LITERAL) r
 literal_simulates {q0 = q0} {r = r} m g l = simulates_same (after q0 NODE_LITERAL) r (m.goes NODE_LITERAL (ap is_viable g ∙ l) ∙ g)
 
--- behind the repair of an error node the same goes on as behind the error node
+-- after the repair of an error node the same continues as after the error node
 pub wrong_simulates : {i : SyntaxKind} (note : Note) (d : ℕ) (q0 q r : Row) (ts us : List Token) → IsKnown i q → IsWrong note d q r ts us → is_viable r ≡ true
     → Simulates q0 q
     → Simulates (after_repair note q0) r

@@ -1,4 +1,4 @@
--- What holds of the repaired tree of a whole text; behind an incomplete node no item stands.
+-- What holds of the repaired tree of a whole text; no item follows an incomplete node.
 use Rattle.std.proofs.Common.{◌≡◌, ◌↔◌, inl, inr, ℕ, ◌+◌, ◌≤◌, true, false, List, [], ◌++◌, refl, ap, arith}
 use Rattle.{rnix_kinds.specs.declared.kinds.SyntaxKind.{SyntaxKind, TheVariants.{NODE_ROOT, NODE_PATTERN}}, rnix_green.specs.Forest.{empty, node}}
 use Rattle.rnix_grammar.specs.{Fault.Fault, AnnotatedForest.{Token, AnnotatedForest, tokens_in}, ErrorNodes.AreErrorNodes, Unfinished.AreIncompleteLast}
@@ -14,7 +14,7 @@ row_counts : {k : SyntaxKind} {d n : ℕ} {s : Row} {b : AnnotatedForest} {us : 
     → Counts (half (is_row k (kinds_of (repaired c))) + incomplete (repaired c)) (ended_count es) ((k ≡ NODE_PATTERN) × (us ≡ []))
 row_counts {k} s w o = reads_counts (row k) s w (known_row k) (known_row k) (simulates_self (row k)) o
 
--- the nodes of the repaired tree that are incomplete are no more than the errors of the end of the text
+-- the nodes of the repaired tree that are incomplete are no more than the errors at the end of the text
 pub root_few : {f : AnnotatedForest} {es : List Fault} → ReadsRoot f es → incomplete (node NODE_ROOT (repaired f) empty) ≤ ended_count es
 root_few {f = f} {es = es} s =
     let few : half (is_row NODE_ROOT (kinds_of (repaired f))) + incomplete (repaired f) ≤ ended_count es = (row_counts s refl (root_error_nodes s)).few in
@@ -28,19 +28,19 @@ root_none {f = f} {es = es} s h =
     not_pattern : NODE_ROOT ≡ NODE_PATTERN → ⊥
     not_pattern h = cc
 
--- so there is an error of the end of the text exactly if a node of the repaired tree is incomplete
+-- so there is an error at the end of the text exactly if a node of the repaired tree is incomplete
 pub root_end_errors : {f : AnnotatedForest} {es : List Fault} → ReadsRoot f es → (incomplete (node NODE_ROOT (repaired f) empty) ≡ 0) ↔ (ended_count es ≡ 0)
 root_end_errors {f = f} {es = es} s =
     let few : incomplete (node NODE_ROOT (repaired f) empty) ≤ ended_count es = root_few s in
     (root_none s, λ h. omega (arith, few, h))
 
--- in the repaired tree, but for numbers that stand for no token, each node's children begin a row of its kind
+-- in the repaired tree, except for numbers that stand for no token, each node's children begin a row of its kind
 pub root_begun : {f : AnnotatedForest} {es : List Fault} → ReadsRoot f es → AreBegun (node NODE_ROOT (repaired_nonempty f) empty)
 root_begun {f = f} s =
     let begun = reads_begun (row NODE_ROOT) s refl (known_row NODE_ROOT) (simulates_self (row NODE_ROOT)) in
     (beginning NODE_ROOT (kinds_of (repaired_nonempty f)) begun.row, begun.nodes, tt)
 
--- an incomplete node misses an end, so it has no item behind it
+-- an incomplete node misses an end, so it has no item after it
 incomplete_last : {p : SyntaxKind} {d n : ℕ} {q q' : Row} {b : AnnotatedForest} {us : List Token} {f : AnnotatedForest} {es : List Fault}
     → Reads p d n q q' b us f es → AreErrorNodes p f → AreIncompleteLast f us
 incomplete_last end o = tt

@@ -38,7 +38,7 @@ leads (Entries closer) = same_kind closer
 leads (Wanted kind) = same_kind kind
 leads part = same_kind NODE_ATTRPATH
 
--- and those before which it may stand again
+-- and those before which it may be again
 abbrev stays : Part → Test
 stays (Many n closer) = fits n
 stays (Entries closer) = is_entry
@@ -75,7 +75,7 @@ abbrev is_binary : Part → Bool
 is_binary Binary = true
 is_binary part = false
 
--- so many are left to come behind each child of a row, by what is said of the rows behind it
+-- so many are left to come after each child of a row, by what is said of the rows after it
 abbrev each_step : Test → (ℕ → Row → Bool) → ℕ → Row → Bool
 each_step test more n q = list_all (λ k. if is_viable (after q k) then more (if test k then n else suc n) (after q k) else true) all_kinds
 
@@ -107,7 +107,7 @@ counted test true n k ks t h =
     let same : length (filter test (k ∷ ks)) ≡ suc (length (filter test ks)) = ap (λ w. length (cond w (k ∷ filter test ks) (filter test ks))) (t refl) in
     omega (arith, same, h)
 
--- a row that passes a part has what is behind it
+-- a row that passes a part has what is after it
 behind : (test : Test) (n : ℕ) (p : Part) (r : Row) (ks : List SyntaxKind) → passes p ≡ true → may_end (after_all (p · r) ks) ≡ true
     → ((ks : List SyntaxKind) → may_end (after_all r ks) ≡ true → (if is_sure test p then n else suc n) ≤ length (filter test ks))
     → suc n ≤ length (filter test ks)

@@ -36,7 +36,7 @@ child_lost : (q r : Row) (e : Fault) → begins_with_child q ≡ true → missin
 child_lost (Atom · q) r e h m = absurd (cc)
 child_lost _ r e h m = absurd (cc)
 
--- a test of the nodes that may stand at a row
+-- a test of the nodes that may be at a row
 abbrev leads : (SyntaxKind → Bool) → Row → Bool
 leads test r = list_all (λ k. if test k && is_viable (after r k) then begins_with_child (row k) else true) all_kinds
 
@@ -44,7 +44,7 @@ leads_on : (test : SyntaxKind → Bool) (r : Row) (k : SyntaxKind) → leads tes
     → begins_with_child (row k) ≡ true
 leads_on test r k h t l = implied (λ k. test k && is_viable (after r k)) (λ k. begins_with_child (row k)) h k (and_from _ _ t l)
 
--- the row of a node that stands there begins so
+-- the row of a node that is there begins so
 child_node : {i : SyntaxKind} (q : Row) (k : SyntaxKind) → IsKnown i q → begins_with_child q ≡ true → is_viable (after q k) ≡ true
     → begins_with_child (row k) ≡ true
 child_node {i} q k n h l =
@@ -77,7 +77,7 @@ abbrev pub is_bound : Row → Bool
 is_bound (BoundAlready · r) = true
 is_bound r = false
 
--- no attribute path stands here
+-- no attribute path is here
 abbrev pub has_no_attrpath : Row → Bool
 has_no_attrpath (Attrpath · r) = false
 has_no_attrpath r = true
@@ -138,7 +138,7 @@ is_free (Some level) = false
 abbrev is_settled : Row → Bool
 is_settled q = (if begins_with_child q then false else true) && (has_no_attrpath q && is_free (level_at q blank))
 
--- a node that stands there where no item is left
+-- a node that is there where no item is left
 abbrev is_next : Row → SyntaxKind → Bool
 is_next q k = is_same (expects_end q) (is_first_expected q k blank)
 
@@ -167,14 +167,14 @@ no_operand : (o : Option ℕ) (x : AnnotatedForest) (us : List Token) → tokens
 no_operand None x us e h = refl
 no_operand (Some level) x us e h = absurd (subst (BeginsAs level x) e h.1)
 
--- no node but error nodes stands in a row
+-- no node but error nodes is in a forest
 abbrev pub HasNoNode : AnnotatedForest → Type 0
 HasNoNode blank = Unit {0}
 HasNoNode (token k t f) = HasNoNode f
 HasNoNode (branch k c f) = ⊥
 HasNoNode (fault n c f) = HasNoNode f
 
--- none does in a row without tokens where no item is left and no attribute path is to be read
+-- none does in a forest without tokens where no item is left and no attribute path is to be read
 pub no_attrpath_row : {p : SyntaxKind} {d n : ℕ} {q q' : Row} {b : AnnotatedForest} {us : List Token} {f : AnnotatedForest} {es : List Fault}
     → Reads p d n q q' b us f es → IsKnown p q → is_viable q' ≡ true → has_no_attrpath q ≡ true → us ≡ [] → tokens_in f ≡ [] → HasNoNode f
 no_attrpath_row end i l h u e = tt

@@ -17,13 +17,13 @@ use Rattle.rnix_proof_rows.proofs.ReadsShapes.{are_item_binds_formed, AreErrorFr
 leaf_trivia : (p k : SyntaxKind) (t : Token) → k ≡ leaf_kind p t → is_trivia t.kind ≡ is_trivia k
 leaf_trivia p k t e = sym (ap is_trivia e ∙ remapped_is_trivia p t.kind)
 
--- what depends on the first tree of a row that is no trivia, or by all of these
+-- what depends on the first tree of a forest that is no trivia, or by all of these
 by_leaf : {A : Type 0} (x : Bool) (k : SyntaxKind) (t : Token) (f : AnnotatedForest) (h : AnnotatedForest → A) (a b : A) → h f ≡ a → h (token k t f) ≡ b
     → h (token_if x k t f) ≡ (if x then a else b)
 by_leaf true k t f h a b e g = e
 by_leaf false k t f h a b e g = g
 
--- the trees of a row that are no trivia
+-- the trees of a forest that are no trivia
 pub without_trivia_kinds : (p : SyntaxKind) (f : AnnotatedForest) → HaveLeafKinds p f → kinds_of (forget (without_trivia f)) ≡ item_kinds (forget f)
 without_trivia_kinds p blank h = refl
 without_trivia_kinds p (token k t f) h =
@@ -33,7 +33,7 @@ without_trivia_kinds p (token k t f) h =
 without_trivia_kinds p (branch k c f) h = ap (λ z. k ∷ z) (without_trivia_kinds p f h.1)
 without_trivia_kinds p (fault n c f) h = ap (λ z. NODE_ERROR ∷ z) (without_trivia_kinds p f h.1)
 
--- what a row begins with
+-- what a forest begins with
 without_trivia_begins : (p : SyntaxKind) (f : AnnotatedForest) → HaveLeafKinds p f → begins_with_token (without_trivia f) ≡ begins_with_leaf (forget f)
 without_trivia_begins p (token k t f) h =
     by_leaf (is_trivia t.kind) k t (without_trivia f) begins_with_token (begins_with_leaf (forget f)) true (without_trivia_begins p f h.1) refl
@@ -53,7 +53,7 @@ error_bind : (first : Bool) (c : Forest) (b : Bool) → (is_bind_formed first NO
 error_bind true c b = refl
 error_bind false c b = refl
 
--- bound names in a row
+-- bound names in a forest
 without_trivia_binds : (p : SyntaxKind) (first : Bool) (f : AnnotatedForest) → HaveLeafKinds p f
     → are_item_binds_formed first (without_trivia f) ≡ are_binds_formed first (forget f)
 without_trivia_binds p first blank h = refl
@@ -135,7 +135,7 @@ Lists names b = (name : List ℕ) → has_entry name b ≡ is_among name names
 lists_token : (names : List (List ℕ)) (b : AnnotatedForest) (k : SyntaxKind) (t : Token) → Lists names b → Lists names (b ⊕ one_token k t)
 lists_token names b k t h = λ name. has-⊕ name b (one_token k t) ∙ if_not (has_entry name b) ∙ h name
 
--- a name behind others, if there is one
+-- a name after others, if there is one
 abbrev pub added : List (List ℕ) → Option (List ℕ) → List (List ℕ)
 added names None = names
 added names (Some name) = names ++ (name ∷ [])
@@ -156,7 +156,7 @@ abbrev pub IsNew : List (List ℕ) → Option (List ℕ) → Type 0
 IsNew names None = Unit {0}
 IsNew names (Some name) = is_among name names ≡ false
 
--- the first name and those behind it
+-- the first name and those after it
 new_all : (before : List (List ℕ)) (o : Option (List ℕ)) (names : List (List ℕ))
     → AreNew before (with_name o names) ↔ (IsNew before o × AreNew (added before o) names)
 new_all before None names = (λ h. (tt, h), λ h. h.1)
@@ -176,7 +176,7 @@ new_repeated names b (Some t) h = subst (λ x. ((if x then duplicated_args (exte
 none_all : (es fs : List Fault) → (es ++ fs ≡ []) ↔ ((es ≡ []) × (fs ≡ []))
 none_all es fs = (λ h. (none_remaining es fs h, none_right es fs h), λ h. ap (λ x. x ++ fs) h.0 ∙ h.1)
 
--- the names of a row's entries are none of those before it, and no name is repeated in it
+-- the names of a forest's entries are none of those before it, and no name is repeated in it
 abbrev IsNewRow : List (List ℕ) → Forest → Type 0
 IsNewRow names f = AreNew names (entry_names f) × AreUnrepeated f
 
@@ -243,7 +243,7 @@ leaf_reports : (x : Bool) (k : SyntaxKind) (t : Token) (b f : AnnotatedForest)
 leaf_reports true k t b f = ap (λ z. reports_behind z f) (sym (⊕-blank b))
 leaf_reports false k t b f = refl
 
--- what a row reports, its items report
+-- what a forest reports, its items report
 pub without_trivia_reports : (b g : AnnotatedForest) → AreFaultsTrimmed g → reports_behind (without_trivia b) (without_trivia g) ≡ reports_within b g
 without_trivia_reports b blank h = refl
 without_trivia_reports b (token k t f) h =

@@ -5,7 +5,7 @@ use Rattle.{rnix_green.specs.Tree.Tree, rnix_grammar.specs.{Trim.{BeginsWithItem
 use Rattle.{rnix_grammar.specs.TriviaBetween.{first_leaves, last_from, HaveNone, HasTriviaBetween, HaveTriviaBetween, AreTriviaBetween}, rnix_proof_lemmas.proofs.EdgeLemmas.some}
 use Rattle.rnix_proof_lemmas.proofs.{EdgeLemmas.ends_behind, Basics.true_is_not_false}
 
--- the parts of a trimmed row are trimmed
+-- the parts of a trimmed forest are trimmed
 trimmed_parts : (f g : Forest) → AreNodesTrimmed (join f g) → AreNodesTrimmed f × AreNodesTrimmed g
 trimmed_parts empty g h = (tt, h)
 trimmed_parts (leaf k t f) g h = trimmed_parts f g h
@@ -16,12 +16,12 @@ none_of_trivia : (ks js : List SyntaxKind) → AreTrivia (ks ++ js) → BeginsWi
 none_of_trivia [] js h b = refl
 none_of_trivia (k ∷ ks) js h b = absurd (true_is_not_false (sym h.0 ∙ b))
 
--- what stands behind trivia among trivia is trivia
+-- what follows trivia among trivia is trivia
 trivia_rest : (ks js : List SyntaxKind) → AreTrivia (ks ++ js) → AreTrivia js
 trivia_rest [] js h = h
 trivia_rest (k ∷ ks) js h = trivia_rest ks js h.1
 
--- no node stands between trivia that are trimmed
+-- no node is between trivia that are trimmed
 own_leaves : (f : Forest) → AreNodesTrimmed f → AreTrivia (leaf_kinds f) → HaveNone f
 own_leaves empty h t = tt
 own_leaves (leaf k s f) h t = own_leaves f h t.1
@@ -31,12 +31,12 @@ own_leaves (node k c f) h t = (none_of_trivia (leaf_kinds c) (leaf_kinds f) t h.
 one_item : (k : SyntaxKind) → HasItem (k ∷ []) → is_trivia k ≡ false
 one_item k h = elim h [ inl e ↦ e | inr e ↦ absurd e ]
 
--- kinds with more behind them begin with an item
+-- kinds with more after them begin with an item
 begins_more : (ks js : List SyntaxKind) → HasItem ks → BeginsWithItem ks → BeginsWithItem (ks ++ js)
 begins_more [] js h b = absurd h
 begins_more (k ∷ ks) js h b = b
 
--- a row whose first tree holds an item begins with one
+-- a forest whose first tree holds an item begins with one
 begins_first : (f : Forest) → AreNodesTrimmed f → HasItem (first_leaves f) → BeginsWithItem (leaf_kinds f)
 begins_first empty h i = tt
 begins_first (leaf k t f) h i = one_item k i
@@ -47,7 +47,7 @@ ends_more : (js ks : List SyntaxKind) → HasItem ks → EndsWithItem ks → End
 ends_more js [] h e = absurd h
 ends_more js (k ∷ ks) h e = ends_behind js (k ∷ ks) (some k ks) e
 
--- a row whose last tree holds an item ends with one
+-- a forest whose last tree holds an item ends with one
 ends_last : (f : Forest) (js ks : List SyntaxKind) → AreNodesTrimmed f → (HasItem ks → EndsWithItem ks) → HasItem (last_from ks f)
     → EndsWithItem ((js ++ ks) ++ leaf_kinds f)
 ends_last empty js ks h e i = subst EndsWithItem (sym (append-nil (js ++ ks))) (ends_more js ks i (e i))

@@ -11,7 +11,7 @@ use Rattle.rnix_proof_rows.proofs.{WithTrivia.root_row_with_trivia, ReadsShapes.
 use Rattle.rnix_proof_rows.proofs.{ReadsLeafKinds.reads_single_names, WithTriviaEdges.{edged-⊕, edged_trivia, with_trivia_edged, with_trivia_trimmed}}
 use Rattle.rnix_proof_rows.proofs.{WithTriviaEdges.nodes_trimmed, WithTriviaNames.{bare-⊕, trivia_names, with_trivia_names}}
 
--- all items, with nothing behind them
+-- all items, with nothing after them
 pub all_items : (f : AnnotatedForest) (ts : List Token) → items ts ≡ tokens_in f → items ts ≡ tokens_in f ++ []
 all_items f ts e = e ∙ sym (append-nil (tokens_in f))
 
@@ -30,12 +30,12 @@ pub with_all_trivia_leaf_kinds : (p : SyntaxKind) (f : AnnotatedForest) (ts : Li
 with_all_trivia_leaf_kinds p f ts h = leaf_kind-⊕ p (with_trivia f ts) (trivia_before (remaining_after f ts)) (with_trivia_leaf_kinds p f ts h)
     (trivia_leaf_kinds p (remaining_after f ts))
 
--- rows over the same tokens, each with its trivia where its items and the tokens determine it, are the same where they have the same items
+-- forests over the same tokens, each with its trivia where its items and the tokens determine it, are the same where they have the same items
 pub with_trivia_same : (f g : AnnotatedForest) (ts : List Token) → f ≡ with_all_trivia (without_trivia f) ts → g ≡ with_all_trivia (without_trivia g) ts
     → without_trivia f ≡ without_trivia g → f ≡ g
 with_trivia_same f g ts d e h = d ∙ ap (λ x. with_all_trivia x ts) h ∙ sym e
 
--- a row over some tokens has their items, without its trivia
+-- a forest over some tokens has their items, without its trivia
 pub without_trivia_items : (f : AnnotatedForest) (ts : List Token) → tokens_in f ≡ ts → items ts ≡ tokens_in (without_trivia f)
 without_trivia_items f ts e = ap items (sym e) ∙ sym (without_trivia_tokens f)
 

@@ -1,4 +1,4 @@
--- Where the trivia of the open rows are is determined by their items and the tokens.
+-- Where the trivia of the open frames are is determined by their items and the tokens.
 use Rattle.std.proofs.Common.{◌≡◌, ℕ, suc, Bool, true, false, List, [], ◌∷◌, ◌++◌, Option, refl, sym, ap, ◌∙◌, subst, if◌then◌else◌, nat_le}
 use Rattle.rnix_kinds.specs.declared.kinds.SyntaxKind.{SyntaxKind, TheVariants.{NODE_ERROR, NODE_IDENT, NODE_IDENT_PARAM, NODE_APPLY, NODE_LEGACY_LET}}
 use Rattle.{rnix_kinds.specs.declared.kinds.SyntaxKind.TheVariants.{NODE_PATTERN, NODE_PAT_BIND}, rnix_grammar.specs.declared.position.Position.Position}
@@ -19,66 +19,67 @@ use Rattle.rnix_grammar.specs.declared.position.Position.TheVariants as p
 use Rattle.rnix_grammar.specs.declared.action.Action.TheVariants as a
 use Rattle.rnix_grammar.specs.declared.operand_start.OperandStart.TheVariants as b
 
--- a row that waits for a tree: it has the trivia before the tree, which begins with the tokens vs
-pub record IsAwaiting (row : AnnotatedForest) (ts vs : List Token) : Type 0 where
+-- a forest that waits for a tree: it has the trivia before the tree, which begins with the tokens vs
+pub record IsAwaiting (trees : AnnotatedForest) (ts vs : List Token) : Type 0 where
   pub before : AnnotatedForest
   pub at : List Token
-  pub row_is : row ≡ with_leading true before at
+  pub row_is : trees ≡ with_leading true before at
   pub before_has_trivia : HasTrivia before ts at
   pub next : vs ≡ from_item at
 
--- the rows that wait, one above another: each begins where the tree begins for which the one below waits, and the lowest with all tokens
+-- the forests that wait, one above another: each begins where the tree begins for which the one below waits, and the lowest with all tokens
 abbrev pub AreAwaiting : List Token → List Frame → List Token → Type 0
 AreAwaiting all [] vs = vs ≡ all
 AreAwaiting all (g ∷ gs) vs = (ts : List Token) × (IsAwaiting g.children ts vs × AreAwaiting all gs ts)
 
--- a tree stands in the row of an operand
+-- a tree is in the forest of an operand
 abbrev pub HasOperand : Head → AnnotatedForest → Type 0
-HasOperand Operand row = HasTree (without_trivia row)
-HasOperand head row = Unit {0}
+HasOperand Operand trees = HasTree (without_trivia trees)
+HasOperand head trees = Unit {0}
 
--- all rows, of which the innermost goes on with the tokens us
+-- all forests, of which the innermost continues with the tokens us
 abbrev pub HaveTrivia : List Token → List Frame → List Token → Type 0
 HaveTrivia all [] us = Unit {0}
 HaveTrivia all (f ∷ fs) us = (ts : List Token) × (HasTrivia f.children ts us × (HasOperand f.head f.children × AreAwaiting all fs ts))
 
--- the rows of a machine
+-- the forests of a machine
 abbrev pub AttachesTrivia : List Token → Machine → Type 0
 AttachesTrivia all m = HaveTrivia all m.frames m.remaining
 
--- a row begins to wait
-awaits : (row : AnnotatedForest) (ts us : List Token) → HasTrivia row ts us → IsAwaiting (with_leading true row us) ts (from_item us)
-awaits row ts us h = record { before = row; at = us; row_is = refl; before_has_trivia = h; next = refl }
+-- a forest begins to wait
+awaits : (trees : AnnotatedForest) (ts us : List Token) → HasTrivia trees ts us → IsAwaiting (with_leading true trees us) ts (from_item us)
+awaits trees ts us h = record { before = trees; at = us; row_is = refl; before_has_trivia = h; next = refl }
 
--- a row in which nothing is read waits
+-- a forest in which nothing is read waits
 awaits_blank : (ts : List Token) → HasNoLeadingTrivia ts → IsAwaiting blank ts ts
 awaits_blank ts b = record { before = blank; at = ts; row_is = sym (no_leading_trivia ts b); before_has_trivia = with_trivia_blank ts; next = sym b }
 
 -- what is waited for does not begin with trivia
-awaited_no_leading_trivia : (row : AnnotatedForest) (ts vs : List Token) → IsAwaiting row ts vs → HasNoLeadingTrivia vs
-awaited_no_leading_trivia row ts vs h = subst HasNoLeadingTrivia (sym h.next) (from_no_leading_trivia h.at)
+awaited_no_leading_trivia : (trees : AnnotatedForest) (ts vs : List Token) → IsAwaiting trees ts vs → HasNoLeadingTrivia vs
+awaited_no_leading_trivia trees ts vs h = subst HasNoLeadingTrivia (sym h.next) (from_no_leading_trivia h.at)
 
--- a row that waited, with a tree behind it
-came : (row g : AnnotatedForest) (ts vs us : List Token) → IsAwaiting row ts vs → HasTrivia g vs us → HasTree (without_trivia g) → HasTrivia (row ⊕ g) ts us
-came row g ts vs us h j t =
+-- a forest that waited, with a tree after it
+came : (trees g : AnnotatedForest) (ts vs us : List Token) → IsAwaiting trees ts vs → HasTrivia g vs us → HasTree (without_trivia g)
+    → HasTrivia (trees ⊕ g) ts us
+came trees g ts vs us h j t =
     subst (λ (x : AnnotatedForest). HasTrivia (x ⊕ g) ts us) (sym h.row_is)
     (with_trivia_added h.before g ts h.at us h.before_has_trivia (subst (λ (x : List Token). HasTrivia g x us) h.next j) t)
 
--- what is made of a row
-made_with_trivia : (h : Head) (row : AnnotatedForest) (ts us : List Token) → HasNoLeadingTrivia ts → HasTrivia row ts us → HasTrivia (made h row) ts us
-made_with_trivia (Node k) row ts us b h = with_trivia_branch k row ts us b h
-made_with_trivia SecondBind row ts us b h = with_trivia_fault DoubleBind row ts us refl b h
-made_with_trivia Operand row ts us b h = h
+-- what becomes of the children of a frame
+made_with_trivia : (h : Head) (trees : AnnotatedForest) (ts us : List Token) → HasNoLeadingTrivia ts → HasTrivia trees ts us → HasTrivia (made h trees) ts us
+made_with_trivia (Node k) trees ts us b h = with_trivia_branch k trees ts us b h
+made_with_trivia SecondBind trees ts us b h = with_trivia_fault DoubleBind trees ts us refl b h
+made_with_trivia Operand trees ts us b h = h
 
 -- is a tree
-made_tree : (h : Head) (row : AnnotatedForest) → HasOperand h row → HasTree (without_trivia (made h row))
-made_tree Operand row t = t
-made_tree _ row t = tt
+made_tree : (h : Head) (trees : AnnotatedForest) → HasOperand h trees → HasTree (without_trivia (made h trees))
+made_tree Operand trees t = t
+made_tree _ trees t = tt
 
--- a row with a tree, whatever its head
-operand_tree : (h : Head) (row : AnnotatedForest) → HasTree (without_trivia row) → HasOperand h row
-operand_tree Operand row t = t
-operand_tree _ row t = tt
+-- a forest with a tree, whatever its head
+operand_tree : (h : Head) (trees : AnnotatedForest) → HasTree (without_trivia trees) → HasOperand h trees
+operand_tree Operand trees t = t
+operand_tree _ trees t = tt
 
 -- an operand is no root, so it does not begin with trivia
 on_some : (all : List Token) (head : Head) (position : Position) (fs : List Frame) (ts : List Token) → frame_kind position ≡ OperandFrame
@@ -99,13 +100,13 @@ closed_with_trivia all f [] ts n es h = h
 closed_with_trivia all f (g ∷ fs) ts n es h =
     let below = h.1.1.1 in
     let tree : HasTree (without_trivia (made f.head f.children)) = made_tree f.head f.children h.1.1.0 in
-    let row : AnnotatedForest = g.children ⊕ made f.head f.children in (
+    let trees : AnnotatedForest = g.children ⊕ made f.head f.children in (
       below.0,
       (
         came g.children (made f.head f.children) below.0 h.0 ts below.1.0 (made_with_trivia f.head f.children h.0 ts
             (awaited_no_leading_trivia g.children below.0 h.0 below.1.0) h.1.0) tree,
         (
-          operand_tree g.head row (subst HasTree (sym (without_trivia-⊕ g.children (made f.head f.children)))
+          operand_tree g.head trees (subst HasTree (sym (without_trivia-⊕ g.children (made f.head f.children)))
               (tree_behind (without_trivia g.children) (without_trivia (made f.head f.children)) tree)),
           below.1.1,
         ),
@@ -118,13 +119,13 @@ entry_with_trivia : (all : List Token) (f : Frame) (fs : List Frame) (ts : List 
 entry_with_trivia all f [] ts n es h = h
 entry_with_trivia all f (g ∷ fs) ts n es h = closed_with_trivia all f (g ∷ fs) ts n (es ++ repeated (without_trivia g.children) (without_trivia f.children)) h
 
--- a second item as a leaf behind a row that begins with the first
-two_with_trivia : (j : SyntaxKind) (row : AnnotatedForest) (ts : List Token) (x : Token) (us : List Token) → items ts ≡ x ∷ us → is_there (head_kind us) ≡ true
-    → HasTrivia row (from_item ts) (after_item true ts)
-    → HasTrivia (with_leading true row (after_item true ts) ⊕ leaf true j (after_item true ts)) (from_item ts) (after_item true (after_item true ts))
-two_with_trivia j row ts x us i s h =
+-- a second item as a leaf after a forest that begins with the first
+two_with_trivia : (j : SyntaxKind) (trees : AnnotatedForest) (ts : List Token) (x : Token) (us : List Token) → items ts ≡ x ∷ us
+    → is_there (head_kind us) ≡ true → HasTrivia trees (from_item ts) (after_item true ts)
+    → HasTrivia (with_leading true trees (after_item true ts) ⊕ leaf true j (after_item true ts)) (from_item ts) (after_item true (after_item true ts))
+two_with_trivia j trees ts x us i s h =
     let later : items (after_item true ts) ≡ us = items_behind ts ∙ ap tail_of i in
-    with_trivia_added row (leaf true j (after_item true ts)) (from_item ts) (after_item true ts) (after_item true (after_item true ts)) h
+    with_trivia_added trees (leaf true j (after_item true ts)) (from_item ts) (after_item true ts) (after_item true (after_item true ts)) h
     (with_trivia_leaf j (after_item true ts))
     (tree_leaf j (after_item true ts) (subst (λ (z : List Token). is_there (head_kind z) ≡ true) (sym later) s))
 
@@ -158,11 +159,11 @@ begun_with_trivia all b.NameLambda level d t x us f fs ts n es i s w = (
 )
 begun_with_trivia all b.BoundLambda level d t x us f fs ts n es i s w =
     let name : AnnotatedForest = one_branch NODE_IDENT (leaf true NODE_IDENT ts) in
-    let row : AnnotatedForest = with_leading true name (after_item true ts) ⊕ leaf true NODE_PAT_BIND (after_item true ts) in
+    let trees : AnnotatedForest = with_leading true name (after_item true ts) ⊕ leaf true NODE_PAT_BIND (after_item true ts) in
     let free : IsAwaiting blank (from_item ts) (from_item ts) = awaits_blank (from_item ts) (from_no_leading_trivia ts) in (
       from_item ts,
       (
-        with_trivia_branch NODE_PAT_BIND row (from_item ts) (after_item true (after_item true ts)) (from_no_leading_trivia ts)
+        with_trivia_branch NODE_PAT_BIND trees (from_item ts) (after_item true (after_item true ts)) (from_no_leading_trivia ts)
             (two_with_trivia NODE_PAT_BIND name ts x us i s (one_with_trivia NODE_IDENT ts)),
         (tt, (from_item ts, (free, (from_item ts, (free, w))))),
       ),
@@ -223,27 +224,27 @@ reading_with_trivia all level true f fs ts n es h =
     [ true ↦ limited_with_trivia all f fs ts n es h | false ↦ operand_with_trivia all level (suc f.depth) f fs ts (items ts) n es refl h ]
 reading_with_trivia all level false f fs ts n es h = operand_with_trivia all level f.depth f fs ts (items ts) n es refl h
 
--- a run of items in an error node, behind a row
-run_with_trivia : (until : ExpectedSet) (row : AnnotatedForest) (vs ts : List Token) → HasTrivia row vs ts
-    → HasTrivia (with_leading true row ts ⊕ one_fault (Unwanted until) (run_leaves true (run_of until (items ts)) ts)) vs
+-- a run of items in an error node, after a forest
+run_with_trivia : (until : ExpectedSet) (trees : AnnotatedForest) (vs ts : List Token) → HasTrivia trees vs ts
+    → HasTrivia (with_leading true trees ts ⊕ one_fault (Unwanted until) (run_leaves true (run_of until (items ts)) ts)) vs
     (run_rest true (run_of until (items ts)) ts)
-run_with_trivia until row vs ts h =
+run_with_trivia until trees vs ts h =
     let run : List Token = run_of until (items ts) in
-    with_trivia_added row (one_fault (Unwanted until) (run_leaves true run ts)) vs ts (run_rest true run ts) h
+    with_trivia_added trees (one_fault (Unwanted until) (run_leaves true run ts)) vs ts (run_rest true run ts) h
     (with_trivia_fault (Unwanted until) (run_leaves true run ts) (from_item ts) (run_rest true run ts) refl (from_no_leading_trivia ts)
     (with_trivia_run run ts (dropped run (items ts)) (run_prefix until (items ts)))) tt
 
--- a leaf in a node, behind a row
-name_with_trivia : (j : SyntaxKind) (row : AnnotatedForest) (vs ts : List Token) → HasTrivia row vs ts
-    → HasTrivia (with_leading true row ts ⊕ one_branch j (leaf true j ts)) vs (after_item true ts)
-name_with_trivia j row vs ts h = with_trivia_added row (one_branch j (leaf true j ts)) vs ts (after_item true ts) h (one_with_trivia j ts) tt
+-- a leaf in a node, after a forest
+name_with_trivia : (j : SyntaxKind) (trees : AnnotatedForest) (vs ts : List Token) → HasTrivia trees vs ts
+    → HasTrivia (with_leading true trees ts ⊕ one_branch j (leaf true j ts)) vs (after_item true ts)
+name_with_trivia j trees vs ts h = with_trivia_added trees (one_branch j (leaf true j ts)) vs ts (after_item true ts) h (one_with_trivia j ts) tt
 
--- the next item behind a row
-next_with_trivia : (k : SyntaxKind) (row : AnnotatedForest) (vs ts : List Token) → is_there (head_kind (items ts)) ≡ true → HasTrivia row vs ts
-    → HasTrivia (with_leading true row ts ⊕ leaf true k ts) vs (after_item true ts)
-next_with_trivia k row vs ts f h = with_trivia_added row (leaf true k ts) vs ts (after_item true ts) h (with_trivia_leaf k ts) (tree_leaf k ts f)
+-- the next item after a forest
+next_with_trivia : (k : SyntaxKind) (trees : AnnotatedForest) (vs ts : List Token) → is_there (head_kind (items ts)) ≡ true → HasTrivia trees vs ts
+    → HasTrivia (with_leading true trees ts ⊕ leaf true k ts) vs (after_item true ts)
+next_with_trivia k trees vs ts f h = with_trivia_added trees (leaf true k ts) vs ts (after_item true ts) h (with_trivia_leaf k ts) (tree_leaf k ts f)
 
--- a tree comes behind a row
+-- a tree comes after a forest
 grown : (all : List Token) (f : Frame) (fs : List Frame) (ts us : List Token) (g : AnnotatedForest) → HasTree (without_trivia g)
     → ((vs : List Token) → HasTrivia f.children vs ts → HasTrivia (with_leading true f.children ts ⊕ g) vs us)
     → HaveTrivia all (f ∷ fs) ts → HaveTrivia all (put f.position (with_leading true f.children ts ⊕ g) f ∷ fs) us
@@ -297,7 +298,7 @@ perform_with_trivia all a.ApplyOr f fs ts n es al w h =
       ),
     )
 
--- each step keeps the rows as their items and the tokens make them
+-- each step keeps the forests as their items and the tokens make them
 pub step_with_trivia : (all : List Token) (m : Machine) → AreStacked m.frames → AttachesTrivia all m → AttachesTrivia all (step true m)
 step_with_trivia all m k h = by_frames m.frames k h
   where
@@ -308,12 +309,12 @@ step_with_trivia all m k h = by_frames m.frames k h
         let near : Bool = touches m.prev_end (items m.remaining) in
         perform_with_trivia all (action_at f.position next near) f fs m.remaining m.prev_end m.faults (allowed f.position next near) k h
 
--- many steps keep the rows as their items and the tokens make them
+-- many steps keep the forests as their items and the tokens make them
 pub runs_with_trivia : (all : List Token) {m n : Machine} → Runs true m n → AreStacked m.frames → AttachesTrivia all m → AttachesTrivia all n
 runs_with_trivia all rest k h = h
 runs_with_trivia all (further {m = m} r) k h = runs_with_trivia all r (step_stacked true m k) (step_with_trivia all m k h)
 
--- the root's row is what its items and the tokens of the text make of it, and the tokens that are left are left behind these items
+-- the root's forest is what its items and the tokens of the text make of it, and the tokens that are left are left after these items
 pub root_with_trivia : (ts : List Token) {m : Machine} (f : Frame) → Runs true (initial_machine ts) m → m.frames ≡ f ∷ [] → HasTrivia f.children ts m.remaining
 root_with_trivia ts {m = m} f r e =
     let all : HaveTrivia ts (f ∷ []) m.remaining =

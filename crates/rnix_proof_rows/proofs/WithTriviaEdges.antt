@@ -1,4 +1,4 @@
--- What is given trivia from an item on begins and ends with items, as a row of tokens and as trees.
+-- What is given trivia from an item on begins and ends with items, as a forest of tokens and as trees.
 use Rattle.std.proofs.Common.{◌≡◌, Bool, true, false, List, [], ◌∷◌, ◌++◌, refl, ap, sym, ◌∙◌, subst, append_assoc}
 use Rattle.rnix_kinds.specs.declared.kinds.SyntaxKind.{SyntaxKind, TheVariants.{TOKEN_IDENT, TOKEN_OR, NODE_IDENT, NODE_CUR_POS, NODE_ERROR}}
 use Rattle.{rnix_kinds.specs.SyntaxKind.is_trivia, rnix_grammar.specs.AnnotatedForest.{Token, AnnotatedForest, blank, token, branch, fault, ◌⊕◌, tokens_in}}
@@ -10,18 +10,18 @@ use Rattle.rnix_proof_lemmas.proofs.EdgeLemmas.{some_before, some_behind, ends_b
 use Rattle.{rnix_proof_lemmas.proofs.EdgeLemmas.{faults_trimmed-⊕, faults_trimmed_trivia}, rnix_proof_rows.proofs.AttachTriviaLemmas.HasTree}
 use Rattle.rnix_proof_rows.proofs.{ReadsFilled.{AreFilled, AreFaultsFilled, rows_filled}, ReadsShapes.AreErrorFreeRows}
 
--- a row begins and ends with items, or is empty
+-- a forest begins and ends with items, or is empty
 abbrev IsEdged : AnnotatedForest → Type 0
 IsEdged f = BeginsWithItem (kinds_in f) × EndsWithItem (kinds_in f)
 
--- and so does each node of a row without error nodes
+-- and so does each node of a forest without error nodes
 abbrev pub AreEdged : AnnotatedForest → Type 0
 AreEdged blank = Unit {0}
 AreEdged (token k t f) = AreEdged f
 AreEdged (branch k c f) = IsEdged c × AreEdged c × AreEdged f
 AreEdged (fault n c f) = ⊥
 
--- the items of the children of a node, and those behind it
+-- the items of the children of a node, and those after it
 inside : (c f : AnnotatedForest) (ts us : List Token) → items ts ≡ (tokens_in c ++ tokens_in f) ++ us → IsBared c (from_item ts) (tokens_in f ++ us)
 inside c f ts us e = bared c (from_item ts) (tokens_in f ++ us) (items-from_item ts ∙ e ∙ append_assoc (tokens_in c) (tokens_in f) us)
 
@@ -39,7 +39,7 @@ record IsEnded (f g : AnnotatedForest) : Type 0 where
   pub some : HasTree f → IsSome (kinds_in g)
   pub ends : EndsWithItem (kinds_in g)
 
--- so it is behind trivia, of a tree and those behind it
+-- so it is after trivia, of a tree and those after it
 ended_behind : (ts : List Token) (f x : AnnotatedForest) (js ks : List SyntaxKind) → kinds_in x ≡ js ++ ks → IsSome js → EndsWithItem js → EndsWithItem ks
     → IsEnded f (trivia_before ts ⊕ x)
 ended_behind ts f x js ks e s h j =
@@ -85,7 +85,7 @@ edged_from f ts us e h =
       (ended_trees f (from_item ts) us own h).ends,
     )
 
--- two rows
+-- two forests
 pub edged-⊕ : (f g : AnnotatedForest) → AreEdged f → AreEdged g → AreEdged (f ⊕ g)
 edged-⊕ blank g h j = j
 edged-⊕ (token k t f) g h j = edged-⊕ f g h j
@@ -114,7 +114,7 @@ with_trivia_edged (branch k c f) ts us e h =
     )
 with_trivia_edged (fault n c f) ts us e h = absurd h
 
--- trivia behind the node of what is too deep
+-- trivia after the node of what is too deep
 trimmed_after : (z : Bool) (ts : List Token) → AreFaultsTrimmed (trivia_after z ts)
 trimmed_after true ts = faults_trimmed_trivia ts
 trimmed_after false ts = tt
@@ -150,7 +150,7 @@ data AreAlike : List SyntaxKind → List SyntaxKind → Type 0 where
   none : AreAlike [] []
   both : {j k : SyntaxKind} {js ks : List SyntaxKind} → is_trivia j ≡ is_trivia k → AreAlike js ks → AreAlike (j ∷ js) (k ∷ ks)
 
--- two such rows, one behind the other
+-- two such forests, one after the other
 alike-++ : {js ks ls ms : List SyntaxKind} → AreAlike js ks → AreAlike ls ms → AreAlike (js ++ ls) (ks ++ ms)
 alike-++ none i = i
 alike-++ (both e h) i = both e (alike-++ h i)
@@ -181,7 +181,7 @@ remapped_is_trivia NODE_IDENT k = name_alike k
 remapped_is_trivia NODE_CUR_POS k = trivia_alike k
 remapped_is_trivia _ k = refl
 
--- the leaves of a row and its tokens
+-- the leaves of a forest and its tokens
 leaves_alike : (p : SyntaxKind) (f : AnnotatedForest) → HaveLeafKinds p f → AreAlike (leaf_kinds (forget f)) (token_kinds (tokens_in f))
 leaves_alike p blank h = none
 leaves_alike p (token k t f) h = both (ap is_trivia h.0 ∙ remapped_is_trivia p t.kind) (leaves_alike p f h.1)
@@ -192,7 +192,7 @@ leaves_alike p (fault n c f) h =
     subst (AreAlike (leaf_kinds (forget c) ++ leaf_kinds (forget f))) (sym (token_kinds-++ (tokens_in c) (tokens_in f)))
     (alike-++ (leaves_alike NODE_ERROR c h.0) (leaves_alike p f h.1))
 
--- the nodes of a row without its notes
+-- the nodes of a forest without its notes
 pub nodes_trimmed : (p : SyntaxKind) (f : AnnotatedForest) → HaveLeafKinds p f → AreEdged f → AreNodesTrimmed (forget f)
 nodes_trimmed p blank h e = tt
 nodes_trimmed p (token k t f) h e = nodes_trimmed p f h.1 e

@@ -56,7 +56,7 @@ formed_if : (w : Bool) (parent k : SyntaxKind) (t : Token) (f : AnnotatedForest)
 formed_if true parent k t f h = h
 formed_if false parent k t f h = h
 
--- so it is of a row with its trivia if it is of the row without
+-- so it is of a forest with its trivia if it is of the forest without
 pub forms_with_trivia : (parent : SyntaxKind) (f : AnnotatedForest) → HaveLeafKinds parent f → AreFaultsTrimmed f → AreFormed parent (without_trivia f)
     → AreFormed parent f
 forms_with_trivia parent blank o x h = tt

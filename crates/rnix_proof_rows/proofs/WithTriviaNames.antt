@@ -4,7 +4,7 @@ use Rattle.{rnix_kinds.specs.SyntaxKind.is_trivia, rnix_grammar.specs.AnnotatedF
 use Rattle.rnix_grammar.specs.{Layout.{from_item, tail_of, trivia_if, trivia_before, is_last, trivia_after, rest_after, remaining_after, with_trivia}, Trim.is_single_token}
 use Rattle.{rnix_grammar.specs.Trim.{begins_with_node, AreNamesSingleTokens}, rnix_proof_lemmas.proofs.{Basics.true_is_not_false, LayoutLemmas.trivia-from_item}}
 
--- two rows
+-- two forests
 pub bare-⊕ : (f g : AnnotatedForest) → AreNamesSingleTokens f → AreNamesSingleTokens g → AreNamesSingleTokens (f ⊕ g)
 bare-⊕ blank g h j = j
 bare-⊕ (token k t f) g h j = bare-⊕ f g h j
@@ -20,7 +20,7 @@ trivia_after_names : (z : Bool) (ts : List Token) → AreNamesSingleTokens (triv
 trivia_after_names true ts = trivia_names ts
 trivia_after_names false ts = tt
 
--- from an item on a row begins with a node as it does without trivia
+-- from an item on a forest begins with a node as it does without trivia
 begins_with_trivia : (c : AnnotatedForest) (ts : List Token) → begins_with_node c ≡ true → begins_with_node (with_trivia c (from_item ts)) ≡ true
 begins_with_trivia (branch k c f) ts h = rw (trivia-from_item ts) refl
 begins_with_trivia _ ts h = absurd (true_is_not_false (sym h))
@@ -31,7 +31,7 @@ single_token_with_trivia blank ts h = refl
 single_token_with_trivia (token k t blank) ts h = rw (trivia-from_item ts) refl
 single_token_with_trivia _ ts h = absurd (true_is_not_false (sym h))
 
--- the names of a row with its trivia are single tokens
+-- the names of a forest with its trivia are single tokens
 pub with_trivia_names : (f : AnnotatedForest) (ts : List Token) → AreNamesSingleTokens f → AreNamesSingleTokens (with_trivia f ts)
 with_trivia_names blank ts h = tt
 with_trivia_names (token k t f) ts h = let rest : List Token = tail_of (from_item ts) in bare-⊕ (trivia_before ts) (token k t (with_trivia f rest))

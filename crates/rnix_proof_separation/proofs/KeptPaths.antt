@@ -103,7 +103,7 @@ no_space_at x i h low out =
     let here : get_or (drop i x) 0 0 ≡ get_or x i 0 = get_or-drop i x 0 0 ∙ ap (λ k. get_or x k 0) (add-zero i) in
     no_space_first (drop i x) (omega (arith, length-drop i x)) (subst (λ b. b < 128) (sym here) low) (ap is_whitespace here ∙ out)
 
--- the byte goes on with a path after `/`
+-- the byte continues a path after `/`
 abbrev IsNext : ℕ → Type 0
 IsNext b = (0 < b) × (b < 128) × (is_whitespace b ≡ false) × ((b == 47) ≡ false) × ((b == 42) ≡ false)
 

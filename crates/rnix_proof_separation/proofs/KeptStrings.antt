@@ -48,7 +48,7 @@ inside_step : (m : Bool) (k b : ℕ) (xs : List ℕ) → content_from m (suc k) 
 unfolding content_from
 inside_step m k b xs = refl
 
--- a row of pieces ends at the start of a text only where no piece is open
+-- a sequence of pieces ends at the start of a text only where no piece is open
 inside_none : (m : Bool) (k : ℕ) (s : List ℕ) → 0 < length s → content_from m (suc k) s ≡ 0 → ⊥
 inside_none m k [] some e = omega arith
 inside_none m k (b ∷ s) some e = omega (arith, inside_step m k b s)
@@ -122,7 +122,7 @@ stop_opened m t s r len e =
 abbrev pub GoesOn : Bool → List ℕ → List ℕ → Type 0
 GoesOn m s r = piece_len m s ≡ 0 → 0 < length s → (get_or r 0 0 ≡ get_or s 0 0) × (piece_len m r ≡ 0) × (0 < length r)
 
--- a cut is the same before what goes on as it should
+-- a cut is the same before what continues as it should
 abbrev pub IsStringAgain : Bool → List ℕ → List ℕ → List ℕ → Cut → Type 0
 IsStringAgain m t s r cut = (cut.change ≡ Stay → GoesOn m s r) → (cut.change ≡ Close → is_edge (get_or r 0 0) ≡ true) → string_cut m (t ++ r) ≡ cut
 

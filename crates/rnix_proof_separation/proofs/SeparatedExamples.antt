@@ -1,4 +1,4 @@
--- Texts that are separated, and what is not so: errors may be cut otherwise, and a comment goes on to the end of its line.
+-- Texts that are separated, and what is not so: errors may be cut otherwise, and a comment continues to the end of its line.
 use Rattle.std.{proofs.{lemmas.Bool.eqb-false, Common.{◌≡◌, ℕ, true, List, [], ◌∷◌, refl, ap, inl, inr, lit<, length}}, specs.{Prelude.codes, Str.chars}}
 use Rattle.rnix_kinds.specs.declared.kinds.SyntaxKind.TheVariants.{TOKEN_ADD, TOKEN_COMMENT, TOKEN_ERROR, TOKEN_IDENT, TOKEN_INTERPOL_END, TOKEN_INTERPOL_START}
 use Rattle.rnix_kinds.specs.declared.kinds.SyntaxKind.TheVariants.{TOKEN_L_BRACK, TOKEN_L_PAREN, TOKEN_PATH_REL, TOKEN_R_PAREN, TOKEN_STRING_END}
@@ -69,7 +69,7 @@ comments =
     (space [] (codes "\na") 1 (codes "a") (lit< tt) refl
     (token [] (codes "a") (plain TOKEN_IDENT 1) [] [] (lit< tt) refl refl (refl, inl (refl, inl refl)) (none [])))
 
--- behind a comment to the end of its line, a blank belongs to the comment
+-- after a comment to the end of its line, a blank belongs to the comment
 pub joined : solids (tokens_of (codes "#c a")) ≡ solids (tokens_of (codes "#c\na")) → ⊥
 unfolding tokens_behind cut_at normal_cut space_len chars begins_space encode
 joined e = eqb-false (length (solids (tokens_of (codes "#c a")))) (length (solids (tokens_of (codes "#c\na")))) refl (ap length e)

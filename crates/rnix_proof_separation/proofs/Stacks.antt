@@ -102,7 +102,7 @@ inside_settled (Path k ∷ modes) x nested inside = by (path_goes_on x) inside
 blank_no_path : (b : ℕ) → is_blank b ≡ true → (is_path b ≡ false) × ((b == 36) ≡ false)
 blank_no_path b e = (grind (arith, nat_tests), grind (arith, nat_tests))
 
--- no path goes on with white space
+-- no path continues with white space
 pub blank_ends : (b : ℕ) (x : List ℕ) → is_blank b ≡ true → path_goes_on (b ∷ x) ≡ false
 blank_ends b x e = let other = blank_no_path b e in or_from _ _ (and_left _ _ other.1) other.0
 

@@ -43,7 +43,7 @@ ends_token token b = if begins (codes "#") token then b == 10 else is_blank b
 abbrev pub is_bracket : ℕ → Bool
 is_bracket b = b == 40 || b == 41 || b == 91 || b == 93 || b == 58 || b == 59 || b == 63 || b == 64 || b == 44 || b == 123 || b == 36
 
--- a byte that goes on with no name, and behind a name with no path and no URI
+-- a byte that continues no name, and after a name no path and no URI
 abbrev pub ends_name : ℕ → Bool
 ends_name b = not (class_test Name b) && not (goes_past_name b)
 

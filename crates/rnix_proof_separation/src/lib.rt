@@ -1,9 +1,9 @@
-//! The tokens of a text, written with white space between them, are cut again as they were.
+//! The tokens of a text stay the same when they are written with white space between them.
 #![tactic(auto)]
 
 ghost use Rattle.rnix_proof_separation.specs.Separated.{AreCutAgain};
 
-/// Two texts have the same tokens but for white space, if the first has no TOKEN_ERROR, and the second is made of the tokens of the first one with white
+/// Two texts have the same tokens, white space aside, if the first has no TOKEN_ERROR, and the second is made of the tokens of the first one with white
 /// space between any two of them outside strings and paths. After a comment that begins with `#`, the white space begins with a line feed. After a
 /// bracket, a separator or a name it may be missing, as `may_touch` says.
 pub fn separation(first: &str, second: &str)

@@ -1,4 +1,4 @@
--- The nodes of a row that is read before more items are at most twice its items, less the row's surplus.
+-- The nodes of a forest that is read before more items are at most twice its items, less the row's surplus.
 use Rattle.std.proofs.{Common.{◌≡◌, ◌≤◌, ℕ, suc, ◌+◌, ◌*◌, true, List, [], ◌∷◌, ◌++◌, length, refl, ap, sym, ◌∙◌, subst, arith}, lemmas.List.length-append}
 use Rattle.{rnix_kinds.specs.declared.kinds.SyntaxKind.{SyntaxKind, TheVariants.NODE_LITERAL}, rnix_grammar.specs.{Fault.Fault, AnnotatedForest.{Token, Note}}}
 use Rattle.rnix_grammar.specs.{AnnotatedForest.{Stray, Unwanted, Extra, DoubleBind, TooDeep, AnnotatedForest, is_some, row_of, tokens_in, leaf_kind}, Rules.Row}
@@ -7,7 +7,7 @@ use Rattle.rnix_proof_lemmas.proofs.{AnnotatedForestLemmas.tokens_in-row_of, Bas
 use Rattle.rnix_proof_lemmas.proofs.{ReachableRows.{known_second, known_after, known_past, known_wrong}, ViableRows.{end_viable, reads_viable, reads_row}}
 use Rattle.rnix_proof_size.proofs.{Counts.{nodes, nodes_row}, Bounds.{surplus, ended_surplus}, NodeBounds.{leaf_kept, node_kept, run_kept}}
 
--- some items behind others are some
+-- some items after others are some
 pub some_right : (ts us : List Token) → is_some us ≡ true → is_some (ts ++ us) ≡ true
 some_right [] us h = h
 some_right (t ∷ ts) us h = refl
@@ -41,7 +41,7 @@ wrong_kept Extra d q r ts vs w n l s = nothing s w.1
 wrong_kept DoubleBind d q r ts vs w n l s = absurd w
 wrong_kept TooDeep d q r ts vs w n l s = nothing s w.0
 
--- so many nodes have a row and what follows
+-- so many nodes have a forest and what follows
 sum_kept : (c f : AnnotatedForest) (a b q : ℕ) → nodes c + a ≤ 2 * length (tokens_in c) → nodes f + b ≤ 2 * length (tokens_in f) → suc q ≤ a + b
     → suc (nodes c + nodes f) + q ≤ 2 * length (tokens_in c ++ tokens_in f)
 sum_kept c f a b q inside rest more = let all = length-append (tokens_in c) (tokens_in f) in omega (arith, all, inside, rest, more)

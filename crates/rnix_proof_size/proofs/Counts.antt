@@ -1,10 +1,10 @@
--- How many nodes stand in a row, with and without its trivia.
+-- How many nodes are in a forest, with and without its trivia.
 use Rattle.std.proofs.{Common.{◌≡◌, ◌≤◌, ℕ, suc, ◌+◌, Bool, true, false, List, [], ◌∷◌, ◌++◌, length, refl, ap, ◌∙◌, arith}, lemmas.List.length-append}
 use Rattle.{rnix_kinds.specs.{declared.kinds.SyntaxKind.SyntaxKind, Lexical.Tokens.Lexeme, SyntaxKind.is_trivia}, rnix_green.specs.Forest.element_count}
 use Rattle.rnix_grammar.specs.AnnotatedForest.{Token, AnnotatedForest, blank, token, branch, fault, row_of, tokens_in, forget, without_trivia, token_if}
 use Rattle.rnix_grammar.specs.{AnnotatedForest.placed_from, Layout.{items, item_if}}
 
--- the nodes of a row, at every depth
+-- the nodes of a forest, at every depth
 abbrev pub nodes : AnnotatedForest → ℕ
 nodes blank = 0
 nodes (token k t f) = nodes f
@@ -23,7 +23,7 @@ elements (token k t f) = let rest : element_count (forget f) ≡ nodes f + lengt
 elements (branch k c f) = two_rows c f (element_count (forget c)) (element_count (forget f)) (elements c) (elements f)
 elements (fault n c f) = two_rows c f (element_count (forget c)) (element_count (forget f)) (elements c) (elements f)
 
--- a row of leaves has no nodes
+-- a forest of leaves has no nodes
 pub nodes_row : (ts : List Token) → nodes (row_of ts) ≡ 0
 nodes_row [] = refl
 nodes_row (t ∷ ts) = nodes_row ts
@@ -41,7 +41,7 @@ nodes_without_trivia (branch k c f) =
 nodes_without_trivia (fault n c f) =
     ap (λ n. suc (n + nodes (without_trivia f))) (nodes_without_trivia c) ∙ ap (λ n. suc (nodes c + n)) (nodes_without_trivia f)
 
--- as many tokens stand in a text as there are
+-- as many tokens are in a text as there are
 pub length_placed : (n : ℕ) (ls : List Lexeme) → length (placed_from n ls) ≡ length ls
 length_placed n [] = refl
 length_placed n (l ∷ ls) = ap suc (length_placed (n + length l.1) ls)

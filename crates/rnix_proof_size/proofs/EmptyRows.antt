@@ -1,4 +1,4 @@
--- The nodes of a row without tokens at the end of the text: what is nested too deep, and attribute paths.
+-- The nodes of a forest without tokens at the end of the text: what is nested too deep, and attribute paths.
 use Rattle.std.proofs.Common.{◌≡◌, ◌≤◌, ℕ, suc, ◌+◌, Bool, true, false, List, [], ◌++◌, refl, ap, sym, ◌∙◌, subst, arith}
 use Rattle.{rnix_kinds.specs.declared.kinds.SyntaxKind.{SyntaxKind, TheVariants.NODE_LITERAL}, rnix_grammar.specs.declared.rules.Part.TheVariants.Operand}
 use Rattle.rnix_grammar.specs.{declared.rules.Part.TheVariants.Many, Fault.Fault, AnnotatedForest.{Token, Note, Stray, Unwanted, Extra, DoubleBind, TooDeep}}
@@ -37,7 +37,7 @@ path_sum v w q k c f i l h g inside rest = by (has_no_attrpath q) refl
         let more : suc (spare v (row k) + spare w (after q k)) ≤ spare w q = path_spare v w q k i l h b in
         omega (arith, inside, rest, more)
 
--- where no token is left, the nodes are those that a row may have without
+-- where no token is left, the nodes are those that the row may have without
 pub empty : {p : SyntaxKind} {d n : ℕ} {q q' : Row} {b : AnnotatedForest} {us : List Token} {f : AnnotatedForest} {es : List Fault}
     → Reads p d n q q' b us f es → IsKnown p q → may_end q' ≡ true → us ≡ [] → tokens_in f ≡ [] → (has_no_attrpath q ≡ true → HasNoNode f)
     → nodes f ≤ spare (is_full d) q

@@ -46,7 +46,7 @@ run_goes {i} {q} {r} w m n =
     goes_so w 1 q r (both_answers (λ w. goes w 1 q r)
     (sym (ap (behind (run_passes q)) m) ∙ every_known (λ i q. behind (run_passes q) (run_at q)) (λ i. refl) refl i q n) w)
 
--- an operand may stand, by whether no more may that count
+-- an operand is allowed, by whether no more counted ones are
 abbrev pub has_room : Bool → Bool → Bool
 has_room w counted = is_false (w && counted)
 
@@ -69,7 +69,7 @@ deep_goes {i} q n c =
     at_most _ _ (sym (ap (λ w. if w then nat_le (suc (spare true (after q NODE_LITERAL))) (excess true q) else true) c)
     ∙ every_known deep_passes (λ i. refl) refl i q n)
 
--- items behind the root's expression, and a second name
+-- items after the root's expression, and a second name
 pub extra_goes : (w : Bool) → Goes w 1 (TextEnd · done) (TextEnd · done)
 extra_goes true = goes_so true 1 (TextEnd · done) (TextEnd · done) refl
 extra_goes false = goes_so false 1 (TextEnd · done) (TextEnd · done) refl

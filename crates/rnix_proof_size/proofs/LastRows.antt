@@ -1,4 +1,4 @@
--- The nodes of a row with tokens at the end of the text.
+-- The nodes of a forest with tokens at the end of the text.
 use Rattle.std.proofs.Common.{◌≡◌, ◌≤◌, ℕ, suc, ◌+◌, ◌*◌, Bool, true, false, List, [], ◌∷◌, ◌++◌, length, refl, ap, sym, ◌∙◌, subst, append-nil, arith}
 use Rattle.{std.proofs.lemmas.List.length-append, rnix_kinds.specs.declared.kinds.SyntaxKind.SyntaxKind}
 use Rattle.rnix_grammar.specs.{declared.rules.Part.TheVariants.BoundAlready, Fault.Fault, AnnotatedForest.{Token, Note, Stray, Unwanted, Extra, DoubleBind}}
@@ -11,7 +11,7 @@ use Rattle.rnix_proof_size.proofs.{Bounds.{is_full, surplus, spare, excess}, Emp
 use Rattle.rnix_proof_size.proofs.EndBounds.{Goes, NodeGoes, leaf_goes, run_goes, stray_goes, deep_goes, extra_goes, second_goes, node_goes, room_inside}
 use Rattle.rnix_proof_size.proofs.EndBounds.{room_here}
 
--- what follows in a row: no token, or some
+-- what follows in a forest: no token, or some
 record Tail (w : Bool) (r : Row) (f : AnnotatedForest) : Type 0 where
   pub begins : tokens_in f ≡ [] → begins_with_child r ≡ false
   pub none : tokens_in f ≡ [] → nodes f ≤ spare w r
@@ -147,10 +147,10 @@ last {d = d} {q = q} {us = us} (wrong {r = r} {f = f} note ts x o v h) i e u s =
     wrong_last note d q r ts f us v i (reads_viable h (end_viable _ e)) u (tail h n e u (last h n e u)) s
 last {d = d} (second {c = c} {f = f} h y t) i e u s =
     let past = past_ends t refl (end_viable _ e) in
-    let none : tokens_in f ≡ [] = ap tokens_in past.row in
+    let none : tokens_in f ≡ [] = ap tokens_in past.no_trees in
     let own : nodes c + 2 ≤ 2 * length (tokens_in c) + excess (is_full d) second_name = last h known_second y.0 (over f u none) (some_inside c f s none) in
     let more : suc (excess (is_full d) second_name) ≤ excess (is_full d) (BoundAlready · done) = second_goes (is_full d) in
-    let rest : nodes f ≡ 0 = ap nodes past.row in
+    let rest : nodes f ≡ 0 = ap nodes past.no_trees in
     let all : length (tokens_in c ++ tokens_in f) ≡ length (tokens_in c) + length (tokens_in f) = length-append (tokens_in c) (tokens_in f) in
     omega (arith, own, more, rest, all)
 last {d = d} {q = q} {us = us} (inner {k = k} {c = c} {f = f} o h y x w z t) i e u s =

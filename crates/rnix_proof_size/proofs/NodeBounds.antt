@@ -19,7 +19,7 @@ pub both_answers : (P : Bool → Bool) → (P false && P true) ≡ true → (w :
 both_answers P h true = (and_parts (P false) (P true) h).1
 both_answers P h false = (and_parts (P false) (P true) h).0
 
--- a test of each child after which a row goes on; of each node that has a row
+-- a test of each child after which a row continues; of each node that has a row
 abbrev pub each_child : (Row → SyntaxKind → Bool) → SyntaxKind → Row → Bool
 each_child test i q = list_all (λ k. if is_viable (after q k) then test q k else true) all_kinds
 

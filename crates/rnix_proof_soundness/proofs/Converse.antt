@@ -15,7 +15,7 @@ use Rattle.{rnix_proof_lemmas.proofs.RowKinds.has_row, rnix_proof_soundness.proo
 use Rattle.rnix_proof_soundness.proofs.{TokenDependentForms.{sound_made, sound_tokens}, SoundRows.{Skips, IsEntry, Tokens, Calls, IsSound, sound_row}}
 use Rattle.rnix_grammar.specs.declared.rules.Part.TheVariants as p
 
--- errors of two rows
+-- errors of two forests
 misses_first : (test : Fault → Bool) (ds es : List Fault) → Lacks test (ds ++ es) → Lacks test ds
 misses_first test [] es h = tt
 misses_first test (d ∷ ds) es h = (h.0, misses_first test ds es h.1)
@@ -25,7 +25,7 @@ misses_rest : (test : Fault → Bool) (ds es : List Fault) → Lacks test (ds ++
 misses_rest test [] es h = h
 misses_rest test (d ∷ ds) es h = misses_rest test ds es h.1
 
--- what is missing is reported by an error of the end of the text
+-- what is missing is reported by an error at the end of the text
 abbrev IsEnded : Option (Fault × Row) → Type 0
 IsEnded None = Unit {0}
 IsEnded (Some w) = is_ended w.0 ≡ true
@@ -75,7 +75,7 @@ new_entry NODE_PAT_ENTRY names b c f y h l rest =
     ap (λ z. if z then false else are_entries_new (entry_text (repaired c) ∷ names) f) new ∙ rest (entry_text (repaired c) ∷ names) (tracks_entry names b c y h)
 new_entry k names b c f y h l rest = rest names (tracks_same names b (one_branch k c) (λ n. refl) h)
 
--- no entry of a row has the name of one before it
+-- no entry of a forest has the name of one before it
 new_entries : (parent : SyntaxKind) (q : Row) (b f : AnnotatedForest) (names : List (List ℕ)) → Tracks names b → IsSound parent q b f
     → are_entries_new names (repaired f) ≡ true
 new_entries i q b blank names h s = refl
@@ -91,7 +91,7 @@ skips Extra d q r ts us w = w.2
 skips DoubleBind d q r ts us w = absurd w
 skips _ d q r ts us w = tt
 
--- the accepted extensions of a row behind an error node
+-- the accepted extensions of a forest after an error node
 extensions_behind : (m : Note) (k : SyntaxKind) (f : Forest) → has_no_extension k (repair m f) ≡ true → has_no_extension k f ≡ true
 extensions_behind Stray k f h = h
 extensions_behind _ k f h = assumption
@@ -110,7 +110,7 @@ module _ (b : AnnotatedForest) (k : SyntaxKind) (c : AnnotatedForest) (n : ℕ) 
   called (p.Argument · r) ts x y = λ o. or_called r ts (subst (λ w. IsExpected (p.Argument · r) n ts w) o x) y
   called _ ts x y = tt
 
--- a row that is read is sound
+-- a forest that is read is sound
 sound : {k : SyntaxKind} {d n : ℕ} {q q' : Row} {b : AnnotatedForest} {us : List Token} {f : AnnotatedForest} {es : List Fault}
     → Reads k d n q q' b us f es → may_end q' ≡ true
     → AreSpelled (tokens_in f) → AreNamed q f → has_no_extension k (repaired f) ≡ true → Lacks is_ended es → Lacks is_repeated es → IsSound k q b f

@@ -1,4 +1,4 @@
--- What is known of a row that is read: its tokens are spelled, its names stand where they may, and its nodes are what they are in the grammar.
+-- What is known of a forest that is read: its tokens are spelled, its names stand where they may, and its nodes are what they are in the grammar.
 use Rattle.std.proofs.Common.{◌≡◌, ⊎_elim, ℕ, ◌≤◌, Bool, true, false, List, Option, Some, None, refl, ap, sym, ◌∙◌, subst, codes, arith, if◌then◌else◌, ◌||◌}
 use Rattle.{std.proofs.{Common.{nat_eq, nat_le}, lemmas.Bool.{and_parts, or_cases, Decides.nat_tests}}, rnix_kinds.specs.declared.kinds.SyntaxKind.SyntaxKind}
 use Rattle.rnix_kinds.specs.declared.kinds.SyntaxKind.TheVariants.{TOKEN_CUR_POS, TOKEN_IDENT, TOKEN_INTEGER, TOKEN_OR, TOKEN_R_BRACE, NODE_CUR_POS, NODE_IDENT}
@@ -48,7 +48,7 @@ abbrev pub Calls : Row → AnnotatedForest → AnnotatedForest → Type 0
 Calls (p.Argument · r) b x = is_or_row x ≡ true → is_atom_row b ≡ true
 Calls q b x = Unit {0}
 
--- what is known of a leaf and of a node where this is left of a row, behind other trees
+-- what is known of a leaf and of a node where this is left of a row, after other trees
 pub record IsLeaf (parent : SyntaxKind) (q : Row) (b : AnnotatedForest) (k : SyntaxKind) (t : Token) : Type 0 where
   pub kind_is : k ≡ leaf_kind parent t
   pub spelled : is_spelled t.kind t.text ≡ true
@@ -71,7 +71,7 @@ Skips Extra q = q ≡ p.TextEnd · done
 Skips DoubleBind q = q ≡ p.BoundAlready · done
 Skips note q = Unit {0}
 
--- and of each tree of a row, from what is left of it on
+-- and of each tree of a forest, where this is left of the row
 abbrev pub IsSound : SyntaxKind → Row → AnnotatedForest → AnnotatedForest → Type 0
 IsSound parent q b blank = may_end q ≡ true
 IsSound parent q b (token k t f) = IsLeaf parent q b k t × IsSound parent (after q k) (b ⊕ one_token k t) f
@@ -86,7 +86,7 @@ is_part r = false
 pub no_part : {A : Type 0} (q : Row) {x : Part} {r : Row} → is_part q ≡ false → q ≡ x · r → A
 no_part q n e = absurd (true_is_not_false (sym (ap is_part e) ∙ n))
 
--- no row goes on where there is none
+-- no row continues where there is none
 pub nowhere : {A : Type 0} (parent : SyntaxKind) (b f : AnnotatedForest) → IsSound parent never b f → A
 nowhere parent b blank h = absurd (true_is_not_false (sym h))
 nowhere parent b (token k t f) h = nowhere parent (b ⊕ one_token k t) f h.1
@@ -128,7 +128,7 @@ named_value q k c plain h = by k (only_token c) plain (allowed_named q k c h)
     by NODE_CUR_POS (Some t) plain h = h
     by k (Some t) plain h = refl
 
--- a tree that is no accepted extension stands at each level at which it binds
+-- a tree that is no accepted extension is at each level at which it binds
 bounded : (parent k : SyntaxKind) (c : AnnotatedForest) (g : Forest) (n : ℕ) → n ≤ level_of k c → (if is_extension parent k g then false else true) ≡ true
     → (nat_eq n 0 || holds_no_lambda parent) ≡ true → n ≤ tightest k c
 bounded parent NODE_LAMBDA c g n l m o = ⊎_elim (λ e. grind (arith, nat_tests, e))
@@ -178,7 +178,7 @@ bound_child q NODE_PAT_BIND c e h = bound_at q c e h
 bound_child q NODE_IDENT c e h = name_at q e h
 bound_child q k c e h = refl
 
--- behind a run of unwanted tokens a row goes on as before it
+-- after a run of unwanted tokens a row continues as before it
 only_if : (H : Row → Type 0) (w : Bool) (r s : Row) → ((r : Row) → H never → H r) → H (only w r) → H (if w then r else s)
 only_if H true r s none h = h
 only_if H false r s none h = none s h
@@ -214,7 +214,7 @@ grammar_row_run i q f (Some w) g h = g h
 grammar_row_number : (parent : SyntaxKind) (q : Row) {f : Forest} → GrammarRow parent (after q NODE_LITERAL) f → GrammarRow parent q (node NODE_LITERAL zero f)
 grammar_row_number parent q h = node_started refl tt (number_asked parent q, refl) h
 
--- so a sound row has children that are what they are in the grammar
+-- so a sound forest has children that are what they are in the grammar
 pub sound_row : (parent : SyntaxKind) (q : Row) (b f : AnnotatedForest) → IsSound parent q b f → GrammarRow parent q (repaired f)
 sound_row i q b blank h = ended h
 sound_row i q b (token k t f) h = leaf_node_made (leaf_is_token h.0) (sound_row i (after q k) (b ⊕ one_token k t) f h.1)

@@ -22,12 +22,12 @@ use Rattle.rnix_grammar.specs.Grammar as G
 use Rattle.rnix_grammar.specs.Tables as tables
 use Rattle.rnix_grammar.specs.declared.rules.Part.TheVariants as p
 
--- a row that goes on only if a test holds
+-- a row that continues only if a test holds
 goes : (parent : SyntaxKind) (w : Bool) (r : Row) (b f : AnnotatedForest) → IsSound parent (only w r) b f → (w ≡ true) × IsSound parent r b f
 goes i true r b f h = (refl, h)
 goes i false r b f h = nowhere i b f h
 
--- where no run of tokens may stand, an error node is a number
+-- where no run of tokens may be, an error node is a number
 as_number : (parent : SyntaxKind) (q : Row) (n : Note) (b f : AnnotatedForest) → run_at q ≡ None → may_end q ≡ false
     → Skips n q × IsSound parent (after_error q n) b f
     → ((g : Forest) → repair n g ≡ node NODE_LITERAL zero g) × IsSound parent (after q NODE_LITERAL) b f
@@ -37,7 +37,7 @@ as_number i q (Unwanted u) b f e m h = nowhere i b f (subst (λ w. IsSound i (af
 as_number i q Extra b f e m h = absurd (true_is_not_false (sym (ap may_end h.0) ∙ m))
 as_number i q DoubleBind b f e m h = absurd (true_is_not_false (sym (ap may_end h.0) ∙ m))
 
--- the first tree of a row, or the number in its place
+-- the first tree of a forest, or the number in its place
 record IsFirst (x : AnnotatedForest) (k : SyntaxKind) (g : Forest) : Type 0 where
   stands : (n : ℕ) → n ≤ row_level x → G.Strict n k g
   atom : is_atom_row x ≡ true → G.Atom k g
@@ -98,7 +98,7 @@ viable : (parent : SyntaxKind) (q : Row) (b f : AnnotatedForest) → IsSound par
 viable i never b f s = nowhere i b f s
 viable i _ b f s = refl
 
--- a row goes on with a token where no node may stand
+-- a row continues with a token where no node may be
 abbrev Next : SyntaxKind → Row → AnnotatedForest → (AnnotatedForest → Type 0) → Type 0
 Next parent q b P = (k : SyntaxKind) (t : Token) (f : AnnotatedForest) → IsLeaf parent q b k t → IsSound parent (after q k) (b ⊕ one_token k t) f
     → P (token k t f)
@@ -115,7 +115,7 @@ token_next i q b o m all P n (fault u c f) s =
     absurd (true_is_not_false (sym (implied (λ k. is_viable (after q k)) is_token all NODE_LITERAL
     (viable i (after q NODE_LITERAL) (b ⊕ one_fault u c) f (as_number i q u (b ⊕ one_fault u c) f o m s).1))))
 
--- nothing stands behind the end of a row
+-- nothing comes after the end of a row
 past_blank : (parent : SyntaxKind) (b f : AnnotatedForest) → IsSound parent done b f → f ≡ blank
 past_blank i b blank s = refl
 past_blank i b (token k t f) s = nowhere i (b ⊕ one_token k t) f s.1
@@ -185,7 +185,7 @@ prefix_strict = token_next NODE_UNARY_OP (row NODE_UNARY_OP) blank refl refl ref
         by (stands a ends) = G.invert (a refl)
     next k t f l s = nowhere NODE_UNARY_OP (one_token k t) f s
 
--- a tree and a token behind it: selections, tests of attributes, binary operators
+-- a tree and a token after it: selections, tests of attributes, binary operators
 with_token : (parent : SyntaxKind) (a : SyntaxKind → Bool) (q z : Row) (P : AnnotatedForest → Forest → Type 0) → ((k : SyntaxKind) → after q k ≡ only (a k) z)
     → run_at q ≡ None → may_end q ≡ false → ((k : SyntaxKind) → a k ≡ true → is_expression k ≡ true) → holds_no_lambda parent ≡ true
     → ((t : Token) → is_name_at q t ≡ true → is_plain t ≡ true) → run_at z ≡ None → may_end z ≡ false

@@ -1,2 +1,2 @@
-//! What is read without errors is strict, but for its accepted extensions.
+//! What is read without errors is strict, except for its accepted extensions.
 #![tactic(auto)]

@@ -39,7 +39,7 @@ bounds levels x action = (1, 0) ∷ []
 abbrev keeps : Position → Action → Bool
 keeps x action = are_at_most (bounds false x action) && are_at_most (bounds true x action)
 
--- what holds of each action where an attribute may stand
+-- what holds of each action where an attribute may be
 abbrev AttrActions : (Action → Type 0) → ℕ → ℕ → Type 0
 AttrActions P again after = P (a.Open NODE_DYNAMIC DYNAMIC after) × P (a.Open NODE_STRING STRING after) × P (a.Leaf NODE_IDENT after) × P (a.Run u.Attr again)
 
@@ -143,7 +143,7 @@ past_end i e d = subst (λ s. EachAction (λ action. keeps (p.InRow i) action �
 keeps_at : (i : ℕ) → KeepsAt i
 keeps_at = each_index KeepsAt (assumption) past_end
 
--- the operand behind an operator
+-- the operand after an operator
 behind_operator : (level : ℕ) (any : Bool)
     → (are_at_most (reads false any false (p.Right level) (p.InRow BIN_OP_END)) && are_at_most (reads true any false (p.Right level) (p.InRow BIN_OP_END)))
     ≡ true

@@ -18,11 +18,11 @@ pub record Awaits (levels any : Bool) (c : ℕ) (us : List Token) (d : ℕ) (fs 
   pub ended : operand_ended + ends fs ≤ c
 
 -- so it is for the operand alone
-one_enough : (levels any : Bool) (c : ℕ) (us vs : List Token) (d level max_bp : ℕ) (fs : List Frame) (row : AnnotatedForest)
+one_enough : (levels any : Bool) (c : ℕ) (us vs : List Token) (d level max_bp : ℕ) (fs : List Frame) (trees : AnnotatedForest)
     → AreAtMost (one_frame levels any) → pays levels vs ≤ pays levels us → Awaits levels any c us d fs
-    → Enough levels c vs (opened Operand (p.AfterOperand level max_bp) d row ∷ fs)
-one_enough levels any c us [] d level max_bp fs row m h e = omega (arith, m.1.1.0, e.ended)
-one_enough levels any c us (v ∷ vs) d level max_bp fs row m h e = record {
+    → Enough levels c vs (opened Operand (p.AfterOperand level max_bp) d trees ∷ fs)
+one_enough levels any c us [] d level max_bp fs trees m h e = omega (arith, m.1.1.0, e.ended)
+one_enough levels any c us (v ∷ vs) d level max_bp fs trees m h e = record {
   last_in = omega (arith, m.0, h, e.last_in);
   below = e.below;
   closed_in = omega (arith, m.1.0, h, e.closed_in);
@@ -30,11 +30,11 @@ one_enough levels any c us (v ∷ vs) d level max_bp fs row m h e = record {
 }
 
 -- for a node in the operand
-two_enough : (levels any : Bool) (c : ℕ) (us vs : List Token) (d level max_bp : ℕ) (fs : List Frame) (head : Head) (x : Position) (inside row : AnnotatedForest)
-    → AreAtMost (two_frames levels any x) → pays levels vs ≤ pays levels us → Awaits levels any c us d fs
-    → Enough levels c vs (opened head x d inside ∷ (opened Operand (p.AfterOperand level max_bp) d row ∷ fs))
-two_enough levels any c us [] d level max_bp fs head x inside row m h e = omega (arith, m.1.1.1.0, e.ended)
-two_enough levels any c us (v ∷ vs) d level max_bp fs head x inside row m h e =
+two_enough : (levels any : Bool) (c : ℕ) (us vs : List Token) (d level max_bp : ℕ) (fs : List Frame) (head : Head) (x : Position)
+    (inside trees : AnnotatedForest) → AreAtMost (two_frames levels any x) → pays levels vs ≤ pays levels us → Awaits levels any c us d fs
+    → Enough levels c vs (opened head x d inside ∷ (opened Operand (p.AfterOperand level max_bp) d trees ∷ fs))
+two_enough levels any c us [] d level max_bp fs head x inside trees m h e = omega (arith, m.1.1.1.0, e.ended)
+two_enough levels any c us (v ∷ vs) d level max_bp fs head x inside trees m h e =
     let waits : ℕ = held levels operand + room levels d + ends fs in
     let done : ℕ = closing operand + e.below in
     let first : pays levels vs + closed levels x + waits ≤ c = omega (arith, m.1.0, h, e.last_in) in
@@ -48,11 +48,11 @@ two_enough levels any c us (v ∷ vs) d level max_bp fs head x inside row m h e 
 
 -- for a pattern in a function in the operand
 three_enough : (levels any : Bool) (c more : ℕ) (us vs : List Token) (d level max_bp : ℕ) (fs : List Frame) (head other : Head) (x : Position)
-    (inside between row : AnnotatedForest)
+    (inside between trees : AnnotatedForest)
     → AreAtMost (three_frames more levels any x) → more + pays levels vs ≤ pays levels us → Awaits levels any c us d fs
-    → Enough levels c vs (opened head x d inside ∷ (opened other (p.InRow LAMBDA) d between ∷ (opened Operand (p.AfterOperand level max_bp) d row ∷ fs)))
-three_enough levels any c more us [] d level max_bp fs head other x inside between row m h e = omega (arith, m.1.1.1.1.0, e.ended)
-three_enough levels any c more us (v ∷ vs) d level max_bp fs head other x inside between row m h e =
+    → Enough levels c vs (opened head x d inside ∷ (opened other (p.InRow LAMBDA) d between ∷ (opened Operand (p.AfterOperand level max_bp) d trees ∷ fs)))
+three_enough levels any c more us [] d level max_bp fs head other x inside between trees m h e = omega (arith, m.1.1.1.1.0, e.ended)
+three_enough levels any c more us (v ∷ vs) d level max_bp fs head other x inside between trees m h e =
     let waits : ℕ = held levels operand + room levels d + ends fs in
     let done : ℕ = closing operand + e.below in
     let next : ℕ = max waits done in
@@ -67,7 +67,7 @@ three_enough levels any c more us (v ∷ vs) d level max_bp fs head other x insi
       rest = (omega arith, (next, omega arith, (omega arith, (e.below, omega arith, e.rest))));
     }
 
--- the items behind the first, and behind two
+-- the items after the first, and after two
 tail_pays : (levels : Bool) (us : List Token) → pays levels (tail_of us) ≤ pays levels us
 tail_pays levels [] = omega arith
 tail_pays levels (t ∷ us) = omega arith

@@ -70,10 +70,10 @@ module _ (levels : Bool) (c : ℕ) (f : Frame) (ts : List Token) (n : ℕ) where
   entry_ends (g ∷ gs) es q w r e = completed_ends (g ∷ gs) es q w r e
 
 -- a frame waits for an operand inside so many positions, in what was enough for another position; the next item is there
-waits : (levels any counted : Bool) (c d : ℕ) (us : List Token) (f : Frame) (fs : List Frame) (y : Position) (head : Head) (row : AnnotatedForest)
+waits : (levels any counted : Bool) (c d : ℕ) (us : List Token) (f : Frame) (fs : List Frame) (y : Position) (head : Head) (trees : AnnotatedForest)
     → AreAtMost (reads levels any counted f.position y) → room levels f.depth ≡ (if counted then per_level levels else 0) + room levels d
-    → IsEnough levels (2 + c) us f fs → Awaits levels any c us d (opened head y f.depth row ∷ fs)
-waits levels any counted c d us f fs y head row b r e =
+    → IsEnough levels (2 + c) us f fs → Awaits levels any c us d (opened head y f.depth trees ∷ fs)
+waits levels any counted c d us f fs y head trees b r e =
     let first : pays levels us + operand_closed levels + (held levels y + room levels f.depth + ends fs) ≤ per_item levels + c =
     omega (arith, b.1.0, e.last_in) in
     let second : pays levels us + operand_closed levels + (closing y + e.below) ≤ per_item levels + c = omega (arith, b.1.1.0, e.closed_in) in
@@ -86,10 +86,10 @@ waits levels any counted c d us f fs y head row b r e =
     }
 
 -- so does an application, with an operand below it
-argument_waits : (levels : Bool) (c min_bp max_bp : ℕ) (us : List Token) (f : Frame) (fs : List Frame) (head other : Head) (inside row : AnnotatedForest)
+argument_waits : (levels : Bool) (c min_bp max_bp : ℕ) (us : List Token) (f : Frame) (fs : List Frame) (head other : Head) (inside trees : AnnotatedForest)
     → AreAtMost (applies levels f.position) → IsEnough levels (2 + c) us f fs
-    → Awaits levels false c us f.depth (opened head (p.InRow APPLIED) f.depth inside ∷ (opened other (p.AfterOperand min_bp max_bp) f.depth row ∷ fs))
-argument_waits levels c min_bp max_bp us f fs head other inside row b e =
+    → Awaits levels false c us f.depth (opened head (p.InRow APPLIED) f.depth inside ∷ (opened other (p.AfterOperand min_bp max_bp) f.depth trees ∷ fs))
+argument_waits levels c min_bp max_bp us f fs head other inside trees b e =
     let ended : ℕ = held levels operand + room levels f.depth + ends fs in
     let done : ℕ = closing operand + e.below in
     let application : ℕ = held levels (p.InRow APPLIED) + room levels f.depth + (2 * measure operand + ends fs) in
@@ -203,10 +203,10 @@ module _ (levels : Bool) (c : ℕ) (f : Frame) (fs : List Frame) (ts : List Toke
     nearer : (after : ℕ) → IsNext f.position (head_kind (items ts)) after → measure (p.InRow after) < measure f.position
     nearer after h = (subst (λ next. IsNext f.position next after) missing h).1
 
-    next_ends : (after : ℕ) (row : AnnotatedForest) → IsNext f.position (head_kind (items ts)) after
-        → Enough levels c (items ts) (opened f.head (p.InRow after) f.depth row ∷ fs)
-    next_ends after row h =
-        subst (λ xs. Enough levels c xs (opened f.head (p.InRow after) f.depth row ∷ fs)) (sym q) (omega (arith, e, nearer after h))
+    next_ends : (after : ℕ) (trees : AnnotatedForest) → IsNext f.position (head_kind (items ts)) after
+        → Enough levels c (items ts) (opened f.head (p.InRow after) f.depth trees ∷ fs)
+    next_ends after trees h =
+        subst (λ xs. Enough levels c xs (opened f.head (p.InRow after) f.depth trees ∷ fs)) (sym q) (omega (arith, e, nearer after h))
 
     operand_ends : (level d : ℕ) (g : Frame) (xs : List Token) → xs ≡ [] → Enough levels c (items ts) (g ∷ fs)
         → Leaves levels c (operand_on true level d g fs ts xs n es)

@@ -15,13 +15,13 @@ abbrev pub pays : Bool → List Token → ℕ
 pays levels [] = 0
 pays levels (t ∷ ts) = per_item levels + pays levels ts
 
--- a number is enough for frames below others, once those are complete, whether the text ends in the first of them, or above it, or behind it
+-- a number is enough for frames below others, once those are complete, whether the text ends in the first of them, or above it, or after it
 abbrev pub Covers : Bool → ℕ → List Frame → Type 0
 Covers levels n [] = Unit {0}
 Covers levels n (f ∷ fs) =
     (held levels f.position + room levels f.depth + ends fs ≤ n) × ((below : ℕ) × (closing f.position + below ≤ n) × Covers levels below fs)
 
--- for frames where an item is next, and with the items behind it
+-- for frames where an item is next, and with the items after it
 pub record IsEnough (levels : Bool) (c : ℕ) (us : List Token) (f : Frame) (fs : List Frame) : Type 0 where
   pub last_in : pays levels us + last levels f.position + room levels f.depth + ends fs ≤ c
   pub below : ℕ
@@ -48,21 +48,21 @@ two_less (suc zero) h = absurd (omega (arith, h))
 two_less (suc (suc d)) h = (d, omega arith)
 
 -- a frame is complete
-pub closed_enough : (levels : Bool) (c : ℕ) (us : List Token) (f g : Frame) (gs : List Frame) (row : AnnotatedForest) → AreAtMost (closes levels f.position)
-    → IsEnough levels (2 + c) us f (g ∷ gs) → IsEnough levels c us (opened g.head g.position g.depth row) gs
-closed_enough levels c us f g gs row b e = record {
+pub closed_enough : (levels : Bool) (c : ℕ) (us : List Token) (f g : Frame) (gs : List Frame) (trees : AnnotatedForest) → AreAtMost (closes levels f.position)
+    → IsEnough levels (2 + c) us f (g ∷ gs) → IsEnough levels c us (opened g.head g.position g.depth trees) gs
+closed_enough levels c us f g gs trees b e = record {
   last_in = omega (arith, b.0, e.closed_in, e.rest.0, last_most levels g.position);
   below = e.rest.1.0;
   closed_in = omega (arith, b.0, e.closed_in, e.rest.1.1, closed_most levels g.position);
   rest = e.rest.1.2;
 }
 
--- a frame goes on at another position, with an item
-pub moved_enough : (levels : Bool) (c : ℕ) (us vs : List Token) (f : Frame) (fs : List Frame) (head : Head) (y : Position) (row : AnnotatedForest)
+-- a frame continues at another position, with an item
+pub moved_enough : (levels : Bool) (c : ℕ) (us vs : List Token) (f : Frame) (fs : List Frame) (head : Head) (y : Position) (trees : AnnotatedForest)
     → AreAtMost (moves levels f.position y) → pays levels vs ≤ pays levels us → IsEnough levels (2 + c) us f fs
-    → Enough levels c vs (opened head y f.depth row ∷ fs)
-moved_enough levels c us [] f fs head y row b h e = omega (arith, b.1.1.0, e.last_in)
-moved_enough levels c us (v ∷ vs) f fs head y row b h e = record {
+    → Enough levels c vs (opened head y f.depth trees ∷ fs)
+moved_enough levels c us [] f fs head y trees b h e = omega (arith, b.1.1.0, e.last_in)
+moved_enough levels c us (v ∷ vs) f fs head y trees b h e = record {
   last_in = omega (arith, b.0, h, e.last_in);
   below = e.below;
   closed_in = omega (arith, b.1.0, h, e.closed_in);
@@ -71,10 +71,10 @@ moved_enough levels c us (v ∷ vs) f fs head y row b h e = record {
 
 -- a node is opened in a frame that waits
 pub pushed_enough : (levels : Bool) (c gain : ℕ) (us vs : List Token) (f : Frame) (fs : List Frame) (head other : Head) (x y : Position)
-    (inside row : AnnotatedForest)
+    (inside trees : AnnotatedForest)
     → AreAtMost (pushes gain levels f.position x y) → gain + pays levels vs ≤ pays levels us → IsEnough levels (2 + c) us f fs
-    → IsEnough levels c vs (opened head x f.depth inside) (opened other y f.depth row ∷ fs)
-pushed_enough levels c gain us vs f fs head other x y inside row b h e =
+    → IsEnough levels c vs (opened head x f.depth inside) (opened other y f.depth trees ∷ fs)
+pushed_enough levels c gain us vs f fs head other x y inside trees b h e =
     let waits : ℕ = held levels y + room levels f.depth + ends fs in
     let done : ℕ = closing y + e.below in
     let first : pays levels vs + closed levels x + waits ≤ c = omega (arith, b.1.0, h, e.last_in) in
@@ -87,9 +87,9 @@ pushed_enough levels c gain us vs f fs head other x y inside row b h e =
     }
 
 pub opened_enough : (levels : Bool) (c : ℕ) (us vs : List Token) (f : Frame) (fs : List Frame) (head other : Head) (x y : Position)
-    (inside row : AnnotatedForest)
+    (inside trees : AnnotatedForest)
     → AreAtMost (opens levels f.position x y) → pays levels vs ≤ pays levels us → IsEnough levels (2 + c) us f fs
-    → Enough levels c vs (opened head x f.depth inside ∷ (opened other y f.depth row ∷ fs))
-opened_enough levels c us [] f fs head other x y inside row b h e = omega (arith, b.0, e.last_in)
-opened_enough levels c us (v ∷ vs) f fs head other x y inside row b h e =
-    pushed_enough levels c (per_item levels) us vs f fs head other x y inside row b.1 h e
+    → Enough levels c vs (opened head x f.depth inside ∷ (opened other y f.depth trees ∷ fs))
+opened_enough levels c us [] f fs head other x y inside trees b h e = omega (arith, b.0, e.last_in)
+opened_enough levels c us (v ∷ vs) f fs head other x y inside trees b h e =
+    pushed_enough levels c (per_item levels) us vs f fs head other x y inside trees b.1 h e

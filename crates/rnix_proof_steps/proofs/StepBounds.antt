@@ -33,7 +33,7 @@ extra_in levels (Some (Next (r.Operand level false))) = 12
 extra_in levels (Some (Next (r.EndOr TOKEN_OR))) = 8
 extra_in levels slot = 0
 
--- what is left behind an attribute path
+-- what is left after an attribute path
 abbrev pub behind_path : ℕ → Option Slot → Option Slot
 behind_path i (Some (Next r.Attrpath)) = slot_at (i + 1)
 behind_path i slot = slot
@@ -136,7 +136,7 @@ pub they_are : (xs : List (ℕ × ℕ)) → are_at_most xs ≡ true → AreAtMos
 they_are [] h = tt
 they_are (x ∷ xs) h = let both = and_parts (nat_le x.0 x.1) (are_at_most xs) h in (at_most x.0 x.1 both.0, they_are xs both.1)
 
--- the position behind any operand
+-- the position after any operand
 abbrev pub operand : Position
 operand = p.AfterOperand 0 0
 
@@ -147,11 +147,11 @@ operand_last any = if any then 30 else 28
 abbrev pub operand_closed : Bool → ℕ
 operand_closed levels = per_item levels + 4
 
--- where the text ends behind its first items
+-- where the text ends after its first items
 abbrev pub operand_ended : ℕ
 operand_ended = 14
 
--- what a frame needs that is complete, or goes on at another position
+-- what a frame needs that is complete, or continues at another position
 abbrev pub closes : Bool → Position → List (ℕ × ℕ)
 closes levels x = (2 + per_item levels, closed levels x) ∷ []
 

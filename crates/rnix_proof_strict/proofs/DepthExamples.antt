@@ -1,4 +1,4 @@
--- Which names may stand where, how error nodes are repaired, and how deep trees nest.
+-- Where names are allowed, how error nodes are repaired, and how deep trees nest.
 use Rattle.{std.proofs.Common.{◌≡◌, ℕ, true, false, List, [], ◌∷◌, map, refl, codes}, rnix_kinds.specs.declared.kinds.SyntaxKind.SyntaxKind}
 use Rattle.rnix_kinds.specs.declared.kinds.SyntaxKind.TheVariants.{TOKEN_IDENT, TOKEN_INTEGER, TOKEN_ADD, TOKEN_SUB, TOKEN_MUL, TOKEN_COLON, TOKEN_QUESTION}
 use Rattle.rnix_kinds.specs.declared.kinds.SyntaxKind.TheVariants.{TOKEN_DOT, TOKEN_OR, TOKEN_L_BRACE, TOKEN_R_BRACE, TOKEN_L_BRACK, TOKEN_R_BRACK}
@@ -52,7 +52,7 @@ braces a f = leaf TOKEN_L_BRACE (codes "{") (a (leaf TOKEN_R_BRACE (codes "}") f
 abbrev default_entry : Forest → Forest
 default_entry f = node NODE_PAT_ENTRY (named (codes "b") (leaf TOKEN_QUESTION (codes "?") (one empty))) f
 
--- where the names `or` and `__curPos` may stand
+-- where the names `or` and `__curPos` may be
 abbrev or_token : Token
 or_token = record { kind = TOKEN_OR; text = codes "or"; start = 0; end = 2 }
 

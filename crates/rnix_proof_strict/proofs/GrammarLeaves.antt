@@ -8,7 +8,7 @@ use Rattle.rnix_grammar.specs.{Extensions.{holds_no_lambda, is_extension}, Deriv
 use Rattle.rnix_grammar.specs.{NodeClasses.{is_infix, is_plain_literal}, TokenKinds.is_path_piece}
 use Rattle.rnix_grammar.specs.Grammar as G
 
--- a row below a node whose leaves are tokens, and none of whose trees is an accepted extension
+-- a forest below a node whose leaves are tokens, and none of whose trees is an accepted extension
 pub record IsFine (parent : SyntaxKind) (f : Forest) : Type 0 where
   pub tokens : has_tokens_alone f ≡ true
   pub extension : has_no_extension parent f ≡ true
@@ -26,7 +26,7 @@ node_first n c f = record { tokens = and_from _ _ c.tokens f.tokens; extension =
 one_token : {parent k : SyntaxKind} {t : List ℕ} → is_token k ≡ true → IsFine parent (leaf k t empty)
 one_token i = token_first i fine_end
 
--- a lambda stands at the lowest level alone, and an interpolation as an attribute at none
+-- a lambda is at the lowest level alone, and an interpolation as an attribute at none
 no_lambda : {c : Forest} → G.Atom NODE_LAMBDA c → ⊥
 no_lambda h = elim h [ ]
 

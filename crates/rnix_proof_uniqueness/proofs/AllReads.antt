@@ -29,24 +29,24 @@ abbrev pub root_end : ℕ
 root_end = suc ROOT
 
 abbrev pub root_frame : AnnotatedForest → Frame
-root_frame row = opened (Node NODE_ROOT) (p.InRow root_end) 0 row
+root_frame trees = opened (Node NODE_ROOT) (p.InRow root_end) 0 trees
 
 -- the root's frame alone, with nothing left to read
 abbrev pub ended_with : AnnotatedForest → ℕ → List Fault → Machine
-ended_with row n es = machine (root_frame row ∷ []) [] n es
+ended_with trees n es = machine (root_frame trees ∷ []) [] n es
 
--- the row of the innermost frame
-abbrev pub row_in : List Frame → AnnotatedForest
-row_in [] = blank
-row_in (f ∷ fs) = f.children
+-- the children of the innermost frame
+abbrev pub innermost_children : List Frame → AnnotatedForest
+innermost_children [] = blank
+innermost_children (f ∷ fs) = f.children
 
 -- so what is read of some items to their end is one tree, with the same errors
 pub ended_once : (ts : List Token) (f : AnnotatedForest) (n : ℕ) (es : List Fault) (m : Machine) → Runs false (initial_machine ts) (ended_with f n es)
     → Runs false (initial_machine ts) m → step false m ≡ m
-    → (row_in m.frames ≡ f) × (m.faults ≡ es)
+    → (innermost_children m.frames ≡ f) × (m.faults ≡ es)
 ended_once ts f n es m r q h =
     let e = same_end q r h refl in
-    (ap (λ (z : Machine). row_in z.frames) e, ap (λ (z : Machine). z.faults) e)
+    (ap (λ (z : Machine). innermost_children z.frames) e, ap (λ (z : Machine). z.faults) e)
 
 -- no reading is lower than none
 lowest : {A : Type 0} {k : SyntaxKind} {d n : ℕ} {q s : Row} {b : AnnotatedForest} {us : List Token} {f : AnnotatedForest} {es : List Fault}

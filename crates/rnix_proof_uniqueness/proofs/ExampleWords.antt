@@ -5,7 +5,7 @@ use Rattle.{rnix_kinds.specs.declared.kinds.SyntaxKind.TheVariants.NODE_SELECT, 
 use Rattle.rnix_grammar.specs.{Fault.{Fault, extra, unwanted, unexpected_eof_wanted}, Tables.wanted_kinds, AnnotatedForest.{Unwanted, Extra}}
 use Rattle.rnix_proof_uniqueness.proofs.OnlyReading.{Shape, done, item, node, wrong}
 
--- a tree, before those behind it
+-- a tree, before those after it
 abbrev pub Grows : Type 0
 Grows = Shape → Shape
 
@@ -38,7 +38,7 @@ binary a b f = node NODE_BIN_OP (a (item (b done))) f
 abbrev pub function : Grows → Grows
 function b f = node NODE_LAMBDA (node NODE_IDENT_PARAM (name done) (item (b done))) f
 
--- a function of a pattern, with what stands behind the pattern
+-- a function of a pattern, with what follows the pattern
 abbrev pub function_of : Shape → Shape → Grows
 function_of c b f = node NODE_LAMBDA (node NODE_PATTERN c b) f
 
@@ -46,7 +46,7 @@ function_of c b f = node NODE_LAMBDA (node NODE_PATTERN c b) f
 abbrev pub entry : Grows
 entry f = node NODE_PAT_ENTRY (name done) f
 
--- a parenthesis, of what stands behind its first item
+-- a parenthesis, of what follows its first item
 abbrev pub paren : Shape → Grows
 paren c f = node NODE_PAREN (item c) f
 
@@ -58,7 +58,7 @@ no_list f = node NODE_LIST (run 2) f
 abbrev pub unwanteds : ExpectedSet → ℕ → Grows
 unwanteds until n f = wrong (Unwanted until) (run n) f
 
--- so many items behind the root's expression
+-- so many items after the root's expression
 abbrev pub extras : ℕ → Shape
 extras n = wrong Extra (run n) done
 
@@ -66,7 +66,7 @@ extras n = wrong Extra (run n) done
 abbrev pub within : ℕ → ℕ → Extent
 within start end = record { start = start; end = end }
 
--- items stand behind the root's expression
+-- items come after the root's expression
 abbrev pub is_extra : ℕ → ℕ → Fault
 is_extra start end = extra (within start end)
 

@@ -1,4 +1,4 @@
--- Functions are read as operands, if smaller rows are read.
+-- Functions are read as operands, if smaller forests are read.
 use Rattle.std.proofs.Common.{◌≡◌, ℕ, true, false, List, [], ◌∷◌, ◌++◌, refl, ap, sym, ◌∙◌, subst, append-nil, ◌⊎◌, inl, inr, append_assoc}
 use Rattle.rnix_kinds.{proofs.AllKinds.implied, specs.declared.kinds.SyntaxKind.{SyntaxKind, TheVariants.{TOKEN_L_BRACE, TOKEN_LET, NODE_ERROR}}}
 use Rattle.rnix_kinds.specs.declared.kinds.SyntaxKind.TheVariants.{NODE_LEGACY_LET, TOKEN_AT, TOKEN_IDENT, NODE_IDENT, NODE_IDENT_PARAM, NODE_LAMBDA}
@@ -42,8 +42,8 @@ led_item m rows k d n us t f es h r level F fs gs min_bp begins = by (begins_led
     ts : List Token
     ts = tokens_in f ++ us
 
-    row : AnnotatedForest → Frame
-    row g = opened Operand (p.AfterOperand level 16) d (one_branch k (token (leaf_kind k t) t g))
+    operand : AnnotatedForest → Frame
+    operand g = opened Operand (p.AfterOperand level 16) d (one_branch k (token (leaf_kind k t) t g))
 
     by : BegunByItem k t.kind (operand_start_of level t.kind t.text (head_kind ts) (second_kind ts))
         → IsOperandRead level d n (t ∷ tokens_in f) (one_branch k (token (leaf_kind k t) t f)) us es F fs gs
@@ -55,9 +55,9 @@ led_item m rows k d n us t f es h r level F fs gs min_bp begins = by (begins_led
           runs =
               runs_from (ap (λ z. begun false z level d t F fs (t ∷ ts) n gs) e)
               (runs_to
-              (ap (λ z. machine (row blank ∷ (F ∷ fs)) (tokens_in z ++ us) t.end gs) v.0
-              ∙ ap (λ z. machine (row z ∷ (F ∷ fs)) us (end_from t.end (tokens_in z)) gs) (sym v.0)
-              ∙ ap (λ z. machine (row f ∷ (F ∷ fs)) us (end_from t.end (tokens_in f)) z) (sym (append-nil gs) ∙ ap (λ z. gs ++ z) (sym v.1)))
+              (ap (λ z. machine (operand blank ∷ (F ∷ fs)) (tokens_in z ++ us) t.end gs) v.0
+              ∙ ap (λ z. machine (operand z ∷ (F ∷ fs)) us (end_from t.end (tokens_in z)) gs) (sym v.0)
+              ∙ ap (λ z. machine (operand f ∷ (F ∷ fs)) us (end_from t.end (tokens_in f)) z) (sym (append-nil gs) ∙ ap (λ z. gs ++ z) (sym v.1)))
               here);
         }
     by (led_node z max_bp e g c l) = record {
@@ -106,7 +106,7 @@ legacy_reads m rows d n us c es r =
     (ap (after (Child TOKEN_L_BRACE · remaining_at LEGACY_LET))
     (only (λ j. is_viable (after (Child TOKEN_L_BRACE · remaining_at LEGACY_LET) j)) TOKEN_L_BRACE refl v.item.kind v.alive)) refl v.rest))
 
--- the steps read the rest of a function's row behind its parameter
+-- the steps read the rest of a function's row after its parameter
 abbrev Body : SyntaxKind → ℕ → ℕ → AnnotatedForest → List Token → AnnotatedForest → List Fault → Type 0
 Body k d n c us f es = ReadOn NODE_LAMBDA d (end_from n (tokens_in c)) (p.InRow LAMBDA) (one_branch k c) us f es
 
@@ -114,7 +114,7 @@ Body k d n c us f es = ReadOn NODE_LAMBDA d (end_from n (tokens_in c)) (p.InRow 
 abbrev IsFunction : SyntaxKind → ℕ → ℕ → AnnotatedForest → AnnotatedForest → List Token → List Fault → List Fault → Type 0
 IsFunction k d n c f us ds es = Body k d n c us f es → ReadsTree d n (tokens_in c ++ tokens_in f) (one_branch NODE_LAMBDA (branch k c f)) us ((ds ++ []) ++ es)
 
--- a function whose steps are known behind its beginning
+-- a function whose steps are known after its beginning
 function_read : (level d n : ℕ) (zs : List Token) (c : AnnotatedForest) (us : List Token) (es : List Fault) (F : Frame) (fs : List Frame) (gs : List Fault)
     (t : Token) (ts : List Token) (how : OperandStart)
     → zs ++ us ≡ t ∷ ts → operand_start_of level t.kind t.text (head_kind ts) (second_kind ts) ≡ how

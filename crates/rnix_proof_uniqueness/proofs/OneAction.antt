@@ -143,7 +143,7 @@ opens k (a.OpenEmpty j z y) = same_kind j k && (is_at j (p.InRow z) && is_inner 
 opens k (a.Entry y) = same_kind NODE_PAT_ENTRY k
 opens k action = false
 
--- the row goes on with a leaf, or a second name of a pattern begins, where a token is expected
+-- the row continues with a leaf, or a second name of a pattern begins, where a token is expected
 abbrev pub by_own : SyntaxKind → Row → Option SyntaxKind → Action → Bool
 by_own k r None action = true
 by_own k r (Some j) action =
@@ -165,7 +165,7 @@ abbrev pub by_end : SyntaxKind → Row → Option SyntaxKind → Action → Bool
 by_end k r None action = asks (is_there (missing r)) (is_miss action && lands k action)
 by_end k r (Some j) action = true
 
--- this alone may be done in the row of a node of a kind, but for nodes that are no operands
+-- this alone may be done in the row of a node of a kind, except for nodes that are no operands
 abbrev pub by_next : Bool → SyntaxKind → Row → Option SyntaxKind → Action → Bool
 by_next true = by_own
 by_next false = by_other

@@ -5,21 +5,21 @@ use Rattle.rnix_grammar.specs.AnnotatedForest.{Token, Note, AnnotatedForest, bla
 use Rattle.{rnix_grammar.specs.{Layout.{items, tail_of}, Reads.ReadsRoot}, rnix_proof_lemmas.{specs.{Machine.{Machine, initial_machine, step, Runs, rest as here}}}}
 use Rattle.{rnix_proof_lemmas.{specs.{Machine.{then as further}}}, rnix_proof_uniqueness.proofs.AllReads.{ended_with, ended_once, reads_runs}}
 
--- a row of trees without its items: each leaf takes the next one
+-- a forest without its items: each leaf takes the next one
 pub data Shape : Type 0 where
   done : Shape
   item : Shape → Shape
   node : SyntaxKind → Shape → Shape → Shape
   wrong : Note → Shape → Shape → Shape
 
--- the items after those of a row
+-- the items after those of a forest
 abbrev pub unfilled : Shape → List Token → List Token
 unfilled done ts = ts
 unfilled (item f) ts = unfilled f (tail_of ts)
 unfilled (node k c f) ts = unfilled f (unfilled c ts)
 unfilled (wrong n c f) ts = unfilled f (unfilled c ts)
 
--- the row below a node, with its items
+-- the children of a node, with its items
 abbrev pub filled : SyntaxKind → Shape → List Token → AnnotatedForest
 filled p done ts = blank
 filled p (item f) [] = blank

@@ -18,7 +18,7 @@ use Rattle.rnix_grammar.specs.declared.position.Position.TheVariants as p
 use Rattle.rnix_grammar.specs.declared.action.Action.TheVariants as a
 use Rattle.rnix_grammar.specs.declared.operand_start.OperandStart.TheVariants as b
 
--- an item goes on with a tree, as far as the tree's level
+-- an item continues a tree, as far as the tree's level
 pub goes : (level max_bp : ℕ) (i : SyntaxKind) (x : AnnotatedForest) → FollowedTo max_bp x → follows i x ≡ true → level ≤ binding_power i
     → more_action level max_bp (Some i) ≡ continue_action i
 goes level max_bp i x b f l =
@@ -30,7 +30,7 @@ goes level max_bp i x b f l =
     all_three : (u v w : Bool) → u ≡ true → v ≡ true → w ≡ true → (u && (v && w)) ≡ true
     all_three u v w e f g = ap (λ z. z && (v && w)) e ∙ ap (λ z. z && w) f ∙ g
 
--- an operand that no item goes on with ends
+-- an operand ends if no item continues it
 pub settles : (level max_bp : ℕ) (x : AnnotatedForest) (us : List Token) → FollowedTo max_bp x → is_continued level x us ≡ false
     → more_action level max_bp (head_kind us) ≡ a.EndOperand
 settles level max_bp x [] b h = refl
@@ -49,7 +49,7 @@ pub begun_same : (level : ℕ) (x y : AnnotatedForest) (ts : List Token) → fir
 begun_same level x y [] e h = h
 begun_same level x y (t ∷ ts) e h = h ∙ e
 
--- a tree with which an item goes on is the first of another that is read, if the steps read the rest of that
+-- a tree that an item continues is the first of another that is read, if the steps read the rest of that
 pub continued : (zs xs : List Token) (x z : AnnotatedForest) (i : SyntaxKind) (action : Action) (max_bp d n : ℕ) (us : List Token) (es ds : List Fault)
     → follows i x ≡ true
     → head_kind (xs ++ us) ≡ Some i → continue_action i ≡ action → first_tree z ≡ first_tree x → row_level z ≤ binding_power i → FollowedTo max_bp z
@@ -88,7 +88,7 @@ begins_with_item NODE_LAMBDA = false
 begins_with_item NODE_LEGACY_LET = false
 begins_with_item k = is_expression k
 
--- the highest level behind a node that begins with an item of a kind
+-- the highest level after a node that begins with an item of a kind
 abbrev max_bp_at : SyntaxKind → SyntaxKind → ℕ
 max_bp_at NODE_UNARY_OP TOKEN_INVERT = 8
 max_bp_at NODE_UNARY_OP i = 13
@@ -114,7 +114,7 @@ pub begins_so : (k : SyntaxKind) (level : ℕ) (t : Token) (ts : List Token) →
 begins_so k level t ts e =
     let s = ap (λ j. operand_start_for j t.kind) e in (s, subst (BegunBy t.kind) s (begins_by level t.kind t.text (head_kind ts) (second_kind ts)))
 
--- how an expression that begins with an item does so: it is the item, or a node that goes on at a position
+-- how an expression that begins with an item does so: it is the item, or a node that continues at a position
 pub data BegunByItem (k i : SyntaxKind) (how : OperandStart) : Type 0 where
   led_leaf : how ≡ b.Leaf k → after (row_of_kind k) (leaf_kind_as k i) ≡ done → is_atom k ≡ true → BegunByItem k i how
   led_node : (z max_bp : ℕ) → how ≡ b.Node k z max_bp → after (row_of_kind k) (leaf_kind_as k i) ≡ remaining_at z → is_at k (p.InRow z) ≡ true
@@ -151,7 +151,7 @@ keyword_level : (k : SyntaxKind) (c : AnnotatedForest) → begins_with_item k �
 keyword_level NODE_BIN_OP c h a u = absurd (true_is_not_false (sym h))
 keyword_level _ c h a u = cc
 
--- what goes on with it
+-- what continues it
 followed_plain : (k : SyntaxKind) (c : AnnotatedForest) → begins_with_item k ≡ true → is_unary k ≡ false
     → FollowedTo (if is_atom k then 16 else 0) (one_branch k c)
 followed_plain k c h u = by (is_atom k) refl
@@ -160,7 +160,7 @@ followed_plain k c h u = by (is_atom k) refl
     by true a = followed_atom (one_branch k c) (atom_is_selection_level k c a) a
     by false a = followed_keyword (one_branch k c) (keyword_level k c h a u) a
 
--- what goes on with such a tree
+-- what continues such a tree
 pub followed_item_begun : (k i : SyntaxKind) (t : Token) (f : AnnotatedForest) → begins_with_item k ≡ true
     → FollowedTo (max_bp_at k i) (one_branch k (token (leaf_kind_as k i) t f))
 followed_item_begun NODE_UNARY_OP TOKEN_INVERT t f h = followed_inverted (one_branch NODE_UNARY_OP (token TOKEN_INVERT t f)) refl refl

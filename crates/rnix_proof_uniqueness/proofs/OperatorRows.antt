@@ -1,4 +1,4 @@
--- Operators, selections and tests for attributes are read as operands, if smaller rows and trees are read.
+-- Operators, selections and tests for attributes are read as operands, if smaller forests and trees are read.
 use Rattle.std.proofs.Common.{◌≡◌, ℕ, Bool, true, false, List, [], ◌∷◌, ◌++◌, Some, refl, ap, sym, ◌∙◌, subst, append-nil, arith}
 use Rattle.rnix_kinds.{proofs.AllKinds.implied, specs.declared.kinds.SyntaxKind.{SyntaxKind, TheVariants.{TOKEN_ADD, TOKEN_DOT, TOKEN_QUESTION, NODE_BIN_OP}}}
 use Rattle.rnix_kinds.specs.declared.kinds.SyntaxKind.TheVariants.{NODE_HAS_ATTR, NODE_LITERAL, NODE_SELECT}
@@ -24,7 +24,7 @@ pub record BeginsWithTree (k : SyntaxKind) (q : Row) (test : SyntaxKind → Bool
   pub fitting : (j : SyntaxKind) → test j ≡ true → is_expression j ≡ true
   pub deep : (d : ℕ) → deeper (row_of_kind k) d ≡ d
 
--- a node whose first tree is read is read, if no lone token is first and the rest is read behind the tree
+-- a node whose first tree is read is read, if no lone token is first and the rest is read after the tree
 pub leading : {m : ℕ} {k : SyntaxKind} {d n : ℕ} {q : Row} {us : List Token} {test : SyntaxKind → Bool} {c : AnnotatedForest} {es : List Fault} → Trees m
     → BeginsWithTree k q test
     → ((j : SyntaxKind) (t : Token) (f : AnnotatedForest) (fs : List Fault) → Complete m k d t.end q (one_token j t) us f fs → ⊥)
@@ -66,7 +66,7 @@ record Joins (k : SyntaxKind) (q : Row) (test : SyntaxKind → Bool) (z : Syntax
       → FollowedTo (max_bp i) (one_branch k x)
   first : (x : AnnotatedForest) → first_tree (one_branch k x) ≡ first_tree x
 
--- a tree, an item that goes on with it, and the rest of the node's row
+-- a tree, an item that continues it, and the rest of the node's row
 joined : {k : SyntaxKind} {q : Row} {test : SyntaxKind → Bool} {z : SyntaxKind → Position} {max_bp : SyntaxKind
     → ℕ} (w : Joins k q test z max_bp) (zs : List Token) (x : AnnotatedForest) (t : Token) (f : AnnotatedForest)
     (d n : ℕ) (us : List Token) (es ds : List Fault) → IsSingle x → is_viable (after q t.kind) ≡ true → ReadsTree d n zs x (t ∷ (tokens_in f ++ us)) es
@@ -115,7 +115,7 @@ joined_reads m rows trees k q test z max_bp w d n us c es r = leading trees w.be
         (joined w zs x t v.more d n us es ds one alive (subst (λ (g : AnnotatedForest). ReadsTree d n zs x (tokens_in g ++ us) es) is tree)
         (ap (λ i. follows i x) (sym e) ∙ w.follow (leaf_kind k t) x v.followed) (read_on rows (z t.kind) (w.in_row_of t.kind) rest))
 
--- how a binary operator goes on
+-- how a binary operator continues
 follow_infix : (i : SyntaxKind) → is_infix i ≡ true → continue_action i ≡ a.Wrap NODE_BIN_OP (p.Right (right_of i)) (max_bp_of i)
 follow_infix TOKEN_ADD h = refl
 follow_infix _ h = cc

@@ -1,4 +1,4 @@
--- Readings by how high their derivations are, and how a row goes on behind a state that is no place.
+-- The height of a reading, and how a reading continues where every such node has the next child.
 use Rattle.std.proofs.Common.{◌≡◌, ℕ, suc, ◌+◌, ◌<◌, Bool, true, false, List, [], ◌∷◌, ◌++◌, Some, None, refl, ap, sym, ◌∙◌, subst, arith, ◌⊎◌, inl, inr, ◌||◌}
 use Rattle.{std.{proofs.{Common.{◌&&◌, if◌then◌else◌}, lemmas.Bool.and_parts}, specs.List.list_all}, rnix_kinds.proofs.AllKinds.{all_kinds, implied}}
 use Rattle.{rnix_kinds.specs.declared.kinds.SyntaxKind.{SyntaxKind, TheVariants.{NODE_LITERAL, TOKEN_IDENT, NODE_IDENT}}, rnix_green.specs.Equality.same_kind}
@@ -13,7 +13,7 @@ use Rattle.rnix_proof_lemmas.proofs.{ReachableRows.is_viable, TokenEnds.end_behi
 use Rattle.rnix_proof_uniqueness.proofs.{ViableReadings.no_some, OneAction.{is_at, begins_with_item, names_only, is_name, is_first, may_begin, or_true}}
 use Rattle.rnix_proof_uniqueness.proofs.StepReads.{ReadsTree, ReadsTo}
 
--- how many steps a reading takes to say
+-- the height of a reading
 abbrev pub height : {p : SyntaxKind} {d n : ℕ} {q s : Row} {b : AnnotatedForest} {us : List Token} {f : AnnotatedForest} {es : List Fault}
     → Reads p d n q s b us f es → ℕ
 height end = 0
@@ -23,30 +23,30 @@ height (missing_part u f m i r) = suc (height r)
 height (wrong note ts x w i r) = suc (height r)
 height (second c o r) = suc (height c + height r)
 
--- a reading that is not so high
+-- a reading that is lower than m
 pub record IsLower (m : ℕ) (p : SyntaxKind) (d n : ℕ) (q s : Row) (b : AnnotatedForest) (us : List Token) (f : AnnotatedForest) (es : List Fault) : Type 0 where
   pub reads : Reads p d n q s b us f es
   pub short : height reads < m
 
--- the steps read each row from a position that is not so high
+-- the steps read each forest from a position if its reading is lower than m
 abbrev pub AllRows : ℕ → Type 0
 AllRows m =
     (k : SyntaxKind) (d n : ℕ) (x : Position) (s : Row) (b : AnnotatedForest) (us : List Token) (f : AnnotatedForest) (es : List Fault) → is_at k x ≡ true
     → IsLower m k d n (rest_at x) s b us f es → is_viable s ≡ true → ReadsTo k d n x s b us f es
 
--- so is one that ends where its row may
+-- a reading lower than m that ends where its row may end
 pub record Complete (m : ℕ) (p : SyntaxKind) (d n : ℕ) (q : Row) (b : AnnotatedForest) (us : List Token) (f : AnnotatedForest) (es : List Fault) : Type 0 where
   pub last : Row
   pub part : IsLower m p d n q last b us f es
   pub over : IsOver last (end_from n (tokens_in f)) us
 
--- the steps read each expression that is not so high
+-- the steps read each expression whose reading is lower than m
 abbrev pub Trees : ℕ → Type 0
 Trees m =
     (k : SyntaxKind) (d n : ℕ) (us : List Token) (c : AnnotatedForest) (ds : List Fault) → Complete m k d n (row_of_kind k) blank us c ds → fits 0 k ≡ true
     → ReadsTree d n (tokens_in c) (one_branch k c) us ds
 
--- how a row goes on where a child stands whenever the node does
+-- how a reading continues where every such node has the next child
 pub data Front (m : ℕ) (p : SyntaxKind) (d n : ℕ) (q : Row) (b : AnnotatedForest) (us : List Token) : AnnotatedForest → List Fault → Type 0 where
   by_leaf : {k : SyntaxKind} {t : Token} {f : AnnotatedForest} {es : List Fault}
       → k ≡ leaf_kind p t → IsFollowed q b (Some k) → is_viable (after q k) ≡ true
@@ -63,20 +63,20 @@ pub data Front (m : ℕ) (p : SyntaxKind) (d n : ℕ) (q : Row) (b : AnnotatedFo
       → Complete m p d (end_from n (tokens_in c)) (after q k) (b ⊕ one_branch k c) us f es
       → Front m p d n q b us (branch k c f) ((ds ++ repeats k b c) ++ es)
 
--- each expression of a kind whose row goes on so is read
+-- each expression of a kind whose reading continues in one of these ways is read
 abbrev pub KindReads : ℕ → SyntaxKind → Type 0
 KindReads m k =
     (d n : ℕ) (us : List Token) (c : AnnotatedForest) (es : List Fault) → Front m k d n (row_of_kind k) blank us c es
     → ReadsTree d n (tokens_in c) (one_branch k c) us es
 
--- a child stands here whenever the node does
+-- every such node has the next child
 abbrev pub is_firm : Row → Bool
 is_firm (Suffix kind · r) = true
 is_firm (Binary · r) = true
 is_firm (Argument · r) = true
 is_firm r = is_front r
 
--- so the row does not end here, no operand is counted, nothing is missing, and no run stands here
+-- then the row may not end here, no operand is counted, nothing is missing, and no run begins here
 firm : (r : Row) → is_firm r ≡ true → (may_end r ≡ false) × (counts r ≡ false) × (missing r ≡ None) × (run_at r ≡ None)
 firm (Child kind · r) h = (refl, refl, refl, refl)
 firm (Atom · r) h = (refl, refl, refl, refl)
@@ -87,12 +87,12 @@ firm (Argument · r) h = (refl, refl, refl, refl)
 firm (r or s) h = (refl, refl, refl, refl)
 firm _ h = absurd (cc)
 
--- an equal row behind what is equal
+-- equal readings
 pub complete_to : {m n : ℕ} {p : SyntaxKind} {d : ℕ} {q r : Row} {b c : AnnotatedForest} {us : List Token} {f : AnnotatedForest} {es : List Fault}
     → r ≡ q → c ≡ b → Complete m p d n r c us f es → Complete m p d n q b us f es
 complete_to {m} {n} {p} {d} {q} {b = b} {c} {us} {f} {es} u v h = subst (λ b. Complete m p d n q b us f es) v (subst (λ q. Complete m p d n q c us f es) u h)
 
--- a row that ends is viable, and where nothing is left of it nothing is read
+-- a row with a complete reading is viable, and if nothing is left of it, nothing is read
 pub complete_viable : {m n : ℕ} {p : SyntaxKind} {d : ℕ} {q : Row} {b : AnnotatedForest} {us : List Token} {f : AnnotatedForest} {es : List Fault}
     → Complete m p d n q b us f es
     → is_viable q ≡ true
@@ -101,21 +101,21 @@ complete_viable w = reads_viable w.part.reads (end_viable w.last w.over.0)
 pub complete_done : {m n : ℕ} {p : SyntaxKind} {d : ℕ} {q : Row} {b : AnnotatedForest} {us : List Token} {f : AnnotatedForest} {es : List Fault}
     → Complete m p d n q b us f es
     → q ≡ done → (f ≡ blank) × (es ≡ [])
-complete_done w e = let ended = past_ends w.part.reads e (end_viable w.last w.over.0) in (ended.row, ended.faults)
+complete_done w e = let ended = past_ends w.part.reads e (end_viable w.last w.over.0) in (ended.no_trees, ended.faults)
 
--- what is below a successor is no more
+-- a number below a successor is at most its predecessor
 pub less : (a m : ℕ) → suc a < suc m → a < m
 less a m h = omega (arith, h)
 
--- so is the first of two numbers whose sum is
+-- so is the first of two numbers whose sum is below a successor
 pub less_left : (a b m : ℕ) → suc (a + b) < suc m → a < m
 less_left a b m h = omega (arith, h)
 
--- and the second
+-- so is the second
 pub less_right : (a b m : ℕ) → suc (a + b) < suc m → b < m
 less_right a b m h = omega (arith, h)
 
--- a row that begins with an error node
+-- a forest that begins with an error node
 front_wrong : (m : ℕ) (p : SyntaxKind) (d n : ℕ) (q r : Row) (b : AnnotatedForest) (us : List Token) (f : AnnotatedForest) (es : List Fault) (note : Note)
     (ts : List Token)
     → IsExpected q n (ts ++ (tokens_in f ++ us)) false → IsFollowed q b (head_kind ts) → IsWrong note d q r ts (tokens_in f ++ us)
@@ -129,7 +129,7 @@ front_wrong m p d n q r b us f es Extra ts o w x h a = absurd (true_is_not_false
 front_wrong m p d n q r b us f es DoubleBind ts o w x h a = absurd x
 front_wrong m p d n q r b us f es TooDeep ts o w x h a = absurd (true_is_not_false (sym x.1 ∙ (firm q a).1))
 
--- a row that ends goes on in one of these ways
+-- a complete reading continues in one of these ways
 pub front : (m : ℕ) {p : SyntaxKind} {d n : ℕ} {q s : Row} {b : AnnotatedForest} {us : List Token} {f : AnnotatedForest} {es : List Fault}
     (r : Reads p d n q s b us f es)
     → height r < suc m → is_firm q ≡ true → IsOver s (end_from n (tokens_in f)) us → Front m p d n q b us f es
@@ -152,7 +152,7 @@ front m {p = p} {d} {n} {q} {s} {b} {us} (wrong {r = r} {f = f} {es = es} note t
     }) a
 front m (second c v r) h a o = absurd (true_is_not_false (sym a))
 
--- so does one of parts that are not so high
+-- so does one with a bound on its height
 pub front_of : {m : ℕ} {p : SyntaxKind} {d n : ℕ} {q r : Row} {b : AnnotatedForest} {us : List Token} {f : AnnotatedForest} {es : List Fault}
     → q ≡ r → Complete m p d n q b us f es → is_firm r ≡ true → Front m p d n r b us f es
 front_of {m} {p} {d} {n} {r = r} {b} {us} {f} {es} e h a = by (complete_to e refl h)
@@ -160,11 +160,11 @@ front_of {m} {p} {d} {n} {r = r} {b} {us} {f} {es} e h a = by (complete_to e ref
     by : Complete m p d n r b us f es → Front m p d n r b us f es
     by v = front m v.part.reads (omega (arith, v.part.short)) a v.over
 
--- no node stands behind a state
+-- no node may come next
 abbrev pub has_no_node_next : Row → Bool
 has_no_node_next q = list_all (λ j. if is_viable (after q j) then (if is_viable (row_of_kind j) then false else true) else true) all_kinds
 
--- what stands behind such a state has no row
+-- then what comes next is of a kind without rows
 no_node_row : (q : Row) → has_no_node_next q ≡ true → (j : SyntaxKind) → is_viable (after q j) ≡ true → is_viable (row_of_kind j) ≡ false
 no_node_row q h j l = not_if (is_viable (row_of_kind j)) (implied (λ i. is_viable (after q i)) (λ i. if is_viable (row_of_kind i) then false else true) h j l)
 
@@ -185,7 +185,7 @@ leaf_item {m} {k} {i} {d} {q} {b} {us} {t} {f} {es} e =
     → Item m k d q b us (token i t f) es) (sym e)
     (λ y l r. record { item = t; more = f; is = refl; followed = y; alive = l; rest = r })
 
--- where no node stands, an item does
+-- where no node may come next, an item does
 pub item_next : {m : ℕ} {k : SyntaxKind} {d n : ℕ} {q : Row} {b : AnnotatedForest} {us : List Token} {f : AnnotatedForest} {es : List Fault}
     → has_no_node_next q ≡ true
     → Front m k d n q b us f es → Item m k d q b us f es
@@ -199,7 +199,7 @@ pub item_alone : {m : ℕ} {k : SyntaxKind} {d : ℕ} {q : Row} {b : AnnotatedFo
     → after q (leaf_kind k w.item) ≡ done → (f ≡ one_token (leaf_kind k w.item) w.item) × (es ≡ [])
 item_alone {k = k} w e = let v = complete_done w.rest e in (w.is ∙ ap (λ z. token (leaf_kind k w.item) w.item z) v.0, v.1)
 
--- a name that stands next in a row, and the rest of the row
+-- a name that comes next in a row, and the rest of the row
 pub record Name (m : ℕ) (k : SyntaxKind) (d : ℕ) (q : Row) (b : AnnotatedForest) (us : List Token) (f : AnnotatedForest) (es : List Fault) : Type 0 where
   pub item : Token
   pub more : AnnotatedForest
@@ -212,7 +212,7 @@ pub record Name (m : ℕ) (k : SyntaxKind) (d : ℕ) (q : Row) (b : AnnotatedFor
 name_first : (i : SyntaxKind) → is_viable (after (row_of_kind NODE_IDENT) i) ≡ true → i ≡ TOKEN_IDENT
 name_first i l = only (λ j. is_viable (after (row_of_kind NODE_IDENT) j)) TOKEN_IDENT refl i l
 
--- the row of a name is one item
+-- the children of a name are one item
 pub name_item : {m : ℕ} {d n : ℕ} {us : List Token} {c : AnnotatedForest} {ds : List Fault} → Complete m NODE_IDENT d n (row_of_kind NODE_IDENT) blank us c ds
     → (t : Token) × (c ≡ one_token (leaf_kind NODE_IDENT t) t) × (leaf_kind NODE_IDENT t ≡ TOKEN_IDENT) × (ds ≡ [])
 name_item r =
@@ -221,7 +221,7 @@ name_item r =
     let u = item_alone v (ap (after (row_of_kind NODE_IDENT)) e) in
     (v.item, u.0, e, u.1)
 
--- a node that stands where only a name may is one
+-- a node where only a name may be is a name
 name_next : {m : ℕ} {k : SyntaxKind} {d e n : ℕ} {q : Row} {b : AnnotatedForest} {us vs : List Token} {c f : AnnotatedForest} {ds es : List Fault}
     (j : SyntaxKind) → j ≡ NODE_IDENT
     → is_viable (after q j) ≡ true → Complete m j e n (row_of_kind j) blank vs c ds
@@ -250,7 +250,7 @@ name_next {m} {k} {d} {e} {n} {q} {b} {us} {vs} {c} {f} {ds} {es} j h =
               (b ⊕ one_branch NODE_IDENT g) us f es) v.1 r');
         }
 
--- where no node but a name is first, an item or a name stands
+-- where only a name may come first among nodes, an item or a name comes next
 pub item_or_name : {m : ℕ} {k : SyntaxKind} {d n : ℕ} {q : Row} {b : AnnotatedForest} {us : List Token} {f : AnnotatedForest} {es : List Fault}
     → names_only q ≡ true
     → Front m k d n q b us f es → Item m k d q b us f es ⊎ Name m k d q b us f es
@@ -268,7 +268,7 @@ item_or_name {q = q} h r = by r
     by (by_stray o y z l r) = absurd (literal (name NODE_LITERAL l refl))
     by (by_node {k = j} r y v i l r') = inr (name_next j (name j l (complete_viable r)) l r r')
 
--- so the next item is one that the node may begin with
+-- so the next item may begin the node
 pub begins_so : {m : ℕ} {k : SyntaxKind} {d n : ℕ} {us : List Token} {c : AnnotatedForest} {es : List Fault} → Complete m k d n (row_of_kind k) blank us c es
     → may_begin k (head_kind (tokens_in c ++ us)) ≡ true
 begins_so {m} {k} {d} {n} {us} {c} {es} r = by (begins_with_item k) refl

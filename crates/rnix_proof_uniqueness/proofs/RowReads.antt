@@ -1,4 +1,4 @@
--- A row from a position is read, if smaller rows and trees are.
+-- A forest from a position is read, if smaller forests and trees are.
 use Rattle.std.proofs.Common.{◌≡◌, ℕ, true, false, List, [], ◌∷◌, ◌++◌, Option, Some, refl, ap, sym, ◌∙◌, subst, append-nil, arith, ◌⊎◌, inl, inr, ◌&&◌}
 use Rattle.{std.proofs.{Common.{if◌then◌else◌, suc, ◌<◌, append_assoc}, lemmas.Bool.and_parts}, rnix_kinds.proofs.AllKinds.implied}
 use Rattle.rnix_kinds.specs.declared.kinds.SyntaxKind.{SyntaxKind, TheVariants.{NODE_LITERAL, NODE_IDENT, NODE_PAT_ENTRY, TOKEN_IDENT, TOKEN_AT, NODE_ERROR}}
@@ -79,7 +79,7 @@ module _ (q : SyntaxKind) (d n : ℕ) (x : Position) (r : Row) (b : AnnotatedFor
           ∙ too_far v.level d n y x h b fs (ts ++ []) gs w.2)
           (runs_to (cc (append-nil ts, dropped_all ts)) stays))
 
--- from a position of a row to another, behind some trees and before some tokens
+-- from a position of a row to another, after some trees and before some tokens
 module _ (m : ℕ) (q : SyntaxKind) (d n : ℕ) (x : Position) (to : Row) (b : AnnotatedForest) (vs : List Token) where
   -- what is to be shown of a node
   abbrev Inner : SyntaxKind → List Fault → AnnotatedForest → Type 0
@@ -165,7 +165,7 @@ module _ (m : ℕ) (q : SyntaxKind) (d n : ℕ) (x : Position) (to : Row) (b : A
       (goes_one (a.Read level (counts (rest_at x))) act (λ y h fs gs g. one_operand x b room op.0 begun op.2
       (trees k (deeper (rest_at x) d) n vs c ds r e) y h fs gs))
 
--- a node that stands at a position is read there
+-- a node that is at a position is read there
 pub inner_one : (m : ℕ) → AllRows m → Trees m →
     {q k : SyntaxKind} {d n : ℕ} {x : Position} {b : AnnotatedForest} {vs : List Token} {c : AnnotatedForest} {ds : List Fault}
     → is_at q x ≡ true → Complete m k (deeper (rest_at x) d) n (row_of_kind k) blank vs c ds → IsRoom (rest_at x) d
@@ -204,7 +204,7 @@ second_one rows {q} {d} {n} {x} {b} {c} {vs} {ds} l i r =
     (gs ++ ds) row.here row.over)
     (runs_to (cc (append_assoc gs ds (report DoubleBind (t.item ∷ tokens_in t.more) ∷ []))) stays))))
 
--- a row that is not so high is read
+-- a forest that is not so high is read
 pub row_next : (m : ℕ) → AllRows m → Trees m →
     {k : SyntaxKind} {d n : ℕ} {q s : Row} {b : AnnotatedForest} {us : List Token} {f : AnnotatedForest} {es : List Fault} (x : Position)
     → is_at k x ≡ true → rest_at x ≡ q → (r : Reads k d n q s b us f es) → height r < suc m → is_viable s ≡ true → ReadsTo k d n x s b us f es

@@ -1,4 +1,4 @@
--- How the steps read one more tree of a row, and the rest of the row behind it.
+-- How the steps read one more tree of a row, and the rest of the row after it.
 use Rattle.std.proofs.Common.{◌≡◌, ℕ, Bool, true, false, List, [], ◌∷◌, ◌++◌, refl, ap, sym, ◌∙◌, subst, append-nil, append_assoc, suc, ◌<◌, ◌≤◌, Some, None}
 use Rattle.{std.proofs.{Common.{arith, if◌then◌else◌, nat_le}, lemmas.Bool.Decides.nat_tests}, rnix_kinds.specs.declared.kinds.SyntaxKind.SyntaxKind}
 use Rattle.rnix_kinds.specs.declared.kinds.SyntaxKind.TheVariants.{NODE_PAT_ENTRY, NODE_ERROR, NODE_ROOT}
@@ -23,7 +23,7 @@ pub record ReadOn (k : SyntaxKind) (d n : ℕ) (x : Position) (b : AnnotatedFore
   pub here : is_at k position ≡ true
   pub over : IsOver (rest_at position) (end_from n (tokens_in f)) us
 
--- so they do with each row that is not so high
+-- so they do with each forest that is not so high
 pub read_on : {m : ℕ} {k : SyntaxKind} {d n : ℕ} {b : AnnotatedForest} {us : List Token} {f : AnnotatedForest} {es : List Fault} → AllRows m → (x : Position)
     → is_at k x ≡ true → Complete m k d n (rest_at x) b us f es → ReadOn k d n x b us f es
 read_on {m} {k} {d} {n} {b} {us} {f} {es} rows x i w =
@@ -201,7 +201,7 @@ one_operand {d} {n} {level} {w} {ts} {vs} {ds} x b room min_bp begun over tree y
     (step_to (ap (λ z. perform false z (opened Operand (p.AfterOperand level r.max_bp) (deeper (rest_at x) d) w) (f ∷ fs) vs (end_from n ts) (gs ++ ds))
     (settles level r.max_bp w vs r.followed over)) here))
 
--- the tokens behind a run
+-- the tokens after a run
 pub dropped_front : (ts vs : List Token) → dropped ts (ts ++ vs) ≡ vs
 dropped_front [] vs = refl
 dropped_front (t ∷ ts) vs = dropped_front ts vs

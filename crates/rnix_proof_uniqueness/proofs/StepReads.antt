@@ -1,4 +1,4 @@
--- What it means that the steps make a row, or an operand, of some items.
+-- What it means that the steps make a forest, or an operand, of some items.
 use Rattle.{std.proofs.Common.{◌≡◌, Bool, false, sym, subst, ℕ, ◌≤◌, true, List, ◌∷◌, ◌++◌}, rnix_kinds.specs.declared.kinds.SyntaxKind.SyntaxKind}
 use Rattle.rnix_proof_lemmas.specs.Machine.{Machine, step, Runs, Head, Operand, Frame, machine, opened, kind_of, operand_on, rest as here, then as further}
 use Rattle.{rnix_grammar.specs.FirstKinds.BeginsAs, rnix_proof_lemmas.proofs.{OpenHeads.is_open, FollowLemmas.FollowedTo, RestAt.rest_at}}

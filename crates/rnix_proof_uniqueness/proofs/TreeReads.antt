@@ -1,4 +1,4 @@
--- Expressions are read as operands, if the rows and the expressions in them are read.
+-- Expressions are read as operands, if the forests and the expressions in them are read.
 use Rattle.std.proofs.Common.{◌≡◌, ℕ, ◌≤◌, Bool, true, false, List, [], ◌∷◌, ◌++◌, Some, None, refl, ap, sym, ◌∙◌, subst, append-nil, arith, ◌||◌, ◌&&◌}
 use Rattle.{std.proofs.{Common.{if◌then◌else◌, suc}, lemmas.Bool.and_parts}, rnix_kinds.{proofs.AllKinds.implied, specs.declared.kinds.SyntaxKind.SyntaxKind}}
 use Rattle.rnix_kinds.specs.declared.kinds.SyntaxKind.TheVariants.{TOKEN_FLOAT, TOKEN_OR, NODE_APPLY, NODE_IDENT, NODE_BIN_OP, NODE_HAS_ATTR, NODE_LAMBDA}
@@ -18,7 +18,7 @@ use Rattle.rnix_proof_uniqueness.proofs.{FunctionRows.lambda_reads, OperatorRows
 use Rattle.rnix_grammar.specs.declared.position.Position.TheVariants as p
 use Rattle.rnix_grammar.specs.declared.action.Action.TheVariants as a
 
--- how the first item of an argument goes on with a tree
+-- how the first item of an argument continues a tree
 passes : (i : SyntaxKind) → is_fn_arg i ≡ true → continue_action i ≡ a.Apply
 passes TOKEN_FLOAT h = refl
 passes _ h = cc
@@ -64,7 +64,7 @@ called_or zs x t d n us es one kind follow named tree =
     (followed_selection z level refl) tree
     (λ level other f fs gs. runs_to (ap (λ w. machine (opened Operand (p.AfterOperand level 15) d z ∷ (f ∷ fs)) us t.end w) (sym (append-nil gs))) here)
 
--- what goes on with a tree as an argument, by the first item
+-- what continues a tree as an argument, by the first item
 followed : (i : SyntaxKind) (x : AnnotatedForest) → ((is_fn_arg i || is_or i) && follows i x) ≡ true → ((is_fn_arg i || is_or i) ≡ true) × (follows i x ≡ true)
 followed i x h = and_parts (is_fn_arg i || is_or i) (follows i x) h
 
@@ -135,7 +135,7 @@ name_or m d n zs x j c us es ds one reads r w h =
         → Called d n zs x us es (tokens_in g) (one_branch NODE_IDENT g) []) (sym v.1)
         (λ reads w h. called_or zs x v.0 d n us es one (only is_or TOKEN_OR refl v.0.kind h) (followed v.0.kind x w).1 h reads) reads w h)
 
--- what is called with a tree is the last of its row
+-- what is called with a tree is the last child of its node
 last_reads : (m d n : ℕ) (zs : List Token) (x : AnnotatedForest) (us : List Token) (f : AnnotatedForest) (es ds : List Fault) → Trees m → IsSingle x
     → ReadsTree d n zs x (tokens_in f ++ us) es → Front m NODE_APPLY d (end_from n zs) (Argument · done) x us f ds → Called d n zs x us es (tokens_in f) f ds
 last_reads m d n zs x us _ es _ trees one reads (by_leaf {k = i} e w l r) =

@@ -18,7 +18,7 @@ module _ (f : Frame) (fs : List Frame) (ts : List Token) (n : ℕ) (es : List Fa
   abbrev reader_state : State
   reader_state = erase (machine (f ∷ fs) ts n es)
 
-  -- behind the trivia
+  -- after the trivia
   abbrev us : List Token
   us = from_item ts
 

@@ -20,7 +20,7 @@ at_offset text n [] i d h = absurd (omega arith)
 at_offset text n (t ∷ ts) zero d h = refl
 at_offset text n (t ∷ ts) (suc i) d h = at_offset text t.end ts i d (omega arith)
 
--- no token is behind the last
+-- no token is after the last
 pub behind_all : (text : List ℕ) (ts : List TokenEnd) (i : ℕ) → length ts ≤ i → drop i (tokens_cut text 0 ts) ≡ []
 behind_all text ts i h = drop_all i (tokens_cut text 0 ts) (omega (arith, length-tokens_cut text 0 ts))
 
@@ -47,7 +47,7 @@ pub cut_at_token : (text : List ℕ) (ts : List TokenEnd) (i : ℕ) (d : TokenEn
     → IsCut text (start_of 0 i ts) (get_or ts i d).end
 cut_at_token text ts i d u e h = cut_from text 0 ts i d (IsCharBoundary-start text u) e h
 
--- what is behind the first of the tokens of a text
+-- what is after the first of the tokens of a text
 rest_behind : (text : List ℕ) (n : ℕ) (l : Lexeme) (ls : List Lexeme) → drop n text ≡ flat_map text_of (l ∷ ls)
     → drop (n + length l.1) text ≡ flat_map text_of ls
 rest_behind text n l ls h =
@@ -139,7 +139,7 @@ before_item ts at next t more d f n = by (is_trivia t.kind) refl
         let same : drop at ts ≡ drop next ts = sym (at_item (drop at ts) t more d e) ∙ f in
         absurd (omega (arith, ap length same, ap length d, length-drop at ts, length-drop next ts))
 
--- at the next item, and behind all tokens, no trivia stands
+-- at the next item, and after all tokens, no trivia stands
 pub at_next_item : (ts : List Token) (at next : ℕ) → from_item (drop at ts) ≡ drop next ts → next ≤ at → from_item (drop at ts) ≡ drop at ts
 at_next_item ts at next f n = by (drop at ts) refl
   where
@@ -192,7 +192,7 @@ head_items ts = by (from_item ts) ∙ sym (ap head_of (items-view ts))
 pub head_item : (ts : List Token) → head_kind (items ts) ≡ head_kind (from_item ts)
 head_item ts = ap kind_in (sym (head_items ts))
 
--- the items behind the first
+-- the items after the first
 pub tail_items : (ts : List Token) → tail_of (items ts) ≡ items (tail_of (from_item ts))
 tail_items ts = ap tail_of (items-view ts) ∙ by (from_item ts)
   where
@@ -200,7 +200,7 @@ tail_items ts = ap tail_of (items-view ts) ∙ by (from_item ts)
     by [] = refl
     by (x ∷ xs) = refl
 
--- where the items behind the first are
+-- where the items after the first are
 pub behind_first_item : (ts us vs : List Token) → from_item ts ≡ us → from_item (tail_of us) ≡ vs → head_kind vs ≡ head_kind (tail_of (items ts))
 behind_first_item ts us vs a b =
     sym (ap head_kind (tail_items ts) ∙ head_item (tail_of (from_item ts)) ∙ ap (λ x. head_kind (from_item (tail_of x))) a ∙ ap head_kind b)

@@ -12,9 +12,9 @@ use Rattle.{rnix_proof_steps.proofs.BudgetedSteps.is_root, rnix_reader.proofs.Fr
 use Rattle.rnix_grammar.specs.declared.action.Action.TheVariants as a
 
 -- a pattern has the last of the sets
-pub known_pattern : (h : Head) (row : AnnotatedForest) (sets : List NameSet) (More : List NameSet → Type 0) → h ≡ Node NODE_PATTERN
-    → AreOpenSetsOn h row sets More → TopSet sets row More
-known_pattern h row sets More e k = subst (λ x. AreOpenSetsOn x row sets More) e k
+pub known_pattern : (h : Head) (trees : AnnotatedForest) (sets : List NameSet) (More : List NameSet → Type 0) → h ≡ Node NODE_PATTERN
+    → AreOpenSetsOn h trees sets More → TopSet sets trees More
+known_pattern h trees sets More e k = subst (λ x. AreOpenSetsOn x trees sets More) e k
 
 -- an entry that is complete, in its pattern: its name, the sets, and what becomes of them
 pub record IsEntry (f g : Frame) (fs : List Frame) (names names' : Names) (again : Option Fault) : Type 0 where

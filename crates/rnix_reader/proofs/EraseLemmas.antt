@@ -11,7 +11,7 @@ use Rattle.rnix_reader.{specs.{Erase.{trees_of, marks_of, mark_at, erase, erase_
 use Rattle.rnix_proof_steps.proofs.BudgetedSteps.{is_root}
 use Rattle.rnix_reader.proofs.StateLemmas.{state_is, eaten-settled}
 
--- more in a row
+-- one more forest after another
 grown : (t : Forest) (a b : AnnotatedForest) → join (join t (forget a)) (forget b) ≡ join t (forget (a ⊕ b))
 grown t a b = join_assoc t (forget a) (forget b) ∙ ap (join t) (sym (forget-⊕ a b))
 
@@ -21,7 +21,7 @@ pub erase-eaten : (ms : List Mark) (f : Frame) (fs : List Frame) (ts : List Toke
 unfolding eaten
 erase-eaten ms f fs ts n es = state_is refl (grown (trees_of fs) f.children (trivia_before ts)) refl refl refl refl
 
--- behind the trivia none are left
+-- after the trivia none are left
 pub erase-settled : (ms : List Mark) (fs : List Frame) (ts : List Token) (n : ℕ) (es : List Fault)
     → eaten (erase_with ms (machine fs (from_item ts) n es)) ≡ erase_with ms (machine fs (from_item ts) n es)
 erase-settled ms fs ts n es = eaten-settled (erase_with ms (machine fs (from_item ts) n es)) (from_item-from_item ts)
@@ -40,7 +40,7 @@ unfolding bumped
 erase-bumped ms k f fs ts n es = ap (taken k) (erase-eaten ms f fs ts n es)
     ∙ erase-taken ms k (put f.position (with_leading true f.children ts) f) fs (from_item ts) n es
 
--- behind the trivia it goes there alone
+-- after the trivia it goes there alone
 pub erase-next : (ms : List Mark) (k : SyntaxKind) (f : Frame) (fs : List Frame) (ts : List Token) (n : ℕ) (es : List Fault)
     → bumped k (erase_with ms (machine (f ∷ fs) (from_item ts) n es)) ≡ erase_with ms
     (machine (put f.position (f.children ⊕ leaf true k ts) f ∷ fs) (after_item true ts) (item_end true n ts) es)
@@ -66,16 +66,16 @@ unfolding pushed
 erase-operand inside d fs us n es = state_is refl (sym (join_empty (trees_of fs))) refl refl refl refl
 
 -- what is open is complete, if it is a node
-pub erase-closed : (ms : List Mark) (h : Head) (position : Position) (d : ℕ) (row : AnnotatedForest) (g : Frame) (fs : List Frame) (ts : List Token) (n : ℕ)
+pub erase-closed : (ms : List Mark) (h : Head) (position : Position) (d : ℕ) (trees : AnnotatedForest) (g : Frame) (fs : List Frame) (ts : List Token) (n : ℕ)
     (es : List Fault)
     → is_operand_frame (frame_kind_of_head h) ≡ false
-    → ended (erase_with ms (machine (opened h position d row ∷ (g ∷ fs)) ts n es)) ≡ erase_with ms (closed (opened h position d row) (g ∷ fs) ts n es)
+    → ended (erase_with ms (machine (opened h position d trees ∷ (g ∷ fs)) ts n es)) ≡ erase_with ms (closed (opened h position d trees) (g ∷ fs) ts n es)
 unfolding ended
-erase-closed ms (Node k) position d row g fs ts n es e =
-    state_is refl (wrapped-join k (trees_of (g ∷ fs)) (forget row) ∙ grown (trees_of fs) g.children (one_branch k row)) refl refl refl refl
-erase-closed ms SecondBind position d row g fs ts n es e =
-    state_is refl (wrapped-join NODE_ERROR (trees_of (g ∷ fs)) (forget row) ∙ grown (trees_of fs) g.children (made SecondBind row)) refl refl refl refl
-erase-closed ms Operand position d row g fs ts n es e = absurd (true_is_not_false e)
+erase-closed ms (Node k) position d trees g fs ts n es e =
+    state_is refl (wrapped-join k (trees_of (g ∷ fs)) (forget trees) ∙ grown (trees_of fs) g.children (one_branch k trees)) refl refl refl refl
+erase-closed ms SecondBind position d trees g fs ts n es e =
+    state_is refl (wrapped-join NODE_ERROR (trees_of (g ∷ fs)) (forget trees) ∙ grown (trees_of fs) g.children (made SecondBind trees)) refl refl refl refl
+erase-closed ms Operand position d trees g fs ts n es e = absurd (true_is_not_false e)
 
 -- a node that is not the root is complete
 pub closes : (f : Frame) (fs : List Frame) (ts : List Token) (n : ℕ) (es : List Fault) → IsStackedOn f.head f.position fs
@@ -115,7 +115,7 @@ erase-leaf_node_made ms k f fs ts n es =
     ap (λ x. ended (taken k (started_here k x))) (erase-eaten ms f fs ts n es)
     ∙ leaf_here ms k (put f.position (with_leading true f.children ts) f) fs (from_item ts) n es
 
--- behind the trivia it stands there alone
+-- after the trivia it is there alone
 pub erase-first : (ms : List Mark) (k : SyntaxKind) (f : Frame) (fs : List Frame) (ts : List Token) (n : ℕ) (es : List Fault)
     → leaf_node_made k (erase_with ms (machine (f ∷ fs) (from_item ts) n es))
     ≡ erase_with ms (machine (put f.position (f.children ⊕ one_branch k (leaf true k ts)) f ∷ fs) (after_item true ts) (item_end true n ts) es)
@@ -129,13 +129,13 @@ pub erase-over : (ms : List Mark) (note : Note) (until : ExpectedSet) (run : Lis
     (end_from n run) es)
 unfolding ended skipped started_at eaten
 erase-over ms note until run f fs ts n es r =
-    let row : AnnotatedForest = with_leading true f.children ts in
+    let trees : AnnotatedForest = with_leading true f.children ts in
     let made : Forest = forget (with_trivia (row_of run) (from_item ts)) in
     let s : State = erase_with ms (machine (f ∷ fs) ts n es) in
     ap (λ x. ended (skipped x (started NODE_ERROR s))) (ap (run_of until) (items-from_item ts) ∙ r)
     ∙ ap (λ x. ended (skipped run (started_here NODE_ERROR x))) (erase-eaten ms f fs ts n es)
-    ∙ state_is refl (wrapped-join NODE_ERROR (join (trees_of fs) (forget row)) made
-    ∙ grown (trees_of fs) row (one_fault note (run_leaves true run ts))) refl refl refl refl
+    ∙ state_is refl (wrapped-join NODE_ERROR (join (trees_of fs) (forget trees)) made
+    ∙ grown (trees_of fs) trees (one_fault note (run_leaves true run ts))) refl refl refl refl
 
 -- an operand becomes part of a node
 pub erase-wrapped : (ms : List Mark) (k : SyntaxKind) (inside over : Position) (f : Frame) (fs : List Frame) (ts : List Token) (n : ℕ) (es : List Fault)

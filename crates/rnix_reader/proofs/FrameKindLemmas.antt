@@ -37,7 +37,7 @@ node_not_second_bind : (k : SyntaxKind) → is_second_bind_frame (frame_kind_of_
 node_not_second_bind NODE_ROOT = refl
 node_not_second_bind k = refl
 
--- at a position behind an operand an operand is open
+-- at a position after an operand an operand is open
 pub head_operand : (h : Head) → frame_kind_of_head h ≡ OperandFrame → h ≡ Operand
 head_operand (Node k) e = absurd (true_is_not_false (sym (ap is_operand_frame e) ∙ node_not_operand k))
 head_operand SecondBind e = cc
@@ -59,12 +59,12 @@ pub head_pattern : (h : Head) → frame_kind_of_head h ≡ Pattern → h ≡ Nod
 head_pattern (Node NODE_PATTERN) e = refl
 head_pattern _ e = cc
 
--- an entry stands in a pattern
+-- an entry is in a pattern
 pub holds_entry : (s : FrameKind) → may_hold s Entry ≡ true → s ≡ Pattern
 holds_entry Pattern e = refl
 holds_entry _ e = cc
 
--- a head stands at a position of its frame kind
+-- a head is at a position of its frame kind
 pub head_sort : (head : Head) (position : Position) (fs : List Frame) → IsStackedOn head position fs → frame_kind_of_head head ≡ frame_kind position
 head_sort head position [] w = w.0
 head_sort head position (f ∷ fs) w = w.0

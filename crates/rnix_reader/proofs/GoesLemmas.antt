@@ -14,7 +14,7 @@ use Rattle.rnix_reader.proofs.{OrderLemmas.{order_from, order_behind, order_all}
 use Rattle.rnix_grammar.specs.declared.position.Position.TheVariants as p
 use Rattle.rnix_grammar.specs.declared.operand_start.OperandStart.TheVariants as b
 
--- the machine goes on
+-- the machine continues
 pub record Goes (m : Machine) (names : Names) : Type 0 where
   pub top : Frame
   pub under : List Frame
@@ -23,17 +23,17 @@ pub record Goes (m : Machine) (names : Names) : Type 0 where
   pub range : HasRange names.second m.prev_end top.head top.children
   pub order : AreInOrder m.prev_end m.remaining
 
--- a machine goes on whose names are known
+-- a machine continues whose names are known
 pub goes : {f : Frame} {fs : List Frame} {ts : List Token} {n : ℕ} {es : List Fault} {names : Names} → AreNamed f fs names
     → HasRange names.second n f.head f.children
     → AreInOrder n ts → Goes (machine (f ∷ fs) ts n es) names
 goes {f = f} {fs = fs} w r o = record { top = f; under = fs; frames = refl; named = w; range = r; order = o }
 
 -- what is no second name
-open_range : (m n : ℕ) (h : Head) (row : AnnotatedForest) → is_open (frame_kind_of_head h) ≡ true → HasRange m n h row
-open_range m n (Node k) row e = tt
-open_range m n SecondBind row e = absurd (true_is_not_false (sym e))
-open_range m n Operand row e = tt
+open_range : (m n : ℕ) (h : Head) (trees : AnnotatedForest) → is_open (frame_kind_of_head h) ≡ true → HasRange m n h trees
+open_range m n (Node k) trees e = tt
+open_range m n SecondBind trees e = absurd (true_is_not_false (sym e))
+open_range m n Operand trees e = tt
 
 -- and so where no second name is innermost
 pub goes_open : {f : Frame} {fs : List Frame} {ts : List Token} {n : ℕ} {es : List Fault} {names : Names} → is_open (frame_kind_of_head f.head) ≡ true
@@ -61,8 +61,8 @@ module _ (level d : ℕ) (f : Frame) (fs : List Frame) (ts : List Token) (n : �
   abbrev waiting : List Frame
   waiting = put f.position (with_leading true f.children ts) f ∷ fs
 
-  operand : (max_bp : ℕ) (row : AnnotatedForest) → AreNamed (opened Operand (p.AfterOperand level max_bp) d row) waiting names
-  operand max_bp row = push_operand level max_bp d row (grow_trivia f.position ts w)
+  operand : (max_bp : ℕ) (trees : AnnotatedForest) → AreNamed (opened Operand (p.AfterOperand level max_bp) d trees) waiting names
+  operand max_bp trees = push_operand level max_bp d trees (grow_trivia f.position ts w)
 
   function : AreNamed (opened (Node NODE_LAMBDA) (p.InRow LAMBDA) d blank) (opened Operand (p.AfterOperand level 16) d blank ∷ waiting) names
   function = push_node NODE_LAMBDA (p.InRow LAMBDA) d blank refl (operand 16 blank)
@@ -77,15 +77,15 @@ module _ (level d : ℕ) (f : Frame) (fs : List Frame) (ts : List Token) (n : �
   begun_goes t second (b.Node k remaining max_bp) names' fit e =
       stays e (goes_open (ap is_open fit.0) (push_node k (p.InRow remaining) d (leaf true k ts) fit.0 (operand max_bp blank)) (order_behind n ts o))
   begun_goes t second b.LegacyLet names' fit e =
-      let row : AnnotatedForest = with_leading true (leaf true NODE_LEGACY_LET ts) (after_item true ts) ⊕ leaf true NODE_LEGACY_LET (after_item true ts) in
-      stays e (goes_open refl (push_node NODE_LEGACY_LET (p.InRow LEGACY_LET) d row refl (operand 0 blank)) behind_double_bind)
+      let trees : AnnotatedForest = with_leading true (leaf true NODE_LEGACY_LET ts) (after_item true ts) ⊕ leaf true NODE_LEGACY_LET (after_item true ts) in
+      stays e (goes_open refl (push_node NODE_LEGACY_LET (p.InRow LEGACY_LET) d trees refl (operand 0 blank)) behind_double_bind)
   begun_goes t second b.NameLambda names' fit e =
-      let row : AnnotatedForest = one_branch NODE_IDENT_PARAM (one_branch NODE_IDENT (leaf true NODE_IDENT ts)) in
-      stays e (goes_open refl (push_node NODE_LAMBDA (p.InRow LAMBDA) d row refl (operand 16 blank)) (order_behind n ts o))
+      let trees : AnnotatedForest = one_branch NODE_IDENT_PARAM (one_branch NODE_IDENT (leaf true NODE_IDENT ts)) in
+      stays e (goes_open refl (push_node NODE_LAMBDA (p.InRow LAMBDA) d trees refl (operand 16 blank)) (order_behind n ts o))
   begun_goes t second b.BoundLambda names' fit e =
       let name : AnnotatedForest = one_branch NODE_IDENT (leaf true NODE_IDENT ts) in
-      let row : AnnotatedForest = one_branch NODE_PAT_BIND (with_leading true name (after_item true ts) ⊕ leaf true NODE_PAT_BIND (after_item true ts)) in
-      goes_open refl (push_pattern (p.InRow BOUND_PATTERN) d row (λ name. refl) e function) behind_double_bind
+      let trees : AnnotatedForest = one_branch NODE_PAT_BIND (with_leading true name (after_item true ts) ⊕ leaf true NODE_PAT_BIND (after_item true ts)) in
+      goes_open refl (push_pattern (p.InRow BOUND_PATTERN) d trees (λ name. refl) e function) behind_double_bind
   begun_goes t second b.PatternLambda names' fit e =
       goes_open refl (push_pattern (p.InRow PATTERN) d (leaf true NODE_PATTERN ts) (no_entry_leaf NODE_PATTERN ts) e function) (order_behind n ts o)
   begun_goes t second b.Stray names' fit e = stays e (goes_open refl (operand 16 (one_fault Stray (leaf true NODE_ERROR ts))) (order_behind n ts o))
@@ -103,9 +103,9 @@ limited_goes : (f : Frame) (fs : List Frame) (ts : List Token) (n : ℕ) (es : L
     → Goes (limited true f fs ts n es) names
 limited_goes f fs ts n es names w m o =
     let remaining : List Token = run_rest true (items ts) ts in
-    let row : AnnotatedForest = run_leaves true (items ts) ts in
-    let grown : AreNamed (put f.position (with_leading true f.children ts ⊕ one_fault TooDeep row) f) fs names =
-    grow_behind f.position ts (one_fault TooDeep row) (no_entry_fault TooDeep row) w in
+    let trees : AnnotatedForest = run_leaves true (items ts) ts in
+    let grown : AreNamed (put f.position (with_leading true f.children ts ⊕ one_fault TooDeep trees) f) fs names =
+    grow_behind f.position ts (one_fault TooDeep trees) (no_entry_fault TooDeep trees) w in
     goes_open m (grow_trivia f.position remaining grown) (order_from (end_from n (items ts)) remaining (order_all n ts o).0)
 
 -- an operand of a level is read

@@ -12,7 +12,7 @@ use Rattle.rnix_reader.proofs.{EntryLemmas.{known_pattern, IsEntry}, FrameKindLe
 use Rattle.rnix_reader.proofs.RowLemmas.{name_more, known_more, known_entry}
 use Rattle.rnix_grammar.specs.declared.position.Position.TheVariants as p
 
--- a row grows at its end
+-- a forest grows at its end
 pub grow : {f : Frame} {fs : List Frame} {names : Names} (after : Position) (g : AnnotatedForest)
     → (is_pattern (frame_kind_of_head f.head) ≡ true → HasNoEntry g)
     → AreNamed f fs names → AreNamed (put after (f.children ⊕ g) f) fs names
@@ -22,16 +22,16 @@ grow {f = f} {fs = fs} {names = names} after g q w = record {
   entries = w.entries ∙ ap (λ x. entries_of fs ++ named_by x) (sym (name_more f.head f.children g w.begun.0));
 }
 
--- a row goes on at another position
+-- a row continues at another position
 pub moved_on : {f : Frame} {fs : List Frame} {names : Names} (after : Position) → AreNamed f fs names → AreNamed (put after f.children f) fs names
 moved_on after w = record { begun = w.begun; sets = w.sets; entries = w.entries }
 
--- a row grows by trivia
+-- a forest grows by trivia
 pub grow_trivia : {f : Frame} {fs : List Frame} {names : Names} (after : Position) (ts : List Token) → AreNamed f fs names
     → AreNamed (put after (with_leading true f.children ts) f) fs names
 grow_trivia after ts w = grow after (trivia_before ts) (λ q. no_entry_trivia ts) w
 
--- and by more behind them
+-- and by more after them
 pub grow_behind : {f : Frame} {fs : List Frame} {names : Names} (after : Position) (ts : List Token) (g : AnnotatedForest) → HasNoEntry g
     → AreNamed f fs names → AreNamed (put after (with_leading true f.children ts ⊕ g) f) fs names
 grow_behind after ts g none w = grow after g (λ q. none) (grow_trivia after ts w)
@@ -42,94 +42,94 @@ has_no_names Pattern = false
 has_no_names Entry = false
 has_no_names s = true
 
-no_names_known : (h : Head) (row : AnnotatedForest) (sets : List NameSet) (More : List NameSet → Type 0) → has_no_names (frame_kind_of_head h) ≡ true
-    → AreOpenSetsOn h row sets More ≡ More sets
-no_names_known (Node NODE_PATTERN) row sets More e = absurd (true_is_not_false (sym e))
-no_names_known (Node k) row sets More e = refl
-no_names_known SecondBind row sets More e = refl
-no_names_known Operand row sets More e = refl
+no_names_known : (h : Head) (trees : AnnotatedForest) (sets : List NameSet) (More : List NameSet → Type 0) → has_no_names (frame_kind_of_head h) ≡ true
+    → AreOpenSetsOn h trees sets More ≡ More sets
+no_names_known (Node NODE_PATTERN) trees sets More e = absurd (true_is_not_false (sym e))
+no_names_known (Node k) trees sets More e = refl
+no_names_known SecondBind trees sets More e = refl
+no_names_known Operand trees sets More e = refl
 
-no_names_name : (h : Head) (row : AnnotatedForest) → has_no_names (frame_kind_of_head h) ≡ true → name_of h row ≡ None
-no_names_name (Node NODE_PAT_ENTRY) row e = absurd (true_is_not_false (sym e))
-no_names_name (Node k) row e = refl
-no_names_name SecondBind row e = refl
-no_names_name Operand row e = refl
+no_names_name : (h : Head) (trees : AnnotatedForest) → has_no_names (frame_kind_of_head h) ≡ true → name_of h trees ≡ None
+no_names_name (Node NODE_PAT_ENTRY) trees e = absurd (true_is_not_false (sym e))
+no_names_name (Node k) trees e = refl
+no_names_name SecondBind trees e = refl
+no_names_name Operand trees e = refl
 
-node_begun : (k : SyntaxKind) (row : AnnotatedForest) → has_no_names (frame_kind_of_node k) ≡ true → IsBegun (Node k) row
-node_begun NODE_PAT_ENTRY row e = absurd (true_is_not_false (sym e))
-node_begun k row e = tt
+node_begun : (k : SyntaxKind) (trees : AnnotatedForest) → has_no_names (frame_kind_of_node k) ≡ true → IsBegun (Node k) trees
+node_begun NODE_PAT_ENTRY trees e = absurd (true_is_not_false (sym e))
+node_begun k trees e = tt
 
 -- no name is added
 same_entries : (fs : List Frame) (x : Option Token) → x ≡ None → entries_of fs ++ named_by x ≡ entries_of fs
 same_entries fs x e = ap (λ y. entries_of fs ++ named_by y) e ∙ append-nil (entries_of fs)
 
 -- a frame on others
-push : {f : Frame} {fs : List Frame} {names : Names} (h : Head) (position : Position) (d : ℕ) (row : AnnotatedForest)
+push : {f : Frame} {fs : List Frame} {names : Names} (h : Head) (position : Position) (d : ℕ) (trees : AnnotatedForest)
     → has_no_names (frame_kind_of_head h) ≡ true
-    → IsBegun h row → AreNamed f fs names → AreNamed (opened h position d row) (f ∷ fs) names
-push {f = f} {fs = fs} {names = names} h position d row b i w = record {
+    → IsBegun h trees → AreNamed f fs names → AreNamed (opened h position d trees) (f ∷ fs) names
+push {f = f} {fs = fs} {names = names} h position d trees b i w = record {
   begun = (i, w.begun);
-  sets = subst (λ A. A) (sym (no_names_known h row names.sets.items (AreOpenSets (f ∷ fs)) b)) w.sets;
-  entries = w.entries ∙ sym (same_entries (f ∷ fs) (name_of h row) (no_names_name h row b));
+  sets = subst (λ A. A) (sym (no_names_known h trees names.sets.items (AreOpenSets (f ∷ fs)) b)) w.sets;
+  entries = w.entries ∙ sym (same_entries (f ∷ fs) (name_of h trees) (no_names_name h trees b));
 }
 
 -- a node is opened above a frame
-pub push_node : {f : Frame} {fs : List Frame} {names : Names} (k : SyntaxKind) (position : Position) (d : ℕ) (row : AnnotatedForest)
+pub push_node : {f : Frame} {fs : List Frame} {names : Names} (k : SyntaxKind) (position : Position) (d : ℕ) (trees : AnnotatedForest)
     → frame_kind_of_node k ≡ NodeFrame
-    → AreNamed f fs names → AreNamed (opened (Node k) position d row) (f ∷ fs) names
-push_node k position d row s w = push (Node k) position d row (ap has_no_names s) (node_begun k row (ap has_no_names s)) w
+    → AreNamed f fs names → AreNamed (opened (Node k) position d trees) (f ∷ fs) names
+push_node k position d trees s w = push (Node k) position d trees (ap has_no_names s) (node_begun k trees (ap has_no_names s)) w
 
 -- an operand is opened
-pub push_operand : {f : Frame} {fs : List Frame} {names : Names} (min_bp max_bp d : ℕ) (row : AnnotatedForest) → AreNamed f fs names
-    → AreNamed (opened Operand (p.AfterOperand min_bp max_bp) d row) (f ∷ fs) names
-push_operand min_bp max_bp d row w = push Operand (p.AfterOperand min_bp max_bp) d row refl tt w
+pub push_operand : {f : Frame} {fs : List Frame} {names : Names} (min_bp max_bp d : ℕ) (trees : AnnotatedForest) → AreNamed f fs names
+    → AreNamed (opened Operand (p.AfterOperand min_bp max_bp) d trees) (f ∷ fs) names
+push_operand min_bp max_bp d trees w = push Operand (p.AfterOperand min_bp max_bp) d trees refl tt w
 
 -- a second name is opened
-pub push_second : {f : Frame} {fs : List Frame} {names names' : Names} (d : ℕ) (row : AnnotatedForest) → IsBegun SecondBind row
+pub push_second : {f : Frame} {fs : List Frame} {names names' : Names} (d : ℕ) (trees : AnnotatedForest) → IsBegun SecondBind trees
     → names'.sets.items ≡ names.sets.items → entries_in names' ≡ entries_in names → AreNamed f fs names
-    → AreNamed (opened SecondBind (p.InRow SECOND_BIND) d row) (f ∷ fs) names'
-push_second {f = f} {fs = fs} d row i s e w = record {
+    → AreNamed (opened SecondBind (p.InRow SECOND_BIND) d trees) (f ∷ fs) names'
+push_second {f = f} {fs = fs} d trees i s e w = record {
   begun = (i, w.begun);
   sets = subst (AreOpenSets (f ∷ fs)) (sym s) w.sets;
   entries = e ∙ w.entries ∙ sym (append-nil (entries_of (f ∷ fs)));
 }
 
 -- a pattern is opened, with a new set
-pub push_pattern : {f : Frame} {fs : List Frame} {names names' : Names} (position : Position) (d : ℕ) (row : AnnotatedForest)
-    → HasNoEntry row → PatternOpened names names' → AreNamed f fs names → AreNamed (opened (Node NODE_PATTERN) position d row) (f ∷ fs) names'
-push_pattern {f = f} {fs = fs} {names = names} position d row none o w = record {
+pub push_pattern : {f : Frame} {fs : List Frame} {names names' : Names} (position : Position) (d : ℕ) (trees : AnnotatedForest)
+    → HasNoEntry trees → PatternOpened names names' → AreNamed f fs names → AreNamed (opened (Node NODE_PATTERN) position d trees) (f ∷ fs) names'
+push_pattern {f = f} {fs = fs} {names = names} position d trees none o w = record {
   begun = (tt, w.begun);
   sets = record { below = names.sets.items; set = o.set; all = o.sets; is = λ name. o.none name ∙ sym (none name); more = w.sets };
   entries = o.entries ∙ w.entries ∙ sym (append-nil (entries_of (f ∷ fs)));
 }
 
 -- an entry is opened, with its name
-pub push_entry : {f : Frame} {fs : List Frame} {names names' : Names} (d : ℕ) (row : AnnotatedForest) (t : Token)
-    → entry_name (without_trivia row) ≡ Some t → EntryOpened (entry_at t) names names' → AreNamed f fs names
-    → AreNamed (opened (Node NODE_PAT_ENTRY) (p.InRow PAT_ENTRY) d row) (f ∷ fs) names'
-push_entry {f = f} {fs = fs} d row t e o w = record {
+pub push_entry : {f : Frame} {fs : List Frame} {names names' : Names} (d : ℕ) (trees : AnnotatedForest) (t : Token)
+    → entry_name (without_trivia trees) ≡ Some t → EntryOpened (entry_at t) names names' → AreNamed f fs names
+    → AreNamed (opened (Node NODE_PAT_ENTRY) (p.InRow PAT_ENTRY) d trees) (f ∷ fs) names'
+push_entry {f = f} {fs = fs} d trees t e o w = record {
   begun = ((t, e), w.begun);
   sets = subst (AreOpenSets (f ∷ fs)) (sym o.sets) w.sets;
   entries = o.entries ∙ ap (λ x. x ++ entry_at t ∷ []) w.entries ∙ ap (λ x. entries_of (f ∷ fs) ++ named_by x) (sym e);
 }
 
 -- an operand in the place of another
-pub instead : {f : Frame} {fs : List Frame} {names : Names} (min_bp max_bp d : ℕ) (row : AnnotatedForest) → f.head ≡ Operand → AreNamed f fs names
-    → AreNamed (opened Operand (p.AfterOperand min_bp max_bp) d row) fs names
-instead {f = f} {fs = fs} {names = names} min_bp max_bp d row o w = record {
+pub instead : {f : Frame} {fs : List Frame} {names : Names} (min_bp max_bp d : ℕ) (trees : AnnotatedForest) → f.head ≡ Operand → AreNamed f fs names
+    → AreNamed (opened Operand (p.AfterOperand min_bp max_bp) d trees) fs names
+instead {f = f} {fs = fs} {names = names} min_bp max_bp d trees o w = record {
   begun = (tt, w.begun.1);
   sets = subst (λ h. AreOpenSetsOn h f.children names.sets.items (AreOpenSets fs)) o w.sets;
   entries = w.entries ∙ ap (λ h. entries_of fs ++ named_by (name_of h f.children)) o;
 }
 
 -- what closes has no entry of its own
-made_quiet : (h : Head) (row : AnnotatedForest) (s : FrameKind) → has_no_names (frame_kind_of_head h) ≡ true → may_hold s (frame_kind_of_head h) ≡ true
-    → is_pattern s ≡ true → HasNoEntry (made h row)
-made_quiet (Node NODE_PAT_ENTRY) row s b m q = absurd (true_is_not_false (sym b))
-made_quiet (Node k) row s b m q = λ name. refl
-made_quiet SecondBind row s b m q = λ name. refl
-made_quiet Operand row Pattern b m q = absurd (true_is_not_false (sym m))
-made_quiet Operand row s b m q = absurd (true_is_not_false (sym q))
+made_quiet : (h : Head) (trees : AnnotatedForest) (s : FrameKind) → has_no_names (frame_kind_of_head h) ≡ true → may_hold s (frame_kind_of_head h) ≡ true
+    → is_pattern s ≡ true → HasNoEntry (made h trees)
+made_quiet (Node NODE_PAT_ENTRY) trees s b m q = absurd (true_is_not_false (sym b))
+made_quiet (Node k) trees s b m q = λ name. refl
+made_quiet SecondBind trees s b m q = λ name. refl
+made_quiet Operand trees Pattern b m q = absurd (true_is_not_false (sym m))
+made_quiet Operand trees s b m q = absurd (true_is_not_false (sym q))
 
 -- a frame is complete
 pub pop : {f g : Frame} {fs : List Frame} {names : Names} → IsStackedOn f.head f.position (g ∷ fs) → has_no_names (frame_kind f.position) ≡ true

@@ -21,7 +21,7 @@ end_least : (n : ℕ) (ts : List Token) → AreInOrder n ts → n ≤ end_of n t
 end_least n [] o = omega arith
 end_least n (t ∷ ts) o = omega (arith, o.0, o.1)
 
--- behind the next item
+-- after the next item
 pub order_behind : (n : ℕ) (ts : List Token) → AreInOrder n ts → AreInOrder (item_end true n ts) (after_item true ts)
 order_behind n ts o = order_tail n (from_item ts) (order_from n ts o)
 
@@ -29,7 +29,7 @@ order_behind n ts o = order_tail n (from_item ts) (order_from n ts o)
 pub reach_least : (n : ℕ) (ts : List Token) → AreInOrder n ts → n ≤ item_end true n ts
 reach_least n ts o = end_least n (from_item ts) (order_from n ts o)
 
--- behind a run of items
+-- after a run of items
 record Passed (n : ℕ) (run ts : List Token) : Type 0 where
   order : AreInOrder (end_from n run) (remaining_after (row_of run) ts)
   least : n ≤ end_from n run
@@ -42,7 +42,7 @@ passed n (t ∷ run) us ts e o =
     let ih = passed t.end run us (tail_of (from_item ts)) first.remaining (subst (λ x. AreInOrder x (after_item true ts)) ends (order_behind n ts o)) in
     record { order = ih.order; least = omega (arith, ih.least, reach_least n ts o, ends) }
 
--- behind a run tokens are in order
+-- after a run tokens are in order
 pub order_run : (until : ExpectedSet) (n : ℕ) (ts : List Token) → AreInOrder n ts
     → AreInOrder (end_from n (run_of until (items ts))) (run_rest true (run_of until (items ts)) ts) × (n ≤ end_from n (run_of until (items ts)))
 order_run until n ts o =
@@ -50,7 +50,7 @@ order_run until n ts o =
     let w = passed n run (dropped run (items ts)) (from_item ts) (items-from_item ts ∙ run_prefix until (items ts)) (order_from n ts o) in
     (w.order, w.least)
 
--- and behind all of them
+-- and after all of them
 pub order_all : (n : ℕ) (ts : List Token) → AreInOrder n ts
     → AreInOrder (end_from n (items ts)) (run_rest true (items ts) ts) × (n ≤ end_from n (items ts))
 order_all n ts o = subst (λ run. AreInOrder (end_from n run) (run_rest true run ts) × (n ≤ end_from n run)) (run_all (items ts)) (order_run End n ts o)

@@ -61,7 +61,7 @@ module _ (f : Frame) (fs : List Frame) (ts : List Token) (n : ℕ) (names : Name
       by [] w st = absurd (true_is_not_false (sym (ap is_root st.1) ∙ r))
       by (g ∷ gs) w st = goes_open (holder_open g gs (frame_kind f.position) st.2 st.1) (pop st b w) v.order
 
-  -- the innermost row grows by some items
+  -- the innermost frame gets some more items
   grows : (after : Position) (g : AnnotatedForest) (run us : List Token) (m : ℕ) (es : List Fault) → HasNoEntry g → tokens_in (without_trivia g) ≡ run
       → m ≡ end_from n run → n ≤ m → AreInOrder m us
       → Goes (machine (put after (with_leading true f.children ts ⊕ g) f ∷ fs) us m es) names
@@ -72,7 +72,7 @@ module _ (f : Frame) (fs : List Frame) (ts : List Token) (n : ℕ) (names : Name
       goes (grow_behind after ts g none w) (range_more names.second n m f.head (with_leading true f.children ts) g run
       (begun_more f.head f.children (trivia_before ts) begun) trivia i r l) o
 
-  -- at a position behind an operand an operand is open
+  -- at a position after an operand an operand is open
   loose : frame_kind f.position ≡ OperandFrame → f.head ≡ Operand
   loose e = head_operand f.head (head_sort f.head f.position fs v.fit ∙ e)
 
@@ -90,18 +90,18 @@ module _ (f : Frame) (fs : List Frame) (ts : List Token) (n : ℕ) (names : Name
       → ((t : Token) → head_of (items ts) ≡ Some t → DoubleBindOpened t.start names names') → Goes (perform true (a.DoubleBind after) f fs ts n es) names'
   double_bind_goes after [] es names' e h does = absurd (true_is_not_false (sym h))
   double_bind_goes after (t ∷ us) es names' e h does =
-      let row : AnnotatedForest = leaf true NODE_ERROR ts in
-      let tokens : tokens_in (without_trivia row) ≡ t ∷ [] = leaf_tokens NODE_ERROR ts ∙ ap firsts e in
+      let trees : AnnotatedForest = leaf true NODE_ERROR ts in
+      let tokens : tokens_in (without_trivia trees) ≡ t ∷ [] = leaf_tokens NODE_ERROR ts ∙ ap firsts e in
       let end : item_end true n ts ≡ t.end = leaf_end n ts ∙ ap (λ x. end_from n (firsts x)) e in
       let ordered : AreInOrder n (t ∷ tail_of (from_item ts)) = subst (AreInOrder n) (first_item t us ts e).here (order_from n ts v.order) in
       let new = does t (ap head_of e) in
-      let range : (let x : Extent = record { start = names'.second; end = item_end true n ts } in x) ≡ extent_of (tokens_in (without_trivia row)) =
+      let range : (let x : Extent = record { start = names'.second; end = item_end true n ts } in x) ≡ extent_of (tokens_in (without_trivia trees)) =
       ap (λ x. let y : Extent = record { start = x; end = item_end true n ts } in y) new.second
       ∙ ap (λ x. let y : Extent = record { start = t.start; end = x } in y) end ∙ sym (ap extent_of tokens) in
-      goes (push_second f.depth row (t, [], tokens) new.sets new.entries (grow_trivia (p.InRow after) ts w)) (range, omega (arith, ordered.1, end, new.second))
-      (order_behind n ts v.order)
+      goes (push_second f.depth trees (t, [], tokens) new.sets new.entries (grow_trivia (p.InRow after) ts w))
+      (range, omega (arith, ordered.1, end, new.second)) (order_behind n ts v.order)
 
-  -- each action leaves a machine that goes on
+  -- each action leaves a machine that continues
   pub perform_goes : (action : Action) (es : List Fault) (names' : Names) → Allowed f.position (head_kind (items ts)) action → is_finish action ≡ false
       → NamesAfter action (mark_of f fs) (popped (machine (f ∷ fs) ts n es)) names names' → Goes (perform true action f fs ts n es) names'
   unfolding pushed started_at
@@ -112,25 +112,25 @@ module _ (f : Frame) (fs : List Frame) (ts : List Token) (n : ℕ) (names : Name
   perform_goes a.Finish es names' al g k = absurd (true_is_not_false g)
   perform_goes a.EndOperand es names' al g k = stays k (closing es (ap has_no_names al) (ap is_root al))
   perform_goes a.Extra es names' al g k =
-      let row : AnnotatedForest = run_leaves true (items ts) ts in
+      let trees : AnnotatedForest = run_leaves true (items ts) ts in
       let all = order_all n ts v.order in
-      stays k (grows f.position (one_fault Extra row) (items ts) (run_rest true (items ts) ts) (end_from n (items ts)) _ (no_entry_fault Extra row)
+      stays k (grows f.position (one_fault Extra trees) (items ts) (run_rest true (items ts) ts) (end_from n (items ts)) _ (no_entry_fault Extra trees)
       (run_tokens Extra (items ts) (dropped (items ts) (items ts)) ts (all_prefix (items ts))) refl all.1 all.0)
   perform_goes (a.Take after) es names' al g k =
-      let row : AnnotatedForest = leaf true (kind_of f.head) ts in
-      stays k (grows (p.InRow after) row (firsts (items ts)) (after_item true ts) (item_end true n ts) es (no_entry_leaf (kind_of f.head) ts)
+      let trees : AnnotatedForest = leaf true (kind_of f.head) ts in
+      stays k (grows (p.InRow after) trees (firsts (items ts)) (after_item true ts) (item_end true n ts) es (no_entry_leaf (kind_of f.head) ts)
       (leaf_tokens (kind_of f.head) ts) (leaf_end n ts) (reach_least n ts v.order) (order_behind n ts v.order))
   perform_goes (a.Miss after) es names' al g k = stays k (goes (moved_on (p.InRow after) w) v.range v.order)
   perform_goes (a.MissWanted until after) es names' al g k = stays k (goes (moved_on (p.InRow after) w) v.range v.order)
   perform_goes (a.Run until after) es names' al g k =
       let run : List Token = run_of until (items ts) in
-      let row : AnnotatedForest = run_leaves true run ts in
+      let trees : AnnotatedForest = run_leaves true run ts in
       let all = order_run until n ts v.order in
-      stays k (grows (p.InRow after) (one_fault (Unwanted until) row) run (run_rest true run ts) (end_from n run) _ (no_entry_fault (Unwanted until) row)
+      stays k (grows (p.InRow after) (one_fault (Unwanted until) trees) run (run_rest true run ts) (end_from n run) _ (no_entry_fault (Unwanted until) trees)
       (run_tokens (Unwanted until) run (dropped run (items ts)) ts (run_prefix until (items ts))) refl all.1 all.0)
   perform_goes (a.Leaf j after) es names' al g k =
-      let row : AnnotatedForest = one_branch j (leaf true j ts) in
-      stays k (grows (p.InRow after) row (firsts (items ts)) (after_item true ts) (item_end true n ts) es
+      let trees : AnnotatedForest = one_branch j (leaf true j ts) in
+      stays k (grows (p.InRow after) trees (firsts (items ts)) (after_item true ts) (item_end true n ts) es
       (subst (λ x. HasNoEntry (one_branch x (leaf true x ts))) (sym al.2) (λ name. refl))
       (append-nil (tokens_in (without_trivia (leaf true j ts))) ∙ leaf_tokens j ts) (leaf_end n ts) (reach_least n ts v.order) (order_behind n ts v.order))
   perform_goes (a.Open j inside after) es names' al g k =
@@ -144,13 +144,13 @@ module _ (f : Frame) (fs : List Frame) (ts : List Token) (n : ℕ) (names : Name
       reading_goes level counted (put (p.InRow after) f.children f) fs ts n es names names' (moved_on (p.InRow after) w)
       (holder_open f fs OperandFrame v.fit al.1) v.order k
   perform_goes (a.Wrap j inside max_bp) es names' al g k =
-      let row : AnnotatedForest = with_leading true f.children ts ⊕ leaf true j ts in
-      stays k (goes_open (ap is_open al.2) (push_node j inside f.depth row al.2 (instead (min_bp_of f.position) max_bp f.depth blank (loose al.1) w))
+      let trees : AnnotatedForest = with_leading true f.children ts ⊕ leaf true j ts in
+      stays k (goes_open (ap is_open al.2) (push_node j inside f.depth trees al.2 (instead (min_bp_of f.position) max_bp f.depth blank (loose al.1) w))
       (order_behind n ts v.order))
   perform_goes a.Apply es names' al g k =
       let over : Frame = opened Operand (p.AfterOperand (min_bp_of f.position) 15) f.depth blank in
       reading_goes 16 false (opened (Node NODE_APPLY) (p.InRow APPLIED) f.depth f.children) (over ∷ fs) ts n es names names'
       (push_node NODE_APPLY (p.InRow APPLIED) f.depth f.children refl (instead (min_bp_of f.position) 15 f.depth blank (loose al.1) w)) refl v.order k
   perform_goes a.ApplyOr es names' al g k =
-      let row : AnnotatedForest = one_branch NODE_APPLY (with_leading true f.children ts ⊕ one_branch NODE_IDENT (leaf true NODE_IDENT ts)) in
-      stays k (goes_open refl (instead (min_bp_of f.position) 15 f.depth row (loose al.1) w) (order_behind n ts v.order))
+      let trees : AnnotatedForest = one_branch NODE_APPLY (with_leading true f.children ts ⊕ one_branch NODE_IDENT (leaf true NODE_IDENT ts)) in
+      stays k (goes_open refl (instead (min_bp_of f.position) 15 f.depth trees (loose al.1) w) (order_behind n ts v.order))

@@ -1,4 +1,4 @@
--- Rows that grow: what they begin with stays, and what is known of them.
+-- Forests that grow: what they begin with stays, and what is known of them.
 use Rattle.std.proofs.Common.{◌≡◌, ◌≤◌, ℕ, Bool, true, false, List, [], ◌∷◌, ◌++◌, Some, refl, ap, sym, ◌∙◌, arith, if◌then◌else◌}
 use Rattle.{std.{proofs.lemmas.Cmp.nat_list_eq_equiv, specs.Str.bytes_eq}, rnix_kinds.specs.declared.kinds.SyntaxKind.{SyntaxKind, TheVariants.NODE_IDENT}}
 use Rattle.{rnix_kinds.specs.declared.kinds.SyntaxKind.TheVariants.{NODE_PATTERN, NODE_PAT_ENTRY}, rnix_green.specs.Range.Extent}
@@ -11,7 +11,7 @@ use Rattle.rnix_proof_lemmas.proofs.{AnnotatedForestLemmas.tokens_in-⊕, Withou
 use Rattle.{rnix_proof_lemmas.proofs.{LayoutLemmas.without_trivia-trivia, TokenEnds.end_behind}, rnix_reader.specs.{declared.pattern_names.NameSet.NameSet, PatternNames.has_name}}
 use Rattle.rnix_reader.{specs.Holds.{IsBegun, HasRange, name_of, AreOpenSetsOn}, proofs.FrameKindLemmas.is_pattern}
 
--- a row has no entry of a pattern
+-- a forest has no entry of a pattern
 abbrev pub HasNoEntry : AnnotatedForest → Type 0
 HasNoEntry g = (name : List ℕ) → has_entry name (without_trivia g) ≡ false
 
@@ -81,7 +81,7 @@ name_more (Node k) f g w = refl
 name_more SecondBind f g w = refl
 name_more Operand f g w = refl
 
--- a row without more entries has the same names
+-- a forest without more entries has the same names
 pub known_more : (h : Head) (f g : AnnotatedForest) (sets : List NameSet) (More : List NameSet → Type 0)
     → (is_pattern (frame_kind_of_head h) ≡ true → HasNoEntry g)
     → AreOpenSetsOn h f sets More → AreOpenSetsOn h (f ⊕ g) sets More
@@ -115,7 +115,7 @@ known_entry (Node k) f c t below s sets More q e a m is = absurd (true_is_not_fa
 known_entry SecondBind f c t below s sets More q e a m is = absurd (true_is_not_false (sym q))
 known_entry Operand f c t below s sets More q e a m is = absurd (true_is_not_false (sym q))
 
--- a second name stays where it begins, and ends where the items behind it end
+-- a second name stays where it begins, and ends where the items after it end
 pub range_more : (n m k : ℕ) (h : Head) (f g : AnnotatedForest) (us : List Token) → IsBegun h f → HasRange n m h f → tokens_in (without_trivia g) ≡ us
     → k ≡ end_from m us → m ≤ k → HasRange n k h (f ⊕ g)
 range_more n m k (Node j) f g us w e i r l = tt

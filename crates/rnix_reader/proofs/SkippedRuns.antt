@@ -30,12 +30,12 @@ skipped-more t us run s s' i e =
     (ap (λ x. end_from (end_of s.prev_end x) run) (sym here)) refl
     ∙ ap (skipped run) (sym e)
 
--- what is left behind an item
+-- what is left after an item
 pub remaining_bumped : (k : SyntaxKind) (t : Token) (us : List Token) (s s' : State) → items s.rest ≡ t ∷ us → s' ≡ bumped k s → items s'.rest ≡ us
 unfolding bumped eaten
 remaining_bumped k t us s s' i e = ap (λ x. items x.rest) e ∙ (first_item t us s.rest i).remaining
 
--- where a run stops and goes on
+-- where a run stops and continues
 pub run_stops : (u : ExpectedSet) (ts : List Token) → stops u (head_kind ts) ≡ true → run_of u ts ≡ []
 run_stops u [] h = refl
 run_stops u (t ∷ ts) h = ap (λ x. if x then [] else t ∷ run_of u ts) h
@@ -79,7 +79,7 @@ reached_over : (u : ExpectedSet) (s : State) → (error_over u s).prev_end ≡ e
 unfolding ended skipped started_at eaten
 reached_over u s = ap (λ x. end_from s.prev_end (run_of u x)) (items-from_item s.rest)
 
--- tokens in order end behind their first
+-- tokens in order end after their first
 pub in_order_items : (n : ℕ) (ts : List Token) → AreInOrder n ts → AreInOrder n (items ts)
 in_order_items n [] o = tt
 in_order_items n (t ∷ ts) o =

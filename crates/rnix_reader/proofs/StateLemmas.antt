@@ -16,7 +16,7 @@ pub state_is : {r r' : List Token} {x x' : Forest} {o o' : List OpenNode} {e e' 
     ≡ (let z : State = record { rest = r'; trees = x'; open_nodes = o'; faults = e'; prev_end = n'; marks = m' } in z)
 state_is a b c d e f = cc
 
--- tokens with a first are that and those behind it
+-- tokens with a first are that and those after it
 pub first_of : (ts : List Token) (t : Token) → head_of ts ≡ Some t → ts ≡ t ∷ tail_of ts
 first_of [] t e = absurd (cc)
 first_of (u ∷ us) t e = let same : u ≡ t = cc in ap (λ x. x ∷ us) same

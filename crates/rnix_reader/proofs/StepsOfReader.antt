@@ -132,8 +132,9 @@ module _ (f : Frame) (fs : List Frame) (ts : List Token) (n : ℕ) (es : List Fa
       ∙ expression_is (opened (Node NODE_APPLY) (p.InRow APPLIED) f.depth f.children) (opened Operand over f.depth blank ∷ fs) ts n es 16 false
   performs a.ApplyOr s' names' k al g d =
       let over : Position = p.AfterOperand (min_bp_of f.position) 15 in
-      let row : AnnotatedForest = with_leading true f.children ts ⊕ one_branch NODE_IDENT (leaf true NODE_IDENT ts) in
+      let trees : AnnotatedForest = with_leading true f.children ts ⊕ one_branch NODE_IDENT (leaf true NODE_IDENT ts) in
       let gs : List Frame = opened Operand over f.depth blank ∷ fs in
       d ∙ ap (λ x. ended (leaf_node_made NODE_IDENT x)) (erase-wrapped _ NODE_APPLY (p.InRow APPLIED) over f fs ts n es (head_operand f.head (sort ∙ al.1)))
       ∙ ap ended (erase-leaf_node_made _ NODE_IDENT (opened (Node NODE_APPLY) (p.InRow APPLIED) f.depth f.children) gs ts n es)
-      ∙ erase-closed _ (Node NODE_APPLY) (p.InRow APPLIED) f.depth row (opened Operand over f.depth blank) fs (after_item true ts) (item_end true n ts) es refl
+      ∙ erase-closed _ (Node NODE_APPLY) (p.InRow APPLIED) f.depth trees (opened Operand over f.depth blank) fs (after_item true ts)
+      (item_end true n ts) es refl

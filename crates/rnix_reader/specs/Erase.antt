@@ -1,4 +1,4 @@
--- What the reader holds, by the machine of steps: the rows of all frames in one row, from the outermost to the innermost.
+-- What the reader holds, by the machine of steps: the children of all frames in one forest, from the outermost to the innermost.
 use Rattle.std.specs.Prelude.{ℕ, List, [], ◌∷◌, ◌++◌}
 use Rattle.rnix_kinds.specs.declared.kinds.SyntaxKind.TheVariants.{NODE_ERROR}
 use Rattle.rnix_green.specs.Forest.{Forest, empty, join, tree_count}
@@ -9,7 +9,7 @@ use Rattle.rnix_proof_lemmas.specs.Machine.{Head, Node, SecondBind, Operand, Fra
 use Rattle.rnix_reader.specs.declared.mark.Mark.{Mark}
 use Rattle.rnix_reader.specs.State.{State}
 
--- the trees of all frames in one row
+-- the trees of all frames in one forest
 abbrev pub trees_of : List Frame → Forest
 trees_of [] = empty
 trees_of (f ∷ fs) = join (trees_of fs) (forget f.children)

@@ -14,11 +14,11 @@ use Rattle.rnix_reader.specs.declared.mark.Mark.{Mark}
 use Rattle.rnix_reader.specs.State.{State, eaten, taken, bumped, started, started_here, started_at, ended, pushed}
 use Rattle.rnix_reader.specs.Erase.{mark_at}
 
--- what is open goes on at another position
+-- what is open continues at another position
 abbrev pub moved_to : Position → Mark → State → State
 moved_to after m s = pushed (mark_at after m.depth m.at) s
 
--- a node is open behind the trees, and goes on at a position
+-- a node is open after the trees, and continues at a position
 abbrev pub node_here : SyntaxKind → Position → ℕ → State → State
 node_here k inside d s = pushed (mark_at inside d (tree_count s.trees)) (started_here k s)
 
@@ -42,7 +42,7 @@ entry_begun after m s = leaf_node_made NODE_IDENT (node_started NODE_PAT_ENTRY (
 abbrev pub second_begun : Position → Mark → State → State
 second_begun after m s = node_begun NODE_ERROR (InRow SECOND_BIND) m.depth (moved_to after m s)
 
--- a node is open from where the operand before it begins; the operand goes on behind the node
+-- a node is open from where the operand before it begins; the operand continues after the node
 abbrev pub node_wrapped : SyntaxKind → Position → Position → Mark → State → State
 node_wrapped k inside over m s = pushed (mark_at inside m.depth m.at) (started_at m.at k (moved_to over m s))
 
@@ -62,7 +62,7 @@ parameter_read s = ended (leaf_node_made NODE_IDENT (started NODE_IDENT_PARAM s)
 abbrev pub binding_read : State → State
 binding_read s = ended (bumped NODE_PAT_BIND (leaf_node_made NODE_IDENT (started NODE_PAT_BIND s)))
 
--- an operand begins behind the trees
+-- an operand begins after the trees
 abbrev pub operand_here : Position → ℕ → State → State
 operand_here inside d s = pushed (mark_at inside d (tree_count s.trees)) s
 
@@ -90,7 +90,7 @@ bound_lambda_begun over d s = binding_read (node_started NODE_PATTERN (InRow BOU
 abbrev pub pattern_lambda_begun : Position → ℕ → State → State
 pattern_lambda_begun over d s = node_begun NODE_PATTERN (InRow PATTERN) d (lambda_begun over d s)
 
--- how an operand of a level begins with an item, by the items behind it
+-- how an operand of a level begins with an item, by the items after it
 abbrev pub begins_with : ℕ → Token → List Token → OperandStart
 begins_with level t us = operand_start_of level t.kind t.text (head_kind us) (second_kind us)
 

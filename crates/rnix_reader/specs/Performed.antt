@@ -33,7 +33,7 @@ begun_as b.BoundLambda level d t s = bound_lambda_begun (p.AfterOperand level se
 begun_as b.PatternLambda level d t s = pattern_lambda_begun (p.AfterOperand level selection_level) d s
 begun_as b.Stray level d t s = stray_reported t (operand_begun (p.AfterOperand level selection_level) d s)
 
--- an operand of a level is read, by the next item and those behind it
+-- an operand of a level is read, by the next item and those after it
 abbrev pub operand_with : ℕ → ℕ → Option Token → List Token → State → State
 operand_with level d None us s = failed ended_fault s
 operand_with level d (Some t) us s = begun_as (begins_with level t us) level d t s
@@ -42,12 +42,12 @@ operand_with level d (Some t) us s = begun_as (begins_with level t us) level d t
 abbrev pub operand_read : ℕ → ℕ → State → State
 operand_read level d s = operand_with level d (head_of (items_remaining s)) (tail_of (items_remaining s)) s
 
--- an operand of a level, which the limit of nesting counts or not
+-- an operand of a level, which the nesting limit counts or not
 abbrev pub expression_read : ℕ → Bool → ℕ → State → State
 expression_read level true d s = if nat_le depth_limit d then limit_reported s else operand_read level (d + 1) s
 expression_read level false d s = operand_read level d s
 
--- a node's row goes on after a position, and an operand of the row is read
+-- a node's row continues after a position, and an operand of the row is read
 abbrev pub part_read : ℕ → Bool → ℕ → Mark → State → State
 part_read level counted after m s = expression_read level counted m.depth (moved_to (p.InRow after) m s)
 
@@ -98,7 +98,7 @@ Performed action m s n s' n' = s' ≡ performed action m n.second s
 abbrev pub action_of : Position → State → Action
 action_of position s = action_at position (head_kind (items_remaining s)) (touches s.prev_end (items_remaining s))
 
--- the action goes on with an operand
+-- the action continues an operand
 abbrev pub is_continuation : Action → Bool
 is_continuation (a.Wrap k inside max_bp) = true
 is_continuation a.Apply = true

@@ -51,7 +51,7 @@ abbrev pub AreEnds : List ℕ → ℕ → List TokenEnd → Type 0
 AreEnds text start [] = Unit {0}
 AreEnds text start (t ∷ ts) = (start ≤ t.end) × IsCharBoundary text t.end × AreEnds text t.end ts
 
--- each token begins where the last one ended, or behind that
+-- each token begins where the last one ended, or after that
 abbrev pub AreInOrder : ℕ → List Token → Type 0
 AreInOrder n [] = Unit {0}
 AreInOrder n (t ∷ ts) = (n ≤ t.start) × (t.start ≤ t.end) × AreInOrder t.end ts

@@ -23,7 +23,7 @@ error_over until s = ended (skipped (next_run until (started NODE_ERROR s)) (sta
 abbrev pub unwanted_reported : ExpectedSet → State → State
 unwanted_reported until s = failed (report (Unwanted until) (next_run until s)) (error_over until s)
 
--- so it is with all that is left behind the root's expression
+-- so it is with all that is left after the root's expression
 abbrev pub extra_reported : State → State
 extra_reported s = failed (report Extra (next_run End s)) (error_over End s)
 

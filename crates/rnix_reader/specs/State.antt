@@ -91,7 +91,7 @@ started_at position k s = record {
   marks = s.marks;
 }
 
--- a node is opened behind the trees
+-- a node is opened after the trees
 abbrev pub started_here : SyntaxKind → State → State
 started_here k s = started_at (tree_count s.trees) k s
 

@@ -9,13 +9,13 @@ use rnix_kinds::{SyntaxKind, Tokenizer};
 use std::alloc::{AllocError, Global};
 use std::marker::Model;
 
-// How many bytes of text there is room for a token by, before the tokens are counted.
+// Initial capacity: one token for so many bytes of text.
 const BYTES_PER_TOKEN: usize = 2;
 
-// A text has fewer bytes, as a tree's text has.
+// A text has fewer bytes, like the text of a tree.
 const LIMIT: usize = 1 << 32;
 
-/// A token, and the bytes that it takes.
+/// A token with its range in bytes.
 #[derive(Clone, Copy)]
 pub(crate) struct PlacedToken<'t> {
     pub(crate) kind: SyntaxKind,
@@ -24,7 +24,7 @@ pub(crate) struct PlacedToken<'t> {
     pub(crate) end: usize,
 }
 
-// A token as it is kept: it begins where the one before it ends.
+// A token as it is stored: it begins where the one before it ends.
 #[derive(Clone, Copy)]
 struct TokenEnd {
     kind: SyntaxKind,
@@ -33,13 +33,13 @@ struct TokenEnd {
 
 const _: () = prove!(size_of::<TokenEnd>() == 8);
 
-/// The tokens that are left.
+/// The remaining tokens.
 #[derive(Drop)]
 pub(crate) struct Cursor<'t> {
     text: &'t str,
     tokens: Vec<TokenEnd>,
     at: usize,
-    // Where the next item is, so that looking at it does not go over trivia again.
+    // The index of the next item, so that looking at it does not scan trivia again.
     next: usize,
 }
 
@@ -108,7 +108,7 @@ fn token_at<'t>(text: &'t str, tokens: &[TokenEnd], at: usize) -> Option<PlacedT
     None
 }
 
-// Where the first item from an index on is.
+// The index of the first item from an index on.
 fn item_from(tokens: &[TokenEnd], from: usize) -> usize
     ensures { (text : List ℕ) → IsItemFrom text tokens.now from result }
 {
@@ -122,7 +122,7 @@ fn item_from(tokens: &[TokenEnd], from: usize) -> usize
     at
 }
 
-// Where the item after an item is.
+// The index of the item after an item.
 fn behind_item(tokens: &[TokenEnd], at: usize) -> usize
     ensures { (text : List ℕ) →
         from_item (tail_of (drop at (tokens_cut text 0 tokens.now))) ≡ drop result (tokens_cut text 0 tokens.now) }
@@ -159,7 +159,7 @@ impl<'t> Cursor<'t> {
         })
     }
 
-    /// Returns the number of tokens that are left.
+    /// Returns the number of remaining tokens.
     pub(crate) fn len(&self) -> usize
         ensures { result ≡ length self.now }
     {

@@ -14,11 +14,11 @@ use rnix_green::{GreenNode, TextBuilder};
 use rnix_kinds::{SyntaxKind, Tokenizer};
 use std::alloc::{AllocError, Global};
 
-// How many elements of the tree there is room for, for each token.
+// Initial capacity: so many elements of the tree for each token.
 const ELEMENTS_PER_TOKEN: usize = 2;
 
-/// Reads the tokens that are left: their tree, with a NODE_ROOT at its top, and the errors in the order in which they were found. Ranges are
-/// bytes from the first of these tokens on.
+/// Reads the remaining tokens. Returns their tree, whose root is a NODE_ROOT, and the errors in the order in which they were found. Ranges are
+/// counted in bytes from the first of these tokens.
 pub fn read_tokens(
     alloc: Global,
     tokens: Tokenizer<'_>,

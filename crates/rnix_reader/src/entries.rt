@@ -1,4 +1,4 @@
-//! Entries and second names of patterns. The names of entries are kept.
+//! Entries and second names of patterns. The reader keeps the names of the entries.
 
 ghost use Rattle.std.specs.Prelude.{◌≡◌, ◌≤◌, ◌<◌, length, OnOk};
 ghost use Rattle.rnix_grammar.specs.declared.position.Position.TheVariants.{InRow};

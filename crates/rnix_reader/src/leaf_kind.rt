@@ -5,7 +5,7 @@ ghost use Rattle.rnix_grammar.specs.AnnotatedForest.{leaf_kind_as};
 
 use rnix_kinds::SyntaxKind;
 
-/// Returns the kind of a token's leaf below a node: the name `or` is a name like any other, and `__curPos` is not a name where it is the current position.
+/// Returns the kind of a token's leaf below a node: `or` as a name is a TOKEN_IDENT, and `__curPos` as an expression is a TOKEN_CUR_POS.
 #[inline(always)]
 pub(crate) fn leaf_kind_as(parent: SyntaxKind, kind: SyntaxKind) -> SyntaxKind
     ensures { result ≡ leaf_kind_as parent kind }

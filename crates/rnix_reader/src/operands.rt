@@ -88,7 +88,7 @@ impl<'t> Parser<'t> {
         Ok(())
     }
 
-    /// Reads an operand that is a node of the next item alone.
+    /// Reads an operand that is a node over just the next item.
     #[inline(always)]
     pub(crate) fn leaf_operand(
         &mut self,

@@ -11,7 +11,7 @@ use rnix_green::{Checkpoint, TextBuilder};
 use rnix_kinds::SyntaxKind;
 use std::alloc::AllocError;
 
-/// Reads tokens, builds the tree and keeps the errors and what is open.
+/// Reads tokens, builds the tree, and keeps the errors and the open nodes and operands.
 #[derive(Drop)]
 pub(crate) struct Parser<'t> {
     pub(crate) cursor: Cursor<'t>,
@@ -33,7 +33,7 @@ impl<'t> Parser<'t> {
     ghost use Rattle.rnix_reader.specs.State.{state, items_remaining, eaten, bumped, started, started_at, ended, failed, pushed};
     ghost use Rattle.rnix_reader.specs.Erase.{mark_at};
 
-    /// Returns the next token that is not trivia.
+    /// Returns the next item.
     #[tactic(auto, using(crate::proofs::CursorLemmas::head_items))]
     #[inline(always)]
     pub(crate) fn item(&self) -> Option<PlacedToken<'t>>
@@ -42,14 +42,14 @@ impl<'t> Parser<'t> {
         self.cursor.item()
     }
 
-    /// Returns the kind of the next token that is not trivia.
+    /// Returns the kind of the next item.
     pub(crate) fn peek(&self) -> Option<SyntaxKind>
         ensures { result ≡ head_kind (items_remaining (state self.now)) }
     {
         self.cursor.first()
     }
 
-    /// Returns whether no trivia are between the last item and the next.
+    /// Returns whether the next item touches the last one.
     pub(crate) fn touches(&self) -> bool
         ensures { result ≡ touches (state self.now).prev_end (items_remaining (state self.now)) }
     {

@@ -47,7 +47,7 @@ pub(crate) struct Entry<'t> {
 /// The names of open patterns and entries.
 #[derive(Drop)]
 pub(crate) struct Names<'t> {
-    /// The names so far of each open pattern.
+    /// The names of each open pattern so far.
     pub(crate) sets: Vec<NameSet<'t>>,
     pub(crate) entries: Vec<Entry<'t>>,
     /// Where the second name of a pattern begins, while it is open.
@@ -55,7 +55,7 @@ pub(crate) struct Names<'t> {
 }
 
 impl<'t> Names<'t> {
-    /// Returns the names where no pattern and no entry is open.
+    /// Returns the state in which no pattern and no entry is open.
     pub(crate) fn new(alloc: Global) -> Self
         ensures sets { result.sets.items ≡ [] }
         ensures entries { result.entries.items ≡ [] }

@@ -26,7 +26,7 @@ use rnix_grammar::{
 use rnix_kinds::SyntaxKind;
 use std::alloc::AllocError;
 
-// How many expressions, list items and operands of prefix operators may be nested.
+// The nesting limit, which counts expressions, list items and operands of prefix operators.
 const DEPTH_LIMIT: usize = 512;
 
 // Begins an operand that is one token.
@@ -258,7 +258,7 @@ fn step<'t>(
     Ok(())
 }
 
-// Goes on with the operand that was read, by an action that does so.
+// Continues the operand that was read, by an action that does so.
 #[inline(always)]
 fn continue_operand<'t>(
     p: &mut Parser<'t>,
@@ -284,7 +284,7 @@ fn continue_operand<'t>(
     Ok(())
 }
 
-// Goes on with the operand that was read, if the next item continues it. Otherwise the operand is complete.
+// Continues the operand that was read, if the next item continues it. Otherwise the operand is complete.
 #[tactic(auto, using(crate::proofs::LoopLemmas::continue_action_is_continuation))]
 #[inline(always)]
 fn after_operand<'t>(
@@ -307,7 +307,7 @@ fn after_operand<'t>(
     Ok(())
 }
 
-// The action at a position of a row. Where nothing but the end of the node is to be done, no item is looked at.
+// The action at a position of a row. If all that is left to do is to end the node, no item is looked at.
 #[inline(always)]
 fn action_in_row(p: &Parser<'_>, index: u8) -> Action
     ensures { result ≡ action_of (InRow index) (state p.now) }
@@ -318,8 +318,8 @@ fn action_in_row(p: &Parser<'_>, index: u8) -> Action
     action_at_slot(index, p.peek(), p.touches())
 }
 
-/// Reads until the root is complete, and counts the turns: at most fifteen for two items, and two more.
-// The position is matched first: this saves a test at each step, and two table look-ups after an operand or an operator.
+/// Reads until the root is complete, and counts the turns: at most fifteen for every two items, plus two.
+// The position is matched first: this saves a test at each step, and two table lookups after an operand or an operator.
 pub(crate) fn read_all<'t, T: Turns>(
     p: &mut Parser<'t>,
     names: &mut Names<'t>,

@@ -1,4 +1,4 @@
-//! Nodes that are read at once: over one item, and over runs of items that are not wanted.
+//! Nodes that are made in one step: over one item, and over runs of unwanted items.
 
 ghost use Rattle.std.specs.Prelude.{◌≡◌, IfOk, OnOk, false, true, Some};
 ghost use Rattle.rnix_green.specs.Range.{bounds_of};

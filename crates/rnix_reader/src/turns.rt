@@ -1,18 +1,18 @@
-//! Who counts the turns of the reader's loop.
+//! Counters of the turns of the reader's loop.
 
 ghost use Rattle.std.specs.Prelude.{ℕ, ◌+◌};
 
 /// Counts the turns of a loop.
 pub(crate) trait Turns {
-    // So many turns are counted.
+    // The value has counted so many turns.
     ghost counted: { Self → ℕ → Type 0 };
 
-    /// Counts one more.
+    /// Counts one more turn.
     fn turn(&mut self)
         ensures { (turns : ℕ) → counted self.old turns → counted self.new (turns + 1) };
 }
 
-/// Does not count.
+/// A counter that counts nothing.
 #[derive(Drop)]
 pub(crate) struct Uncounted;
 

@@ -211,7 +211,7 @@ fn literals_strings_and_paths(rt: HostRuntime) -> Result<(), Fail> {
     assert_described(&rt, rt.alloc(), &cases)
 }
 
-// Asserts which operator stands between two names.
+// Asserts which operator is between two names.
 fn assert_operator(rt: &impl Abort, alloc: Global, sign: &str, name: &str) -> Result<(), Fail> {
     let text = format!(in alloc; "a {sign} b")?;
     let wanted = format!(in alloc; "lhs=a; operator={name}; rhs=b;")?;

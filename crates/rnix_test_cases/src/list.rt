@@ -8,17 +8,17 @@ pub struct Case<'a> {
     pub wanted: &'a str,
 }
 
-// The first line, without its end, and what stands behind it.
+// The first line, without its end, and what follows it.
 fn first_line(list: &str) -> Option<(&str, &str)> {
     list.split_once('\n')
 }
 
-// The first `len` bytes, and what stands behind them.
+// The first `len` bytes, and what follows them.
 fn cut<'a>(list: &'a str, len: &str) -> Option<(&'a str, &'a str)> {
     list.split_at_checked(len.parse().ok()?)
 }
 
-/// The first case of a list, and the cases behind it; None where no case stands.
+/// The first case of a list, and the cases after it; None if there is no case.
 pub fn first_case(list: &str) -> Option<(Case<'_>, &str)> {
     let (head, rest) = first_line(list)?;
     let (text_len, wanted_len) = head.split_once(' ')?;

@@ -31,7 +31,7 @@ fn an_entry_goes_with_its_line(rt: HostRuntime) -> Result<(), Fail> {
         ("{\r\n  b = 2; # b\r\n  # c\r\n}", "{\r\n  # c\r\n}"),
         ("{\n  b = 2; /* b */ # c\n}", "{\n}"),
         ("let\n  b = 2;\nin b", "let\nin b"),
-        // A comment that goes on stays.
+        // A comment that continues stays.
         ("{\n  b = 2; /* c\n  d */\n}", "{\n  /* c\n  d */\n}"),
     ];
     for (text, wanted) in cases {

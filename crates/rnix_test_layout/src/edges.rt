@@ -8,7 +8,7 @@ use std::alloc::{AllocError, Global};
 use std::process::Abort;
 use std::test::Fail;
 
-// Levels of nesting before those that are compared, whose lines begin behind about 80 columns.
+// Levels of nesting before those that are compared, whose lines begin beyond column 80 or so.
 const LEVELS: usize = 37;
 
 // Expressions in which `%` stands for a name of some letters.

@@ -4,7 +4,7 @@ use rnix::ast::AstNode;
 use std::alloc::{AllocError, Global};
 use std::test::Fail;
 
-// The kinds of what stands right below the root.
+// The kinds of what is right below the root.
 fn kinds_below(root: &rnix::Root<'_>, set: rnix::TokenSet) -> usize {
     let mut found = 0;
     let children: rnix::SyntaxElementChildren<'_> = root.syntax().children_with_tokens();

@@ -5,7 +5,7 @@ use rnix::{Parse, Root};
 use std::alloc::{AllocError, Global};
 use std::test::Fail;
 
-// Parts one behind another: texts in parentheses, interpolations as they are written.
+// Parts one after another: texts in parentheses, interpolations as they are written.
 fn written(
     alloc: Global,
     parts: &[InterpolPart<'_, PathContent<'_>>],

@@ -1,4 +1,4 @@
-//! Texts without a pattern, of scopes in scopes and behind each other.
+//! Texts without a pattern, of scopes in scopes and after each other.
 
 use std::alloc::{AllocError, Global};
 
@@ -8,7 +8,7 @@ const NAMES: [&str; 16] = [
     "ofivbaaa", "dklybaaa", "ljcacaaa", "ufnjcaaa", "eayadaaa", "kpjedaaa", "fteldaaa", "ozlvdaaa",
 ];
 
-// What stands around the three names with which a form begins, and what ends it.
+// What is around the three names with which a form begins, and what ends it.
 const FORMS: [[&str; 5]; 8] = [
     ["(let ", " = ", "; ", " = 1; in [ ", " ]) "],
     ["(let inherit ", "; ", " = ", "; in [ ", " ]) "],

@@ -66,7 +66,7 @@ fn unlike_node(alloc: Global, text: &str) -> Result<Option<usize>, AllocError> {
     Ok(None)
 }
 
-// Scopes in scopes and behind them, some of which end at one place, bodies of `with`, what is inherited, names that are bound in parts or
+// Scopes in scopes and after them, some of which end at one place, bodies of `with`, what is inherited, names that are bound in parts or
 // twice, and texts with errors.
 const TEXTS: [&str; 28] = [
     "",

@@ -6,7 +6,7 @@ use rnix_kinds::SyntaxKind;
 use rnix_tree::{Direction, SyntaxNode};
 use std::test::Fail;
 
-// Whether the numbers of what stands before the node and on each side of it are those of the `2` of `[1 2 3]`.
+// Whether the numbers of what comes before the node and on each side of it are those of the `2` of `[1 2 3]`.
 fn are_counted(two: &SyntaxNode<'_>) -> bool {
     two.index() == 3
         && two.siblings(Direction::Next).count() == 2

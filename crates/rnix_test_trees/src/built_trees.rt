@@ -65,7 +65,7 @@ const LEAVES: [Step<'static>; 5] = [
     Step::Finish,
 ];
 
-// Whether the first token is empty, and `a` alone stands at both offsets.
+// Whether the first token is empty, and `a` alone is at both offsets.
 fn are_left_out(root: &SyntaxNode<'_>) -> bool {
     is_token(root.first_token(), "")
         && root.token_at_offset(0).count() == 1
@@ -169,7 +169,7 @@ fn a_node_over_one_leaf_is_made_at_once(rt: HostRuntime) -> Result<(), Fail> {
     Ok(())
 }
 
-// Whether too many elements are refused, and too many bytes, and how many nodes are open behind that.
+// Whether too many elements are refused, and too many bytes, and how many nodes are open after that.
 fn refused_rooms(alloc: Global) -> Result<(bool, bool, usize), AllocError> {
     let mut builder = GreenNodeBuilder::new(alloc);
     builder.start_node(SyntaxKind::NODE_ROOT)?;

@@ -7,7 +7,7 @@ use rnix_kinds::SyntaxKind;
 use rnix_tree::{SyntaxElement, SyntaxNode};
 use std::test::Fail;
 
-// Whether what stands around the element is what stands around the first `a` of `a b`.
+// Whether what is around the element is what is around the first `a` of `a b`.
 fn stands_first(element: &SyntaxElement<'_>) -> bool {
     element.prev_sibling_or_token().is_none()
         && element.next_sibling_or_token().is_some()

@@ -26,7 +26,7 @@ fn to_last(root: &SyntaxNode<'_>) -> Option<SyntaxNodePtr> {
     Some(SyntaxNodePtr::new(&root.last_child()?))
 }
 
-// Where each node of a tree stands in preorder, by its pointer.
+// Where each node of a tree is in preorder, by its pointer.
 fn numbers(
     alloc: Global,
     root: &SyntaxNode<'_>,

@@ -14,7 +14,7 @@ struct Name<'t> {
     range: TextRange,
 }
 
-// The last of the names that stands behind an offset.
+// The last of the names that comes after an offset.
 fn last_behind<'t>(names: &[Name<'t>], offset: usize) -> Option<Name<'t>> {
     let mut last = None;
     for name in names {
@@ -25,7 +25,7 @@ fn last_behind<'t>(names: &[Name<'t>], offset: usize) -> Option<Name<'t>> {
     last
 }
 
-// The text of a name that stands there.
+// The text of a name that is there.
 fn text_there<'t>(name: Option<Name<'t>>, range: TextRange) -> Option<&'t str> {
     let name = name?;
     if name.range == range {
@@ -50,7 +50,7 @@ fn ranges_stand_beside_references(rt: HostRuntime) {
     assert!(rt; text_there(last_behind(&names, 2), b) == Some("b"));
 }
 
-// The text that is kept of a range, of `ab` and an empty one behind it.
+// The text that is kept of a range, of `ab` and an empty one after it.
 fn kept(alloc: Global, range: TextRange) -> Result<Option<&'static str>, AllocError> {
     let mut texts = HashMap::new(alloc);
     texts.insert(TextRange::up_to(2), "ab")?;

@@ -1,4 +1,4 @@
-//! Walks over trees that were read, what stands around their nodes, and tokens at an offset.
+//! Walks over trees that were read, what is around their nodes, and tokens at an offset.
 
 use crate::expected::{is_element, is_node, is_token};
 use crate::parsed::Parsed;
@@ -138,7 +138,7 @@ fn children_at_both_ends_and_ancestors(rt: HostRuntime) -> Result<(), Fail> {
     Ok(())
 }
 
-// Whether no token stands before the first one, and none behind the last one.
+// Whether no token comes before the first one, and none after the last one.
 fn ends_with_its_tokens(root: &SyntaxNode<'_>) -> Option<bool> {
     let (first, last) = (root.first_token()?, root.last_token()?);
     Some(

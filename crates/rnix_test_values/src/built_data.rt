@@ -31,7 +31,7 @@ impl Numbers {
         (self.last >> 33) as usize % end.max(1)
     }
 
-    // The parent of the value behind so many: one of the first, one of all, a number that has no value yet, or none.
+    // The parent of the value after so many: one of the first, one of all, a number that has no value yet, or none.
     fn parent(&mut self, count: usize) -> Option<usize> {
         match self.below(9) {
             0 => None,

@@ -15,11 +15,11 @@ fn name_of(attribute: usize) -> usize {
 }
 
 // An object of so many attributes, and then one more.
-fn object(alloc: Global, begin: &str, count: usize, last: &str) -> Result<String, AllocError> {
+fn object(alloc: Global, prefix: &str, count: usize, last: &str) -> Result<String, AllocError> {
     let mut text = String::from_str(alloc, "{")?;
     for attribute in 0..count {
         let name = name_of(attribute);
-        write!(text, "\"{begin}{name}\":{attribute},")?;
+        write!(text, "\"{prefix}{name}\":{attribute},")?;
     }
     text.push_str(last)?;
     text.push('}')?;
@@ -38,11 +38,11 @@ fn with_object(alloc: Global, digest: u64, text: &str, other: &str) -> Result<u6
 #[test]
 fn objects_are_read_as_stored(rt: HostRuntime) -> Result<(), Fail> {
     let mut digest = START;
-    for begin in ["k", "a-name-of-more-than-thirty-two-bytes-"] {
+    for prefix in ["k", "a-name-of-more-than-thirty-two-bytes-"] {
         for count in COUNTS {
-            let other = object(rt.alloc(), begin, count, "\"k\":[]")?;
+            let other = object(rt.alloc(), prefix, count, "\"k\":[]")?;
             for last in ["\"k\":{}", "\"k\":{\"k0\":{}},\"k\":0", ""] {
-                let text = object(rt.alloc(), begin, count, last)?;
+                let text = object(rt.alloc(), prefix, count, last)?;
                 digest = with_object(rt.alloc(), digest, text.as_str(), other.as_str())?;
             }
         }
@@ -54,12 +54,12 @@ fn objects_are_read_as_stored(rt: HostRuntime) -> Result<(), Fail> {
 #[test]
 fn repeated_names_are_refused_as_stored(rt: HostRuntime) -> Result<(), Fail> {
     let mut digest = START;
-    for (begin, names) in [("k", "k"), ("\\u006b", "k"), ("\\u00e9", "\u{e9}")] {
+    for (prefix, names) in [("k", "k"), ("\\u006b", "k"), ("\\u00e9", "\u{e9}")] {
         for count in COUNTS {
             let other = object(rt.alloc(), "k", count, "\"k\":1.5")?;
             for attribute in [0, count / 2, count.saturating_sub(1), count] {
                 let name = name_of(attribute);
-                let last = format!(in rt.alloc(); "\"{begin}{name}\":null,\"k\":[]")?;
+                let last = format!(in rt.alloc(); "\"{prefix}{name}\":null,\"k\":[]")?;
                 let text = object(rt.alloc(), names, count, last.as_str())?;
                 digest = with_object(rt.alloc(), digest, text.as_str(), other.as_str())?;
             }

@@ -7,7 +7,7 @@ use std::test::Fail;
 // How many pieces there are.
 const COUNT: usize = 32;
 
-// The first half of them are combined in longer rows.
+// The first half of them are combined in longer sequences.
 const PIECES: [&str; COUNT] = [
     "{",
     "}",

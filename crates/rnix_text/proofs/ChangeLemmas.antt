@@ -1,4 +1,4 @@
--- Changes in order: what stands around a place among them, and another one that is put there.
+-- Changes in order: what is around a place among them, and another one that is put there.
 use Rattle.std.proofs.Common.{◌≡◌, ℕ, zero, suc, ◌≤◌, ◌<◌, List, [], ◌∷◌, ◌++◌, length, map, get_or, true, false, refl, ap, sym, subst, arith}
 use Rattle.std.{proofs.lemmas.{Bool.Decides.nat_tests, List.map-append}, specs.List.{All, insert, Sorted.IsPartitionedBy}}
 use Rattle.rnix_text.specs.{Runs.{ends_by, end_of}, declared.edits.Edit.Edit, Edit.change_of, Changes.{Change, AreAscending, AreInOrder, IsBetween, Overlaps, IsAdded, IsMet, changed_from}}
@@ -64,7 +64,7 @@ behind_first n c (x ∷ xs) h o first =
     cons_all (λ x. (c.start < x.end) × (c.end ≤ x.start)) x xs f (λ k d l. let s =
     starts x.end xs h.2 k d l in (omega (arith, f.0, s.0, s.1), omega (arith, f.1, h.1, s.0)))
 
--- an edit is added behind those that end where it begins or before
+-- an edit is added after those that end where it begins or before
 pub added_at : (n : ℕ) (es : List Edit) (at : ℕ) (e : Edit) → AreAscending n (map change_of es) → at ≤ length es → e.start ≤ e.end
     → ((k : ℕ) (d : Edit) → k < at → (get_or es k d).end ≤ e.start)
     → ((d : Edit) → at < length es → (e.start < (get_or es at d).end) × (e.end ≤ (get_or es at d).start))

@@ -26,7 +26,7 @@ module _ (start end : ℕ) (runs : List (Vec Edit Global)) (i : ℕ) (h : AreAsc
   fronts : All (λ (e : Edit). e.end ≤ start) (edits_of (take i runs))
   fronts = front_ends 0 start runs i h f (λ k d a b. run_by_true start (get_or runs k d) (point.0 k d (omega arith) a))
 
-  -- behind all runs
+  -- after all runs
   pub last_placed : i ≡ length runs → IsInsertionPoint start end runs insertion.Last
   last_placed e =
       let all : All (λ (e : Edit). e.end ≤ start) (edits_of runs) =

@@ -1,4 +1,4 @@
--- Marks that pass a test which, where it passes behind a byte, passes in front of it.
+-- Marks that pass a test which, where it passes after a byte, passes in front of it.
 use Rattle.std.proofs.Common.{◌≡◌, ℕ, zero, suc, ◌-◌, ◌≤◌, ◌<◌, ◌⊎◌, inl, inr, List, [], ◌∷◌, length, get_or, Bool, true, false, refl, ap, sym, ◌∙◌, subst}
 use Rattle.std.{proofs.{Common.arith, lemmas.Bool.{false_from_ne_true, both_ways}}, specs.{Prelude.if◌then◌else◌, List.Sorted.IsPartitionedBy}}
 use Rattle.{std.specs.List.Sorted.IsPartitionPoint, rnix_text.specs.{declared.line_column.{ColumnUnit.ColumnUnit, Mark.Mark}, Marks.{is_plain, first_mark}}}
@@ -17,7 +17,7 @@ found test (x ∷ xs) m (suc (suc r)) d h bound point =
     let next : suc (suc r) - 1 ≡ suc (suc r - 1) = omega arith in
     (omega arith, ap (λ k. get_or (m ∷ x ∷ xs) k d) next ∙ more.1 ∙ sym (ap (λ w. if w then last_of test x xs else m) passes))
 
--- of two first marks, both or none give way to the marks behind them
+-- of two first marks, both or none give way to the marks after them
 pub last_alike : (test : Mark → Bool) (m n : Mark) (xs : List Mark)
     → ((last_of test m xs ≡ m) × (last_of test n xs ≡ n)) ⊎ (last_of test m xs ≡ last_of test n xs)
 last_alike test m n [] = inl (refl, refl)
@@ -32,7 +32,7 @@ module _ (unit : ColumnUnit) (test : Mark → Bool) (back : (m : Mark) (b : ℕ)
   next_fails : (m : Mark) (b : ℕ) → test m ≡ false → test (mark_behind unit m b) ≡ false
   next_fails m b f = false_from_ne_true (test (mark_behind unit m b)) (λ t. both_ways (test m) f (back m b t))
 
-  -- no mark passes behind one that fails
+  -- no mark passes after one that fails
   pub none_behind : (bs : List ℕ) (m x : Mark) → test m ≡ false → last_of test x (marks_behind unit m bs) ≡ x
   none_behind [] m x f = refl
   none_behind (b ∷ bs) m x f =

@@ -9,7 +9,7 @@ pub up_to_back : (unit : ColumnUnit) (p : Position) (m : Mark) (b : ℕ) → is_
 up_to_back unit p m b h =
     is_up_to_from p m (up_trans m.position (step unit m.position b) p (step_up unit m.position b) (up_to_true p (mark_behind unit m b) h))
 
--- the offset of a position is as far behind the mark as its column
+-- the offset of a position is as far after the mark as its column
 pub record Leads (o : ℕ) (p : Position) (m : Mark) : Type 0 where
   pub line : m.position.line ≡ p.line
   pub column : m.position.column ≤ p.column

@@ -5,7 +5,7 @@ use Rattle.rnix_text.specs.{declared.line_column.{ColumnUnit.ColumnUnit, Positio
 use Rattle.rnix_text.specs.{TextColumns.last_mark, Marks.{is_plain, is_before, first_mark, mark_behind, marks_behind, last_of, position_behind}}
 use Rattle.rnix_text.proofs.{ByteSteps.{plain_step, column_bound}, MarkLemmas.{last_here, last_alike}}
 
--- a mark in front of an offset stands behind others in front of it
+-- a mark in front of an offset comes after others in front of it
 pub before_back : (unit : ColumnUnit) (o : ℕ) (m : Mark) (b : ℕ) → is_before o (mark_behind unit m b) ≡ true → is_before o m ≡ true
 before_back unit o m b h = grind (arith, nat_tests)
 

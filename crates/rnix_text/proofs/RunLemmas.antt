@@ -1,4 +1,4 @@
--- Runs of edits: what stands in front of a place in them, and runs in which an edit is put or which are divided.
+-- Runs of edits: what is in front of a place in them, and runs in which an edit is put or which are divided.
 use Rattle.std.proofs.Common.{◌≡◌, ℕ, zero, suc, ◌+◌, ◌-◌, ◌≤◌, ◌<◌, List, [], ◌∷◌, ◌++◌, length, map, take, drop, get_or, slice_set, Vec, Global, refl, ap, sym, ◌∙◌, subst, arith}
 use Rattle.std.{proofs.Common.{◌⊎◌, inl, inr, append_assoc, add-one, length-append, length-take, length-drop}, specs.List.{All, insert}}
 use Rattle.std.proofs.lemmas.{Bool.cases_lt, List.{take-append-drop, get_or_append_left, get_or_read, Concat.get_or-flat_map, Elements.All-append, Edits.{insert-append_left, insert-append_right}}}
@@ -115,7 +115,7 @@ ends_by_last n [] h k d l = absurd (omega (arith, l))
 ends_by_last n (x ∷ xs) h zero d l = end_from x.end xs h.2
 ends_by_last n (x ∷ xs) h (suc k) d l = ends_by_last x.end xs h.2 k d (omega (arith, l))
 
--- an edit ends the same, whatever stands in front of it
+-- an edit ends the same, whatever is in front of it
 end_anywhere : (m n : ℕ) (xs : List Edit) → 0 < length xs → end_of m xs ≡ end_of n xs
 end_anywhere m n [] s = absurd (omega (arith, s))
 end_anywhere m n (x ∷ xs) s = refl

@@ -16,7 +16,7 @@ chars_before_newline = refl
 units_before_newline : position_at Utf16 text 2 ≡ record { line = 0; column = 1 }
 units_before_newline = refl
 
--- a line begins behind its newline
+-- a line begins after its newline
 behind_newline : position_at Utf16 text 3 ≡ record { line = 1; column = 0 }
 behind_newline = refl
 
@@ -34,7 +34,7 @@ units_behind_pair = refl
 marks_of_lines : marks_of Bytes (codes "a\nbc") ≡ first_mark ∷ record { offset = 2; position = record { line = 1; column = 0 } } ∷ []
 marks_of_lines = refl
 
--- a letter is replaced, and another is put behind it
+-- a letter is replaced, and another is put after it
 two_changes : changed_from 0 (record { start = 1; end = 2; new = codes "xy" } ∷ record { start = 2; end = 2; new = codes "z" } ∷ [])
     (codes "abc") ≡ codes "axyzc"
 two_changes = refl

@@ -20,7 +20,7 @@ pub record Draft : Type 0 where
   pub text : List ℕ
   pub changes : List Change
 
--- the text from an offset on with these changes: in front of each range the old bytes, in its place the new ones, and the old ones behind the last
+-- the text from an offset on with these changes: in front of each range the old bytes, in its place the new ones, and the old ones after the last
 abbrev pub changed_from : ℕ → List Change → List ℕ → List ℕ
 changed_from n [] text = drop n text
 changed_from n (c ∷ cs) text = take (c.start - n) (drop n text) ++ (c.new ++ changed_from c.end cs text)

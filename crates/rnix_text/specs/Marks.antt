@@ -1,4 +1,4 @@
--- Marks: the offsets behind bytes that move the column otherwise than the offset.
+-- Marks: the offsets after bytes that move the column otherwise than the offset.
 use Rattle.std.specs.Prelude.{ℕ, ◌+◌, ◌-◌, ◌==◌, ◌&&◌, ◌||◌, not, nat_lt, nat_le, Bool, List, [], ◌∷◌, if◌then◌else◌}
 use Rattle.rnix_text.specs.declared.line_column.ColumnUnit.{ColumnUnit}
 use Rattle.rnix_text.specs.declared.line_column.Position.{Position}
@@ -13,11 +13,11 @@ is_plain unit b = not (b == newline) && (weight unit b == 1)
 abbrev pub first_mark : Mark
 first_mark = record { offset = 0; position = origin }
 
--- the place behind a byte
+-- the place after a byte
 abbrev pub mark_behind : ColumnUnit → Mark → ℕ → Mark
 mark_behind unit m b = record { offset = m.offset + 1; position = step unit m.position b }
 
--- the marks behind a mark, where these bytes follow it
+-- the marks after a mark, where these bytes follow it
 abbrev pub marks_behind : ColumnUnit → Mark → List ℕ → List Mark
 marks_behind unit m [] = []
 marks_behind unit m (b ∷ bs) =
@@ -28,7 +28,7 @@ marks_behind unit m (b ∷ bs) =
 abbrev pub marks_of : ColumnUnit → List ℕ → List Mark
 marks_of unit text = first_mark ∷ marks_behind unit first_mark text
 
--- the position of an offset behind a mark, over bytes that move the column as far
+-- the position of an offset after a mark, over bytes that move the column as far
 abbrev pub position_behind : Mark → ℕ → Position
 position_behind m offset = record { line = m.position.line; column = m.position.column + (offset - m.offset) }
 

@@ -20,7 +20,7 @@ weight Utf16 b = if nat_lt b 128 then 1 else (if nat_lt b 192 then 0 else (if na
 abbrev pub origin : Position
 origin = record { line = 0; column = 0 }
 
--- the position behind a byte: a newline begins a line
+-- the position after a byte: a newline begins a line
 abbrev pub step : ColumnUnit → Position → ℕ → Position
 step unit p b =
     if b == newline then record { line = p.line + 1; column = 0 }

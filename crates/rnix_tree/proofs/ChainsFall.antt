@@ -1,4 +1,4 @@
--- Behind what a call along siblings or tokens answers there are fewer elements than behind the element that it was asked of, or before it fewer than
+-- After what a call along siblings or tokens answers there are fewer elements than after the element that it was asked of, or before it fewer than
 -- before that.
 use Rattle.std.proofs.{Common.{◌≡◌, ℕ, ◌≤◌, ◌<◌, length, Option, Some, None, refl, ap, arith, inl, inr}, lemmas.{Bool.cases_lt, List.get_or_past}}
 use Rattle.rnix_green.specs.{Tree.{Located, items_of, item_of, no_item}, Relatives.{located, parent_of, IsFirst, IsLast, IsThat, IsTokenIn, IsChild}}
@@ -6,7 +6,7 @@ use Rattle.rnix_green.specs.Relatives.{IsChildNode, IsSibling, IsSiblingNode, Is
 use Rattle.rnix_green.{specs.Relatives.{IsPrevToken, IsFirstChild, IsFirstChildNode, IsLastChild, IsLastChildNode}, proofs.ParentLemmas.parent_is_before}
 use Rattle.rnix_tree.specs.ChainMeasures.{behind_count, before_count, behind_if, before_if}
 
--- the first element behind e of which P holds, where P holds of elements of the tree
+-- the first element after e of which P holds, where P holds of elements of the tree
 first_falls : (P : ℕ → Type 0) (e : Located) (r : Option Located) → ((m : ℕ) → P m → m < length (items_of e.tree))
     → IsThat e.tree (IsFirst P e.number) r → behind_if r ≤ behind_count e
 first_falls P e None there h = omega arith

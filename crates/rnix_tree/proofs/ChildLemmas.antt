@@ -26,7 +26,7 @@ found P test (y ∷ ys) x h e =
       | inr fails ↦ found P test ys x h.1 (sym (ap (λ b. cond b (Some y) (find test ys)) fails) ∙ e)
     ]
 
--- the numbers of a row lie in it
+-- the numbers of a forest lie in it
 numbers_within : (low high n : ℕ) (f : Forest) → low ≤ n → n + element_count f ≤ high → Each (λ k. (low ≤ k) × (k < high)) (tree_numbers n f)
 numbers_within low high n empty l h = tt
 numbers_within low high n (leaf k t f) l h = ((l, omega arith), numbers_within low high (n + 1) f (omega arith) (omega arith))

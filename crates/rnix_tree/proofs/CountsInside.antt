@@ -6,7 +6,7 @@ use Rattle.rnix_green.{specs.{Walk.children_of, PreorderNumbers.tree_numbers}, p
 use Rattle.rnix_green.proofs.{PartLemmas.{one_node, item_of_part, below_of_part, part_there, one_there}, NestLemmas.{at, inside, beyond, behind}}
 use Rattle.{rnix_green.proofs.InsideLemmas.elements_in_all, rnix_tree.specs.InsideCounts.{inside_count, nodes_count, spots_count}}
 
--- the trees of a row are all of it
+-- the trees of a forest are all of it
 sibling_counts : (t : Tree) (n s : ℕ) (p : Option ℕ) (f : Forest) → ((m i : ℕ) → m ≡ n + i → i < element_count f → (item t m).below ≡ (at n s p f i).below)
     → spots_count (map (spot_at t) (tree_numbers n f)) ≡ element_count f
 sibling_counts t n s p empty h = refl
@@ -58,7 +58,7 @@ counts_there t n l = go _ (part_there t n l) (one_there t n l)
               | beyond more x ↦ absurd (omega arith)
             ]
 
--- an element that is not in the row is no part of it
+-- an element that is not in the forest is no part of it
 no_part : (m n : ℕ) (f : Forest) → n + element_count f ≤ m → part_of m n f ≡ empty
 no_part m n empty l = refl
 no_part m n (leaf k t f) l =

@@ -42,11 +42,11 @@ module _ (t : Tree) (n : ℕ) (l : n < length (items_of t)) (test : Spot → Boo
   abbrev from_child : ℕ → List Spot
   from_child from = map (spot_at t) (siblings_between (items_of t) from past)
 
-  -- none is behind the last
+  -- none is after the last
   no_child : (from : ℕ) → past ≤ from → find test (from_child from) ≡ None
   no_child from high = ap (λ ns. find test (map (spot_at t) ns)) (no_sibling (items_of t) from past high)
 
-  -- the search meets one, and goes on behind it
+  -- the search meets one, and continues after it
   met : (from : ℕ) (b : Bool) → from < past → test (spot_at t from) ≡ b
       → find test (from_child from) ≡ cond b (Some (spot_at t from)) (find test (from_child (from + 1 + (item t from).below)))
   met from b high e =
@@ -57,7 +57,7 @@ module _ (t : Tree) (n : ℕ) (l : n < length (items_of t)) (test : Spot → Boo
   abbrev IsHere : ℕ → Type 0
   IsHere = IsChild record { tree = t; number = n }
 
-  -- behind a child stands the next
+  -- after a child stands the next
   next_here : (m : ℕ) → IsHere m → m + 1 + (item t m).below < past → IsHere (m + 1 + (item t m).below)
   next_here m h fits = record {
     is_there = omega (arith, next_inside t n l);
@@ -114,7 +114,7 @@ module _ (t : Tree) (n : ℕ) (l : n < length (items_of t)) (test : Spot → Boo
   pub found_none : ((m : ℕ) → IsHere m → test (spot_at t m) ≡ false) → find test (children_of record { tree = t; number = n }) ≡ None
   found_none none = all_children ∙ find_none (item t n).below (n + 1) (omega arith) first_here none
 
--- the token that has the byte behind an offset
+-- the token that has the byte after an offset
 pub record IsTokenWith (t : Tree) (offset token : ℕ) : Type 0 where
   pub is_there : token < length (items_of t)
   pub is_token : (item t token).is_node ≡ false
@@ -184,7 +184,7 @@ flanked_first t p m l low high = record {
   climbing = record { above = low; low = omega arith; high = omega arith };
 }
 
--- each step goes on to the next child, and to the parent
+-- each step continues to the next child, and to the parent
 pub flanked_step : (t : Tree) (p m child above around : ℕ) → p < length (items_of t) → m ≤ p + (item t p).below → IsFlanked t p m child above
     → child + 1 + (item t child).below ≤ m → (item t above).parent ≡ Some around → ¬ (around ≡ p)
     → IsFlanked t p m (child + 1 + (item t child).below) around
@@ -233,7 +233,7 @@ module _ (t : Tree) (range : Extent) (n token : ℕ) where
     inside = λ differs. absurd (differs refl);
   }
 
-  -- from an element it goes on to the child with the token, if the range lies in it
+  -- from an element it continues to the child with the token, if the range lies in it
   pub reached_child : (c child : ℕ) → IsReached t range n token c → IsOnWayTo t c token child
       → holds range (extent_of record { tree = t; number = child }) ≡ true → IsReached t range n token child
   reached_child c child r way e =

@@ -5,7 +5,7 @@ use Rattle.std.{proofs.lemmas.{List.Folds.list_all_more, Str.IsCharBoundary-afte
 use Rattle.{std.specs.{Fmt.debug_escape, List.{list_all, flat_map}, Str.{IsCharBoundary, IsUtf8}}, rnix_green.proofs.NumberTests.is_not_below}
 use Rattle.rnix_tree.specs.Lines.{shown}
 
--- the byte behind which a text of ASCII is cut is a character's end
+-- the byte after which a text of ASCII is cut is a character's end
 ends_there : (text : List ℕ) → IsUtf8 text → 25 ≤ length text → list_all is_ascii (take 21 text ++ codes " ...") ≡ true → IsCharBoundary text 21
 ends_there text utf8 long e =
     let front : list_all is_ascii (take 21 text) ≡ true =

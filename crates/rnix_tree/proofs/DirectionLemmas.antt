@@ -83,7 +83,7 @@ module _ (t : Tree) (n : ℕ) (l : n < length (items_of t)) where
   alike : (r : ℕ) → IsSibling here r → is_beside here ≡ is_beside record { tree = t; number = r }
   alike r h = ap (λ p m. same_parent (item t m).parent p) (sym h.parent)
 
-  -- behind the element come its siblings from the next on
+  -- after the element come its siblings from the next on
   step_next : (next : Option ℕ) → IsFirst (IsSibling here) n next → siblings_of Next here ≡ spot_at t n ∷ siblings_if Next t next
   step_next None h =
       let end = length (items_of t) in

@@ -19,7 +19,7 @@ around t n i depth inside more lines e h =
     ap (λ (x : Item). line_of depth x.kind record { start = x.start; end = x.end } ++ event_lines (depth + 1) (inside ++ event_at t (false, n) ∷ more)) e
     ∙ ap (λ x. line_of depth i.kind record { start = i.start; end = i.end } ++ x) (h ∙ ap (λ x. lines ++ event_lines x more) d)
 
--- the lines of a row that begins with a node, in front of others
+-- the lines of a forest that begins with a node, in front of others
 node_lines : (depth s : ℕ) (k : SyntaxKind) (c f : Forest) (more : List ℕ) → lines_from depth s (node k c f) ++ more
     ≡ line_of depth k record { start = s; end = s + length (text_of c) }
     ++ (lines_from (depth + 1) s c ++ (lines_from depth (s + length (text_of c)) f ++ more))
@@ -29,7 +29,7 @@ node_lines depth s k c f more =
     let outer = lines_from depth (s + length (text_of c)) f in
     append_assoc (line ++ inner) outer more ∙ append_assoc line inner (outer ++ more)
 
--- the walk over a row prints the row's lines
+-- the walk over a forest prints the forest's lines
 walk_lines : (t : Tree) (n s : ℕ) (p : Option ℕ) (f : Forest) (depth : ℕ) (more : List Event) → HasItemsAt t n (items_from n s p f)
     → event_lines depth (map (event_at t) (steps_from n f) ++ more) ≡ lines_from depth s f ++ event_lines depth more
 walk_lines t n s p empty depth more h = refl
@@ -75,7 +75,7 @@ start_is e there = go (part_at e) (part_there e.tree e.number there) (one_there 
         sym (ap (λ (i : Item). i.start) (item_of_part e.tree e.number e.number (node k c empty) h (omega arith) (omega arith)
         ∙ ap (λ j. get_or (items_from e.number h.start h.parent (node k c empty)) j no_item) z))
 
--- no element has a number beyond the row
+-- no element has a number beyond the forest
 absent_part : (m n : ℕ) (f : Forest) → n + element_count f ≤ m → part_of m n f ≡ empty
 absent_part m n empty h = refl
 absent_part m n (leaf k t f) h =
@@ -112,7 +112,7 @@ entered_in-append : (xs ys : List Event) → entered_in (xs ++ ys) ≡ entered_i
 entered_in-append [] ys = omega arith
 entered_in-append (x ∷ xs) ys = let more = entered_in-append xs ys in omega (arith, more)
 
--- the walk over a row enters each of its elements
+-- the walk over a forest enters each of its elements
 enters_all : (t : Tree) (n : ℕ) (f : Forest) → entered_in (map (event_at t) (steps_from n f)) ≡ element_count f
 enters_all t n empty = refl
 enters_all t n (leaf k u f) = let more = enters_all t (n + 1) f in omega (arith, more)
@@ -126,7 +126,7 @@ enters_all t n (node k c f) =
     let behind : entered_in outer ≡ element_count f = enters_all t (n + 1 + element_count c) f in
     whole ∙ ap (λ x. 1 + (x + (0 + entered_in outer))) below ∙ ap (λ x. 1 + (element_count c + (0 + x))) behind ∙ omega arith
 
--- the walk over a row leaves each element below the depth at which it began
+-- the walk over a forest leaves each element below the depth at which it began
 walk_nested : (t : Tree) (n : ℕ) (f : Forest) (depth : ℕ) (more : List Event) → IsNested depth more → IsNested depth (map (event_at t) (steps_from n f) ++ more)
 walk_nested t n empty depth more h = h
 walk_nested t n (leaf k u f) depth more h =

@@ -8,7 +8,7 @@ use Rattle.{rnix_green.specs.Walk.{Event, steps_from, spot_at, event_at, preorde
 use Rattle.rnix_tree.specs.{declared.element.{NodeOrToken.NodeOrToken, WalkEvent.{WalkEvent, TheVariants.Enter}}, Lines.{text_line, text_lines_from}}
 use Rattle.rnix_tree.specs.{Lines.text_lines_of, Walked.event_texts}
 
--- texts that may be unknown, one behind another
+-- texts that may be unknown, one after another
 pub nothing_first : (o : Option (List ℕ)) → Some [] ++? o ≡ o
 nothing_first None = refl
 nothing_first (Some a) = refl
@@ -23,7 +23,7 @@ regrouped (Some a) None q = refl
 regrouped (Some a) (Some b) None = refl
 regrouped (Some a) (Some b) (Some c) = ap Some (append_assoc a b c)
 
--- the walk over a row prints the row's lines
+-- the walk over a forest prints the forest's lines
 walk_texts : (t : Tree) (n : ℕ) (f : Forest) (depth : ℕ) (more : List Event)
     → event_texts depth (map (event_at t) (steps_from n f) ++ more) ≡ text_lines_from t depth n f ++? event_texts depth more
 walk_texts t n empty depth more = sym (nothing_first (event_texts depth more))
@@ -90,7 +90,7 @@ written_more took f g h r (Some x) None a b ok flush = tt
 written_more took f g h r (Some x) (Some y) a b ok flush =
     let front = a flush in has_written_styled_append took f x g y h front (b front.flush ok)
 
--- what an inline text took in calls is behind what it had
+-- what an inline text took in calls is after what it had
 folded : {n : ℕ} (w v : InlineText n) (parts : List (List ℕ)) → FoldsTo AppendsIfIntact w parts v → IsIntact w → IsIntact v
     × (inline_text v ≡ inline_text w ++ concat parts)
 folded w v [] h intact = (subst IsIntact h intact, sym (ap inline_text h) ∙ sym (append-nil (inline_text w)))

@@ -1,4 +1,4 @@
--- What comes after an element is entered, in a walk over a row.
+-- What comes after an element is entered, in a walk over a forest.
 use Rattle.std.proofs.Common.{◌≡◌, ℕ, ◌+◌, ◌-◌, ◌≤◌, ◌<◌, nat_lt, ◌∷◌, ◌++◌, length, true, false, Option, Some, refl, ap, sym, ◌∙◌, subst, arith, inl, inr}
 use Rattle.{std.{proofs.lemmas.Bool.cases_lt, specs.Prelude.if◌then◌else◌}, rnix_green.specs.Forest.{Forest, empty, leaf, node, text_of, element_count}}
 use Rattle.rnix_green.{specs.{Tree.Item, Walk.steps_from}, proofs.{NumberTests.{below_true, below_false, same_choice}, SiblingLemmas.below_fits}}

@@ -1,4 +1,4 @@
--- What comes after an element is left, in a walk over a row.
+-- What comes after an element is left, in a walk over a forest.
 use Rattle.std.proofs.Common.{◌≡◌, ℕ, ◌+◌, ◌-◌, ◌≤◌, ◌<◌, nat_lt, [], ◌∷◌, ◌++◌, length, false, Option, Some, refl, ap, sym, ◌∙◌, subst, arith, ◌⊎◌, inl, inr}
 use Rattle.{std.{proofs.lemmas.Bool.cases_lt, specs.Prelude.if◌then◌else◌}, rnix_kinds.specs.declared.kinds.SyntaxKind.SyntaxKind}
 use Rattle.rnix_green.{specs.{Forest.{Forest, empty, leaf, node, text_of, element_count}, Walk.steps_from}, proofs.NumberTests.{below_true, below_false}}
@@ -6,13 +6,13 @@ use Rattle.{rnix_green.proofs.{NumberTests.same_choice, SiblingLemmas.below_fits
 use Rattle.rnix_tree.proofs.WalkSiblings.{at_inside, at_behind, at_next, at_first, enter_inside, enter_behind, enter_next, enter_here, leave_inside, leave_behind}
 use Rattle.rnix_tree.proofs.WalkSiblings.{leave_next, leave_leaf, leave_node, none_from_count, append_choice, either}
 
--- what comes after an element of a row's first depth is left
+-- what comes after an element of a forest's first depth is left
 pub record LeavesTop (n s : ℕ) (p : Option ℕ) (f : Forest) (m : ℕ) : Type 0 where
   pub parent : (at n s p f m).parent ≡ p
   pub step : from_leave m n f
       ≡ (false, m) ∷ (if nat_lt (m + 1 + (at n s p f m).below) (n + element_count f) then from_enter (m + 1 + (at n s p f m).below) n f else [])
 
--- what comes after an element with a parent in the row is left
+-- what comes after an element with a parent in the forest is left
 pub record LeavesInside (n s : ℕ) (p : Option ℕ) (f : Forest) (m : ℕ) : Type 0 where
   pub outer : ℕ
   pub parent : (at n s p f m).parent ≡ Some outer
@@ -22,7 +22,7 @@ pub record LeavesInside (n s : ℕ) (p : Option ℕ) (f : Forest) (m : ℕ) : Ty
       ≡ (false, m) ∷ (if nat_lt (m + 1 + (at n s p f m).below) (outer + 1 + (at n s p f outer).below)
       then from_enter (m + 1 + (at n s p f m).below) n f else from_leave outer n f)
 
--- the same row behind something else
+-- the same forest after something else
 record IsLater (n s n' s' : ℕ) (p : Option ℕ) (g f : Forest) : Type 0 where
   pub start : n < n'
   pub ends : n' + element_count f ≡ n + element_count g
@@ -123,7 +123,7 @@ inside_inside n s p k c f m l u h =
           (λ _. sym (leave_inside h.outer n k c f (omega arith) (omega arith))));
     }
 
--- the first element of a row is left, and then comes what stands behind it
+-- the first element of a forest is left, and then comes what follows it
 first_remaining : (n n' s : ℕ) (p : Option ℕ) (g f : Forest) (b : ℕ) → (at n s p g n).below ≡ b → n + 1 + b ≡ n' → n' + element_count f ≡ n + element_count g
     → (0 < element_count f → from_enter n' n g ≡ steps_from n' f)
     → steps_from n' f ≡ (if nat_lt (n + 1 + (at n s p g n).below) (n + element_count g) then from_enter (n + 1 + (at n s p g n).below) n g else [])
@@ -134,7 +134,7 @@ first_remaining n n' s p g f b e d ends enters =
     sym (ap (λ x. from_enter x n g) next ∙ enters (omega arith)))
     (λ h. let l : n + element_count g ≤ n + 1 + (at n s p g n).below = below_false _ _ h in none_from_count f n' (omega arith))
 
--- what comes after an element of a row is left
+-- what comes after an element of a forest is left
 pub leave_step : (n s : ℕ) (p : Option ℕ) (f : Forest) (m : ℕ) → n ≤ m → m < n + element_count f → LeavesTop n s p f m ⊎ LeavesInside n s p f m
 leave_step n s p empty m l h = absurd (omega arith)
 leave_step n s p (leaf k t f) m l h =

@@ -1,4 +1,4 @@
--- Which tokens stand at an offset.
+-- Which tokens are at an offset.
 use Rattle.std.proofs.{Common.{get_or, ◌≡◌, ℕ, ◌+◌, ◌-◌, ◌≤◌, ◌<◌, ◌⊎◌, length, Some, None, false, ap, sym, subst, ◌∙◌, arith, inl, inr}, lemmas.Bool.cases_lt}
 use Rattle.rnix_green.specs.{Tree.{Tree, Item, items_from, items_of, item, no_item, forest_of}, Relatives.{IsNodeIn, IsTokenInside}}
 use Rattle.rnix_green.proofs.{SiblingLemmas.next_inside, InsideLemmas.{inner_of, elements_in_all, leaf_holds_nothing}, StartLemmas.{in_order, in_text}}
@@ -9,7 +9,7 @@ pub order : (t : Tree) (i j : ℕ) → i < j → j < length (items_of t) → ((i
     × (i + (item t i).below < j → (item t i).end ≤ (item t j).start)
 order t i j l h = (let o = in_order 0 0 None (forest_of t) i j l (omega (arith, elements_in_all t)) in (o.starts, o.ends))
 
--- a token that ends behind the start of a later element is not before it
+-- a token that ends after the start of a later element is not before it
 pub token_last : (t : Tree) (m k : ℕ) → m < k → k < length (items_of t) → (item t m).is_node ≡ false → (item t m).end ≤ (item t k).start
 token_last t m k l h token =
     let none = leaf_holds_nothing t m (omega arith) token in
@@ -74,7 +74,7 @@ within_node t n node m low high =
           (arith, b.high, inner.ends node.is_node, ap (λ (i : Item). i.end) same),
     )
 
--- the token that has the byte before the offset, and the one that has the byte behind it
+-- the token that has the byte before the offset, and the one that has the byte after it
 module _ (t : Tree) (n offset : ℕ) where
   touches_left : (m : ℕ) → IsHolding record { tree = t; number = n } offset m → IsTouched record { tree = t; number = n } offset m
   touches_left m h = record { inside = h.inside; some = omega (arith, h.low, h.high); low = omega (arith, h.low); high = h.high }

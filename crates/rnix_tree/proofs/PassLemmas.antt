@@ -8,7 +8,7 @@ use Rattle.rnix_tree.specs.WalksAlike.{shown_of, siblings_before, BeginsAlike, H
 use Rattle.rnix_tree.proofs.{SiblingWalks.{SiblingForest, sibling_forest, enters_next}, ShownSiblings.IsStop}
 use Rattle.rnix_tree.proofs.PassedSiblings.{not_entering, reached_end, none_passed, some_passed, not_entered, alike_passed, passed_alike}
 
--- a walk enters an element next, which begins a row
+-- a walk enters an element next, which begins a forest
 pub record EntersSiblings (t : Tree) (root x : ℕ) (siblings : SiblingRange) (a : List Event) : Type 0 where
   pub there : root < length (items_of t)
   pub sibling_trees : SiblingForest t root siblings
@@ -43,14 +43,14 @@ pub stops_next : (t : Tree) (root : ℕ) (next : Next) (a : List Event) → root
 stops_next t root next a there inside other remaining =
     subst (λ es. IsStop (map shown_of es)) remaining (not_entering t root next 0 there inside other).1
 
--- the elements of a row are there
+-- the elements of a forest are there
 pub siblings_there : (t : Tree) (root x : ℕ) (siblings : SiblingRange) (a : List Event) → EntersSiblings t root x siblings a
     → siblings.end ≤ length (items_of t)
 siblings_there t root x siblings a e = omega (arith, e.sibling_trees.counted, e.sibling_trees.is.there)
 
 module _ (t : Tree) (root x : ℕ) (siblings : SiblingRange) (a : List Event) (e : EntersSiblings t root x siblings a) (n offset : ℕ)
     (reached : IsReached t siblings.end offset siblings.first n) (late : n < siblings.end → offset ≤ (item t n).end) where
-  -- what is reached is in the row
+  -- what is reached is in the forest
   pub reached_low : x ≤ n
   reached_low = omega (arith, (reached_end t root siblings e.sibling_trees e.there n offset reached late).0, e.first)
 
@@ -105,7 +105,7 @@ module _ (t : Tree) (root x : ℕ) (siblings : SiblingRange) (a : List Event) (e
           (subst (λ es. BeginsAlike (siblings_before offset 0 es) before (events_remaining u other_root (after_siblings other other.first))) (sym e.starts)
           (subst (BeginsAlike (siblings_before offset 0 a) before) (sym o.starts) h)))
 
-      -- the second walk is in its row
+      -- the second walk is in its forest
       pub within_second : AreSiblingsAlike t siblings n u other before → IsWithin u other_root (after_siblings other (other.first + (n - siblings.first)))
       within_second alike = record {
         root_there = o.there;

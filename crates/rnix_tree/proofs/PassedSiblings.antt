@@ -33,17 +33,17 @@ none_before t root m offset there inside late =
     ∙ ap (λ b. if b then event_at t (true, m) ∷ siblings_before offset 1 (map (event_at t) (steps_remaining t root (after_enter t m))) else [])
     (is_not_below _ _ late)
 
--- two lists of which one is mapped
+-- lists with the same images have the same length
 mapped_front : {X Y : Type 0} (f : X → Y) (xs ys : List X) → map f xs ≡ map f ys → length xs ≡ length ys
 mapped_front f xs ys e = sym (length-map xs f) ∙ ap length e ∙ length-map ys f
 
--- the siblings of a row, some of which a walk passes
+-- the siblings of a forest, some of which a walk passes
 module _ (t : Tree) (root : ℕ) (siblings : SiblingRange) (r : SiblingForest t root siblings) (there : root < length (items_of t)) where
-  -- what is left at some sibling
+  -- what is left of the walk at some sibling
   abbrev rest_at : ℕ → List Event
   rest_at n = events_remaining t root (after_siblings siblings n)
 
-  -- all of the row is left first
+  -- all of the forest is left first
   whole_remaining : (f g : Forest) (n : ℕ) → r.forest ≡ join f g → siblings.first + element_count f ≡ n
       → rest_at n ≡ map (event_at t) (steps_from n g) ++ rest_at siblings.end
   whole_remaining f g n both counted =
@@ -66,13 +66,13 @@ module _ (t : Tree) (root : ℕ) (siblings : SiblingRange) (r : SiblingForest t 
       ∙ append_assoc one two (rest_at siblings.end)
       ∙ ap (λ x. one ++ x) (sym (whole_remaining f g n both counted))
 
-  -- after the row the walk stops
+  -- after the forest the walk stops
   stops_after : IsStop (map shown_of (rest_at siblings.end))
   stops_after =
       (not_entering t root (after_siblings siblings siblings.end) 0 there (r.within siblings.end (omega (arith, r.counted)) (omega arith))
       (λ m. enters_none siblings siblings.end m (omega arith))).1
 
-  -- what is reached over siblings that end before an offset is what the walk passes
+  -- the walk passes exactly the siblings that end before an offset
   record PassesSiblings (n offset : ℕ) : Type 0 where
     pub reached : ReachedSiblings siblings.first r.start r.forest offset n
     pub passed : siblings_before offset 0 (rest_at siblings.first) ≡ map (event_at t) (steps_from siblings.first reached.siblings)
@@ -111,13 +111,13 @@ module _ (t : Tree) (root : ℕ) (siblings : SiblingRange) (r : SiblingForest t 
         split = split;
       }
 
--- a row with elements has steps
+-- a forest with elements has steps
 some_steps : (n : ℕ) (f : Forest) → 0 < element_count f → 0 < length (steps_from n f)
 some_steps n empty l = absurd (omega (arith, l))
 some_steps n (leaf k u f) l = omega arith
 some_steps n (node k c f) l = omega arith
 
--- what is shown first of a walk that begins with events that show the same as those over a row
+-- what is shown first of a walk that begins with events that show the same as those over a forest
 shown_first : (f : Forest) (passed : List Event) (before : ℕ) (b : List Event) (h : BeginsAlike passed before b) → map shown_of passed ≡ shown_from f
     → map shown_of b ≡ shown_from f ++ map shown_of h.remaining
 shown_first f passed before b h shown =
@@ -131,14 +131,14 @@ module _ (t : Tree) (root : ℕ) (siblings : SiblingRange) (r : SiblingForest t 
   abbrev f : Forest
   f = done.reached.siblings
 
-  -- how far it is
+  -- how far the siblings reach
   pub reached_end : (siblings.first ≤ n) × (n ≤ siblings.end)
   reached_end =
       let h = done.reached in
       let all = ap element_count h.both ∙ element_count-join h.siblings h.rest in
       (omega (arith, h.counted), omega (arith, all, h.counted, r.counted))
 
-  -- where none is reached no sibling is passed
+  -- where none is reached, no sibling is passed
   pub none_passed : n ≡ siblings.first → siblings_before offset 0 (events_remaining t root (after_siblings siblings siblings.first)) ≡ []
   none_passed same =
       done.passed
@@ -154,7 +154,7 @@ module _ (t : Tree) (root : ℕ) (siblings : SiblingRange) (r : SiblingForest t 
     some_elements : 0 < element_count f
     some_elements = omega (arith, some, done.reached.counted)
 
-    -- otherwise some are
+    -- otherwise some are passed
     pub some_passed : 0 < length (siblings_before offset 0 (events_remaining t root (after_siblings siblings siblings.first)))
     some_passed =
         omega (
@@ -173,7 +173,7 @@ module _ (t : Tree) (root : ℕ) (siblings : SiblingRange) (r : SiblingForest t 
 
     module _ (u : Tree) (other_root : ℕ) (other : SiblingRange) (o : SiblingForest u other_root other) (other_there : other_root < length (items_of u))
         (before : ℕ) where
-      -- walks over rows that are alike pass them
+      -- walks over forests that are alike pass them
       pub alike_passed : AreSiblingsAlike t siblings n u other before
           → HavePassed offset before (events_remaining t root (after_siblings siblings siblings.first))
           (events_remaining u other_root (after_siblings other other.first))
@@ -195,7 +195,7 @@ module _ (t : Tree) (root : ℕ) (siblings : SiblingRange) (r : SiblingForest t 
             done = done.done;
           }
 
-      -- and walks that begin alike are over rows that are alike
+      -- and walks that begin alike are over forests that are alike
       pub passed_alike : BeginsAlike (siblings_before offset 0 (events_remaining t root (after_siblings siblings siblings.first))) before
           (events_remaining u other_root (after_siblings other other.first)) → AreSiblingsAlike t siblings n u other before
       passed_alike h =

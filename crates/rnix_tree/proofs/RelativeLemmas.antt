@@ -27,7 +27,7 @@ module _ (t : Tree) (n : ℕ) (l : n < length (items_of t)) where
   pub no_prev_of_root : (item t n).parent ≡ None → IsLast (IsSibling record { tree = t; number = n }) n None
   no_prev_of_root e m low h = (let b = root_alone t n l e in omega arith)
 
-  -- behind an element and what is inside it stands its next sibling, or its parent has ended
+  -- after an element and what is inside it stands its next sibling, or its parent has ended
   pub next_there : (p : ℕ) → (item t n).parent ≡ Some p → n + 1 + (item t n).below ≤ p + (item t p).below
       → IsFirst (IsSibling record { tree = t; number = n }) n (Some (n + 1 + (item t n).below))
   next_there p e fits =
@@ -48,7 +48,7 @@ module _ (t : Tree) (n : ℕ) (l : n < length (items_of t)) where
         | inr inside ↦ not_beside t n p m l e low inside (h.parent ∙ e)
       ]
 
-  -- no sibling stands before an element right behind its parent
+  -- no sibling comes before an element right after its parent
   pub no_prev : (p : ℕ) → (item t n).parent ≡ Some p → n - 1 ≡ p → IsLast (IsSibling record { tree = t; number = n }) n None
   no_prev p e right m low h =
       let above = below_parent t m p h.is_there (h.parent ∙ e) in
@@ -138,7 +138,7 @@ pub record Stepped (t : Tree) (n k : ℕ) : Type 0 where
   pub there : k < length (items_of t)
   pub beside : (item t k).parent ≡ (item t n).parent
 
--- no node stands from the start up to here, among the siblings behind
+-- no node stands from the start up to here, among the siblings after
 abbrev pub IsAhead : Tree → Option ℕ → Option ℕ → Type 0
 IsAhead t None next = next ≡ None
 IsAhead t (Some n) None = (n < length (items_of t)) × ((m : ℕ) → n ≤ m → ¬ IsSiblingNode record { tree = t; number = n } m)

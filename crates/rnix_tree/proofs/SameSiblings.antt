@@ -1,4 +1,4 @@
--- Rows of trees that are the same, by the kinds and sizes of their elements, where these start, and the text.
+-- Forests that are the same, by the kinds and sizes of their elements, where these start, and the text.
 use Rattle.std.proofs.Common.{◌≡◌, ℕ, suc, ◌+◌, ◌-◌, ◌≤◌, ◌<◌, ◌==◌, nat_lt, List, [], ◌∷◌, ◌++◌, length, true, Option, Some, refl, ap, sym}
 use Rattle.std.proofs.{Common.{◌∙◌, subst, arith, inl, inr, append_assoc, length-append}, lemmas.{Bool.{cases_lt, and_parts, Decides.nat_tests}, List.append-nil}}
 use Rattle.std.{proofs.lemmas.Bool.{false≢true}, specs.{Prelude.if◌then◌else◌, Cmp.booleans_Decides}}
@@ -9,18 +9,18 @@ use Rattle.rnix_green.proofs.{ForestLemmas.element_count-join, NestLemmas.{at}, 
 use Rattle.rnix_tree.specs.AlikeSiblings.{same_item}
 use Rattle.rnix_tree.proofs.SiblingForests.{at_inside, at_beyond}
 
--- where the element of an index starts, or the row ends
+-- where the element of an index starts, or the forest ends
 abbrev pub stop_at : ℕ → ℕ → Option ℕ → Forest → ℕ → ℕ
 stop_at n s p f i = if nat_lt i (element_count f) then (at n s p f i).start else s + length (text_of f)
 
 pub stops_at : (n s : ℕ) (p : Option ℕ) (f : Forest) (i : ℕ) → i < element_count f → stop_at n s p f i ≡ (at n s p f i).start
 stops_at n s p f i l = ap (λ b. if b then (at n s p f i).start else s + length (text_of f)) (is_below i (element_count f) l)
 
--- the row ends
+-- the forest ends
 pub stop_end : (n s : ℕ) (p : Option ℕ) (f : Forest) (i : ℕ) → element_count f ≤ i → stop_at n s p f i ≡ s + length (text_of f)
 stop_end n s p f i l = ap (λ b. if b then (at n s p f i).start else s + length (text_of f)) (is_not_below i (element_count f) l)
 
--- the row starts
+-- the forest starts
 stop_start : (n s : ℕ) (p : Option ℕ) (f : Forest) → stop_at n s p f 0 ≡ s
 stop_start n s p empty = stop_end n s p empty 0 (omega arith) ∙ omega arith
 stop_start n s p (leaf k u f) = stops_at n s p (leaf k u f) 0 (omega arith)
@@ -61,7 +61,7 @@ stop_inside_node n s p k c f i h = elim (cases_lt i (element_count c)) [
       ∙ stop_start (n + 1 + element_count c) (s + length (text_of c)) p f ∙ sym (stop_end (n + 1) s (Some n) c i l)
 ]
 
--- after the first trees of a row the others start, or it ends
+-- after the first trees of a forest the others start, or it ends
 pub stop_joined : (n s : ℕ) (p : Option ℕ) (f g : Forest) → stop_at n s p (join f g) (element_count f) ≡ s + length (text_of f)
 stop_joined n s p empty g = stop_start n s p g ∙ omega arith
 stop_joined n s p (leaf k u f) g =
@@ -77,7 +77,7 @@ same_front [] (v ∷ b) x y l e = absurd (omega (arith, l))
 same_front (u ∷ a) [] x y l e = absurd (omega (arith, l))
 same_front (u ∷ a) (v ∷ b) x y l e = (let h = same_front a b x y (omega (arith, l)) cc in (cc, h.1))
 
--- the elements of the row f and the first ones of the row g are alike
+-- the elements of the forest f and the first ones of the forest g are alike
 pub record ElementsAlike (n s : ℕ) (p : Option ℕ) (f : Forest) (m v : ℕ) (q : Option ℕ) (g : Forest) : Type 0 where
   pub fits : element_count f ≤ element_count g
   pub same : (i : ℕ) → i < element_count f → same_item (at n s p f i) (at m v q g i) ≡ true
@@ -153,7 +153,7 @@ without_node n s p k c f m v q l d g e t h = record {
       );
 }
 
--- a row that begins with another one
+-- a forest that begins with another one
 pub record BeginsWith (f g : Forest) : Type 0 where
   pub rest : Forest
   pub is : g ≡ join f rest
@@ -168,7 +168,7 @@ all_joined f g e h = h.is ∙ alone f h.rest (omega (arith, e, ap element_count 
     alone (leaf k u f) g e = ap (leaf k u) (alone f g e)
     alone (node k c f) g e = ap (node k c) (alone f g e)
 
--- rows whose elements are alike begin alike, where their texts do
+-- forests whose elements are alike begin alike, where their texts do
 pub begins_alike : (n s : ℕ) (p : Option ℕ) (f : Forest) (m v : ℕ) (q : Option ℕ) (g : Forest) (rest : List ℕ) → ElementsAlike n s p f m v q g
     → text_of g ≡ text_of f ++ rest → BeginsWith f g
 begins_alike n s p empty m v q g rest h e = record { rest = g; is = refl }

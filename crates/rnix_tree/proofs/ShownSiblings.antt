@@ -1,4 +1,4 @@
--- What a walk shows of a row of trees, which depends on the row alone.
+-- What a walk shows of a forest, which depends on the forest alone.
 use Rattle.std.proofs.Common.{◌≡◌, ℕ, suc, ◌+◌, ◌-◌, ◌<◌, nat_lt, List, [], ◌∷◌, ◌++◌, length, map, take, drop, Bool, true, false, Option, Some, refl, ap, sym}
 use Rattle.std.proofs.{Common.{◌∙◌, subst, arith, inl, inr, append_assoc, length-append}, lemmas.{Bool.cases_lt, List.{map-append, take_at, drop_at}}}
 use Rattle.std.{proofs.lemmas.{Bool.false≢true, List.Elements.{All-nil, All-cons, All-head, All-tail, All-append}}, specs.{Prelude.if◌then◌else◌, List.All}}
@@ -9,7 +9,7 @@ use Rattle.rnix_green.proofs.{NumberTests.{is_below}}
 use Rattle.rnix_tree.specs.WalksAlike.{Shown, shown_event, shown_of, EndsBefore, siblings_before}
 use Rattle.rnix_tree.proofs.{ListLemmas.cons_same, SiblingForests.{IsForest, after_leaf, after_node, inside_node, first_leaf, first_node}, SameSiblings.BeginsWith}
 
--- what a walk shows of a row
+-- what a walk shows of a forest
 abbrev pub shown_from : Forest → List Shown
 shown_from empty = []
 shown_from (leaf k u f) = shown_event true false k u ∷ shown_event false false k u ∷ shown_from f
@@ -42,7 +42,7 @@ shown_node t n s p k c f h enters =
     let own = first_node t n s p k c f h in
     ap (λ (i : Item). shown_event enters i.is_node i.kind (text_at record { tree = t; number = n })) own
 
--- a walk shows what the row holds
+-- a walk shows what the forest holds
 pub shows : (t : Tree) (n s : ℕ) (p : Option ℕ) (f : Forest) → IsForest t n s p f → map shown_of (map (event_at t) (steps_from n f)) ≡ shown_from f
 shows t n s p empty h = refl
 shows t n s p (leaf k u f) h =
@@ -57,7 +57,7 @@ shows t n s p (node k c f) h =
     ∙ ap (λ xs. shown_from c ++ xs) (cons_same (shown_node t n s p k c f h false)
     (shows t (n + 1 + element_count c) (s + length (text_of c)) p f (after_node t n s p k c f h))))
 
--- all of a row ends before an offset where the row does
+-- all of a forest ends before an offset where the forest does
 pub all_before : (t : Tree) (n s : ℕ) (p : Option ℕ) (f : Forest) (offset : ℕ) → IsForest t n s p f → s + length (text_of f) < offset
     → All (EndsBefore offset) (map (event_at t) (steps_from n f))
 all_before t n s p empty offset h l = All-nil (EndsBefore offset)
@@ -99,7 +99,7 @@ passed_inside t n (node k c f) offset d rest =
     ∙ sym (append_assoc inner (last ∷ outer) (siblings_before offset (suc d) rest))
     ∙ ap (λ xs. xs ++ siblings_before offset (suc d) rest) (sym both))
 
--- the trees of a row that ends before an offset are passed
+-- the trees of a forest that ends before an offset are passed
 pub siblings_passed : (t : Tree) (n s : ℕ) (p : Option ℕ) (f : Forest) (offset : ℕ) (rest : List Event) → IsForest t n s p f → s + length (text_of f) < offset
     → siblings_before offset 0 (map (event_at t) (steps_from n f) ++ rest) ≡ map (event_at t) (steps_from n f) ++ siblings_before offset 0 rest
 siblings_passed t n s p empty offset rest h l = refl
@@ -129,7 +129,7 @@ siblings_passed t n s p (node k c f) offset rest h l =
     ∙ sym (append_assoc inner (last ∷ outer) (siblings_before offset 0 rest))
     ∙ ap (λ xs. xs ++ siblings_before offset 0 rest) (sym both))
 
--- a row without elements has no text
+-- a forest without elements has no text
 pub no_text : (f : Forest) → element_count f ≡ 0 → text_of f ≡ []
 no_text empty e = refl
 no_text (leaf k u f) e = absurd (omega (arith, e))
@@ -140,7 +140,7 @@ after_front : {offset : ℕ} (xs ys : List Event) → All (EndsBefore offset) (x
 after_front [] ys all = all
 after_front {offset = offset} (x ∷ xs) ys all = after_front xs ys (All-tail (EndsBefore offset) x (xs ++ ys) all)
 
--- where all of a row ends before an offset, the row does
+-- where all of a forest ends before an offset, the forest does
 pub ends_before : (t : Tree) (n s : ℕ) (p : Option ℕ) (f : Forest) (offset : ℕ) → IsForest t n s p f → 0 < element_count f
     → All (EndsBefore offset) (map (event_at t) (steps_from n f)) → s + length (text_of f) < offset
 ends_before t n s p empty offset h some all = absurd (omega (arith, some))
@@ -193,7 +193,7 @@ mixed k l u xs ys e =
     let heads : shown_event true false k u ≡ shown_event true true l [] = cc in
     absurd (false≢true (ap (λ (z : Shown). z.is_node) heads))
 
--- what is shown up to where an element is left determines the row
+-- what is shown up to where an element is left determines the forest
 record IsSameSiblings (f g : Forest) (x y : List Shown) : Type 0 where
   pub siblings : f ≡ g
   pub rest : x ≡ y
@@ -228,7 +228,7 @@ same_siblings (node k c f) (node k' d g) a b x y l m e =
       rest = r.rest;
     }
 
--- so a walk that begins with what is shown of a row enters its trees
+-- so a walk that begins with what is shown of a forest enters its trees
 pub begins_with : (f g : Forest) (x y : List Shown) → IsStop y → shown_from f ++ x ≡ shown_from g ++ y → BeginsWith f g
 begins_with empty g x y stop e = record { rest = g; is = refl }
 begins_with (leaf k u f) empty x [] stop e = absurd (cc)

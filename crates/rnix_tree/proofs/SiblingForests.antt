@@ -1,4 +1,4 @@
--- Siblings of a tree as a row of trees.
+-- Siblings of a tree as a forest.
 use Rattle.std.proofs.Common.{◌≡◌, ℕ, zero, suc, ◌+◌, ◌-◌, ◌≤◌, ◌<◌, List, [], ◌++◌, length, get_or, true, false, Option, Some, None, refl, ap, sym}
 use Rattle.std.proofs.{Common.{◌∙◌, subst, arith, inl, inr, append_assoc, length-append}, lemmas.{Bool.cases_lt, Option.same_Some, List.{append-nil, get_or_append_left}}}
 use Rattle.std.proofs.lemmas.List.{get_or-append_right}
@@ -9,7 +9,7 @@ use Rattle.rnix_green.proofs.{ForestLemmas.{text_of-join, element_count-join}, P
 use Rattle.rnix_green.proofs.{NestLemmas.{at, Parented, of_row, of_node, parented}, NumberTests.{is_same, is_above, is_below, is_not_below}}
 use Rattle.rnix_green.proofs.{InsideLemmas.elements_in_all, SiblingLemmas.next_inside, PartLemmas.{IsPart, IsOne, one_leaf, one_node, part_there, one_there, item_of_part, below_of_part}}
 
--- the trees of a row stand in a tree from the number n and the offset s on
+-- the trees of a forest are in a tree from the number n and the offset s on
 pub record IsForest (t : Tree) (n s : ℕ) (p : Option ℕ) (f : Forest) : Type 0 where
   pub items : (i : ℕ) → i < element_count f → item t (n + i) ≡ at n s p f i
   pub there : n + element_count f ≤ length (items_of t)
@@ -18,7 +18,7 @@ pub record IsForest (t : Tree) (n s : ℕ) (p : Option ℕ) (f : Forest) : Type 
   pub text : text_of (forest_of t) ≡ before ++ (text_of f ++ after)
   pub starts : length before ≡ s
 
--- an element inside the first tree of a row
+-- an element inside the first tree of a forest
 pub at_inside : (n s : ℕ) (p : Option ℕ) (k : SyntaxKind) (c f : Forest) (i : ℕ) → i < element_count c
     → at n s p (node k c f) (suc i) ≡ at (n + 1) s (Some n) c i
 at_inside n s p k c f i l =
@@ -82,7 +82,7 @@ module _ (t : Tree) (n s : ℕ) (p : Option ℕ) where
       → item t n ≡ record { kind = k; is_node = true; start = s; end = s + length (text_of c); parent = p; below = element_count c }
   first_node k c f h = (let e : n ≡ n + 0 = omega arith in ap (item t) e ∙ h.items 0 (omega arith))
 
-  -- the first trees of a row
+  -- the first trees of a forest
   pub first_trees : (f g : Forest) → IsForest t n s p (join f g) → IsForest t n s p f
   first_trees f g h =
       let xs = items_from n s p f in
@@ -99,7 +99,7 @@ module _ (t : Tree) (n s : ℕ) (p : Option ℕ) where
         starts = h.starts;
       }
 
--- the trees after some of a row
+-- the trees after some of a forest
 pub later_trees : (t : Tree) (n s m v : ℕ) (p : Option ℕ) (f g : Forest) → IsForest t n s p (join f g) → n + element_count f ≡ m → s + length (text_of f) ≡ v
     → IsForest t m v p g
 later_trees t n s m v p empty g h a b =
@@ -112,7 +112,7 @@ later_trees t n s m v p (node k c f) g h a b =
     later_trees t (n + 1 + element_count c) (s + length (text_of c)) m v p f g (after_node t n s p k c (join f g) h) (omega (arith, a))
     (omega (arith, b, length-append (text_of c) (text_of f)))
 
--- the text of a part in the text of a row
+-- the text of a part in the text of a forest
 record HasPart (n s : ℕ) (p : Option ℕ) (f : Forest) (i : ℕ) (part : Forest) : Type 0 where
   pub before : List ℕ
   pub after : List ℕ
@@ -172,7 +172,7 @@ text_of_part n s p (node k c f) (suc i) m e l =
           (ap (at n s p (node k c f)) back ∙ at_beyond n s p k c f j) refl (ap (λ x. text_of c ++ x) (sym (append-nil (text_of f)))))
     ]
 
--- an element with what is inside it, as a row of one tree
+-- an element with what is inside it, as a forest of one tree
 pub record IsPartOf (t : Tree) (m : ℕ) (part : Forest) : Type 0 where
   pub start : ℕ
   pub parent : Option ℕ
@@ -213,7 +213,7 @@ part_forest t m l =
       };
     }
 
--- a row whose first trees are followed by others, the first of which is the element m
+-- a forest whose first trees are followed by others, the first of which is the element m
 pub record HasRest (n : ℕ) (f : Forest) (m : ℕ) : Type 0 where
   pub first : Forest
   pub rest : Forest
@@ -221,12 +221,12 @@ pub record HasRest (n : ℕ) (f : Forest) (m : ℕ) : Type 0 where
   pub counted : n + element_count first ≡ m
   pub some : 0 < element_count rest
 
--- what is inside a tree of the row is no child of the node around it
+-- what is inside a tree of the forest is no child of the node around it
 not_child : (n q : ℕ) (parent : Option ℕ) → q < n → parent ≡ Some q → Parented (n + 1) (Some n) parent → ⊥
 not_child n q parent low is (of_row e) = (let same : q ≡ n = same_Some q n (sym is ∙ e) in absurd (omega (arith, same, low)))
 not_child n q parent low is (of_node r e high) = (let same : q ≡ r = same_Some q r (sym is ∙ e) in absurd (omega (arith, same, low, high)))
 
--- a child of the node around a row is one of its trees
+-- a child of the node around a forest is one of its trees
 pub rest_from : (n s q : ℕ) (f : Forest) (i m : ℕ) → q < n → n + i ≡ m → i < element_count f → (at n s (Some q) f i).parent ≡ Some q → HasRest n f m
 rest_from n s q empty i m low e l is = absurd (omega arith)
 rest_from n s q (leaf k u f) zero m low e l is = record { first = empty; rest = leaf k u f; both = refl; counted = omega (arith, e); some = omega arith }

@@ -1,4 +1,4 @@
--- A walk over the siblings of a row.
+-- A walk over the siblings of a forest.
 use Rattle.std.proofs.Common.{◌≡◌, ℕ, suc, ◌+◌, ◌-◌, ◌≤◌, ◌<◌, ◌==◌, ◌⊎◌, inl, inr, length-append, [], ◌∷◌, ◌++◌, length, Bool, true, false, Option, Some, None, refl, ap, sym, ◌∙◌}
 use Rattle.{std.{proofs.{Common.{subst, arith, append_assoc}, lemmas.{Bool.{cases_lt, Decides.nat_tests}, List.append-nil}}, specs.Prelude.{if◌then◌else◌}}}
 use Rattle.rnix_green.specs.Forest.{Forest, empty, leaf, node, join, text_of, element_count}
@@ -12,7 +12,7 @@ use Rattle.rnix_tree.proofs.{ListLemmas.cons_same, PreorderLemmas.{enters, leave
 use Rattle.rnix_tree.proofs.SiblingForests.{IsForest, after_leaf, after_node, inside_node, first_leaf, first_node, later_trees, IsPartOf, part_forest}
 use Rattle.rnix_tree.proofs.SiblingForests.{rest_from}
 
--- after an element the one behind it is entered, or its parent is left
+-- after an element the one after it is entered, or its parent is left
 goes_behind : (t : Tree) (root m z outer end : ℕ) → root < m → (item t m).parent ≡ Some outer → m + 1 + (item t m).below ≡ z
     → outer + 1 + (item t outer).below ≡ end → z < end → after_leave t root m ≡ Enter z
 goes_behind t root m z outer end low parent next ends less =
@@ -33,7 +33,7 @@ leaves_again : (t : Tree) (m : ℕ) → (item t m).below ≤ 0 → after_enter t
 leaves_again t m none = ap (λ b. if b then Enter (m + 1) else Leave m) (is_not_below _ _ none)
 
 module _ (t : Tree) (root : ℕ) (there : root < length (items_of t)) where
-  -- an element is left, and the row after it is walked
+  -- an element is left, and the forest after it is walked
   one_remaining : (f : Forest) (m z q stop : ℕ) → root < m → IsInside t root m → (item t m).parent ≡ Some q → m + 1 + (item t m).below ≡ z
       → z + element_count f ≡ stop → q + 1 + (item t q).below ≡ stop
       → (0 < element_count f → IsInside t root z → steps_remaining t root (Enter z) ≡ steps_from z f ++ steps_remaining t root (Leave q))
@@ -50,7 +50,7 @@ module _ (t : Tree) (root : ℕ) (there : root < length (items_of t)) where
             ∙ ap (λ x. x ++ steps_remaining t root (Leave q)) (sym (none_from_count f z (omega (arith, none)))))
       ]
 
-  -- an element is entered, and the row inside it is walked
+  -- an element is entered, and the forest inside it is walked
   one_entered : (c : Forest) (m : ℕ) → IsInside t root m → (item t m).below ≡ element_count c
       → (0 < element_count c → IsInside t root (m + 1) → steps_remaining t root (Enter (m + 1)) ≡ steps_from (m + 1) c ++ steps_remaining t root (Leave m))
       → steps_remaining t root (Enter m) ≡ (true, m) ∷ (steps_from (m + 1) c ++ steps_remaining t root (Leave m))
@@ -66,7 +66,7 @@ module _ (t : Tree) (root : ℕ) (there : root < length (items_of t)) where
             ∙ ap (λ x. x ++ steps_remaining t root (Leave m)) (sym (none_from_count c (m + 1) (omega (arith, none)))))
       ]
 
-  -- so is a whole row, up to where the node around it is left
+  -- so is a whole forest, up to where the node around it is left
   pub siblings_walked : (f : Forest) (m s q stop : ℕ) → IsForest t m s (Some q) f → 0 < element_count f → root < m → IsInside t root m
       → m + element_count f ≡ stop → q + 1 + (item t q).below ≡ stop → steps_remaining t root (Enter m) ≡ steps_from m f ++ steps_remaining t root (Leave q)
   siblings_walked empty m s q stop is some low inside counted ends = absurd (omega arith)
@@ -92,7 +92,7 @@ module _ (t : Tree) (root : ℕ) (there : root < length (items_of t)) where
       (omega (arith, counted)) ends))
       ∙ ap (λ x. (true, m) ∷ x) (sym (append_assoc (steps_from (m + 1) c) ((false, m) ∷ steps_from z f) tail))
 
--- the steps of two rows
+-- the steps of two forests
 pub steps_from-join : (n m : ℕ) (f g : Forest) → n + element_count f ≡ m → steps_from n (join f g) ≡ steps_from n f ++ steps_from m g
 steps_from-join n m empty g e = (let same : n ≡ m = omega (arith, e) in ap (λ x. steps_from x g) same)
 steps_from-join n m (leaf k u f) g e = ap (λ x. (true, n) ∷ (false, n) ∷ x) (steps_from-join (n + 1) m f g (omega (arith, e)))
@@ -225,12 +225,12 @@ tail_of empty = empty
 tail_of (leaf k u f) = f
 tail_of (node k c f) = f
 
--- a row of one tree has none
+-- a forest of one tree has none
 one_alone : (part : Forest) → IsOne part → tail_of part ≡ empty
 one_alone _ (one_leaf k u) = refl
 one_alone _ (one_node k c) = refl
 
--- a row of one tree is the first part of another one, or all of it
+-- a forest of one tree is the first part of another one, or all of it
 one_joined : (part f g : Forest) → IsOne part → part ≡ join f g → (element_count f ≡ 0) ⊎ (element_count g ≡ 0)
 one_joined part empty g one e = inl refl
 one_joined part (leaf k u f) g one e =

@@ -1,4 +1,4 @@
--- Rows of siblings that are alike by their elements, and the trees in them.
+-- Siblings that are alike by their elements, and the trees in them.
 use Rattle.std.proofs.Common.{◌≡◌, ℕ, zero, suc, ◌+◌, ◌-◌, ◌≤◌, ◌<◌, ◌==◌, take, drop, List, [], ◌++◌, length, Bool, true, false, Option, Some, refl, ap, sym}
 use Rattle.std.proofs.{Common.{◌∙◌, subst, arith, inl, inr, length-append}, lemmas.{Bool.{cases_lt, and_parts, Decides.nat_tests}, List.{append-nil, take_all, take_at, drop_at, take-append-le}}}
 use Rattle.std.proofs.lemmas.List.{take-append-drop, length-take-le}
@@ -33,7 +33,7 @@ one_pair_more t u x s y v n so_far e = λ i l.
       | inr high ↦ subst (λ j. alike_at t u x s y v j ≡ true) (let same : n ≡ i = omega (arith, l, high) in same) e
     ]
 
--- the trees of a row that are reached, and those after them
+-- the trees of a forest that are reached, and those after them
 pub record ReachedSiblings (first s : ℕ) (all : Forest) (offset n : ℕ) : Type 0 where
   pub siblings : Forest
   pub rest : Forest
@@ -69,7 +69,7 @@ one_more t first s n v end offset p all f (node k c g) both counted texts ends i
           omega (arith, before, texts, ap (λ (i : Item). i.end) own, long, length-append (text_of f) (text_of c ++ []), length-append (text_of c) []);
     }
 
--- what is reached over siblings are the first trees of the row
+-- what is reached over siblings are the first trees of the forest
 pub reached_siblings : (t : Tree) (first s end offset n : ℕ) (p : Option ℕ) (all : Forest) → IsForest t first s p all → first + element_count all ≡ end
     → IsReached t end offset first n → ReachedSiblings first s all offset n
 reached_siblings t first s end offset _ p all is count from_first =
@@ -89,7 +89,7 @@ slice_of text before inside after s e split start end =
     ap (λ x. take x (drop s text)) long ∙ ap (λ x. take (length inside) (drop s x)) split
     ∙ ap (take (length inside)) (drop_at before (inside ++ after) s start) ∙ take_at inside after (length inside) refl
 
--- the same row elsewhere has the same elements, as far after its start
+-- the same forest elsewhere has the same elements, as far after its start
 record SameAt (a b : Item) (s v : ℕ) : Type 0 where
   pub same : same_item a b ≡ true
   pub starts : a.start - s ≡ b.start - v
@@ -135,7 +135,7 @@ same_at n s m v p q (node k c f) (suc i) l = elim (cases_lt i (element_count c))
       (shifted _ _ s v x (same_at (n + 1 + element_count c) (s + x) (m + 1 + element_count c) (v + x) p q f j (omega (arith, l, more)))))
 ]
 
--- a row stops in its text
+-- a forest stops in its text
 stop_within : (n s : ℕ) (p : Option ℕ) (f : Forest) (i : ℕ) → (s ≤ stop_at n s p f i) × (stop_at n s p f i ≤ s + length (text_of f))
 stop_within n s p f i = elim (cases_lt i (element_count f)) [
   | inl l ↦
@@ -218,7 +218,7 @@ module _ (t : Tree) (root : ℕ) (siblings : SiblingRange) (r : SiblingForest t 
     count : n - siblings.first ≡ element_count f
     count = omega (arith, counted)
 
-    -- the other row begins with them, and they end before an offset there
+    -- the other forest begins with them, and they end before an offset there
     pub record BeginsWithin : Type 0 where
       pub begins : BeginsWith f o.forest
       pub ends : o.start + length (text_of f) < before
@@ -233,7 +233,7 @@ module _ (t : Tree) (root : ℕ) (siblings : SiblingRange) (r : SiblingForest t 
       within : (o.start ≤ stop) × (stop ≤ o.start + length (text_of o.forest))
       within = stop_within other.first o.start o.parent o.forest (element_count f)
 
-      -- the text of the other row begins with theirs
+      -- the text of the other forest begins with theirs
       twin_text : text_of f ≡ take (stop - o.start) (text_of o.forest)
       twin_text =
           let v = o.start in
@@ -282,14 +282,14 @@ module _ (t : Tree) (root : ℕ) (siblings : SiblingRange) (r : SiblingForest t 
         ];
       }
 
-      -- rows that are alike begin with the same trees
+      -- forests that are alike begin with the same trees
       pub alike_begins : BeginsWithin
       alike_begins = record {
         begins = begins_alike siblings.first r.start r.parent f other.first o.start o.parent o.forest _ alike_elements split;
         ends = omega (arith, h.ends, twin_stop, long, within.0);
       }
 
-    -- and rows that begin with the same trees are alike
+    -- and forests that begin with the same trees are alike
     pub begins_so : BeginsWithin → AreSiblingsAlike t siblings n u other before
     begins_so h =
         let x = h.begins in

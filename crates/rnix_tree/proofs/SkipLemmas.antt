@@ -9,7 +9,7 @@ use Rattle.rnix_tree.{specs.{Cursor.{around, after_skip}, declared.walk.Next.{Ne
 use Rattle.rnix_tree.proofs.WalkSiblings.{at_behind, at_next, at_first, enter_inside, enter_behind, enter_next, enter_here, leave_inside, leave_behind, leave_next}
 use Rattle.rnix_tree.proofs.{WalkSiblings.leave_node, PreorderLemmas.{leaves, whole_walk}}
 
--- the steps of a row leave as many elements as they enter
+-- the steps of a forest leave as many elements as they enter
 balanced : (n : ℕ) (f : Forest) (d : ℕ) (rest : List Step) → from_leaving d (steps_from n f ++ rest) ≡ from_leaving d rest
 balanced n empty d rest = refl
 balanced n (leaf k t f) zero rest = balanced (n + 1) f zero rest
@@ -54,12 +54,12 @@ node_events-shorter zero ((false, s) ∷ es) = omega arith
 node_events-shorter (suc d) ((true, s) ∷ es) = omega (arith, node_events-shorter (suc (suc d)) es, one_more true s es)
 node_events-shorter (suc d) ((false, s) ∷ es) = omega (arith, node_events-shorter d es, one_more false s es)
 
--- from an element of a row's first depth all of the row is passed over
+-- from an element of a forest's first depth all of the forest is passed over
 record PassesSiblings (n s : ℕ) (p : Option ℕ) (f : Forest) (m : ℕ) : Type 0 where
   pub parent : (at n s p f m).parent ≡ p
   pub passes : (d : ℕ) (rest : List Step) → from_leaving d (from_enter m n f ++ rest) ≡ from_leaving d rest
 
--- from an element with a parent in the row, all up to where the parent is left
+-- from an element with a parent in the forest, all up to where the parent is left
 pub record PassesInside (n s : ℕ) (p : Option ℕ) (f : Forest) (m : ℕ) : Type 0 where
   pub outer : ℕ
   pub parent : (at n s p f m).parent ≡ Some outer
@@ -100,14 +100,14 @@ inside_node n s p k c f m l u (inr h) =
           ∙ ap (λ x. x ++ rest) (sym (leave_inside h.outer n k c f (omega arith) (omega arith)));
     }
 
--- from the first element of a row
+-- from the first element of a forest
 first_of_siblings : (n s : ℕ) (p : Option ℕ) (f : Forest) (m : ℕ) → m ≡ n → 0 < element_count f → (at n s p f n).parent ≡ p → PassesSiblings n s p f m
 first_of_siblings n s p f m e some parent = record {
   parent = ap (λ j. (at n s p f j).parent) e ∙ parent;
   passes = λ d rest. ap (λ y. from_leaving d (y ++ rest)) (enter_here m n f e some) ∙ balanced n f d rest;
 }
 
--- from each element of a row
+-- from each element of a forest
 passed_from : (n s : ℕ) (p : Option ℕ) (f : Forest) (m : ℕ) → n ≤ m → m < n + element_count f → PassesSiblings n s p f m ⊎ PassesInside n s p f m
 passed_from n s p empty m l h = absurd (omega arith)
 passed_from n s p (leaf k t f) m l h =
@@ -167,7 +167,7 @@ below_root root s p _ m (one_leaf k u) l h = absurd (omega arith)
 below_root root s p _ m (one_node k c) l h =
     inside_node root s p k c empty m l (omega arith) (passed_from (root + 1) s (Some root) c m (omega arith) (omega arith))
 
--- the walk goes on inside its root, with what is left
+-- the walk continues inside its root, with what is left
 pub record Skips (t : Tree) (root : ℕ) (here next : Next) : Type 0 where
   pub within : IsNextWithin t root next
   pub events : from_leaving 0 (events_remaining t root here) ≡ events_remaining t root next

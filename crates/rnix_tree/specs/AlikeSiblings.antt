@@ -66,7 +66,7 @@ abbrev pub SameText : Tree → ℕ → ℕ → Tree → ℕ → ℕ → Type 0
 SameText t start end u other_start other_end =
     take (end - start) (drop start (text_of (forest_of t))) ≡ take (other_end - other_start) (drop other_start (text_of (forest_of u)))
 
--- siblings of two rows are alike up to the number n of the first one, and end in the second tree before an offset
+-- siblings of two forests are alike up to the number n of the first one, and end in the second tree before an offset
 pub record AreSiblingsAlike (t : Tree) (siblings : SiblingRange) (n : ℕ) (u : Tree) (other : SiblingRange) (before : ℕ) : Type 0 where
   pub fits : other.first + (n - siblings.first) ≤ other.end
   pub ends : text_end u other (other.first + (n - siblings.first)) < before

@@ -30,7 +30,7 @@ ancestors_if t (Some n) = ancestors_of record { tree = t; number = n }
 abbrev pub parent_ancestors_of : Located → List Located
 parent_ancestors_of e = ancestors_if e.tree (item_of e).parent
 
--- the same, behind the element where it is a node
+-- the same, after the element where it is a node
 abbrev pub nodes_around : NodeOrToken Located Located → List Located
 nodes_around (Node e) = ancestors_of e
 nodes_around (Token e) = parent_ancestors_of e
@@ -52,7 +52,7 @@ pub record IsOnWayTo (t : Tree) (p m child : ℕ) : Type 0 where
   pub low : child ≤ m
   pub high : m ≤ child + (item t child).below
 
--- the first node among an element and its siblings behind it
+-- the first node among an element and its siblings after it
 abbrev pub FirstNodeFrom : Tree → Option ℕ → Option ℕ → Type 0
 FirstNodeFrom t None r = r ≡ None
 FirstNodeFrom t (Some n) None = (m : ℕ) → n ≤ m → ¬ IsSiblingNode record { tree = t; number = n } m

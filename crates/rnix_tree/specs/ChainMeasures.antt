@@ -4,7 +4,7 @@ use Rattle.rnix_green.specs.Tree.{Located, items_of}
 use Rattle.rnix_tree.specs.Spots.{located_of}
 use Rattle.rnix_tree.specs.declared.element.NodeOrToken.{NodeOrToken}
 
--- how many elements of its tree come behind an element
+-- how many elements of its tree come after an element
 abbrev pub behind_count : Located → ℕ
 behind_count e = length (items_of e.tree) - suc e.number
 
@@ -12,7 +12,7 @@ behind_count e = length (items_of e.tree) - suc e.number
 abbrev pub before_count : Located → ℕ
 before_count e = e.number
 
--- an element, if there is one, and all that come behind it
+-- an element, if there is one, and all that come after it
 abbrev pub behind_if : Option Located → ℕ
 behind_if None = 0
 behind_if (Some e) = suc (behind_count e)

@@ -6,7 +6,7 @@ use Rattle.rnix_green.specs.Walk.{Step, Event, steps_from, event_at}
 use Rattle.rnix_tree.specs.declared.walk.Next.{Next}
 use Rattle.rnix_tree.specs.declared.walk.Next.TheVariants.{Enter, Leave, Done}
 
--- the walk over a row, numbered from n, from where the element m is entered
+-- the walk over a forest, numbered from n, from where the element m is entered
 abbrev pub from_enter : ℕ → ℕ → Forest → List Step
 from_enter m n empty = []
 from_enter m n (leaf k t f) = if m == n then steps_from n (leaf k t f) else from_enter m (n + 1) f
@@ -55,7 +55,7 @@ pub record IsWithin (t : Tree) (root : ℕ) (next : Next) : Type 0 where
 abbrev pub after_enter : Tree → ℕ → Next
 after_enter t m = if nat_lt 0 (item t m).below then Enter (m + 1) else Leave m
 
--- the same after it is left: the element behind it, or else its parent
+-- the same after it is left: the element after it, or else its parent
 abbrev pub behind : Tree → ℕ → ℕ → Option ℕ → Next
 behind t root m None = Done
 behind t root m (Some p) =

@@ -41,7 +41,7 @@ line_of depth kind range = indent depth ++ name_of kind ++ range_end range
 abbrev pub element_line : ℕ → Located → List ℕ
 element_line depth e = line_of depth (item_of e).kind (extent_of e)
 
--- the lines of a row of trees at a depth, whose text begins at the offset s: each element's line comes before those of what is inside it, one deeper
+-- the lines of a forest at a depth, whose text begins at the offset s: each element's line comes before those of what is inside it, one deeper
 abbrev pub lines_from : ℕ → ℕ → Forest → List ℕ
 lines_from depth s empty = []
 lines_from depth s (leaf k t f) = line_of depth k record { start = s; end = s + length t } ++ lines_from depth (s + length t) f
@@ -61,7 +61,7 @@ spot_text spot = if spot.0 then Some (element_text (item_of spot.1).kind (extent
 abbrev pub text_line : ℕ → Spot → Option (List ℕ)
 text_line depth spot = Some (indent depth) ++? spot_text spot ++? Some (codes "\n")
 
--- such lines of a row of trees at a depth, numbered from n: each element's line comes before those of what is inside it, one deeper
+-- such lines of a forest at a depth, numbered from n: each element's line comes before those of what is inside it, one deeper
 abbrev pub text_lines_from : Tree → ℕ → ℕ → Forest → Option (List ℕ)
 text_lines_from t depth n empty = Some []
 text_lines_from t depth n (leaf k u f) = text_line depth (spot_at t n) ++? text_lines_from t depth (n + 1) f

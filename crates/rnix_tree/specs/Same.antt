@@ -13,7 +13,7 @@ use Rattle.rnix_green.specs.Forest.{Forest, empty, leaf, node}
 use Rattle.rnix_green.specs.Tree.{Located, item_of, extent_of}
 use Rattle.rnix_green.specs.Range.{Extent}
 
--- two rows of trees are equal
+-- two forests are equal
 abbrev pub same_forest : Forest → Forest → Bool
 same_forest empty empty = true
 same_forest (leaf k t f) (leaf l u g) = same_kind k l && (bytes_eq t u && same_forest f g)
@@ -32,7 +32,7 @@ hashed_at number kind range = fed.usize number ++ (fed.usize (discriminant_of ki
 abbrev pub hashed : Located → List (List ℕ)
 hashed e = hashed_at e.number (item_of e).kind (extent_of e)
 
--- the test decides whether two rows of trees are equal
+-- the test decides whether two forests are equal
 pub same_forest-decides : (f g : Forest) → Decides (same_forest f g) (f ≡ g)
 same_forest-decides empty empty = (λ e. refl, λ e. refl)
 same_forest-decides (leaf k t f) (leaf l u g) =

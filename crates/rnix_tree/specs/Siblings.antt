@@ -21,7 +21,7 @@ abbrev pub numbers_below : ℕ → List ℕ
 numbers_below zero = []
 numbers_below (suc k) = k ∷ numbers_below k
 
--- of an element and all behind it, or before it, those with its parent, the nearest first
+-- of an element and all after it, or before it, those with its parent, the nearest first
 abbrev pub siblings_of : Direction → Located → List Spot
 siblings_of Next e = map (spot_at e.tree) (filter (is_beside e) (counted e.number (length (items_of e.tree) - e.number)))
 siblings_of Prev e = map (spot_at e.tree) (filter (is_beside e) (numbers_below (suc e.number)))
@@ -31,7 +31,7 @@ abbrev pub siblings_if : Direction → Tree → Option ℕ → List Spot
 siblings_if direction t None = []
 siblings_if direction t (Some n) = siblings_of direction record { tree = t; number = n }
 
--- the nearest sibling behind e, or before it
+-- the nearest sibling after e, or before it
 abbrev pub IsBeside : Direction → Located → Option ℕ → Type 0
 IsBeside Next e = IsFirst (IsSibling e) e.number
 IsBeside Prev e = IsLast (IsSibling e) e.number

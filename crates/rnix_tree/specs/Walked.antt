@@ -8,7 +8,7 @@ use Rattle.rnix_tree.specs.Lines.{element_line, text_line}
 abbrev pub event_line : ℕ → Event → List ℕ
 event_line depth e = if e.0 then element_line depth e.1.1 else []
 
--- the depth behind an event
+-- the depth after an event
 abbrev pub depth_after : ℕ → Event → ℕ
 depth_after depth e = if e.0 then depth + 1 else depth - 1
 

@@ -164,7 +164,7 @@ fn are_texts_alike(
     text[start..end] == other[other_start..other_end]
 }
 
-/// Returns whether the siblings of two rows are alike up to the number `end` of the first one, with everything inside them, and end in the second tree
+/// Returns whether the siblings of two forests are alike up to the number `end` of the first one, with everything inside them, and end in the second tree
 /// before an offset. Alike means the same number of elements, of the same kinds, with as many elements inside, and the same text. Takes time linear in
 /// the number of elements and of bytes.
 pub(crate) fn are_siblings_alike(

@@ -17,7 +17,7 @@ no_middle : (a b c : Bool) (cut : Cut) → b ≡ false → cond (a && b && c) (S
 no_middle true b c cut e = rw e refl
 no_middle false b c cut e = refl
 
--- a run of p ends before the byte only where that of q does, if the byte is not in q and p does not go on where q ends
+-- a run of p ends before the byte only where that of q does, if the byte is not in q and p does not continue where q ends
 stops_elsewhere : (p q : ℕ → Bool) (text : List ℕ) (stop : ℕ) → q stop ≡ false → p (get_or text (prefix_len q text) 0) ≡ false
     → ¬ (get_or text (prefix_len q text) 0 ≡ stop)
     → ¬ (get_or text (prefix_len p text) 0 ≡ stop)
@@ -30,7 +30,7 @@ stops_elsewhere p q text stop out ended other is =
       ]
     ]
 
--- no byte of a run stands behind it
+-- no byte of a run comes after it
 run_ends : (p : ℕ → Bool) (text : List ℕ) → p 0 ≡ false → p (get_or text (prefix_len p text) 0) ≡ false
 run_ends p text out =
     elim (cases_lt (prefix_len p text) (length text)) [
@@ -50,7 +50,7 @@ scheme_ends b e out = (grind (arith, nat_tests), λ f. grind (arith, nat_tests))
 differs : (a b : ℕ) → ¬ (a ≡ b) → (a == b) ≡ false
 differs a b e = grind (arith, nat_tests)
 
--- a name behind which nothing goes on begins no path
+-- a name after which nothing continues begins no path
 pub relative-None-named : (text : List ℕ) → goes_past_name (get_or text (prefix_len (class_test Name) text) 0) ≡ false → relative text ≡ None
 relative-None-named text out =
     let ended = step_ends _ (name_ends text) out in

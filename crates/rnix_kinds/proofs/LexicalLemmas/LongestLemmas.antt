@@ -52,9 +52,9 @@ row_member : (m : Bool) (fuel : ℕ) (text : List ℕ) → length text ≤ fuel 
 row_member m zero text h before = absurd (omega arith)
 row_member m (suc fuel) text h before = row_case m fuel text (piece_len m text) refl h before (row_member m fuel)
 
--- the content is the longest row of pieces, where the text does not end first
+-- the content is the longest sequence of pieces, where the text does not end first
 pub content_len-IsLongest : (m : Bool) (text : List ℕ) → content_len m text < length text → IsLongest (λ n. IsRow m n text) (content_len m text)
-content_len-IsLongest m text before = record { member = row_member m (length text) text (omega arith) before; longest = λ n row. row_longest m n text row }
+content_len-IsLongest m text before = record { member = row_member m (length text) text (omega arith) before; longest = λ n fits. row_longest m n text fits }
 
 -- `before_pair` is the first pair's place
 pub before_pair-IsFirstPair : (a b : ℕ) (text : List ℕ) → 0 < b → IsFirstPair a b text (before_pair a b text)

@@ -1,4 +1,4 @@
--- Rows of the pieces of a string.
+-- Sequences of the pieces of a string.
 use Rattle.std.proofs.Common.{◌≡◌, ℕ, zero, suc, ◌+◌, ◌<◌, ◌≤◌, Bool, true, false, List, [], ◌∷◌, length, drop, refl, ap, arith}
 use Rattle.std.{proofs.lemmas.{Bool.Decides.nat_tests, List.drop-drop}, specs.List.prefix_len}
 use Rattle.rnix_kinds.specs.{declared.tokenizer.text.Class.TheVariants.Content, Lexical.{Classes.class_test, Texts.run_end, Strings.{piece_len, content_from}}}
@@ -57,7 +57,7 @@ content_run_step m true x xs e h =
     rw (e, more) (omega (arith, piece, h))
 content_run_step m false x xs e h = rw e (omega arith)
 
--- and so is a run of them a row
+-- and so is a run of them a sequence of pieces
 pub content_len-run : (m : Bool) (xs : List ℕ) → content_len m xs ≡ prefix_len (class_test Content) xs + content_len m
     (drop (prefix_len (class_test Content) xs) xs)
 content_len-run m [] = omega arith

@@ -40,7 +40,7 @@ blank_more b cs low white =
     let more : 1 + prefix_len is_whitespace cs ≡ suc (prefix_len is_whitespace cs) = omega arith in
     rw (white, more) (omega (arith, length-append (encode b) (encode_utf8_all (take_while is_whitespace cs)), ap length (encode_ascii b low)))
 
--- and goes on past one that is
+-- and continues past one that is
 pub space_len-step : (b : ℕ) (text : List ℕ) → b < 128 → is_whitespace b ≡ true → space_len (b ∷ text) ≡ 1 + space_len text
 unfolding space_len
 space_len-step b text low white = rw (chars-ascii b text low) (blank_more b (chars text) low white)

@@ -1,4 +1,4 @@
--- What the words on lengths mean: a longest run, a longest row of pieces, a first pair, the longest operator; and where a scheme ends.
+-- What the words on lengths mean: a longest run, a longest sequence of pieces, a first pair, the longest operator; and where a scheme ends.
 use Rattle.std.specs.Prelude.{◌≡◌, ◌==◌, ◌⊎◌, ℕ, ◌+◌, ◌<◌, ◌≤◌, Bool, true, not, List, [], ◌∷◌, take, drop, length, slice_index}
 use Rattle.std.specs.List.{list_all, prefix_len}
 use Rattle.rnix_kinds.specs.declared.kinds.SyntaxKind.{SyntaxKind}
@@ -22,7 +22,7 @@ pub data IsRow (multiline : Bool) : ℕ → List ℕ → Type 0 where
   piece : (n : ℕ) (text : List ℕ) → 0 < piece_len multiline text → piece_len multiline text ≤ length text
       → IsRow multiline n (drop (piece_len multiline text) text) → IsRow multiline (piece_len multiline text + n) text
 
--- n is the largest number of first bytes that are pieces of a string, if the text goes on behind them
+-- n is the largest number of first bytes that are pieces of a string, if the text continues after them
 abbrev pub IsLongestContent : Bool → List ℕ → ℕ → Type 0
 IsLongestContent multiline text n = n < length text → IsLongest (λ m. IsRow multiline m text) n
 

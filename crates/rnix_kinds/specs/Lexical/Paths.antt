@@ -70,7 +70,7 @@ search_path text =
     if slice_index text 0 == 60 && slice_index text (prefix_len (class_test Angle) text) == 62
     then Some (search_to (run_end is_path 1 text) text) else None
 
--- where a path goes on after an interpolation
+-- where a path continues after an interpolation
 abbrev pub path_goes_on : List ℕ → Bool
 path_goes_on text = begins (codes "${") text || is_path (slice_index text 0)
 

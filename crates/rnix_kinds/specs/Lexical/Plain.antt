@@ -57,7 +57,7 @@ kind_of_word word =
 abbrev pub begins_word : ℕ → Bool
 begins_word b = is_ascii_alphabetic b || b == 95
 
--- a byte with which a path or a URI may go on behind a name: one of `.+/:`
+-- a byte with which a path or a URI may continue after a name: one of `.+/:`
 abbrev pub goes_past_name : ℕ → Bool
 goes_past_name b = b == 46 || b == 43 || b == 47 || b == 58
 

@@ -19,7 +19,7 @@ piece_len multiline text =
     else (if begins (codes "\"") text then 0
     else (if begins (codes "\\") text then 2 else 1))))
 
--- how many bytes the longest row of pieces has, where the first `inside` bytes are the rest of one
+-- how many bytes the longest sequence of pieces has, where the first `inside` bytes are the rest of one
 unfoldable pub content_from : Bool → ℕ → List ℕ → ℕ
 content_from multiline inside [] = 0
 content_from multiline (suc inside) (b ∷ text) = 1 + content_from multiline inside text

@@ -50,7 +50,7 @@ abbrev pub top : List Mode → Option Mode
 top [] = None
 top (mode ∷ modes) = Some mode
 
--- a path ends where it does not go on
+-- a path ends where it does not continue
 abbrev pub without_ended_paths : List Mode → List ℕ → List Mode
 without_ended_paths [] text = []
 without_ended_paths (Path kind ∷ modes) text = if path_goes_on text then Path kind ∷ modes else without_ended_paths modes text
@@ -99,7 +99,7 @@ abbrev pub CountsFit : ℕ → List Mode → Type 0
 CountsFit n [] = n < 2 ^ 64
 CountsFit n (mode ∷ modes) = (braces_of (Some mode) + n < 2 ^ 64) × CountsFit n modes
 
--- a path on top goes on
+-- a path on top continues
 abbrev pub IsPathGoingOn : Option Mode → List ℕ → Type 0
 IsPathGoingOn (Some (Path kind)) text = path_goes_on text ≡ true
 IsPathGoingOn mode text = Unit {0}

@@ -1,4 +1,4 @@
-//! What was looked over ahead, so that no byte is looked over twice.
+//! Runs that were scanned ahead, so that no byte is scanned twice.
 
 ghost use Rattle.std.specs.Prelude.{◌≡◌};
 ghost use Rattle.std.specs.List.{prefix_len};

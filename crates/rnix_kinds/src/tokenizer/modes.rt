@@ -9,7 +9,7 @@ use super::rule::{Change, Mode};
 use std::alloc::{AllocError, Global};
 use std::marker::Model;
 
-/// The stack of open modes. A clause sees the innermost one first.
+/// The stack of open modes. To clauses it is a list, the innermost first.
 #[derive(Drop)]
 pub struct Modes {
     items: Vec<Mode>,
@@ -57,7 +57,7 @@ impl Modes {
         }
     }
 
-    /// Changes the modes as a token does. If an allocation fails, they stay as they were.
+    /// Applies a token's change to the modes. If an allocation fails, they stay as they were.
     #[inline(always)]
     pub fn change(&mut self, change: Change) -> Result<(), AllocError>
         ensures ok { OnOk result (self.new ≡ changed change self.old) }

@@ -87,7 +87,7 @@ fn stepped(text: &str, ahead: &mut Ahead) -> Cut
     }
 }
 
-// What begins with `<`.
+// Tokens that begin with `<`.
 #[inline(always)]
 fn angled(text: &str, ahead: &mut Ahead) -> Cut
     requires some { 0 < length text.now }
@@ -101,7 +101,7 @@ fn angled(text: &str, ahead: &mut Ahead) -> Cut
     }
 }
 
-// What begins with `"`, `$` or `'`.
+// Tokens that begin with `"`, `$` or `'`.
 #[inline(always)]
 fn opened(text: &str) -> Cut
     requires { 0 < length text.now }
@@ -113,7 +113,7 @@ fn opened(text: &str) -> Cut
     }
 }
 
-// What begins with a control character, or with no character of ASCII.
+// Tokens that begin with a control character, or with a character outside ASCII.
 #[inline(always)]
 fn other(text: &str) -> Cut
     requires { 0 < length text.now }

@@ -7,7 +7,7 @@ use super::rule::{Cut, plain};
 use super::text::{Class, byte_at, run_end};
 use crate::kinds::SyntaxKind;
 
-// The digits of an exponent, which must be there.
+// The digits of an exponent, of which there must be one.
 fn exponent_digits(text: &str, at: usize) -> Cut
     requires { at ≤ length text.now }
     ensures { result ≡ exponent_digits at text.now }

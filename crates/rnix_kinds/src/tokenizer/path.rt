@@ -17,7 +17,7 @@ fn is_broken(segment: &[u8]) -> bool
     byte_of(segment, segment.len() - 1) == b'/' || before_pair(segment, b'/', b'/') < segment.len()
 }
 
-// A segment whose path characters begin at `from`. Before `${` it does `going` to the modes, and elsewhere `ended`.
+// A segment whose path characters begin at `from`. It changes the modes by `going` if `${` follows, and otherwise by `ended`.
 fn segment(text: &str, start: PathStart, going: Change, ended: Change, from: usize) -> Cut
     requires there { from < length text.now }
     requires some { class_test Class.Path (slice_index text.now from) ≡ true }

@@ -1,4 +1,4 @@
-//! What a rule of the tokenizer gives.
+//! The result of a rule of the tokenizer.
 
 ghost use Rattle.std.specs.Prelude.{◌≡◌};
 
@@ -38,7 +38,7 @@ pub enum Mode {
     Path(PathStart),
 }
 
-/// What a token does to the stack of modes.
+/// How a token changes the stack of modes.
 #[derive(Clone, Copy, Debug, PartialEq, Eq)]
 pub enum Change {
     Stay,
@@ -48,7 +48,7 @@ pub enum Change {
     Count(usize),
 }
 
-/// The kind and the length of a token, and what it does to the modes.
+/// The kind and the length of a token, and how it changes the modes.
 #[derive(Clone, Copy, Debug, PartialEq, Eq)]
 pub struct Cut {
     pub kind: SyntaxKind,

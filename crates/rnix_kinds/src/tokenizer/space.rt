@@ -24,7 +24,7 @@ pub fn space(text: &str) -> Option<Cut>
     }
 }
 
-// Returns how many bytes come before the first line feed; all, if there is none.
+// Returns the number of bytes before the first line feed; if there is none, of all bytes.
 #[inline(never)]
 fn line_len(text: &str) -> usize
     ensures { result ≡ run_end (class_test Line) 0 text.now }
@@ -40,7 +40,7 @@ pub fn line_comment(text: &str) -> Cut
     plain(SyntaxKind::TOKEN_COMMENT, line_len(text))
 }
 
-// Returns how many bytes come before the first `*/`; all, if there is none.
+// Returns the number of bytes before the first `*/`; if there is none, of all bytes.
 #[inline(never)]
 fn comment_len(inside: &[u8]) -> usize
     ensures value { result ≡ before_pair 42 47 inside.now }

@@ -58,7 +58,7 @@ fn content_len(bytes: &[u8], multiline: bool) -> usize
     at
 }
 
-/// Returns the next token inside a string: its content, an interpolation, its end, or an error where the text ends first.
+/// Returns the next token inside a string: its content, an interpolation, its end, or an error if the text ends first.
 #[inline(always)]
 pub fn string(text: &str, multiline: bool) -> Cut
     ensures { result ≡ string_cut multiline text.now }

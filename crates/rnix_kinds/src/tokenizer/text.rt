@@ -1,4 +1,4 @@
-//! Looking at a text.
+//! Bytes and runs of bytes of a text.
 
 ghost use Rattle.std.specs.Prelude.{◌≡◌, ◌<◌, ◌≤◌, true, length, slice_index};
 ghost use Rattle.std.specs.List.{prefix_len};
@@ -27,7 +27,7 @@ pub enum Class {
     Line,
     /// Any byte but `"`, `\`, `$` and `'`.
     Content,
-    /// White space of ASCII.
+    /// ASCII white space.
     Blank,
     /// Any byte but `*`.
     Comment,
@@ -49,7 +49,7 @@ const URI: u8 = 64;
 
 const CONTENT: u8 = 128;
 
-// For each byte the flags of the classes that it is of.
+// For each byte, the flags of the classes that contain it.
 static CLASSES: [u8; 256] = [
     128, 128, 128, 128, 128, 128, 128, 128, 128, 128, 128, 128, 128, 128, 128, 128, 128, 128, 128,
     128, 128, 128, 128, 128, 128, 128, 128, 128, 128, 128, 128, 128, 128, 192, 0, 128, 64, 192,
@@ -142,7 +142,7 @@ pub fn run_end(text: &str, from: usize, class: Class) -> usize
     run_end_of(text.as_bytes(), from, class)
 }
 
-// Returns how many bytes of white space come first, which may be of any characters.
+// Returns the number of bytes of white space at the start, in any characters.
 #[inline(never)]
 fn wide_space_len(text: &str) -> usize
     ensures { result ≡ space_len text.now }
@@ -176,7 +176,7 @@ pub fn blank_len(text: &str) -> usize
     }
 }
 
-/// Returns whether white space comes first.
+/// Returns whether the text begins with white space.
 pub fn begins_space(text: &str) -> bool
     ensures { result ≡ begins_space text.now }
 {
@@ -198,7 +198,7 @@ pub fn char_len(text: &str) -> usize
     }
 }
 
-/// Returns how many bytes come before the first `a` that a `b` follows; all, if there is none.
+/// Returns the number of bytes before the first `a` that `b` follows; if there is none, of all bytes.
 pub fn before_pair(bytes: &[u8], a: u8, b: u8) -> usize
     ensures value { result ≡ before_pair a b bytes.now }
     ensures within { result ≤ length bytes.now }

@@ -1,4 +1,4 @@
--- The text has no errors, and the node stands in its tree.
+-- The text has no errors, and the node is in its tree.
 use Rattle.{std.{proofs.Common.{◌≡◌, [], ap, sym, ◌∙◌, subst}, specs.Prelude.{IfSome, option_map}}, rnix_grammar.specs.Parsed.IsParsed}
 use Rattle.rnix.specs.{NodeKinds.is_expr, Sums.expr_node}
 use Rattle.rnix_test_examples.proofs.whole.an_if_has_three_expressions.Goals as goal
