@@ -24,7 +24,7 @@ text_before (behind_leaf j t x) = t ++ text_before x
 text_before (behind_node j d x) = text_of d ++ text_before x
 text_before (inside j x f) = text_before x
 
--- the text behind the node
+-- the text after the node
 abbrev pub text_after : Context → List ℕ
 text_after (here f) = text_of f
 text_after (behind_leaf j t x) = text_after x

@@ -16,18 +16,18 @@ pub record Draft : Type 0 where
   pub finished : Forest
   pub open_nodes : List OpenNode
 
--- a draft as lists and numbers
+-- a draft encoded as lists and numbers
 abbrev pub draft_code : Coded Draft
 draft_code =
     code_by (Forest × List OpenNode) (coded× forest_code (coded_list (coded× the_row.coded coded_ℕ)))
     (λ d. (d.finished, d.open_nodes)) (λ p. record { finished = p.0; open_nodes = p.1 }) (λ _. refl)
 
--- a draft of a text that is there, and the part of the text that has no leaves yet
+-- a draft over a given text, with the part of the text that has no leaves yet
 pub record TextDraft : Type 0 where
   pub draft : Draft
   pub remaining : List ℕ
 
--- such a draft as lists and numbers
+-- such a draft encoded as lists and numbers
 abbrev pub text_draft_code : Coded TextDraft
 text_draft_code =
     code_by (Draft × List ℕ) (coded× draft_code (coded_list coded_ℕ)) (λ d. (d.draft, d.remaining)) (λ p. record { draft = p.0; remaining = p.1 }) (λ _. refl)
@@ -40,11 +40,11 @@ blank = record { finished = empty; open_nodes = [] }
 abbrev pub blank_of : List ℕ → TextDraft
 blank_of t = record { draft = blank; remaining = t }
 
--- a draft with as much of the text left
+-- another draft, with the same part of the text left
 abbrev pub with_draft : Draft → TextDraft → TextDraft
 with_draft d t = record { draft = d; remaining = t.remaining }
 
--- a draft with a part less of the text
+-- another draft, with one part less of the text left
 abbrev pub taken : Draft → List ℕ → TextDraft → TextDraft
 taken d part t = record { draft = d; remaining = drop (length part) t.remaining }
 

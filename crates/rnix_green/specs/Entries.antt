@@ -1,4 +1,4 @@
--- What a builder keeps: one list of what was added and closed, in that order, beside the text.
+-- What a builder stores: one list of what was added and closed, in that order, and the text.
 use Rattle.std.specs.Prelude.{◌≡◌, Bool, true, false, Option, Some, slice_get, ℕ, ◌+◌, ◌-◌, ◌≤◌, ◌<◌, List, [], ◌∷◌, length, take, drop, map, reverse}
 use Rattle.std.specs.Str.{IsUtf8}
 use Rattle.rnix_kinds.specs.declared.kinds.SyntaxKind.{SyntaxKind}
@@ -15,17 +15,17 @@ abbrev pub wrapped_last : SyntaxKind → ℕ → Forest → Forest
 wrapped_last k n f =
     join (first_elements (element_count f - n) f) (node k (elements_after (element_count f - n) f) empty)
 
--- the trees f, and what the entries make after them, where the leaves take the text
+-- the trees f, followed by the trees that the entries make, whose leaves take the text
 abbrev pub built_onto : Forest → List ℕ → List Entry → Forest
 built_onto f text [] = f
 built_onto f text (Leaf k n ∷ es) = built_onto (with_leaf k (take n text) f) (drop n text) es
 built_onto f text (Node k n ∷ es) = built_onto (wrapped_last k n f) text es
 
--- what the entries make of the text
+-- the trees that the entries make of the text
 abbrev pub built : List ℕ → List Entry → Forest
 built text es = built_onto empty text es
 
--- what the elements of a builder make of the text
+-- the trees that the elements of a builder make of the text
 abbrev pub made : List ℕ → List Packed → Forest
 made text es = built text (map entry_of es)
 

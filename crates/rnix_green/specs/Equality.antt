@@ -1,4 +1,4 @@
--- Tests that say of two values that they are one.
+-- Tests of equality.
 use Rattle.std.specs.Prelude.{◌≡◌, ◌==◌, Bool, true, false}
 use Rattle.std.specs.Bool.{Decides}
 use Rattle.std.specs.Cmp.{IsEquivalence}
@@ -8,7 +8,7 @@ use Rattle.rnix_kinds.specs.declared.kinds.SyntaxKind.{SyntaxKind}
 use Rattle.rnix_kinds.specs.SyntaxKind.{discriminant_of}
 use Rattle.rnix_kinds.proofs.AllKinds.{same_discriminant}
 
--- two kinds are one
+-- two kinds are equal
 abbrev pub same_kind : SyntaxKind → SyntaxKind → Bool
 same_kind a b = discriminant_of a == discriminant_of b
 
@@ -16,7 +16,7 @@ same_kind a b = discriminant_of a == discriminant_of b
 pub same_kind-decides : (a b : SyntaxKind) → Decides (same_kind a b) (a ≡ b)
 same_kind-decides a b = Decides-like (same_kind a b) (same_discriminant a b) (ap discriminant_of) (Decides-eqb (discriminant_of a) (discriminant_of b))
 
--- two tests of which each implies the other are one
+-- two tests are equal if each implies the other
 both_ways : (a b : Bool) → (a ≡ true → b ≡ true) → (b ≡ true → a ≡ true) → a ≡ b
 both_ways true b to from = sym (to refl)
 both_ways false true to from = from refl

@@ -1,4 +1,4 @@
--- How a forest is written as a list, so that contracts can compare forests.
+-- Forests encoded as lists, so that contracts can compare forests.
 use Rattle.std.specs.Prelude.{◌≡◌, ℕ, List, [], ◌∷◌, ◌++◌, ◌⊎◌, refl}
 use Rattle.std.proofs.Common.{inl, inr, append_assoc, ap, sym, ◌∙◌}
 use Rattle.std.specs.Coded.{Coded, code_by, coded×, coded⊎, coded_ℕ, coded_list}
@@ -66,6 +66,6 @@ append_nil (x ∷ xs) = ap (λ ys. x ∷ ys) (append_nil xs)
 pub read_back-written : (f : Forest) → read_back (written f) ≡ f
 read_back-written f = ap read_back (sym (append_nil (written f))) ∙ read_back-append f [] ∙ join_empty f
 
--- a forest as lists and numbers
+-- a forest encoded as lists and numbers
 abbrev pub forest_code : Coded Forest
 forest_code = code_by (List Written) (coded_list (coded× the_row.coded (coded⊎ (coded_list coded_ℕ) coded_ℕ))) written read_back read_back-written

@@ -1,4 +1,4 @@
--- How a tree is kept: its elements in preorder, beside the whole text.
+-- How a tree is stored: its elements in preorder, and the whole text.
 use Rattle.std.specs.Prelude.{◌≡◌, ◌<◌, ℕ, zero, suc, ◌-◌, List, [], ◌∷◌, length, map, take, drop, cond, Option, Some, None, slice_index_or}
 use Rattle.rnix_kinds.specs.declared.kinds.SyntaxKind.{SyntaxKind}
 use Rattle.rnix_kinds.specs.declared.kinds.SyntaxKind.TheVariants.{TOKEN_ERROR}
@@ -8,33 +8,33 @@ use Rattle.rnix_green.specs.Forest.{Forest, empty, leaf, node, text_of, element_
 use Rattle.rnix_green.specs.Packed.{limit, packed, len_or_start_in, size_in}
 use Rattle.rnix_green.specs.Tree.{Tree, Item, items_from, items_of, forest_of}
 
--- what an element shows that was read
+-- the data of an element that was decoded
 abbrev pub item_from : Element → Item
 item_from e = record { kind = e.kind; is_node = e.is_node; start = e.start; end = e.end; parent = e.parent; below = e.below }
 
--- the number of a parent; 0 where there is none
+-- the number of a parent; 0 if there is none
 abbrev pub parent_or_root : Option ℕ → ℕ
 parent_or_root None = 0
 parent_or_root (Some p) = p
 
--- the parent that is kept of the element of a number; the first has none
+-- the stored parent of the element with a number; the first has none
 abbrev pub parent_kept : ℕ → ℕ → Option ℕ
 parent_kept zero p = None
 parent_kept (suc n) p = Some p
 
--- how many elements a node has, itself one of them; 0 for a token
+-- the number of elements in a node, itself included; 0 for a token
 abbrev pub size_of : Item → ℕ
 size_of i = cond i.is_node (suc i.below) 0
 
--- what is kept of an element: its kind, its start, its parent and its size
+-- the stored form of an element: its kind, its start, its parent and its size
 abbrev pub kept_of : Item → Packed
 kept_of i = packed i.kind i.start (parent_or_root i.parent) (size_of i)
 
--- what is kept of the elements of a forest, where the first has the given number, start and parent
+-- the stored elements of a forest, where the first has the given number, start and parent
 abbrev pub kept_from : ℕ → ℕ → Option ℕ → Forest → List Packed
 kept_from n s p f = map kept_of (items_from n s p f)
 
--- where the element of a number starts, or the end of the text where there is none
+-- where the element with a number starts, or the end of the text if there is none
 abbrev pub start_at : Tree → ℕ → ℕ
 start_at t n = slice_index_or (map (λ i. i.start) (items_of t)) n (length (text_of (forest_of t)))
 
@@ -57,7 +57,7 @@ abbrev pub tree_before : ℕ → SyntaxKind → List ℕ → Forest → Forest
 tree_before zero k t f = leaf k t f
 tree_before (suc below) k t f = node k (first_elements below f) (elements_after below f)
 
--- where the first of these elements starts, or the end of the text where there is none
+-- where the first of these elements starts, or the end of the text if there is none
 abbrev pub start_of_first : List ℕ → List Packed → ℕ
 start_of_first text [] = length text
 start_of_first text (e ∷ es) = len_or_start_in e
@@ -68,7 +68,7 @@ forest_from text [] = empty
 forest_from text (e ∷ es) =
     tree_before (size_in e) e.kind (take (start_of_first text es - len_or_start_in e) (drop (len_or_start_in e) text)) (forest_from text es)
 
--- the tree that a forest of one node is
+-- the tree of a forest of one node
 abbrev pub as_tree : Forest → Tree
 as_tree (node k c f) = record { kind = k; children = c }
 as_tree f = record { kind = TOKEN_ERROR; children = empty }

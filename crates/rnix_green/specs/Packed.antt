@@ -3,7 +3,7 @@ use Rattle.std.specs.Prelude.{ℕ, ◌^◌, ◌%◌}
 use Rattle.rnix_kinds.specs.declared.kinds.SyntaxKind.{SyntaxKind}
 use Rattle.rnix_green.specs.declared.packed.Packed.{Packed}
 
--- no number of an element is as large
+-- the limit below which all numbers of an element are
 abbrev pub limit : ℕ
 limit = 2 ^ 32
 
@@ -23,6 +23,6 @@ len_or_start_in e = e.len_or_start
 abbrev pub parent_in : Packed → ℕ
 parent_in e = e.parent
 
--- how many elements it has, itself one of them; 0 for a token
+-- the number of elements in it, itself included; 0 for a token
 abbrev pub size_in : Packed → ℕ
 size_in e = e.size

@@ -12,12 +12,12 @@ pub data Entry : Type 0 where
   Leaf : SyntaxKind → ℕ → Entry
   Node : SyntaxKind → ℕ → Entry
 
--- what has a size is a node
+-- an entry of a size: a node if the size is not 0
 abbrev pub entry_by : ℕ → SyntaxKind → ℕ → Entry
 entry_by zero k n = Leaf k n
 entry_by (suc below) k n = Node k below
 
--- what an element is that is not placed yet
+-- the entry that an element holds before it is placed
 abbrev pub entry_of : Packed → Entry
 entry_of e = entry_by (size_in e) e.kind (len_or_start_in e)
 
@@ -47,11 +47,11 @@ abbrev pub rest_text : List Forest → ℕ
 rest_text [] = 0
 rest_text (g ∷ gs) = rest_text gs + length (text_of g)
 
--- what is kept of the node of a frame
+-- the stored form of the node of a frame
 abbrev pub frame_kept : Frame → ℕ → Option ℕ → Packed
 frame_kept fr start parent = packed fr.kind start (parent_or_root parent) fr.size
 
--- all elements: es in the innermost frame, and left of each frame a forest that is not read
+-- all elements: es in the innermost frame, and to the left of each frame a forest that is not read yet
 abbrev pub around : List Frame → List Forest → List Packed → List Packed
 around [] gs es = es
 around (fr ∷ frs) [] es = es
@@ -77,7 +77,7 @@ pub record IsReached (frames : List Frame) (n : ℕ) (fr : Frame) : Type 0 where
   pub reached : fr.first ≡ n
   pub innermost : reverse frames ≡ fr ∷ reverse (take (length frames - 1) frames)
 
--- what is left to do: the trees that are not read, in the innermost frame and left of each frame
+-- what is left to do: the trees that are not read yet, in the innermost frame and to the left of each frame
 pub record IsWork (forest : Forest) (prefix : List Entry) (offset : ℕ) (frames : List Frame) (done : List Packed) : Type 0 where
   pub current : Forest
   pub outer : List Forest

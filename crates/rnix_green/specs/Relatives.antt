@@ -1,4 +1,4 @@
--- The elements around an element, beside it and inside it. Elements are known by their numbers in preorder.
+-- The elements around an element, beside it and inside it. Elements are identified by their numbers in preorder.
 use Rattle.std.specs.Prelude.{◌≡◌, ◌<◌, ◌≤◌, ◌+◌, ℕ, length, Option, Some, None, true, false}
 use Rattle.rnix_green.specs.Tree.{Tree, items_of, item, Located, item_of}
 
@@ -12,12 +12,12 @@ abbrev pub IsLast : (ℕ → Type 0) → ℕ → Option ℕ → Type 0
 IsLast P n None = (m : ℕ) → m < n → ¬ P m
 IsLast P n (Some r) = (r < n) × P r × ((m : ℕ) → r < m → m < n → ¬ P m)
 
--- an element of the same tree, if there is one, whose number is the one that P tells
+-- the element of a tree whose number satisfies P; if there is none, P holds of that
 abbrev pub IsThat : Tree → (Option ℕ → Type 0) → Option Located → Type 0
 IsThat t P None = P None
 IsThat t P (Some r) = (r.tree ≡ t) × P (Some r.number)
 
--- the element of a number, if there is one
+-- the element with a number, if there is a number
 abbrev pub located : Tree → Option ℕ → Option Located
 located t None = None
 located t (Some n) = Some (record { tree = t; number = n })

@@ -1,4 +1,4 @@
--- Equality of the elements that are kept of a tree.
+-- Equality of the stored elements of a tree.
 use Rattle.std.specs.Prelude.{◌≡◌, ◌==◌, ◌&&◌, Bool}
 use Rattle.std.specs.Bool.{Decides}
 use Rattle.std.specs.Cmp.{IsEquivalence}
@@ -27,6 +27,6 @@ same_element-decides a b =
     (Decides-and (a.len_or_start == b.len_or_start) (a.parent == b.parent && a.size == b.size) (Decides-eqb a.len_or_start b.len_or_start)
     (Decides-and (a.parent == b.parent) (a.size == b.size) (Decides-eqb a.parent b.parent) (Decides-eqb a.size b.size))))
 
--- equality of kept elements is an equivalence
+-- equality of stored elements is an equivalence
 pub elements_equal : IsEquivalence same_element
 elements_equal = equivalence_from same_element same_element-decides

@@ -1,4 +1,4 @@
--- Walks over a tree, as lists of places.
+-- Walks over a tree, as lists of elements and events.
 use Rattle.std.specs.Prelude.{ℕ, zero, suc, ◌+◌, nat_lt, List, [], ◌∷◌, ◌++◌, map, Bool, true, false, if◌then◌else◌}
 use Rattle.std.specs.Coded.{Coded, coded_list, coded×, coded_bool}
 use Rattle.rnix_green.specs.Forest.{Forest, empty, leaf, node, element_count}
@@ -9,15 +9,15 @@ use Rattle.rnix_green.specs.Tree.{Tree, item, item_of, Located, located_code, pa
 abbrev pub Spot : Type 0
 Spot = Bool × Located
 
--- an element of a walk as lists and numbers
+-- an element of a walk encoded as lists and numbers
 abbrev pub spot_code : Coded Spot
 spot_code = coded× coded_bool located_code
 
--- and so for the elements of a walk
+-- the elements of a walk encoded as lists and numbers
 abbrev pub spots_code : Coded (List Spot)
 spots_code = coded_list spot_code
 
--- the element of a number
+-- the element with a number
 abbrev pub spot_at : Tree → ℕ → Spot
 spot_at t n = ((item t n).is_node, record { tree = t; number = n })
 
@@ -35,11 +35,11 @@ steps_from n empty = []
 steps_from n (leaf k t f) = (true, n) ∷ (false, n) ∷ steps_from (n + 1) f
 steps_from n (node k c f) = (true, n) ∷ (steps_from (n + 1) c ++ (false, n) ∷ steps_from (n + 1 + element_count c) f)
 
--- an element that is entered or left, as a walk gives it
+-- an element that is entered or left, as a walk yields it
 abbrev pub Event : Type 0
 Event = Bool × Spot
 
--- the events of a walk as lists and numbers
+-- the events of a walk encoded as lists and numbers
 abbrev pub events_code : Coded (List Event)
 events_code = coded_list (coded× coded_bool spot_code)
 
@@ -51,7 +51,7 @@ event_at t step = (step.0, spot_at t step.1)
 abbrev pub preorder_of : Located → List Event
 preorder_of e = map (event_at e.tree) (steps_from e.number (part_at e))
 
--- what is left of a walk from where the innermost element is left that was entered; so many more were entered since
+-- what is left of a walk from where the innermost entered element is left; so many more were entered since
 abbrev pub from_leaving : {S : Type 0} → ℕ → List (Bool × S) → List (Bool × S)
 from_leaving zero [] = []
 from_leaving (suc d) [] = []
@@ -83,7 +83,7 @@ abbrev pub node_events : List Event → List NodeEvent
 node_events [] = []
 node_events (event ∷ events) = if event.1.0 then (event.0, event.1.1) ∷ node_events events else node_events events
 
--- of the elements of the numbers below k, the last first, those that the element n is or lies in
+-- the elements with numbers below k that are, or contain, the element n, the last one first
 abbrev pub holders : Tree → ℕ → ℕ → List Located
 holders t n zero = []
 holders t n (suc k) = if nat_lt (k + (item t k).below) n then holders t n k else record { tree = t; number = k } ∷ holders t n k

@@ -1,4 +1,4 @@
--- What the laws say: of each reading, and of each tree with its errors of which all that is promised holds.
+-- The statements of the laws, about each reading, and about each parsed tree with its errors.
 use Rattle.std.specs.Prelude.{◌≡◌, ℕ, List}
 use Rattle.rnix_kinds.specs.Lexical.Tokens.{Lexeme, tokens_of}
 use Rattle.rnix_green.specs.Forest.{Forest, element_count}
@@ -9,30 +9,30 @@ use Rattle.rnix_grammar.specs.Derivation.{IsDerivation}
 use Rattle.rnix_grammar.specs.Reading.{IsReading}
 use Rattle.rnix_grammar.specs.Parsed.{IsParsed}
 
--- so it is with each tree and its errors that are parsed from a text
+-- a statement holds of each tree with its errors to which a text is parsed
 abbrev pub OfParsed : List ℕ → (Tree → List Fault → Type 0) → Type 0
 OfParsed text P = (tree : Tree) (faults : List Fault) → IsParsed (tokens_of text) tree faults → P tree faults
 
--- so it is with each tree and its errors that are a reading of a text
+-- a statement holds of each tree with its errors that is a reading of a text
 abbrev pub OfRead : List ℕ → (Tree → List Fault → Type 0) → Type 0
 OfRead text P = (tree : Tree) (faults : List Fault) → IsReading (tokens_of text) tree faults → P tree faults
 
--- so it is with the items and the errors of each reading
+-- a statement holds of the items and the errors of each reading
 abbrev pub OfReadings : (AnnotatedForest → List Fault → Type 0) → Type 0
 OfReadings P = (tokens : List Lexeme) (tree : Tree) (faults : List Fault) (r : IsReading tokens tree faults) → P (without_trivia r.annotated) faults
 
--- two readings of some tokens are one
+-- two readings of the same tokens are equal
 abbrev pub HaveOneReading : List Lexeme → Type 0
 HaveOneReading tokens = (t u : Tree) (ds es : List Fault) → IsReading tokens t ds → IsReading tokens u es → (t ≡ u) × (ds ≡ es)
 
--- two derivations of some items are one
+-- two derivations of the same items are equal
 abbrev pub HaveOneDerivation : List Token → Type 0
 HaveOneDerivation items = (t u : Forest) → IsDerivation t items → IsDerivation u items → t ≡ u
 
--- two texts of which one tree is read are one, with the same errors
+-- two texts that are read as the same tree are equal, and so are their errors
 abbrev pub AreOneText : List ℕ → List ℕ → Type 0
 AreOneText x y = (t : Tree) (ds es : List Fault) → IsReading (tokens_of x) t ds → IsReading (tokens_of y) t es → (x ≡ y) × (ds ≡ es)
 
--- how many elements a tree has: its root and all that is inside
+-- how many elements a tree has: its root and everything inside
 abbrev pub elements_in : Tree → ℕ
 elements_in tree = element_count (forest_of tree)

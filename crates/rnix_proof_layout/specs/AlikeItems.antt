@@ -12,7 +12,7 @@ use Rattle.rnix_grammar.specs.AnnotatedForest.{Token, extent_of}
 abbrev pub ends_piece : SyntaxKind → Bool
 ends_piece k = is_path_piece k || same_kind TOKEN_INTERPOL_END k
 
--- so it is with the item before, if there is one
+-- the same for the item before, if there is one
 abbrev pub is_in_path : Option SyntaxKind → Bool
 is_in_path None = false
 is_in_path (Some k) = ends_piece k
@@ -49,7 +49,7 @@ IsSameFault xs ys (duplicated_args a name) (duplicated_args b other) = AreOfSame
 IsSameFault xs ys too_deep too_deep = Unit {0}
 IsSameFault xs ys d e = ⊥
 
--- so are errors, one by one
+-- so are lists of errors, one by one
 abbrev pub AreSameFaults : List Token → List Token → List Fault → List Fault → Type 0
 AreSameFaults xs ys [] [] = Unit {0}
 AreSameFaults xs ys (d ∷ ds) (e ∷ es) = IsSameFault xs ys d e × AreSameFaults xs ys ds es

@@ -1,4 +1,4 @@
--- What is done where: which positions follow which, and what each action needs.
+-- Which positions follow which, and what each action needs.
 use Rattle.std.specs.Prelude.{◌≡◌, ◌<◌, ◌+◌, ℕ, Bool, true, false, Option, Some, None}
 use Rattle.rnix_kinds.specs.declared.kinds.SyntaxKind.{SyntaxKind}
 use Rattle.rnix_kinds.specs.declared.kinds.SyntaxKind.TheVariants.{TOKEN_IDENT, NODE_IDENT}
@@ -11,12 +11,12 @@ use Rattle.rnix_grammar.specs.Tables.{stops}
 use Rattle.rnix_proof_lemmas.specs.FrameKinds.{Root, Pattern, Entry, SecondBindFrame, OperandFrame, NodeFrame, frame_kind, frame_kind_of_node, may_hold, is_open}
 use Rattle.rnix_proof_lemmas.specs.Measures.{measure, full_start_measure, start_measure}
 
--- an item is at hand
+-- there is a next item
 abbrev pub is_there : Option SyntaxKind → Bool
 is_there None = false
 is_there (Some kind) = true
 
--- a row continues at another position: it stays in its frame kind; where the text has ended it comes nearer to its end
+-- a row continues at a position of the same frame kind; if the text has ended, at one nearer to the end of the row
 abbrev pub IsNext : Position → Option SyntaxKind → ℕ → Type 0
 IsNext position None after = (frame_kind (p.InRow after) ≡ frame_kind position) × (measure (p.InRow after) < measure position)
 IsNext position (Some kind) after = frame_kind (p.InRow after) ≡ frame_kind position

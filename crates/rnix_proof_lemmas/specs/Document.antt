@@ -1,4 +1,4 @@
--- A whole text that is read.
+-- The reading of a whole text by steps.
 use Rattle.std.specs.Prelude.{◌≡◌, ◌+◌, true, List, [], ◌∷◌}
 use Rattle.rnix_kinds.specs.declared.kinds.SyntaxKind.TheVariants.{NODE_ROOT}
 use Rattle.rnix_kinds.specs.Lexical.Tokens.{Lexeme}

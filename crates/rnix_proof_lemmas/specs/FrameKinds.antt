@@ -1,4 +1,4 @@
--- Which heads are at which positions, and inside which others.
+-- Frame kinds: at which positions a frame may be, and inside which others.
 use Rattle.std.specs.Prelude.{◌≡◌, Bool, true, false, List, [], ◌∷◌, drop}
 use Rattle.rnix_kinds.specs.declared.kinds.SyntaxKind.{SyntaxKind}
 use Rattle.rnix_kinds.specs.declared.kinds.SyntaxKind.TheVariants.{NODE_ROOT, NODE_PATTERN, NODE_PAT_ENTRY, NODE_IDENT, NODE_CUR_POS, NODE_ERROR}
@@ -64,18 +64,18 @@ frame_kind (p.InRow index) = frame_kind_in (drop index SLOTS)
 frame_kind (p.AfterOperand min_bp max_bp) = OperandFrame
 frame_kind (p.Right level) = NodeFrame
 
--- a place that is not in a second name
+-- a position that is not in a second name
 abbrev pub is_open : FrameKind → Bool
 is_open SecondBindFrame = false
 is_open sort = true
 
--- a head is at a position of its frame kind, and may be inside the frame below, as each frame below; the lowest is the root
+-- a frame is at a position of its kind and may be inside the frame below, and so are the frames below; the lowest is the root
 abbrev pub IsStackedOn : Head → Position → List Frame → Type 0
 IsStackedOn head position [] = (frame_kind_of_head head ≡ frame_kind position) × (frame_kind position ≡ Root)
 IsStackedOn head position (f ∷ fs) = (frame_kind_of_head head ≡ frame_kind position) × (may_hold (frame_kind f.position) (frame_kind position) ≡ true)
     × IsStackedOn f.head f.position fs
 
--- there are frames, and so it is for all of them
+-- there are frames, and this holds for all of them
 abbrev pub AreStacked : List Frame → Type 0
 AreStacked [] = ⊥
 AreStacked (f ∷ fs) = IsStackedOn f.head f.position fs

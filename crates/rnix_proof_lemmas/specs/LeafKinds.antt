@@ -1,4 +1,4 @@
--- Leaves whose tokens have the kinds that the leaves say.
+-- Leaves whose kinds agree with their tokens.
 use Rattle.std.specs.Prelude.{◌≡◌, Bool, true, false, if◌then◌else◌}
 use Rattle.rnix_kinds.specs.declared.kinds.SyntaxKind.{SyntaxKind}
 use Rattle.rnix_kinds.specs.SyntaxKind.{is_token}

@@ -1,5 +1,5 @@
--- Reading as steps: what is open, and what each step makes of it. With trivia, the trivia before a token or a node stay where they are met;
--- without, only items are read.
+-- Reading as steps: the open frames, and what each step makes of them. A machine with trivia adds trivia where they are met; one without
+-- trivia reads only items.
 use Rattle.std.specs.Prelude.{ℕ, suc, Bool, true, false, List, [], ◌∷◌, ◌++◌, if◌then◌else◌, nat_le}
 use Rattle.rnix_kinds.specs.declared.kinds.SyntaxKind.{SyntaxKind}
 use Rattle.rnix_kinds.specs.declared.kinds.SyntaxKind.TheVariants.{NODE_ERROR, NODE_IDENT, NODE_PAT_ENTRY, NODE_LAMBDA, NODE_IDENT_PARAM, NODE_PATTERN, NODE_PAT_BIND, NODE_LEGACY_LET, NODE_APPLY, NODE_ROOT}
@@ -26,7 +26,7 @@ pub data Head : Type 0 where
   SecondBind : Head
   Operand : Head
 
--- with how far it is read, inside how many counted positions, and the trees that it has so far
+-- a head with its position, the number of counted positions around it, and its children so far
 pub record Frame : Type 0 where
   pub head : Head
   pub position : Position
@@ -112,12 +112,12 @@ made (Node k) children = one_branch k children
 made SecondBind children = one_fault DoubleBind children
 made Operand children = children
 
--- the lowest level with which an operand continues
+-- the lowest level of an operator that continues an operand
 abbrev pub min_bp_of : Position → ℕ
 min_bp_of (p.AfterOperand min_bp max_bp) = min_bp
 min_bp_of position = expression_level
 
--- a machine with these frames, tokens, reach and errors
+-- a machine with these frames, tokens, end of the last item and errors
 abbrev pub machine : List Frame → List Token → ℕ → List Fault → Machine
 machine fs ts n es = record { frames = fs; remaining = ts; prev_end = n; faults = es }
 
@@ -190,7 +190,7 @@ abbrev pub operand_on : Bool → ℕ → ℕ → Frame → List Frame → List T
 operand_on trivia level d f fs ts [] n es = machine (f ∷ fs) ts n (es ++ unexpected_eof ∷ [])
 operand_on trivia level d f fs ts (t ∷ us) n es = begun trivia (operand_start_of level t.kind t.text (head_kind us) (second_kind us)) level d t f fs ts n es
 
--- an operand of a level, counted or not: a counted one only as deep as the limit
+-- an operand of a level, counted or not; a counted one only within the limit
 abbrev pub reading : Bool → ℕ → Bool → Frame → List Frame → List Token → ℕ → List Fault → Machine
 reading trivia level true f fs ts n es = if nat_le depth_limit f.depth then limited trivia f fs ts n es else operand_on trivia level (suc f.depth) f fs ts
     (next_items trivia ts) n es
@@ -254,7 +254,7 @@ step_on trivia (f ∷ fs) ts n es = perform trivia (action_at f.position (head_k
 abbrev pub step : Bool → Machine → Machine
 step trivia m = step_on trivia m.frames m.remaining m.prev_end m.faults
 
--- the text is about to be read
+-- the machine before it reads a text
 abbrev pub initial_machine : List Token → Machine
 initial_machine ts = machine (opened (Node NODE_ROOT) (p.InRow ROOT) 0 blank ∷ []) ts 0 []
 

@@ -31,7 +31,7 @@ most_positions = 7
 abbrev pub measure : Position → ℕ
 measure position = steps_from most_positions position
 
--- more than two positions weigh together
+-- more than the measures of any two positions together
 abbrev pub full_start_measure : ℕ
 full_start_measure = 30
 

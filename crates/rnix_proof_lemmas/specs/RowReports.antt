@@ -11,6 +11,6 @@ reports_behind b (token k t f) = reports_behind (b ⊕ one_token k t) f
 reports_behind b (branch k c f) = reports_behind blank c ++ (repeats k b c ++ reports_behind (b ⊕ one_branch k c) f)
 reports_behind b (fault n c f) = reports_behind blank c ++ (report n (tokens_in c) ∷ reports_behind (b ⊕ one_fault n c) f)
 
--- the errors of a forest before which no tree stands
+-- the errors of a forest that no tree precedes
 abbrev pub reports : AnnotatedForest → List Fault
 reports f = reports_behind blank f

@@ -23,6 +23,6 @@ kind_in [] = NODE_LITERAL
 kind_in (Next p ∷ ss) = kind_in ss
 kind_in (End kind ∷ ss) = kind
 
--- so at an index
+-- the kind of node whose row this is, at an index
 abbrev pub kind_at : ℕ → SyntaxKind
 kind_at i = kind_in (drop i SLOTS)

@@ -1,4 +1,4 @@
--- Tokens that are spelled as their kinds say.
+-- Tokens whose texts fit their kinds.
 use Rattle.std.specs.Prelude.{◌≡◌, ℕ, Bool, true, false, List, [], ◌∷◌, if◌then◌else◌}
 use Rattle.rnix_kinds.specs.declared.kinds.SyntaxKind.{SyntaxKind}
 use Rattle.rnix_kinds.specs.SyntaxKind.{is_token}
@@ -13,7 +13,7 @@ is_spelled TOKEN_IDENT text = if is_or text then false else true
 is_spelled TOKEN_CUR_POS text = false
 is_spelled kind text = is_token kind
 
--- each token is spelled as its kind says
+-- the text of each token fits its kind
 abbrev pub AreSpelled : List Token → Type 0
 AreSpelled [] = Unit {0}
 AreSpelled (t ∷ ts) = (is_spelled t.kind t.text ≡ true) × AreSpelled ts

@@ -8,11 +8,11 @@ use Rattle.rnix_proof_lemmas.specs.Machine.{Frame, Machine, put, machine}
 abbrev pub without_trivia_frame : Frame → Frame
 without_trivia_frame f = put f.position (without_trivia f.children) f
 
--- and all frames
+-- a list of such frames
 abbrev pub without_trivia_frames : List Frame → List Frame
 without_trivia_frames [] = []
 without_trivia_frames (f ∷ fs) = without_trivia_frame f ∷ without_trivia_frames fs
 
--- a machine that has read the items alone
+-- a machine that has read only the items
 abbrev pub without_trivia_machine : Machine → Machine
 without_trivia_machine m = machine (without_trivia_frames m.frames) (items m.remaining) m.prev_end m.faults

@@ -9,7 +9,7 @@ leaf_count empty = 0
 leaf_count (leaf k t f) = suc (leaf_count f)
 leaf_count (node k c f) = leaf_count c + leaf_count f
 
--- a node before other trees if a test holds, and else some trees of those inside it
+-- a node before other trees if a test holds, otherwise some of the trees inside it
 abbrev pub node_or : Bool → SyntaxKind → Forest → Forest → Forest → Forest
 node_or true k c f inside = node k c f
 node_or false k c f inside = inside

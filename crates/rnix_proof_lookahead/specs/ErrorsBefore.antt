@@ -7,7 +7,7 @@ use Rattle.rnix_grammar.specs.Fault.{Fault, extra, unwanted}
 abbrev pub up_to : ℕ → Extent → Extent
 up_to m a = record { start = a.start; end = if nat_le m a.end then m else a.end }
 
--- an error if a test holds
+-- an error, if a test holds
 abbrev pub error_if : Bool → Fault → List Fault
 error_if true d = d ∷ []
 error_if false d = []

@@ -19,7 +19,7 @@ abbrev pub rooted : Forest → Tree
 rooted f = record { kind = NODE_ROOT; children = f }
 
 -- A node of a tree that is the reading of a text without errors: its place, its kind, its brackets, and what is between them, in the old text and in a text
--- that is read as one such node alone, without errors; the new node nests no deeper than may be where the old one is.
+-- that is read as one such node alone, without errors; the new node nests no deeper than the limit allows in the place of the old one.
 pub record IsEdited (before old after new : List ℕ) (place : Context) (kind remaining right : SyntaxKind) (opening closing : List ℕ)
     (inside edited : Forest) : Type 0 where
   pub brackets : IsBracketed kind remaining right

@@ -37,7 +37,7 @@ abbrev pub one_less : ℕ → (ℕ → Bool) → Bool
 one_less zero more = false
 one_less (suc depth) more = more depth
 
--- where so many levels are open, each is closed, and none before it is opened
+-- with so many levels open, every level is closed, and none before it is opened
 abbrev pub are_balanced : List Lexeme → ℕ → Bool
 are_balanced [] zero = true
 are_balanced [] (suc depth) = false
@@ -59,7 +59,7 @@ pub record AreBrackets (before part after : List ℕ) (left right : Lexeme) (inn
   pub closing : is_closing right.0 ≡ true
   pub balanced : are_balanced inner 0 ≡ true
 
--- brackets of one text may stand for the same brackets of another: there the tokens before and after them stay, and between these are the tokens that the
+-- brackets of one text may replace the same brackets of another: the tokens before and after them stay the same, and between these are those that the
 -- new brackets have in their own text
 abbrev pub MayReplace : List ℕ → List ℕ → List ℕ → List ℕ → List ℕ → List ℕ → Type 0
 MayReplace before old after start new end =

@@ -1,4 +1,4 @@
--- A text written anew: the tokens of another text, with white space between them where no string and no path is open.
+-- A text written out again: the tokens of another text, with white space between them where no string and no path is open.
 use Rattle.std.specs.Prelude.{◌&&◌, ◌||◌, ◌≡◌, ◌⊎◌, ◌==◌, ◌<◌, ◌++◌, ℕ, Bool, true, false, not, if◌then◌else◌, List, [], ◌∷◌, length, take, drop, slice_index, codes, Option, Some}
 use Rattle.std.specs.List.{list_all}
 use Rattle.rnix_kinds.specs.declared.kinds.SyntaxKind.{SyntaxKind}
@@ -87,6 +87,6 @@ pub record IsSeparated (text new : List ℕ) : Type 0 where
   pub blank : list_all is_blank gap ≡ true
   pub separated : AreSeparated [] text rest
 
--- the tokens of a text without errors that are written with white space between them are the same tokens
+-- the tokens of a text without errors stay the same when they are written with white space between them
 abbrev pub AreCutAgain : List ℕ → List ℕ → Type 0
 AreCutAgain text new = have_no_error (tokens_of text) ≡ true → IsSeparated text new → solids (tokens_of new) ≡ solids (tokens_of text)

@@ -11,7 +11,7 @@ use Rattle.rnix_proof_lemmas.specs.Document.{IsRead}
 use Rattle.rnix_proof_lemmas.specs.Machine.{Frame, Machine, Runs, next_items, step}
 use Rattle.rnix_proof_lemmas.specs.Machine.{rest as here, then as further}
 
--- the text is read
+-- the reading is complete
 abbrev pub is_finish : Action → Bool
 is_finish a.Finish = true
 is_finish action = false
@@ -21,7 +21,7 @@ abbrev pub is_finished_on : Bool → List Frame → List Token → ℕ → Bool
 is_finished_on trivia [] ts n = false
 is_finished_on trivia (f ∷ fs) ts n = is_finish (action_at f.position (head_kind (next_items trivia ts)) (touches n (next_items trivia ts)))
 
--- so it is at a machine
+-- the same for a machine
 abbrev pub is_finished : Bool → Machine → Bool
 is_finished trivia m = is_finished_on trivia m.frames m.remaining m.prev_end
 

@@ -39,7 +39,7 @@ HasRange start end SecondBind children = ((let x : Extent = record { start = sta
     × (start ≤ end)
 HasRange start end head children = Unit {0}
 
--- the frames stand on one another, a second name ends where the last item ended, and the tokens are in order
+-- each frame may be inside the one below, a second name ends where the last item ended, and the tokens are in order
 pub record IsWell (f : Frame) (fs : List Frame) (ts : List Token) (n second : ℕ) : Type 0 where
   pub fit : IsStackedOn f.head f.position fs
   pub range : HasRange second n f.head f.children
@@ -64,7 +64,7 @@ entries_of (f ∷ fs) = entries_of fs ++ named_by (name_of f.head f.children)
 abbrev pub IsOf : NameSet → AnnotatedForest → Type 0
 IsOf s children = (name : List ℕ) → has_name name s ≡ has_entry name (without_trivia children)
 
--- the last of some sets is that of a pattern, and more holds of those below
+-- the last set is that of a pattern, and a condition holds of those below it
 pub record TopSet (sets : List NameSet) (children : AnnotatedForest) (More : List NameSet → Type 0) : Type 0 where
   pub below : List NameSet
   pub set : NameSet
@@ -72,7 +72,7 @@ pub record TopSet (sets : List NameSet) (children : AnnotatedForest) (More : Lis
   pub is : IsOf set children
   pub more : More below
 
--- the sets that are open above others, by what is open
+-- the sets of a frame and of those below it, by its head
 abbrev pub AreOpenSetsOn : Head → AnnotatedForest → List NameSet → (List NameSet → Type 0) → Type 0
 AreOpenSetsOn (Node NODE_PATTERN) children sets More = TopSet sets children More
 AreOpenSetsOn head children sets More = More sets
@@ -88,7 +88,7 @@ pub record AreNamed (f : Frame) (fs : List Frame) (names : Names) : Type 0 where
   pub sets : AreOpenSets (f ∷ fs) names.sets.items
   pub entries : entries_in names ≡ entries_of (f ∷ fs)
 
--- the machine has come as far as the reader, in as many steps as turns are counted
+-- the machine has come as far as the reader, in as many steps as the turns that are counted
 pub record IsGoing (Counted : ℕ → Type 0) (first : List Token) (s : State) (names : Names) : Type 0 where
   pub steps : ℕ
   pub counted : Counted steps
@@ -131,7 +131,7 @@ abbrev pub positions_on : List Mark → List Position
 positions_on [] = []
 positions_on (m ∷ ms) = positions_on ms ++ m.position ∷ []
 
--- their weights
+-- the sum of their measures
 abbrev pub measures : List Position → ℕ
 measures [] = 0
 measures (x ∷ xs) = measure x + measures xs
@@ -141,7 +141,7 @@ abbrev pub start_measure_at : List Token → Position → ℕ
 start_measure_at [] x = 0
 start_measure_at (t ∷ ts) x = start_measure x
 
--- so it is at the innermost position
+-- the same for the innermost position
 abbrev pub start_measure_on : List Token → List Position → ℕ
 start_measure_on ts [] = 0
 start_measure_on ts (x ∷ xs) = start_measure_at ts x

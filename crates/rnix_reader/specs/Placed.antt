@@ -1,4 +1,4 @@
--- The tokens of a text as the reader keeps them.
+-- The tokens of a text as the reader stores them.
 use Rattle.std.specs.Prelude.{◌≡◌, ◌≤◌, ◌+◌, ◌-◌, ℕ, zero, suc, List, [], ◌∷◌, length, take, drop, flat_map, true, refl}
 use Rattle.std.specs.Coded.{Coded, code_by, coded×, coded_ℕ, coded_list}
 use Rattle.std.specs.Str.{IsCharBoundary}
@@ -31,7 +31,7 @@ abbrev pub ends_from : ℕ → List Lexeme → List TokenEnd
 ends_from start [] = []
 ends_from start (l ∷ ls) = record { kind = l.0; end = start + length l.1 } ∷ ends_from (start + length l.1) ls
 
--- the token of a text that begins at an offset, of a kind and an end
+-- the token of a text with a kind, a start and an end
 abbrev pub token_cut : List ℕ → ℕ → TokenEnd → Token
 token_cut text start t = record { kind = t.kind; text = take (t.end - start) (drop start text); start = start; end = t.end }
 
@@ -40,7 +40,7 @@ abbrev pub tokens_cut : List ℕ → ℕ → List TokenEnd → List Token
 tokens_cut text start [] = []
 tokens_cut text start (t ∷ ts) = token_cut text start t ∷ tokens_cut text t.end ts
 
--- where the token of a number begins, if the first begins at an offset
+-- where the token with a number begins, if the first begins at an offset
 abbrev pub start_of : ℕ → ℕ → List TokenEnd → ℕ
 start_of start zero ts = start
 start_of start (suc i) [] = start

@@ -1,4 +1,4 @@
--- The errors that the reader's steps report, and the error nodes that they are of.
+-- The errors that the reader's steps report, and their error nodes.
 use Rattle.std.specs.Prelude.{ℕ, List, [], ◌∷◌}
 use Rattle.rnix_kinds.specs.declared.kinds.SyntaxKind.TheVariants.{NODE_ERROR}
 use Rattle.rnix_grammar.specs.declared.expected_set.ExpectedSet.{ExpectedSet}
@@ -19,7 +19,7 @@ next_run until s = run_of until (items_remaining s)
 abbrev pub error_over : ExpectedSet → State → State
 error_over until s = ended (skipped (next_run until (started NODE_ERROR s)) (started NODE_ERROR s))
 
--- and its error, where others are wanted
+-- its error, where others are wanted
 abbrev pub unwanted_reported : ExpectedSet → State → State
 unwanted_reported until s = failed (report (Unwanted until) (next_run until s)) (error_over until s)
 

@@ -35,11 +35,11 @@ state p = record {
 abbrev pub with_marks : List Mark → State → State
 with_marks ms s = record { rest = s.rest; trees = s.trees; open_nodes = s.open_nodes; faults = s.faults; prev_end = s.prev_end; marks = ms }
 
--- the tokens that are left and are no trivia
+-- the remaining tokens that are not trivia
 abbrev pub items_remaining : State → List Token
 items_remaining s = items s.rest
 
--- this item is the next
+-- this is the next item
 abbrev pub IsNextItem : Token → State → Type 0
 IsNextItem t s = head_of (items_remaining s) ≡ Some t
 
@@ -111,6 +111,6 @@ ended s = closed_on (node_closed record { finished = s.trees; open_nodes = s.ope
 unfoldable pub failed : Fault → State → State
 failed e s = record { rest = s.rest; trees = s.trees; open_nodes = s.open_nodes; faults = s.faults ++ e ∷ []; prev_end = s.prev_end; marks = s.marks }
 
--- something more is open
+-- one more node or operand is open
 unfoldable pub pushed : Mark → State → State
 pushed m s = record { rest = s.rest; trees = s.trees; open_nodes = s.open_nodes; faults = s.faults; prev_end = s.prev_end; marks = s.marks ++ m ∷ [] }
