@@ -47,7 +47,7 @@ fn a_node_in_place_of_another_makes_the_tree_of_the_new_text(rt: HostRuntime) ->
             "[ 1 [ 2 ] ]",
             "[ [ 1 [ 2 ] ] { a = 1; } [ é ] ]",
         ),
-        ("f { a = x; } # end\n", 4, "{ }", "f { } # end\n"),
+        ("f { a = x; } # end\n", 5, "{ }", "f { } # end\n"),
     ];
     for (text, number, part, wanted) in cases {
         let found = is_spliced(rt.alloc(), text, number, part, wanted)?;
