@@ -18,7 +18,7 @@ pub record HasContext (f : Forest) (m : ℕ) : Type 0 where
   pub is : f ≡ filled place kind children
   pub number : elements_before place ≡ m
 
--- something is around each node of a row
+-- something is around each node of a forest
 pub find_context : (i s : ℕ) (p : Option ℕ) (f : Forest) (m : ℕ) → m < element_count f → (at i s p f m).is_node ≡ true → HasContext f m
 find_context i s p empty m l e = absurd (omega arith)
 find_context i s p (leaf k t f) zero l e = absurd (cc)
@@ -47,7 +47,7 @@ find_context i s p (node k c f) (suc m) l e = elim (behind i s p k c f m) as (λ
 pub found : (t : Tree) (m : ℕ) → IsNodeIn t m → HasContext (forest_of t) m
 found t m h = find_context 0 0 None (forest_of t) m (omega (arith, h.is_there, elements_in_all t)) h.is_node
 
--- the number of the parent of a node, in a row whose first element has the number i and the parent p
+-- the number of the parent of a node, in a forest whose first element has the number i and the parent p
 abbrev pub parent_around : ℕ → Option ℕ → Context → Option ℕ
 parent_around i p (here f) = p
 parent_around i p (behind_leaf j t x) = parent_around (i + 1) p x
@@ -70,7 +70,7 @@ pub record IsPlaced (i s : ℕ) (p : Option ℕ) (x : Context) (k : SyntaxKind) 
   pub parent : shown.parent ≡ parent_around i p x
   pub below : shown.below ≡ element_count c
 
--- where a node is in a row
+-- where a node is in a forest
 pub placed_in : (i s : ℕ) (p : Option ℕ) (x : Context) (k : SyntaxKind) (c : Forest) → IsPlaced i s p x k c (at i s p (filled x k c) (elements_before x))
 placed_in i s p (here f) k c = record { kind = refl; is_node = refl; start = omega arith; end = omega arith; parent = refl; below = refl }
 placed_in i s p (behind_leaf j t x) k c =

@@ -17,5 +17,5 @@ pub mod StartLemmas
 pub mod ElementLemmas
 pub mod FirstFromLemmas
 pub mod ContextLemmas
-pub mod SplicedRows
+pub mod SplicedForests
 pub mod SpliceLemmas

@@ -14,10 +14,10 @@ use Rattle.rnix_green.specs.SplicedElements.{resized, shifted, shift_inside, shi
 use Rattle.rnix_green.proofs.KeptLemmas.{tree_from_kept, kept as kept_again}
 use Rattle.rnix_green.proofs.InsideLemmas.{elements_in_all}
 use Rattle.rnix_green.proofs.ContextLemmas.{found, parent_around, IsPlaced, placed, text_filled, length_filled, characters_filled, count_filled, count_around}
-use Rattle.rnix_green.proofs.SplicedRows.{kept_node, length-kept_from, kept_before, kept_behind, length-kept_before, kept_filled, moves_number, shifted_row}
-use Rattle.rnix_green.proofs.SplicedRows.{shifted_behind, resized_before}
+use Rattle.rnix_green.proofs.SplicedForests.{kept_node, length-kept_from, kept_before, kept_behind, length-kept_before, kept_filled, moves_number, shifted_forest}
+use Rattle.rnix_green.proofs.SplicedForests.{shifted_behind, resized_before}
 
--- a row without elements has no trees
+-- a forest without elements has no trees
 no_trees : (f : Forest) → element_count f ≡ 0 → f ≡ empty
 no_trees empty e = refl
 no_trees (leaf k t f) e = absurd (omega arith)
@@ -123,7 +123,7 @@ module _ (x : Context) (k j : SyntaxKind) (c d : Forest) (es own : List Packed) 
   new_inside =
       let w = shift_inside n i.start in
       ap (map (shifted w)) inner
-      ∙ shifted_row w 2 (n + 1) 0 i.start (Some 1) (Some n) d (omega arith) (omega arith) (omega arith) (omega arith)
+      ∙ shifted_forest w 2 (n + 1) 0 i.start (Some 1) (Some n) d (omega arith) (omega arith) (omega arith) (omega arith)
       (moves_number w 1 n (omega arith) (omega arith)) (omega arith) (omega arith) (omega arith)
 
   new_last : map (shifted (shift_behind n i (suc (length own)) len)) (drop (n + suc i.below) es) ≡ kept_behind 0 0 None x j d

@@ -27,7 +27,7 @@ kept_node n s p k c f =
 pub length-kept_from : (n s : ℕ) (p : Option ℕ) (f : Forest) → length (kept_from n s p f) ≡ element_count f
 length-kept_from n s p f = length-map (items_from n s p f) kept_of ∙ length-items_from n s p f
 
--- what is kept of the elements before a node, in a row whose first element has the number i, the start s and the parent p
+-- what is kept of the elements before a node, in a forest whose first element has the number i, the start s and the parent p
 abbrev pub kept_before : ℕ → ℕ → Option ℕ → Context → SyntaxKind → Forest → List Packed
 kept_before i s p (here f) k c = []
 kept_before i s p (behind_leaf j t x) k c = packed j s (parent_or_root p) 0 ∷ kept_before (i + 1) (s + length t) p x k c
@@ -111,31 +111,31 @@ shifted_one w k s o p q z l e g ls lp lz =
     let size : word_of z ≡ z = packed_again z lz in
     λ i. packed k (start i) (parent i) (size i)
 
--- a row at another place
-pub shifted_row : (w : Shift) (n m s o : ℕ) (p q : Option ℕ) (f : Forest) → w.number ≤ n → m + w.number ≡ n + w.new_number → w.start ≤ s
+-- a forest at another place
+pub shifted_forest : (w : Shift) (n m s o : ℕ) (p q : Option ℕ) (f : Forest) → w.number ≤ n → m + w.number ≡ n + w.new_number → w.start ≤ s
     → o + w.start ≡ s + w.new_start
     → shifted_number w (parent_or_root p) ≡ parent_or_root q
     → parent_or_root p < limit
     → n + element_count f < limit
     → s + length (text_of f) < limit
     → map (shifted w) (kept_from n s p f) ≡ kept_from m o q f
-shifted_row w n m s o p q empty ln en ls es e lp few short = refl
-shifted_row w n m s o p q (leaf k t f) ln en ls es e lp few short =
+shifted_forest w n m s o p q empty ln en ls es e lp few short = refl
+shifted_forest w n m s o p q (leaf k t f) ln en ls es e lp few short =
     let size = length-append t (text_of f) in
     let one = shifted_one w k s o (parent_or_root p) (parent_or_root q) 0 ls es e (omega (arith, size)) lp (omega arith) in
     let more =
-    shifted_row w (n + 1) (m + 1) (s + length t) (o + length t) p q f (omega arith) (omega arith) (omega arith) (omega arith) e lp (omega arith)
+    shifted_forest w (n + 1) (m + 1) (s + length t) (o + length t) p q f (omega arith) (omega arith) (omega arith) (omega arith) e lp (omega arith)
     (omega (arith, size)) in
     λ i. one i ∷ more i
-shifted_row w n m s o p q (node k c f) ln en ls es e lp few short =
+shifted_forest w n m s o p q (node k c f) ln en ls es e lp few short =
     let size = length-append (text_of c) (text_of f) in
     let one =
     shifted_one w k s o (parent_or_root p) (parent_or_root q) (suc (element_count c)) ls es e (omega (arith, size)) lp (omega arith) in
     let own =
-    shifted_row w (n + 1) (m + 1) s o (Some n) (Some m) c (omega arith) (omega arith) ls es (moves_number w n m ln en) (omega arith) (omega arith)
+    shifted_forest w (n + 1) (m + 1) s o (Some n) (Some m) c (omega arith) (omega arith) ls es (moves_number w n m ln en) (omega arith) (omega arith)
     (omega (arith, size)) in
     let more =
-    shifted_row w (n + 1 + element_count c) (m + 1 + element_count c) (s + length (text_of c)) (o + length (text_of c)) p q f (omega arith) (omega arith)
+    shifted_forest w (n + 1 + element_count c) (m + 1 + element_count c) (s + length (text_of c)) (o + length (text_of c)) p q f (omega arith) (omega arith)
     (omega arith) (omega arith) e lp (omega arith) (omega (arith, size)) in
     ap (map (shifted w)) (kept_node n s p k c f)
     ∙ ap (λ z. shifted w (packed k s (parent_or_root p) (suc (element_count c))) ∷ z)
@@ -150,7 +150,7 @@ pub shifted_behind : (w : Shift) (i s : ℕ) (p : Option ℕ) (x : Context) (k j
     parent_or_root p < w.number → i + element_count (filled x k c) < limit → s + length (text_of (filled x k c)) < limit →
     map (shifted w) (kept_behind i s p x k c) ≡ kept_behind i s p x j d
 shifted_behind w i s p (here f) k j c d en em es eo lp few short =
-    shifted_row w (i + 1 + element_count c) (i + 1 + element_count d) (s + length (text_of c)) (s + length (text_of d)) p p f (omega arith) (omega arith)
+    shifted_forest w (i + 1 + element_count c) (i + 1 + element_count d) (s + length (text_of c)) (s + length (text_of d)) p p f (omega arith) (omega arith)
     (omega arith) (omega arith) (stays_number w (parent_or_root p) lp) (omega arith) (omega arith) (omega (arith, length-append (text_of c) (text_of f)))
 shifted_behind w i s p (behind_leaf a t x) k j c d en em es eo lp few short =
     let before = length-append t (text_before x) in
@@ -166,7 +166,7 @@ shifted_behind w i s p (inside a x f) k j c d en em es eo lp few short =
     let own =
     shifted_behind w (i + 1) s (Some i) x k j c d (omega arith) (omega arith) es eo (omega arith) (omega arith) (omega (arith, size)) in
     let more =
-    shifted_row w (i + 1 + element_count (filled x k c)) (i + 1 + element_count (filled x j d)) (s + length (text_of (filled x k c)))
+    shifted_forest w (i + 1 + element_count (filled x k c)) (i + 1 + element_count (filled x j d)) (s + length (text_of (filled x k c)))
     (s + length (text_of (filled x j d))) p p f (omega (arith, many)) (omega (arith, count_filled x k j c d)) (omega (arith, length_filled x k c))
     (omega (arith, length_filled x k c, length_filled x j d)) (stays_number w (parent_or_root p) lp) (omega (arith, many)) (omega arith)
     (omega (arith, size)) in
@@ -178,21 +178,21 @@ shifted_behind w i s p (inside a x f) k j c d en em es eo lp few short =
 stays_at : (m n old new : ℕ) (e : Packed) → m + size_in e ≤ n → resized_at m n old new e ≡ e
 stays_at m n old new e l = ap (λ b. if b then with_size old new e else e) (is_not_below n (m + size_in e) l)
 
--- a row before the node stays
-resized_row : (n old new m o s : ℕ) (p : Option ℕ) (f : Forest) (rest : List Packed) → o ≡ m + element_count f → o ≤ n → element_count f < limit
+-- a forest before the node stays
+resized_forest : (n old new m o s : ℕ) (p : Option ℕ) (f : Forest) (rest : List Packed) → o ≡ m + element_count f → o ≤ n → element_count f < limit
     → resized m n old new (kept_from m s p f ++ rest) ≡ kept_from m s p f ++ resized o n old new rest
-resized_row n old new m o s p empty rest e l few = (let same : m ≡ o = omega arith in ap (λ z. resized z n old new rest) same)
-resized_row n old new m o s p (leaf k t f) rest e l few =
+resized_forest n old new m o s p empty rest e l few = (let same : m ≡ o = omega arith in ap (λ z. resized z n old new rest) same)
+resized_forest n old new m o s p (leaf k t f) rest e l few =
     let one = stays_at m n old new (packed k s (parent_or_root p) 0) (omega (arith, packed_again 0 (omega arith))) in
-    let more = resized_row n old new (m + 1) o (s + length t) p f rest (omega arith) l (omega arith) in
+    let more = resized_forest n old new (m + 1) o (s + length t) p f rest (omega arith) l (omega arith) in
     λ i. one i ∷ more i
-resized_row n old new m o s p (node k c f) rest e l few =
+resized_forest n old new m o s p (node k c f) rest e l few =
     let first = packed k s (parent_or_root p) (suc (element_count c)) in
     let xs = kept_from (m + 1) s (Some m) c in
     let ys = kept_from (m + 1 + element_count c) (s + length (text_of c)) p f in
     let one = stays_at m n old new first (omega (arith, packed_again (suc (element_count c)) (omega arith))) in
-    let own = resized_row n old new (m + 1) (m + 1 + element_count c) s (Some m) c (ys ++ rest) refl (omega arith) (omega arith) in
-    let more = resized_row n old new (m + 1 + element_count c) o (s + length (text_of c)) p f rest (omega arith) l (omega arith) in
+    let own = resized_forest n old new (m + 1) (m + 1 + element_count c) s (Some m) c (ys ++ rest) refl (omega arith) (omega arith) in
+    let more = resized_forest n old new (m + 1 + element_count c) o (s + length (text_of c)) p f rest (omega arith) l (omega arith) in
     ap (λ z. resized m n old new (z ++ rest)) (kept_node m s p k c f)
     ∙ ap (λ z. resized_at m n old new first ∷ resized (m + 1) n old new z) (append_assoc xs ys rest)
     ∙ (λ i. one i ∷ own i)
@@ -228,7 +228,7 @@ resized_before n i s p (behind_node a b x) k j c d e lp few short =
     let first = packed a s (parent_or_root p) (suc (element_count b)) in
     let one = stays_at i n old new first (omega (arith, packed_again (suc (element_count b)) (omega arith))) in
     let own =
-    resized_row n old new (i + 1) (i + 1 + element_count b) s (Some i) b (kept_before (i + 1 + element_count b) (s + length (text_of b)) p x k c) refl
+    resized_forest n old new (i + 1) (i + 1 + element_count b) s (Some i) b (kept_before (i + 1 + element_count b) (s + length (text_of b)) p x k c) refl
     (omega arith) (omega arith) in
     let more =
     resized_before n (i + 1 + element_count b) (s + length (text_of b)) p x k j c d (omega arith) lp (omega arith)
