@@ -1,12 +1,13 @@
 -- How the entries of a builder make trees.
 use Rattle.std.proofs.Common.{◌≡◌, ℕ, zero, suc, ◌+◌, ◌-◌, ◌≤◌, ◌<◌, List, [], ◌∷◌, ◌++◌, length, take, drop, get_or, map, true, refl, ap, sym, ◌∙◌, arith}
-use Rattle.std.proofs.{Common.{append_assoc, length-append, inl, inr}, lemmas.List.{take_all, take_more, reverse-append, length-map, length-reverse}}
+use Rattle.std.proofs.{Common.{append_assoc, length-append, inl, inr}, lemmas.List.{take_all, take_more, reverse-append, length-map}}
 use Rattle.std.proofs.lemmas.{List.{map-append, take_at, drop_at, append-nil, length_push, length-take-le, get_or_past}, Bool.{cases_lt, and_parts}}
-use Rattle.{std.specs.Str.IsUtf8, rnix_kinds.specs.declared.kinds.SyntaxKind.SyntaxKind, rnix_green.specs.declared.builder.OpenNode.OpenNode as Pending}
+use Rattle.{std.specs.Str.IsUtf8, rnix_kinds.specs.declared.kinds.SyntaxKind.SyntaxKind, rnix_green.specs.declared.entries.{OpenNode.OpenNode as Pending, Entries.Entries}}
 use Rattle.rnix_green.specs.{declared.packed.Packed.Packed, Forest.{Forest, empty, leaf, node, join, tree_count, element_count, first_trees, trees_after}}
-use Rattle.rnix_green.specs.{Forest.{text_of, HasText}, Draft.{Draft, with_leaf, wrapped, closed_over, is_complete_of, is_nothing, is_one_node, wrapped-join}}
+use Rattle.rnix_green.specs.{Forest.{text_of, HasText}, Draft.{Draft, OpenNode, with_leaf, wrapped, leaf_added, leaf_node_added, closed_over, wrapped-join}}
 use Rattle.rnix_green.specs.{Kept.{first_elements, elements_after}, Packed.{limit, packed}, Postorder.{Entry, Leaf, Node, entry_of, entries_of}}
-use Rattle.rnix_green.specs.{Entries.{built_onto, built, wrapped_last, starts_from, open_pairs, IsNested, IsBuilt}, ForestCode.join_empty}
+use Rattle.rnix_green.specs.{Entries.{built_onto, built, wrapped_last, starts_from, open_pairs, draft_of, draft_in, IsNested}, ForestCode.join_empty}
+use Rattle.rnix_green.specs.{Entries.{IsDraft, Holds, AreSame, IsAdded}, Draft.{is_complete_of, is_nothing, is_one_node}}
 use Rattle.rnix_green.proofs.ForestLemmas.{tree_count-join, tree_count-first, element_count-join, text_of-join, join_assoc, join_first_after}
 use Rattle.rnix_green.proofs.PostorderLemmas.{entries_of-join, length-post_of, packed_leaf, packed_node}
 
@@ -57,13 +58,16 @@ built-entries f =
     ap (λ x. built x (entries_of f)) (sym (append-nil (text_of f))) ∙ ap (λ x. built (text_of f ++ []) x) (sym (append-nil (entries_of f)))
     ∙ built_onto-entries empty f [] []
 
--- what a builder keeps makes its trees
-pub built_is : (f : Forest) (text : List ℕ) (es : List Entry) (os : List Pending) (st : List ℕ) → IsBuilt f text es os st → built text es ≡ f
-built_is f text es os st h = rw (h.entries, h.text_is) (built-entries f)
+-- what the entries make of the text is the draft
+pub draft_is : (text : List ℕ) (es : List Packed) (os : List Pending) (st : List ℕ) (d : Draft) → IsDraft text es os st d → draft_of text es os ≡ d
+draft_is text es os st d h =
+    ap (λ (f : Forest). let x : Draft = record { finished = f; open_nodes = open_pairs os } in x) (rw (h.entries, h.text_is) (built-entries d.finished))
+    ∙ ap (λ (ps : List OpenNode). let x : Draft = record { finished = d.finished; open_nodes = ps } in x) (sym h.pending_is)
 
--- and so may stand for them
-pub settled : (f : Forest) (text : List ℕ) (es : List Entry) (os : List Pending) (st : List ℕ) → IsBuilt f text es os st → IsBuilt (built text es) text es os st
-settled f text es os st h = rw (built_is f text es os st h) h
+-- and so may stand for it
+pub settled : (text : List ℕ) (es : List Packed) (os : List Pending) (st : List ℕ) (d : Draft) → IsDraft text es os st d →
+    IsDraft text es os st (draft_of text es os)
+settled text es os st d h = rw (draft_is text es os st d h) h
 
 -- where the trees of two forests begin
 pub starts_from-join : (n : ℕ) (f g : Forest) → starts_from n (join f g) ≡ starts_from n f ++ starts_from (n + element_count f) g
@@ -124,136 +128,136 @@ tree_count-with_leaf k t f = tree_count-join f (leaf k t empty)
 pub tree_count-wrapped : (k : SyntaxKind) (p : ℕ) (f : Forest) → p ≤ tree_count f → tree_count (wrapped k p f) ≡ p + 1
 tree_count-wrapped k p f h = omega (arith, tree_count-join (first_trees p f) (node k (trees_after p f) empty), tree_count-first p f h)
 
--- the last of the open nodes is the innermost
-pub open_pairs-push : (os : List Pending) (o : Pending) → open_pairs (os ++ o ∷ []) ≡ (o.kind, o.first_child) ∷ open_pairs os
-open_pairs-push os o = rw (reverse-append os (o ∷ [])) refl
-
 -- the last node is the innermost
 pub open_pairs-last : (os : List Pending) (n : ℕ) (o : Pending) → n < length os → n + 1 ≡ length os → get_or os n o ≡ o →
     open_pairs os ≡ (o.kind, o.first_child) ∷ open_pairs (take n os)
 open_pairs-last os n o l e is =
     let all : os ≡ take n os ++ o ∷ [] = sym (take_all (n + 1) os (omega arith)) ∙ take_more os n o l ∙ ap (λ x. take n os ++ x ∷ []) is in
-    ap open_pairs all ∙ open_pairs-push (take n os) o
+    ap open_pairs all ∙ (rw (reverse-append (take n os) (o ∷ [])) refl)
 
 -- and so with more trees
 pub IsNested-weaker : (n m : ℕ) (os : List (SyntaxKind × ℕ)) → n ≤ m → IsNested n os → IsNested m os
 IsNested-weaker n m [] l h = tt
 IsNested-weaker n m ((k, p) ∷ os) l h = (omega arith, h.1)
 
--- as many as are open
-pub length-open_pairs : (os : List Pending) → length (open_pairs os) ≡ length os
-length-open_pairs os = simp (length-map, length-reverse)
-
 -- one more element is one more entry
 pub entries_push : (es more : List Packed) (x : Packed) (n : Entry) → more ≡ es ++ x ∷ [] → entry_of x ≡ n → map entry_of more ≡ map entry_of es ++ n ∷ []
 entries_push es more x n e is = ap (map entry_of) e ∙ map-append entry_of es (x ∷ []) ∙ ap (λ y. map entry_of es ++ y ∷ []) is
 
--- a builder with one more tree
-built-tree : (f g : Forest) (text later : List ℕ) (es more : List Entry) (os : List Pending) (st starts : List ℕ) →
-    IsBuilt f text es os st → HasText g → tree_count g ≡ 1 → starts_from (element_count f) g ≡ element_count f ∷ [] →
-    length later < limit → length more < limit → later ≡ text ++ text_of g → more ≡ es ++ entries_of g → starts ≡ st ++ length es ∷ [] →
-    IsBuilt (join f g) later more os starts
-built-tree f g text later es more os st starts h u one first short few le mo sta = record {
-  entries = mo ∙ ap (λ x. x ++ entries_of g) h.entries ∙ sym (entries_of-join f g);
-  text_is = le ∙ ap (λ x. x ++ text_of g) h.text_is ∙ sym (text_of-join f g);
-  characters = HasText-join f g h.characters u;
-  starts_are =
-      let n : length es ≡ element_count f = omega (arith, ap length h.entries, length-post_of f) in
-      let behind : element_count f ≡ 0 + element_count f = omega arith in
-      sta ∙ ap (λ x. x ++ length es ∷ []) h.starts_are ∙ ap (λ m. starts_from 0 f ++ m ∷ []) n ∙ ap (λ x. starts_from 0 f ++ x) (sym first)
-      ∙ ap (λ m. starts_from 0 f ++ starts_from m g) behind ∙ sym (starts_from-join 0 f g);
-  counted = omega (arith, ap length sta, length_push st (length es), h.counted, tree_count-join f g);
-  nested = IsNested-weaker (tree_count f) (tree_count (join f g)) (open_pairs os) (omega (arith, tree_count-join f g)) h.nested;
-  short = short;
-  few = few;
-}
+-- as many entries as the trees have elements
+pub entry_count : (text : List ℕ) (e : Entries) (d : Draft) → Holds text e d → length e.elements.items ≡ element_count d.finished
+entry_count text e d h = sym (length-map e.elements.items entry_of) ∙ ap length h.entries ∙ length-post_of d.finished
 
--- a builder with one more token
-pub built-token : (f : Forest) (text later s : List ℕ) (es more : List Packed) (os : List Pending) (st starts : List ℕ) (k : SyntaxKind) (x : Packed) (n : ℕ) →
-    IsBuilt f text (map entry_of es) os st → IsUtf8 s → length text + length s < limit → length es + 1 < limit → x ≡ packed k (length s) 0 0 → n ≡ length es →
-    later ≡ text ++ s → more ≡ es ++ x ∷ [] → starts ≡ st ++ n ∷ [] → IsBuilt (with_leaf k s f) later (map entry_of more) os starts
-built-token f text later s es more os st starts k x n h u short few is many le mo sta =
-    let entry : entry_of x ≡ Leaf k (length s) = ap entry_of is ∙ packed_leaf k (length s) (omega arith) in
-    let first_child : n ≡ length (map entry_of es) = many ∙ sym (length-map es entry_of) in
-    built-tree f (leaf k s empty) text later (map entry_of es) (map entry_of more) os st starts h (u, tt) refl refl
-    (omega (arith, ap length le, length-append text s)) (omega (arith, length-map more entry_of, ap length mo, length_push es x))
-    (le ∙ ap (λ t. text ++ t) (sym (append-nil s))) (entries_push es more x (Leaf k (length s)) mo entry) (sta ∙ ap (λ m. st ++ m ∷ []) first_child)
+-- entries with one more tree
+held-tree : (g : Forest) (text part : List ℕ) (e later : Entries) (d : Draft) → Holds text e d → HasText g → tree_count g ≡ 1 →
+    starts_from (element_count d.finished) g ≡ element_count d.finished ∷ [] → part ≡ text_of g → length text + length part < limit →
+    length later.elements.items < limit → map entry_of later.elements.items ≡ map entry_of e.elements.items ++ entries_of g →
+    later.starts.items ≡ e.starts.items ++ length e.elements.items ∷ [] → later.pending.items ≡ e.pending.items →
+    Holds (text ++ part) later record { finished = join d.finished g; open_nodes = d.open_nodes }
+held-tree g text part e later d h u one first le short few mo sta same =
+    let f = d.finished in
+    record {
+      entries = mo ∙ ap (λ x. x ++ entries_of g) h.entries ∙ sym (entries_of-join f g);
+      text_is = ap (λ x. text ++ x) le ∙ ap (λ x. x ++ text_of g) h.text_is ∙ sym (text_of-join f g);
+      characters = HasText-join f g h.characters u;
+      starts_are =
+          let behind : element_count f ≡ 0 + element_count f = omega arith in
+          sta ∙ ap (λ x. x ++ length e.elements.items ∷ []) h.starts_are ∙ ap (λ m. starts_from 0 f ++ m ∷ []) (entry_count text e d h)
+          ∙ ap (λ x. starts_from 0 f ++ x) (sym first) ∙ ap (λ m. starts_from 0 f ++ starts_from m g) behind ∙ sym (starts_from-join 0 f g);
+      counted = omega (arith, ap length sta, length_push e.starts.items (length e.elements.items), h.counted, tree_count-join f g);
+      pending_is = h.pending_is ∙ ap open_pairs (sym same);
+      nested = IsNested-weaker (tree_count f) (tree_count (join f g)) d.open_nodes (omega (arith, tree_count-join f g)) h.nested;
+      short = omega (arith, length-append text part);
+      few = few;
+    }
 
--- a builder with one more node, over one token
-pub built-leaf_node : (f : Forest) (text later s : List ℕ) (es both more : List Packed) (os : List Pending) (st starts : List ℕ) (i k : SyntaxKind)
-    (x y : Packed)
-    (n : ℕ) → IsBuilt f text (map entry_of es) os st → IsUtf8 s → length text + length s < limit → length es + 2 < limit → x ≡ packed k (length s) 0 0 →
-    y ≡ packed i 0 0 2 → n ≡ length es → later ≡ text ++ s → both ≡ es ++ x ∷ [] → more ≡ both ++ y ∷ [] → starts ≡ st ++ n ∷ [] →
-    IsBuilt (wrapped i (tree_count f) (with_leaf k s f)) later (map entry_of more) os starts
-built-leaf_node f text later s es both more os st starts i k x y n h u short few is node_is many le bo mo sta =
-    let g = node i (leaf k s empty) empty in
-    let token : entry_of x ≡ Leaf k (length s) = ap entry_of is ∙ packed_leaf k (length s) (omega arith) in
-    let over : entry_of y ≡ Node i 1 = ap entry_of node_is ∙ packed_node i 1 (omega arith) in
-    let first_child : n ≡ length (map entry_of es) = many ∙ sym (length-map es entry_of) in
-    let entries : map entry_of more ≡ map entry_of es ++ (Leaf k (length s) ∷ (Node i 1 ∷ [])) =
-    entries_push both more y (Node i 1) mo over ∙ ap (λ z. z ++ Node i 1 ∷ []) (entries_push es both x (Leaf k (length s)) bo token)
-    ∙ append_assoc (map entry_of es) (Leaf k (length s) ∷ []) (Node i 1 ∷ []) in
-    let texts : s ≡ (s ++ []) ++ [] = sym (append-nil s) ∙ sym (append-nil (s ++ [])) in
-    rw (wrapped-join i f (leaf k s empty))
-    (built-tree f g text later (map entry_of es) (map entry_of more) os st starts h ((u, tt), tt) refl refl
-    (omega (arith, ap length le, length-append text s))
-    (omega (arith, length-map more entry_of, ap length mo, length_push both y, ap length bo, length_push es x))
-    (le ∙ ap (λ t. text ++ t) texts) entries (sta ∙ ap (λ m. st ++ m ∷ []) first_child))
+-- one more token
+pub held-token : (k : SyntaxKind) (e later : Entries) → length e.elements.items + 1 < limit → later.pending.items ≡ e.pending.items →
+    later.starts.items ≡ e.starts.items ++ length e.elements.items ∷ [] → (len : ℕ) → later.elements.items ≡ e.elements.items ++ packed k len 0 0 ∷ [] →
+    IsAdded e later len (leaf_added k)
+held-token k e later few same sta len mo text part d h u is short =
+    let entry : entry_of (packed k len 0 0) ≡ Leaf k (length part) = packed_leaf k len (omega arith) ∙ ap (Leaf k) (sym is) in
+    held-tree (leaf k part empty) text part e later d h (u, tt) refl refl (sym (append-nil part)) (omega arith)
+    (omega (arith, ap length mo, length_push e.elements.items (packed k len 0 0))) (entries_push e.elements.items later.elements.items _ _ mo entry) sta same
 
--- the innermost open node, the last of the list
-pub innermost : (f : Forest) (text : List ℕ) (es : List Entry) (os : List Pending) (st : List ℕ) (j : ℕ) (o : Pending) → IsBuilt f text es os st →
-    j + 1 ≡ length os → o ≡ get_or os j o → IsNested (tree_count f) ((o.kind, o.first_child) ∷ open_pairs (take j os))
-innermost f text es os st j o h e is = rw (open_pairs-last os j o (omega arith) e (sym is)) at h.nested
+-- one more node, over one token
+pub held-leaf_node : (i k : SyntaxKind) (e later : Entries) (both : List Packed) → length e.elements.items + 2 < limit → later.pending.items ≡ e.pending.items →
+    later.starts.items ≡ e.starts.items ++ length e.elements.items ∷ [] → (len : ℕ) → both ≡ e.elements.items ++ packed k len 0 0 ∷ [] →
+    later.elements.items ≡ both ++ packed i 0 0 2 ∷ [] → IsAdded e later len (leaf_node_added i k)
+held-leaf_node i k e later both few same sta len bo mo text part d h u is short =
+    let es = e.elements.items in
+    let token : entry_of (packed k len 0 0) ≡ Leaf k (length part) = packed_leaf k len (omega arith) ∙ ap (Leaf k) (sym is) in
+    let entries : map entry_of later.elements.items ≡ map entry_of es ++ (Leaf k (length part) ∷ (Node i 1 ∷ [])) =
+    entries_push both later.elements.items _ _ mo (packed_node i 1 (omega arith)) ∙ ap (λ z. z ++ Node i 1 ∷ []) (entries_push es both _ _ bo token)
+    ∙ append_assoc (map entry_of es) (Leaf k (length part) ∷ []) (Node i 1 ∷ []) in
+    let text_is : part ≡ (part ++ []) ++ [] = sym (append-nil part) ∙ sym (append-nil (part ++ [])) in
+    rw (wrapped-join i d.finished (leaf k part empty))
+    (held-tree (node i (leaf k part empty) empty) text part e later d h ((u, tt), tt) refl refl text_is (omega arith)
+    (omega (arith, ap length mo, length_push both (packed i 0 0 2), ap length bo, length_push es (packed k len 0 0))) entries sta same)
 
--- where the first entry of the trees from a place on stands
-pub first_entry : (f : Forest) (text : List ℕ) (es : List Entry) (os : List Pending) (st : List ℕ) (p : ℕ) → IsBuilt f text es os st →
-    get_or st p (length es) ≡ element_count (first_trees p f)
-first_entry f text es os st p h =
-    elim (cases_lt p (length st)) [
+-- a tree is added to the draft that the entries make, after room was made for it
+pub held-added : (text part whole : List ℕ) (e mid later : Entries) (added : List ℕ → Draft → Draft) → Holds text e (draft_in text e) → AreSame e mid →
+    IsAdded mid later (length part) added → IsUtf8 part → length text + length part < limit → whole ≡ text ++ part →
+    Holds whole later (draft_in whole later) × (draft_in whole later ≡ added part (draft_in text e))
+held-added text part whole e mid later added h same a u short w =
+    let before : IsDraft text mid.elements.items mid.pending.items mid.starts.items (draft_in text e) = rw (same.0, same.1, same.2) h in
+    let after : Holds whole later (added part (draft_in text e)) = rw w (a text part (draft_in text e) before u refl short) in
+    (settled _ _ _ _ _ after, draft_is _ _ _ _ _ after)
+
+-- where the first entry of the trees from a place on is
+pub first_entry : (text : List ℕ) (e : Entries) (d : Draft) (p : ℕ) → Holds text e d →
+    get_or e.starts.items p (length e.elements.items) ≡ element_count (first_trees p d.finished)
+first_entry text e d p h =
+    let end = length e.elements.items in
+    elim (cases_lt p (length e.starts.items)) [
       | inl l ↦
-          let in_range : p < tree_count f = omega (arith, h.counted) in
-          ap (λ x. get_or x p (length es)) h.starts_are ∙ start_at 0 f p (length es) in_range ∙ (omega arith)
+          let in_range : p < tree_count d.finished = omega (arith, h.counted) in
+          ap (λ x. get_or x p end) h.starts_are ∙ start_at 0 d.finished p end in_range ∙ (omega arith)
       | inr l ↦
-          let in_range : tree_count f ≤ p = omega (arith, h.counted) in
-          get_or_past st p (length es) l ∙ ap length h.entries ∙ length-post_of f ∙ ap element_count (sym (first_trees_all p f in_range))
+          let in_range : tree_count d.finished ≤ p = omega (arith, h.counted) in
+          get_or_past e.starts.items p end l ∙ entry_count text e d h ∙ ap element_count (sym (first_trees_all p d.finished in_range))
     ]
 
 -- no open node begins after the entries
-pub first_entry_le : (f : Forest) (text : List ℕ) (es : List Entry) (os : List Pending) (st : List ℕ) (p : ℕ) → IsBuilt f text es os st →
-    get_or st p (length es) ≤ length es
-first_entry_le f text es os st p h =
+pub first_entry_le : (text : List ℕ) (e : Entries) (d : Draft) (p : ℕ) → Holds text e d →
+    get_or e.starts.items p (length e.elements.items) ≤ length e.elements.items
+first_entry_le text e d p h =
     omega (
       arith,
-      first_entry f text es os st p h,
-      ap length h.entries,
-      length-post_of f,
-      element_count-join (first_trees p f) (trees_after p f),
-      ap element_count (join_first_after p f),
+      first_entry text e d p h,
+      entry_count text e d h,
+      element_count-join (first_trees p d.finished) (trees_after p d.finished),
+      ap element_count (join_first_after p d.finished),
     )
 
--- a builder whose innermost node is closed
-pub built-closed : (f : Forest) (text : List ℕ) (es more : List Packed) (os outer : List Pending) (st starts : List ℕ) (j first : ℕ) (o : Pending) (x : Packed)
-    →
-    IsBuilt f text (map entry_of es) os st → length es + 1 < limit → j + 1 ≡ length os → o ≡ get_or os j o
-    → first ≡ element_count (first_trees o.first_child f) →
-    x ≡ packed o.kind 0 0 (length es - first + 1) → more ≡ es ++ x ∷ [] → outer ≡ take j os → starts ≡ take o.first_child st ++ first ∷ [] →
-    IsBuilt (wrapped o.kind o.first_child f) text (map entry_of more) outer starts
-built-closed f text packs more os outer st starts j first o x h room e is fi new pushed ou sta =
-    let es = map entry_of packs in
-    let many : length es ≡ length packs = length-map packs entry_of in
-    let size : length packs - first + 1 ≡ suc (length es - first) = omega arith in
-    let entry : entry_of x ≡ Node o.kind (length es - first) =
-    ap entry_of (new ∙ ap (packed o.kind 0 0) size) ∙ packed_node o.kind (length es - first) (omega arith) in
-    let mo : map entry_of more ≡ es ++ Node o.kind (length es - first) ∷ [] = entries_push packs more x _ pushed entry in
-    let i : IsNested (tree_count f) ((o.kind, o.first_child) ∷ open_pairs (take j os)) = innermost f text es os st j o h e is in
+-- the innermost node is closed
+pub held-closed : (text : List ℕ) (e later : Entries) (d : Draft) (j : ℕ) (o : Pending) → Holds text e d →
+    let first = get_or e.starts.items o.first_child (length e.elements.items) in
+    length e.elements.items + 1 < limit → j + 1 ≡ length e.pending.items → o ≡ get_or e.pending.items j o →
+    later.elements.items ≡ e.elements.items ++ packed o.kind 0 0 (length e.elements.items - first + 1) ∷ [] → later.pending.items ≡ take j e.pending.items →
+    later.starts.items ≡ take o.first_child e.starts.items ++ first ∷ [] → Holds text later (closed_over d.finished d.open_nodes)
+held-closed text e later d j o h room en is pushed ou sta =
+    let f = d.finished in
+    let es = map entry_of e.elements.items in
+    let first = get_or e.starts.items o.first_child (length e.elements.items) in
+    let below = length e.elements.items - first in
     let a = first_trees o.first_child f in
     let b = trees_after o.first_child f in
+    let size : below + 1 ≡ suc below = omega arith in
+    let entry : entry_of (packed o.kind 0 0 (below + 1)) ≡ Node o.kind below = ap (λ n. entry_of (packed o.kind 0 0 n)) size
+    ∙ packed_node o.kind below (omega arith) in
+    let mo : map entry_of later.elements.items ≡ es ++ Node o.kind below ∷ [] = entries_push e.elements.items later.elements.items _ _ pushed entry in
+    let opened : d.open_nodes ≡ (o.kind, o.first_child) ∷ open_pairs later.pending.items =
+    h.pending_is ∙ open_pairs-last e.pending.items j o (omega arith) en (sym is) ∙ ap (λ os. (o.kind, o.first_child) ∷ open_pairs os) (sym ou) in
+    let i : IsNested (tree_count f) ((o.kind, o.first_child) ∷ open_pairs later.pending.items) = rw opened at h.nested in
     let whole : join a b ≡ f = join_first_after o.first_child f in
     let count : element_count a + element_count b ≡ element_count f = sym (element_count-join a b) ∙ ap element_count whole in
-    let below : length es - first ≡ element_count b = omega (arith, ap length h.entries, length-post_of f) in
+    let fi : first ≡ element_count a = first_entry text e d o.first_child h in
+    let inside : below ≡ element_count b = omega (arith, entry_count text e d h) in
+    rw opened
     record {
       entries =
-          mo ∙ ap (λ n. es ++ Node o.kind n ∷ []) below ∙ ap (λ x. x ++ Node o.kind (element_count b) ∷ [])
+          mo ∙ ap (λ n. es ++ Node o.kind n ∷ []) inside ∙ ap (λ x. x ++ Node o.kind (element_count b) ∷ [])
           (h.entries ∙ ap entries_of (sym whole) ∙ entries_of-join a b)
           ∙ append_assoc (entries_of a) (entries_of b) (Node o.kind (element_count b) ∷ []) ∙ sym (entries_of-join a (node o.kind b empty));
       text_is =
@@ -268,22 +272,18 @@ built-closed f text packs more os outer st starts j first o x h room e is fi new
           omega (
             arith,
             ap length sta,
-            length_push (take o.first_child st) first,
-            length-take-le o.first_child st (omega (arith, h.counted, i.0)),
+            length_push (take o.first_child e.starts.items) first,
+            length-take-le o.first_child e.starts.items (omega (arith, h.counted, i.0)),
             tree_count-wrapped o.kind o.first_child f i.0,
           );
+      pending_is = refl;
       nested =
-          rw ou (IsNested-weaker o.first_child (tree_count (wrapped o.kind o.first_child f)) (open_pairs (take j os))
-          (omega (arith, tree_count-wrapped o.kind o.first_child f i.0)) i.1);
+          IsNested-weaker o.first_child (tree_count (wrapped o.kind o.first_child f)) (open_pairs later.pending.items)
+          (omega (arith, tree_count-wrapped o.kind o.first_child f i.0)) i.1;
       short = h.short;
-      few = omega (arith, ap length mo, length_push es (Node o.kind (length es - first)));
+      few = omega (arith, ap length pushed, length_push e.elements.items (packed o.kind 0 0 (below + 1)));
     }
 
 -- a builder that is complete
 pub complete-parts : (d : Draft) → is_complete_of d ≡ true → (is_nothing d.open_nodes ≡ true) × (is_one_node d.finished ≡ true)
 complete-parts d h = and_parts (is_nothing d.open_nodes) (is_one_node d.finished) h
-
--- the innermost open node is closed, as a draft
-pub closed_view : (f later : Forest) (os outer : List Pending) (j : ℕ) (o : Pending) → j + 1 ≡ length os → o ≡ get_or os j o → outer ≡ take j os →
-    later ≡ wrapped o.kind o.first_child f → closed_over f (open_pairs os) ≡ record { finished = later; open_nodes = open_pairs outer }
-closed_view f later os outer j o e is ou la = rw (la, ou, open_pairs-last os j o (omega arith) e (sym is)) refl

@@ -1,12 +1,12 @@
 -- A tree can be rebuilt from its elements and its text.
 use Rattle.std.proofs.Common.{◌≡◌, ℕ, zero, suc, ◌+◌, ◌-◌, ◌<◌, List, [], ◌∷◌, ◌++◌, length, take, drop, Option, Some, None, true, map, refl, ap, sym, subst}
 use Rattle.std.proofs.{Common.{◌∙◌, arith, length-append, append_assoc}, lemmas.List.{take_at, drop_at, append-nil, drop-drop, map-append, length-map}}
-use Rattle.{std.specs.Prelude.slice_get, rnix_green.specs.{declared.{packed.Packed.Packed, builder.OpenNode.OpenNode as Pending}, Forest.{Forest, empty, leaf}}}
+use Rattle.{std.specs.Prelude.slice_get, rnix_green.specs.{declared.{packed.Packed.Packed, entries.{Entries.Entries, OpenNode.OpenNode as Pending}}, Forest.{Forest, empty, leaf}}}
 use Rattle.rnix_green.specs.{Forest.{node, join, element_count, tree_count, text_of}, Packed.{limit, word_of, packed, len_or_start_in}, Kept.{parent_or_root, kept_of}}
 use Rattle.rnix_green.specs.{Kept.{kept_from, first_elements, elements_after, tree_before, start_of_first, forest_from, as_tree, tree_from, IsKept}, Tree.Tree}
-use Rattle.rnix_green.specs.{Tree.{items_from, items_of, forest_of}, Draft.{is_one_node, is_complete_of}, Postorder.{Entry, Node, entries_of}, Entries.IsBuilt}
-use Rattle.rnix_green.specs.{Entries.{IsBuilder, made, open_pairs, is_node_last, is_node_entry}, ForestCode.join_empty}
-use Rattle.rnix_green.proofs.{EntriesLemmas.{first_elements-join, elements_after-join}, PackedLemmas.packed_again, PostorderLemmas.length-post_of}
+use Rattle.rnix_green.specs.{Tree.{items_from, items_of, forest_of}, Draft.{Draft, OpenNode, is_one_node, is_complete_of}, Postorder.{Entry, Node, entry_of, entries_of}}
+use Rattle.rnix_green.specs.{Entries.{Holds, IsDraft, draft_in, made, is_node_last, is_node_entry}, ForestCode.join_empty}
+use Rattle.rnix_green.proofs.{EntriesLemmas.{first_elements-join, elements_after-join, entry_count, complete-parts}, PackedLemmas.packed_again}
 use Rattle.rnix_green.proofs.PieceLemmas.{length-items_from}
 
 -- the first element of a forest starts where the forest does, or where what follows does
@@ -89,35 +89,36 @@ one_node (node k c (leaf j t f)) h = cc
 one_node (node k c (node j d f)) h = cc
 
 -- the elements of a finished tree, beside the builder's text
-pub finished_kept : (f : Forest) (text : List ℕ) (es : List Entry) (os : List Pending) (st : List ℕ) (elements : List Packed) → IsBuilt f text es os st →
-    is_one_node f ≡ true → elements ≡ kept_from 0 0 None f → IsKept (as_tree f) elements text
-finished_kept empty text es os st elements h o e = absurd (cc)
-finished_kept (leaf k t f) text es os st elements h o e = absurd (cc)
-finished_kept (node k c empty) text es os st elements h o e =
+finished_kept : (text : List ℕ) (e : Entries) (f : Forest) (os : List OpenNode) (elements : List Packed) →
+    Holds text e record { finished = f; open_nodes = os } → is_one_node f ≡ true → elements ≡ kept_from 0 0 None f → IsKept (as_tree f) elements text
+finished_kept text e empty os elements h o is = absurd (cc)
+finished_kept text e (leaf k t f) os elements h o is = absurd (cc)
+finished_kept text e (node k c empty) os elements h o is =
     let f = node k c empty in
-    let many : length elements ≡ element_count f = ap length e ∙ length-map (items_from 0 0 None f) kept_of ∙ length-items_from 0 0 None f in
+    let many : length elements ≡ element_count f = ap length is ∙ length-map (items_from 0 0 None f) kept_of ∙ length-items_from 0 0 None f in
     record {
-      elements = e;
+      elements = is;
       text_is = h.text_is;
       characters = h.characters;
       short = h.short;
-      few = omega (arith, many, h.few, ap length h.entries, length-post_of f);
+      few = omega (arith, many, h.few, entry_count text e _ h);
     }
-finished_kept (node k c (leaf j t f)) text es os st elements h o e = absurd (cc)
-finished_kept (node k c (node j d f)) text es os st elements h o e = absurd (cc)
+finished_kept text e (node k c (leaf j t f)) os elements h o is = absurd (cc)
+finished_kept text e (node k c (node j d f)) os elements h o is = absurd (cc)
 
 -- and so beside a copy of the text
-pub copied_kept : (text cut copy : List ℕ) (entries : List Packed) (os : List Pending) (st : List ℕ) (elements : List Packed) → IsBuilder text entries os st →
-    is_one_node (made text entries) ≡ true → cut ≡ text → copy ≡ cut → elements ≡ kept_from 0 0 None (made cut entries)
-    → IsKept (as_tree (made text entries)) elements copy
-copied_kept text cut copy entries os st elements h o c p e =
-    subst (IsKept (as_tree (made text entries)) elements) (sym (p ∙ c))
-    (finished_kept _ text _ os st elements h o (e ∙ ap (λ t. kept_from 0 0 None (made t entries)) c))
+pub copied_kept : (text cut copy : List ℕ) (e : Entries) (elements : List Packed) → Holds text e (draft_in text e) →
+    is_complete_of (draft_in text e) ≡ true → cut ≡ text → copy ≡ cut → elements ≡ kept_from 0 0 None (made cut e.elements.items)
+    → IsKept (as_tree (made text e.elements.items)) elements copy
+copied_kept text cut copy e elements h o c p is =
+    subst (IsKept (as_tree (made text e.elements.items)) elements) (sym (p ∙ c))
+    (finished_kept text e _ _ elements h (complete-parts (draft_in text e) o).1 (is ∙ ap (λ t. kept_from 0 0 None (made t e.elements.items)) c))
 
--- the stored elements of a forest of one node represent it
-pub finished_is : (f : Forest) (text : List ℕ) (elements : List Packed) (t : Tree) → is_one_node f ≡ true → IsKept (as_tree f) elements text →
-    t ≡ tree_from elements text → forest_of t ≡ f
-finished_is f text elements t o h e = ap forest_of (e ∙ tree_from_kept (as_tree f) elements text h) ∙ one_node f o
+-- the stored elements of a complete builder represent its tree
+pub finished_is : (text copy : List ℕ) (e : Entries) (elements : List Packed) (t : Tree) → is_complete_of (draft_in text e) ≡ true →
+    IsKept (as_tree (made text e.elements.items)) elements copy → t ≡ tree_from elements copy → forest_of t ≡ made text e.elements.items
+finished_is text copy e elements t o h is =
+    ap forest_of (is ∙ tree_from_kept (as_tree (made text e.elements.items)) elements copy h) ∙ one_node _ (complete-parts (draft_in text e) o).1
 
 last_get : (es : List Entry) (x : Entry) (n : ℕ) → n ≡ length es → slice_get (es ++ x ∷ []) n ≡ Some x
 last_get [] x zero h = refl
@@ -136,8 +137,10 @@ one_node_test (node k c empty) h = ap is_node_entry
 one_node_test (node k c (leaf j u f)) h = absurd (omega arith)
 one_node_test (node k c (node j d f)) h = absurd (omega arith)
 
--- a builder is complete if no node is open and it has exactly one tree, a node
-pub complete_is : (f : Forest) (text : List ℕ) (es : List Entry) (os : List Pending) (st : List ℕ) → IsBuilt f text es os st → length os ≡ 0 → length st ≡ 1 →
-    is_node_last es ≡ is_complete_of record { finished = f; open_nodes = open_pairs os }
-complete_is f text es [] st h o s = ap is_node_last h.entries ∙ sym (one_node_test f (sym h.counted ∙ s))
-complete_is f text es (p ∷ os) st h o s = absurd (omega arith)
+-- a builder is complete if no node is open, and one tree is there, a node
+pub complete_is : (text : List ℕ) (es : List Packed) (os : List Pending) (st : List ℕ) (d : Draft) → IsDraft text es os st d → length os ≡ 0 → length st ≡ 1 →
+    is_node_last (map entry_of es) ≡ is_complete_of d
+complete_is text es [] st d h o s =
+    ap is_node_last h.entries ∙ sym (one_node_test d.finished (sym h.counted ∙ s))
+    ∙ ap (λ (ps : List OpenNode). is_complete_of record { finished = d.finished; open_nodes = ps }) (sym h.pending_is)
+complete_is text es (p ∷ os) st d h o s = absurd (omega arith)

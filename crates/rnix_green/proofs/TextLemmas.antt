@@ -1,6 +1,8 @@
 -- How a text is taken part by part.
-use Rattle.std.proofs.{Common.{◌≡◌, ℕ, ◌+◌, ◌-◌, ◌≤◌, List, ◌++◌, length, take, drop, ap, sym, ◌∙◌, arith, length-append}, lemmas.List.take-append-drop}
-use Rattle.std.{proofs.lemmas.List.{take-append-le, drop-take, drop-drop, length-take-le, length-drop}, specs.Prelude.slice_range}
+use Rattle.std.proofs.{Common.{◌≡◌, ℕ, ◌+◌, ◌-◌, ◌≤◌, ◌<◌, List, ◌++◌, length, take, drop, ap, sym, ◌∙◌, arith, length-append}, lemmas.List.take-append-drop}
+use Rattle.std.{proofs.lemmas.List.{take-append-le, drop-take, drop-drop, length-take-le, length-drop}, specs.{Prelude.slice_range, Str.IsUtf8}}
+use Rattle.rnix_green.{specs.{declared.entries.Entries.Entries, Draft.{Draft, TextDraft, taken}, Packed.limit}, proofs.EntriesLemmas.held-added}
+use Rattle.rnix_green.specs.Entries.{draft_in, text_draft_of, IsTextBuilder, AreSame, IsAdded}
 
 -- a text is no shorter than what it begins with
 pub begins_short : (part remaining : List ℕ) → take (length part) remaining ≡ part → length part ≤ length remaining
@@ -34,3 +36,17 @@ remaining_more text part m = sym (drop-drop (length part) m text)
 -- the part of a text from its start on
 pub first_range : (text : List ℕ) (n : ℕ) → slice_range text 0 n ≡ take n text
 first_range text n = let all : n - 0 ≡ n = omega arith in ap (λ m. take m text) all
+
+-- a tree takes the next part of the text
+pub text-added : (text part : List ℕ) (m : ℕ) (e mid later : Entries) (added : List ℕ → Draft → Draft) → IsTextBuilder text m e →
+    take (length part) (drop m text) ≡ part → AreSame e mid → IsAdded mid later (length part) added → IsUtf8 part →
+    let n = m + length part in
+    IsTextBuilder text n later × (text_draft_of text n later ≡ taken (added part (draft_in (take m text) e)) part (text_draft_of text m e))
+text-added text part m e mid later added h next same a u =
+    let within : m + length part ≤ length text = taken_within text part m h.within next in
+    let short : length (take m text) + length part < limit = omega (arith, length-take-le m text h.within, h.short) in
+    let after = held-added (take m text) part _ e mid later added h.held same a u short (taken_more text part m h.within next) in (
+      record { characters = h.characters; within = within; short = h.short; held = after.0 },
+      ap (λ (l : List ℕ). let x : TextDraft = record { draft = draft_in (take (m + length part) text) later; remaining = l } in x) (remaining_more text part m)
+          ∙ ap (λ (d : Draft). taken d part (text_draft_of text m e)) after.1,
+    )

@@ -1,25 +1,19 @@
 //! The builder of trees, from left to right.
 
-ghost use Rattle.std.specs.Prelude.{◌≡◌, ◌<◌, length, map, IsTrue, IfOk, OnOk, OnErr, slice_index_or};
+ghost use Rattle.std.specs.Prelude.{◌≡◌, ◌<◌, length, map, IsTrue, IfOk, OnOk, OnErr};
 ghost use Rattle.rnix_green.specs.Forest.{tree_count};
 ghost use Rattle.rnix_green.specs.Draft.{blank, leaf_added, leaf_node_added, node_opened, node_closed, is_checkpoint_of, is_complete_of};
 ghost use Rattle.rnix_green.specs.Tree.{forest_of};
 ghost use Rattle.rnix_green.specs.Entries.{is_node_last};
 ghost use Rattle.rnix_green.specs.Postorder.{entry_of};
 
+use crate::entries::{Entries, OpenNode};
 use crate::green::GreenNode;
 use crate::packed::{Packed, room};
 use crate::postorder::in_preorder;
 use rnix_kinds::SyntaxKind;
 use std::alloc::{AllocError, Global};
 use std::marker::Model;
-
-// An open node, and the number of finished trees before its first child.
-#[derive(Clone, Copy)]
-pub(crate) struct OpenNode {
-    pub(crate) kind: SyntaxKind,
-    pub(crate) first_child: usize,
-}
 
 /// A point in the children built so far, before which a node can be opened later.
 #[derive(Clone, Copy, Debug)]
@@ -40,12 +34,8 @@ impl Model for Checkpoint {
 /// Builds a tree. A call that is refused memory leaves the builder unchanged. A text of 2^32 bytes, or that many elements, is refused in the same way.
 #[derive(Drop)]
 pub struct GreenNodeBuilder {
-    // The elements of the finished trees, each node after its children.
-    entries: Vec<Packed>,
     text: String,
-    pending: Vec<OpenNode>,
-    // The entry at which each finished tree begins.
-    starts: Vec<u32>,
+    entries: Entries,
 }
 
 impl Model for GreenNodeBuilder {
@@ -56,11 +46,11 @@ impl Model for GreenNodeBuilder {
 
     ghost coded = { draft_code };
 
-    ghost use Rattle.rnix_green.specs.Entries.{made, IsBuilder, open_pairs};
+    ghost use Rattle.rnix_green.specs.Entries.{draft_in, Holds};
 
-    ghost view = { λ b. record { finished = made (string_bytes b.text) b.entries.items; open_nodes = open_pairs b.pending.items } };
+    ghost view = { λ b. draft_in (string_bytes b.text) b.entries };
 
-    ghost invariant = { λ b. IsBuilder (string_bytes b.text) b.entries.items b.pending.items b.starts.items };
+    ghost invariant = { λ b. Holds (string_bytes b.text) b.entries (draft_in (string_bytes b.text) b.entries) };
 }
 
 // Returns whether the last tree is a node.
@@ -73,23 +63,14 @@ fn ends_with_node(entries: &[Packed]) -> bool
     }
 }
 
-/// Returns the entry at which a finished tree begins, or the end if there is no such tree.
-pub(crate) fn start_at(starts: &[u32], first_child: usize, end: u32) -> u32
-    ensures { result ≡ slice_index_or starts.now first_child end }
-{
-    starts.get(first_child).copied().unwrap_or(end)
-}
-
 impl GreenNodeBuilder {
     /// Returns a builder without trees.
     pub fn new(alloc: Global) -> Self
         ensures { result ≡ blank }
     {
         GreenNodeBuilder {
-            entries: Vec::new(alloc),
             text: String::new(alloc),
-            pending: Vec::new(alloc),
-            starts: Vec::new(alloc),
+            entries: Entries::new(alloc),
         }
     }
 
@@ -97,7 +78,7 @@ impl GreenNodeBuilder {
     pub fn reserve(&mut self, elements: usize, bytes: usize) -> Result<(), AllocError>
         ensures { self.new ≡ self.old }
     {
-        self.entries.reserve_exact(elements)?;
+        self.entries.elements.reserve_exact(elements)?;
         self.text.reserve_exact(bytes)
     }
 
@@ -107,8 +88,8 @@ impl GreenNodeBuilder {
         ensures ok { OnOk result (self.new ≡ node_opened kind (tree_count self.old.finished) self.old) }
         ensures err { OnErr result (self.new ≡ self.old) }
     {
-        let first_child = self.starts.len();
-        self.pending.push(OpenNode { kind, first_child })?;
+        let first_child = self.entries.starts.len();
+        self.entries.pending.push(OpenNode { kind, first_child })?;
         Ok(())
     }
 
@@ -118,15 +99,10 @@ impl GreenNodeBuilder {
         ensures ok { OnOk result (self.new ≡ leaf_added kind text.now self.old) }
         ensures err { OnErr result (self.new ≡ self.old) }
     {
-        let start = self.entries.len();
         room(self.text.len(), text.len())?;
-        room(start, 1)?;
         self.entries.reserve(1)?;
-        self.starts.reserve(1)?;
         self.text.push_str(text)?;
-        self.entries
-            .push_reserved(Packed::new(kind, text.len(), 0, 0));
-        self.starts.push_reserved(start as u32);
+        self.entries.push_token(kind, text.len());
         Ok(())
     }
 
@@ -136,7 +112,7 @@ impl GreenNodeBuilder {
         ensures inside { IsTrue (is_checkpoint_of self.now result) }
     {
         Checkpoint {
-            first_child: self.starts.len(),
+            first_child: self.entries.starts.len(),
         }
     }
 
@@ -151,7 +127,7 @@ impl GreenNodeBuilder {
         ensures err { OnErr result (self.new ≡ self.old) }
     {
         let first_child = checkpoint.first_child;
-        self.pending.push(OpenNode { kind, first_child })?;
+        self.entries.pending.push(OpenNode { kind, first_child })?;
         Ok(())
     }
 
@@ -162,16 +138,7 @@ impl GreenNodeBuilder {
         ensures ok { OnOk result (self.new ≡ node_closed self.old) }
         ensures err { OnErr result (self.new ≡ self.old) }
     {
-        let OpenNode { kind, first_child } = self.pending[self.pending.len() - 1];
-        let end = self.entries.len();
-        room(end, 1)?;
-        let first = start_at(&self.starts, first_child, end as u32);
-        self.starts.reserve(1)?;
-        self.entries
-            .push(Packed::new(kind, 0, 0, end - first as usize + 1))?;
-        self.pending.truncate(self.pending.len() - 1);
-        self.starts.truncate(first_child);
-        self.starts.push_reserved(first);
+        self.entries.finish_node()?;
         Ok(())
     }
 
@@ -186,16 +153,10 @@ impl GreenNodeBuilder {
         ensures ok { OnOk result (self.new ≡ leaf_node_added node kind text.now self.old) }
         ensures err { OnErr result (self.new ≡ self.old) }
     {
-        let start = self.entries.len();
         room(self.text.len(), text.len())?;
-        room(start, 2)?;
         self.entries.reserve(2)?;
-        self.starts.reserve(1)?;
         self.text.push_str(text)?;
-        self.entries
-            .push_reserved(Packed::new(kind, text.len(), 0, 0));
-        self.entries.push_reserved(Packed::new(node, 0, 0, 2));
-        self.starts.push_reserved(start as u32);
+        self.entries.push_leaf_node(node, kind, text.len());
         Ok(())
     }
 
@@ -203,15 +164,15 @@ impl GreenNodeBuilder {
     pub fn open_nodes(&self) -> usize
         ensures { result ≡ length self.now.open_nodes }
     {
-        self.pending.len()
+        self.entries.pending.len()
     }
 
     /// Returns whether a node may be opened at the checkpoint, which must not precede the first child of an open node.
     pub fn is_valid_checkpoint(&self, checkpoint: Checkpoint) -> bool
         ensures { result ≡ is_checkpoint_of self.now checkpoint }
     {
-        checkpoint.first_child <= self.starts.len()
-            && match self.pending.last() {
+        checkpoint.first_child <= self.entries.starts.len()
+            && match self.entries.pending.last() {
                 None => true,
                 Some(innermost) => innermost.first_child <= checkpoint.first_child,
             }
@@ -221,13 +182,13 @@ impl GreenNodeBuilder {
     pub fn is_complete(&self) -> bool
         ensures { result ≡ is_complete_of self.now }
     {
-        if self.pending.len() > 0 {
+        if self.entries.pending.len() > 0 {
             return false;
         }
-        if self.starts.len() != 1 {
+        if self.entries.starts.len() != 1 {
             return false;
         }
-        ends_with_node(&self.entries)
+        ends_with_node(&self.entries.elements)
     }
 
     /// Returns the finished tree. It consumes the builder, also if memory is refused.
@@ -235,15 +196,8 @@ impl GreenNodeBuilder {
         requires { IsTrue (is_complete_of self) }
         ensures { IfOk result (λ tree. forest_of tree ≡ self.finished) }
     {
-        let GreenNodeBuilder {
-            entries,
-            text,
-            pending,
-            starts,
-        } = self;
-        drop(pending);
-        drop(starts);
-        let elements = in_preorder(entries, text.as_str())?;
+        let GreenNodeBuilder { text, entries } = self;
+        let elements = in_preorder(entries.into_elements(), text.as_str())?;
         Ok(GreenNode::from_parts(elements, text))
     }
 }

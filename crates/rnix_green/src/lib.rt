@@ -2,6 +2,7 @@
 #![tactic(auto)]
 
 mod builder;
+mod entries;
 mod green;
 mod packed;
 mod postorder;

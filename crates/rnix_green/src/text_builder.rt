@@ -5,9 +5,10 @@ ghost use Rattle.rnix_green.specs.Forest.{tree_count};
 ghost use Rattle.rnix_green.specs.Draft.{blank_of, with_draft, taken, leaf_added, leaf_node_added, node_opened, node_closed, is_checkpoint_of, is_complete_of, IsNext};
 ghost use Rattle.rnix_green.specs.Tree.{forest_of};
 
-use crate::builder::{Checkpoint, OpenNode, start_at};
+use crate::builder::Checkpoint;
+use crate::entries::{Entries, OpenNode};
 use crate::green::GreenNode;
-use crate::packed::{Packed, room};
+use crate::packed::room;
 use crate::postorder::in_preorder;
 use rnix_kinds::SyntaxKind;
 use std::alloc::{AllocError, Global};
@@ -20,29 +21,21 @@ pub struct TextBuilder<'t> {
     text: &'t str,
     // The number of bytes of the text that have leaves.
     taken: usize,
-    // The elements of the finished trees, each node after its children.
-    entries: Vec<Packed>,
-    pending: Vec<OpenNode>,
-    // The entry at which each finished tree begins.
-    starts: Vec<u32>,
+    entries: Entries,
 }
 
 impl<'t> Model for TextBuilder<'t> {
-    ghost use Rattle.std.specs.Prelude.{take, drop};
     ghost use Rattle.rnix_green.specs.Draft.{TextDraft, text_draft_code};
 
     ghost Value = { TextDraft };
 
     ghost coded = { text_draft_code };
 
-    ghost use Rattle.rnix_green.specs.Entries.{made, IsTextBuilder, open_pairs};
+    ghost use Rattle.rnix_green.specs.Entries.{text_draft_of, IsTextBuilder};
 
-    ghost view = { λ b. record {
-      draft = record { finished = made (take b.taken b.text.now) b.entries.items; open_nodes = open_pairs b.pending.items };
-      remaining = drop b.taken b.text.now;
-    } };
+    ghost view = { λ b. text_draft_of b.text.now b.taken b.entries };
 
-    ghost invariant = { λ b. IsTextBuilder b.text.now b.taken b.entries.items b.pending.items b.starts.items };
+    ghost invariant = { λ b. IsTextBuilder b.text.now b.taken b.entries };
 }
 
 impl<'t> TextBuilder<'t> {
@@ -54,9 +47,7 @@ impl<'t> TextBuilder<'t> {
         Ok(TextBuilder {
             text,
             taken: 0,
-            entries: Vec::new(alloc),
-            pending: Vec::new(alloc),
-            starts: Vec::new(alloc),
+            entries: Entries::new(alloc),
         })
     }
 
@@ -64,7 +55,7 @@ impl<'t> TextBuilder<'t> {
     pub fn reserve(&mut self, elements: usize) -> Result<(), AllocError>
         ensures { self.new ≡ self.old }
     {
-        self.entries.reserve_exact(elements)
+        self.entries.elements.reserve_exact(elements)
     }
 
     /// Opens a node after the finished trees.
@@ -73,9 +64,11 @@ impl<'t> TextBuilder<'t> {
         ensures ok { OnOk result (self.new ≡ with_draft (node_opened kind (tree_count self.old.draft.finished) self.old.draft) self.old) }
         ensures err { OnErr result (self.new ≡ self.old) }
     {
-        let first_child = self.starts.len();
-        self.pending.reserve(1)?;
-        self.pending.push_reserved(OpenNode { kind, first_child });
+        let first_child = self.entries.starts.len();
+        self.entries.pending.reserve(1)?;
+        self.entries
+            .pending
+            .push_reserved(OpenNode { kind, first_child });
         Ok(())
     }
 
@@ -86,13 +79,8 @@ impl<'t> TextBuilder<'t> {
         ensures ok { OnOk result (self.new ≡ taken (leaf_added kind part.now self.old.draft) part.now self.old) }
         ensures err { OnErr result (self.new ≡ self.old) }
     {
-        let start = self.entries.len();
-        room(start, 1)?;
         self.entries.reserve(1)?;
-        self.starts.reserve(1)?;
-        self.entries
-            .push_reserved(Packed::new(kind, part.len(), 0, 0));
-        self.starts.push_reserved(start as u32);
+        self.entries.push_token(kind, part.len());
         self.taken += part.len();
         Ok(())
     }
@@ -103,7 +91,7 @@ impl<'t> TextBuilder<'t> {
         ensures inside { IsTrue (is_checkpoint_of self.now.draft result) }
     {
         Checkpoint {
-            first_child: self.starts.len(),
+            first_child: self.entries.starts.len(),
         }
     }
 
@@ -118,8 +106,10 @@ impl<'t> TextBuilder<'t> {
         ensures err { OnErr result (self.new ≡ self.old) }
     {
         let first_child = checkpoint.first_child;
-        self.pending.reserve(1)?;
-        self.pending.push_reserved(OpenNode { kind, first_child });
+        self.entries.pending.reserve(1)?;
+        self.entries
+            .pending
+            .push_reserved(OpenNode { kind, first_child });
         Ok(())
     }
 
@@ -130,16 +120,7 @@ impl<'t> TextBuilder<'t> {
         ensures ok { OnOk result (self.new ≡ with_draft (node_closed self.old.draft) self.old) }
         ensures err { OnErr result (self.new ≡ self.old) }
     {
-        let OpenNode { kind, first_child } = self.pending[self.pending.len() - 1];
-        let end = self.entries.len();
-        room(end, 1)?;
-        let first = start_at(&self.starts, first_child, end as u32);
-        self.starts.reserve(1)?;
-        self.entries
-            .push(Packed::new(kind, 0, 0, end - first as usize + 1))?;
-        self.pending.truncate(self.pending.len() - 1);
-        self.starts.truncate(first_child);
-        self.starts.push_reserved(first);
+        self.entries.finish_node()?;
         Ok(())
     }
 
@@ -155,14 +136,8 @@ impl<'t> TextBuilder<'t> {
         ensures ok { OnOk result (self.new ≡ taken (leaf_node_added node kind part.now self.old.draft) part.now self.old) }
         ensures err { OnErr result (self.new ≡ self.old) }
     {
-        let start = self.entries.len();
-        room(start, 2)?;
         self.entries.reserve(2)?;
-        self.starts.reserve(1)?;
-        self.entries
-            .push_reserved(Packed::new(kind, part.len(), 0, 0));
-        self.entries.push_reserved(Packed::new(node, 0, 0, 2));
-        self.starts.push_reserved(start as u32);
+        self.entries.push_leaf_node(node, kind, part.len());
         self.taken += part.len();
         Ok(())
     }
@@ -176,11 +151,8 @@ impl<'t> TextBuilder<'t> {
             text,
             taken,
             entries,
-            pending,
-            starts,
         } = self;
-        drop(pending);
-        drop(starts);
+        let entries = entries.into_elements();
         let alloc = *entries.allocator();
         let text = &text[..taken];
         let elements = in_preorder(entries, text)?;

@@ -1,46 +1,11 @@
-use Rattle.std.{proofs.{Common.{arith, ◌≡◌, ◌+◌, ◌-◌, ◌<◌, length, map, sym, ap, ◌∙◌, get_or}, lemmas.List.length-map}, specs.String.string_bytes}
-use Rattle.rnix_green.{specs.{Entries.{made, open_pairs, IsBuilt}, Draft.wrapped, Packed.packed, Postorder.entry_of}, proofs.EntriesLemmas.first_entry}
-use Rattle.rnix_green.proofs.EntriesLemmas.{first_entry_le, built-closed, length-open_pairs, settled, built_is, closed_view}
+use Rattle.rnix_green.proofs.EntriesLemmas.{settled, draft_is}
 use Rattle.rnix_green.proofs.builder.GreenNodeBuilder.finish_node.Goals as goal
 
-pub overflow_sub-end : goal.overflow_sub-end
-overflow_sub-end c =
-    let b = c.self.inside in
-    let es = map entry_of b.entries.items in
-    let count : c.len-end.result ≡ length es = c.len-end.ensures ∙ b.entries.ok.0 ∙ sym (length-map b.entries.items entry_of) in
-    let f : c.start_at-first.result ≡ get_or b.starts.items c.index.result.now.first_child (length es) =
-    rw (c.deref.ensures.value, count) at c.start_at-first.ensures in
-    omega (arith, first_entry_le _ _ es b.pending.items b.starts.items c.index.result.now.first_child c.self.invariant)
-
-after : (c : goal.After-push_reserved) →
-    IsBuilt (wrapped c.index.result.now.kind c.index.result.now.first_child (made (string_bytes c.self.inside.text) c.self.inside.entries.items))
-    (string_bytes c.self.inside.text) (map entry_of c.push.new.self.items) c.truncate.new.self.items c.push_reserved.new.self.items
-after c =
-    let b = c.self.inside in
-    let es = map entry_of b.entries.items in
-    let o = c.index.result.now in
-    let end : c.len-end.result ≡ length b.entries.items = c.len-end.ensures ∙ b.entries.ok.0 in
-    let count : c.len-end.result ≡ length es = end ∙ sym (length-map b.entries.items entry_of) in
-    let f : c.start_at-first.result ≡ get_or b.starts.items o.first_child (length es) = rw (c.deref.ensures.value, count) at c.start_at-first.ensures in
-    let some : 0 < length (open_pairs b.pending.items) = rw (← c.self.view_is) at c.requires in
-    let e : c.len.result - 1 + 1 ≡ length b.pending.items = omega (arith, length-open_pairs b.pending.items, b.pending.ok.0) in
-    let same : c.len-2.result ≡ c.len.result = c.len-2.ensures ∙ sym c.len.ensures in
-    built-closed (made (string_bytes b.text) b.entries.items) (string_bytes b.text) b.entries.items _ b.pending.items _ b.starts.items _
-    (c.len.result - 1) c.start_at-first.result o _
-    c.self.invariant (omega (arith, end, c.in_ok-room.ensures.ok)) e c.index.ensures
-    (f ∙ first_entry _ _ es b.pending.items b.starts.items o.first_child c.self.invariant)
-    (c.new.ensures ∙ ap (λ n. packed o.kind 0 0 (n - c.start_at-first.result + 1)) end) c.in_ok-push.ensures.items (rw same at c.truncate.ensures.items)
-    (rw (c.truncate-2.ensures.items, c.in_ok-reserve.ensures.items) at c.push_reserved.ensures.items)
+pub finish_node-requires-clause-held : goal.finish_node-requires-clause-held
+finish_node-requires-clause-held c = (_, _, c.self.invariant)
 
 pub invariant_of-self-2 : goal.invariant_of-self-2
-invariant_of-self-2 c = settled _ _ _ _ _ (after c)
+invariant_of-self-2 c = settled _ _ _ _ _ (c.in_ok-finish_node.ensures.ok _ _ c.self.invariant)
 
 pub returns-clause-ok : goal.returns-clause-ok
-returns-clause-ok c =
-    let b = c.self.inside in
-    let some : 0 < length (open_pairs b.pending.items) = rw (← c.self.view_is) at c.requires in
-    let e : c.len.result - 1 + 1 ≡ length b.pending.items = omega (arith, length-open_pairs b.pending.items, b.pending.ok.0) in
-    let same : c.len-2.result ≡ c.len.result = c.len-2.ensures ∙ sym c.len.ensures in
-    rw (← c.self.view_is)
-    (sym (closed_view (made (string_bytes b.text) b.entries.items) _ b.pending.items _ (c.len.result - 1) c.index.result.now e c.index.ensures
-    (rw same at c.truncate.ensures.items) (built_is _ _ _ _ _ (after c))))
+returns-clause-ok c = rw (← c.self.view_is) (draft_is _ _ _ _ _ (c.in_ok-finish_node.ensures.ok _ _ c.self.invariant))
