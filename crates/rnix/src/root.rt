@@ -2,6 +2,9 @@
 
 ghost use Rattle.std.specs.Prelude.{◌≡◌, map, slice_get, [], Some, IfOk, IfErr};
 ghost use Rattle.rnix_kinds.specs.Lexical.Tokens.{tokens_of};
+ghost use Rattle.rnix_kinds.specs.declared.kinds.SyntaxKind.TheVariants.{NODE_ROOT};
+ghost use Rattle.rnix_green.specs.Forest.{text_of};
+ghost use Rattle.rnix_green.specs.Tree.{forest_of};
 ghost use Rattle.rnix_grammar.specs.Fault.{fault_of};
 ghost use Rattle.rnix_grammar.specs.Parsed.{IsParsed};
 ghost use Rattle.rnix.specs.ParseResult.{root_of};
@@ -61,6 +64,32 @@ fn copies(alloc: Global, errors: &[ParseError]) -> Result<Vec<ParseError>, Alloc
 }
 
 impl Parse {
+    /// Returns the parse of a text that has no errors, by its tree.
+    pub fn without_errors(alloc: Global, green: GreenNode) -> Parse
+        requires { green.kind ≡ NODE_ROOT }
+        ensures { result ≡ record { tree = green; faults = [] } }
+    {
+        Parse {
+            green,
+            errors: Vec::new(alloc),
+        }
+    }
+
+    /// Returns the tree as data.
+    pub fn green(&self) -> &GreenNode
+        ensures tree { result.now ≡ self.now.tree }
+        ensures root { self.now.tree.kind ≡ NODE_ROOT }
+    {
+        &self.green
+    }
+
+    /// Returns the text.
+    pub fn text(&self) -> &str
+        ensures { result.now ≡ text_of (forest_of self.now.tree) }
+    {
+        self.green.text_at(0)
+    }
+
     /// Returns the root as an untyped node.
     pub fn syntax(&self) -> SyntaxNode<'_>
         ensures { result ≡ root_of self.now }

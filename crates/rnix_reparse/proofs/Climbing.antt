@@ -1,0 +1,60 @@
+-- A climb from an element over the nodes around it.
+use Rattle.std.proofs.Common.{◌≡◌, ℕ, zero, suc, ◌+◌, ◌≤◌, ◌<◌, length, Option, Some, None, refl, sym, subst, arith}
+use Rattle.rnix_green.specs.Tree.{Tree, items_of, item}
+use Rattle.rnix_green.proofs.ParentLemmas.{parent_is_before}
+use Rattle.rnix_reparse.specs.TreeHeight.{AreAround, none, one}
+
+-- how far the climb can still go
+abbrev pub left_above : Option ℕ → ℕ
+left_above None = 0
+left_above (Some m) = suc m
+
+-- the element that is reached is in the tree, if one is
+abbrev IsReached : Tree → Option ℕ → Type 0
+IsReached t None = Unit {0}
+IsReached t (Some m) = m < length (items_of t)
+
+-- so many nodes were passed; with those that are around what is reached they are those around the element n
+pub record IsClimbed (t : Tree) (n depth : ℕ) (above : Option ℕ) : Type 0 where
+  pub reached : IsReached t above
+  pub count : (e : ℕ) → AreAround t above e → AreAround t (item t n).parent (depth + e)
+  pub few : depth + left_above above ≤ n
+
+-- the parent of an element is in the tree, and comes before it
+record IsLower (t : Tree) (n : ℕ) (parent : Option ℕ) : Type 0 where
+  reached : IsReached t parent
+  low : left_above parent ≤ n
+
+lower : (t : Tree) (n : ℕ) (parent : Option ℕ) → n < length (items_of t) → (item t n).parent ≡ parent → IsLower t n parent
+lower t n None l e = record { reached = tt; low = omega arith }
+lower t n (Some p) l e = (let before = parent_is_before t n p l e in record { reached = omega arith; low = omega arith })
+
+-- the climb begins at the parent
+pub climb_begins : (t : Tree) (n : ℕ) → n < length (items_of t) → IsClimbed t n 0 (item t n).parent
+climb_begins t n l =
+    let h = lower t n (item t n).parent l refl in
+    record {
+      reached = h.reached;
+      count = λ e a. (let same : e ≡ 0 + e = omega arith in subst (AreAround t (item t n).parent) same a);
+      few = omega (arith, h.low);
+    }
+
+-- it goes on to the next node around
+pub climb_goes_on : (t : Tree) (n depth m : ℕ) → IsClimbed t n depth (Some m) → IsClimbed t n (depth + 1) (item t m).parent
+climb_goes_on t n depth m h =
+    let next = lower t m (item t m).parent h.reached refl in
+    record {
+      reached = next.reached;
+      count = λ e a.
+          let same : depth + suc e ≡ depth + 1 + e = omega arith in
+          subst (AreAround t (item t n).parent) same (h.count (suc e) (one m e a));
+      few = omega (arith, h.few, next.low);
+    }
+
+-- and it becomes shorter
+pub climb_shorter : (t : Tree) (m : ℕ) → m < length (items_of t) → left_above (item t m).parent < left_above (Some m)
+climb_shorter t m l = (let next = lower t m (item t m).parent l refl in omega (arith, next.low))
+
+-- until no node is left around
+pub climb_ends : (t : Tree) (n depth : ℕ) → IsClimbed t n depth None → AreAround t (item t n).parent depth
+climb_ends t n depth h = (let same : depth + 0 ≡ depth = omega arith in subst (AreAround t (item t n).parent) same (h.count 0 none))

@@ -1,0 +1,11 @@
+pub mod Rows
+pub mod BetweenBrackets
+pub mod NodesAround
+pub mod EditedTexts
+pub mod Climbing
+pub mod WalkHeights
+pub mod Heights
+pub mod Sites
+pub mod SplicedReadings
+pub mod OwnTexts
+pub mod EditedNodes

@@ -1,0 +1,145 @@
+-- A node with brackets in a tree below a root.
+use Rattle.std.proofs.Common.{◌≡◌, ℕ, zero, suc, ◌+◌, ◌-◌, ◌≤◌, ◌<◌, List, length, Option, Some, None, refl, ap, sym, ◌∙◌, subst, arith}
+use Rattle.rnix_kinds.specs.declared.kinds.SyntaxKind.{SyntaxKind}
+use Rattle.rnix_kinds.specs.declared.kinds.SyntaxKind.TheVariants.{NODE_ROOT}
+use Rattle.rnix_green.specs.Forest.{Forest, empty, leaf, node, text_of}
+use Rattle.rnix_green.specs.Tree.{Tree, item, forest_of, text_at}
+use Rattle.rnix_green.specs.Context.{Context, here, behind_leaf, behind_node, inside, filled, text_before, elements_before}
+use Rattle.rnix_green.specs.Splice.{HasOnlyChild, IsSpliced}
+use Rattle.rnix_green.proofs.ContextLemmas.{HasContext, found, IsShown, shown}
+use Rattle.rnix_green.proofs.SpliceLemmas.{only_child}
+use Rattle.rnix_proof_reparse.specs.Bracketed.{IsBracketed, set, list, paren, string}
+use Rattle.rnix_proof_reparse.specs.LevelsAround.{between}
+use Rattle.rnix_proof_reparse.specs.Reparsed.{rooted}
+use Rattle.rnix_reparse.specs.OwnBrackets.{HasBrackets, HasSameBrackets}
+use Rattle.rnix_reparse.proofs.Rows.{HasRow, whole_row, filled_row, inside_first}
+use Rattle.rnix_reparse.proofs.BetweenBrackets.{AreBetween, between_brackets}
+
+-- the kind of the first tree, and the trees behind it
+kind_of : Forest → SyntaxKind
+kind_of empty = NODE_ROOT
+kind_of (leaf k t f) = k
+kind_of (node k c f) = k
+
+inside_of : Forest → Forest
+inside_of empty = empty
+inside_of (leaf k t f) = empty
+inside_of (node k c f) = c
+
+rest_of : Forest → Forest
+rest_of empty = empty
+rest_of (leaf k t f) = f
+rest_of (node k c f) = f
+
+-- a tree with a node in it has elements
+some_trees : (x : Context) (k : SyntaxKind) (c : Forest) → empty ≡ filled x k c → {A : Type 0} → A
+some_trees (here f) k c e = absurd (cc)
+some_trees (behind_leaf j t x) k c e = absurd (cc)
+some_trees (behind_node j d x) k c e = absurd (cc)
+some_trees (inside j x f) k c e = absurd (cc)
+
+-- the node is below the root
+record IsBelowRoot (t : Tree) (place : Context) (k : SyntaxKind) (c : Forest) : Type 0 where
+  around : Context
+  is : place ≡ inside t.kind around empty
+  children : t.children ≡ filled around k c
+
+-- a node of another kind than the root is below it
+below_root : (t : Tree) (place : Context) (k : SyntaxKind) (c : Forest) → forest_of t ≡ filled place k c → (k ≡ t.kind → ⊥) → IsBelowRoot t place k c
+below_root t (here f) k c e other = absurd (other (sym (ap kind_of e)))
+below_root t (behind_leaf j u x) k c e other = absurd (cc)
+below_root t (behind_node j d x) k c e other = some_trees x k c (ap rest_of e)
+below_root t (inside j x f) k c e other = record {
+  around = x;
+  is = ap (λ i. inside i x f) (sym (ap kind_of e)) ∙ ap (inside t.kind x) (sym (ap rest_of e));
+  children = ap inside_of e;
+}
+
+-- a node with brackets is no root
+no_root : {k l r : SyntaxKind} → IsBracketed k l r → k ≡ NODE_ROOT → ⊥
+no_root set e = cc
+no_root list e = cc
+no_root paren e = cc
+no_root string e = cc
+
+-- the brackets of a kind are those of the kind
+pub same_brackets : {k l r m s : SyntaxKind} → IsBracketed k l r → IsBracketed k m s → (l ≡ m) × (r ≡ s)
+same_brackets set set = (refl, refl)
+same_brackets list list = (refl, refl)
+same_brackets paren paren = (refl, refl)
+same_brackets string string = (refl, refl)
+
+-- the children that a node has between the elements of two numbers
+abbrev pub enclosed : Tree → ℕ → Forest → Forest
+enclosed t n inner =
+    between (item t (n + 1)).kind (text_at record { tree = t; number = n + 1 }) inner (item t (n + (item t n).below)).kind
+    (text_at record { tree = t; number = n + (item t n).below })
+
+-- where a node with brackets is below a root
+pub record IsSite (t : Tree) (n : ℕ) : Type 0 where
+  pub place : Context
+  pub inner : Forest
+  pub is : t ≡ rooted (filled place (item t n).kind (enclosed t n inner))
+  pub whole : forest_of t ≡ filled (inside NODE_ROOT place empty) (item t n).kind (enclosed t n inner)
+  pub number : suc (elements_before place) ≡ n
+
+-- the children of a node with brackets at a place
+inner_of : (t : Tree) (n : ℕ) (place : Context) (k : SyntaxKind) (c : Forest) → forest_of t ≡ filled place k c → elements_before place ≡ n → HasBrackets t n
+    → AreBetween t (n + 1) (n + (item t n).below) c
+inner_of t n place k c e number h =
+    let row : HasRow t 0 0 None (filled place k c) = subst (HasRow t 0 0 None) e (whole_row t) in
+    let found = filled_row t 0 0 None place k c row in
+    let same : 0 + elements_before place ≡ n = omega arith in
+    between_brackets t n _ _ k c _ (subst (λ m. HasRow t m _ _ _) same found) h
+
+pub site : (t : Tree) (n : ℕ) → t.kind ≡ NODE_ROOT → HasBrackets t n → IsSite t n
+site t n root h =
+    let x = found t n h.node in
+    let kind : x.kind ≡ (item t n).kind = sym (shown t n x.place x.kind x.children x.is x.number).kind in
+    let inner = inner_of t n x.place x.kind x.children x.is x.number h in
+    let filled_is : forest_of t ≡ filled x.place (item t n).kind (enclosed t n inner.inside) =
+    x.is ∙ ap (λ k. filled x.place k x.children) kind ∙ ap (filled x.place (item t n).kind) inner.is in
+    let below = below_root t x.place (item t n).kind (enclosed t n inner.inside) filled_is (λ e. no_root h.brackets (e ∙ root)) in
+    let place_is : x.place ≡ inside NODE_ROOT below.around empty = below.is ∙ ap (λ k. inside k below.around empty) root in
+    record {
+      place = below.around;
+      inner = inner.inside;
+      is = (λ i. record { kind = root i; children = below.children i });
+      whole = filled_is ∙ ap (λ z. filled z (item t n).kind (enclosed t n inner.inside)) place_is;
+      number = sym (ap elements_before place_is) ∙ x.number;
+    }
+
+-- the only child of a root, with the brackets of a node of another tree
+pub record IsNewNode (t : Tree) (n : ℕ) (u : Tree) : Type 0 where
+  pub edited : Forest
+  pub is : u.children ≡ node (item t n).kind (enclosed t n edited) empty
+
+-- the children of a node between the same tokens
+same_enclosed : (l m r q : SyntaxKind) (s a v b : List ℕ) (f : Forest) → l ≡ m → r ≡ q → s ≡ a → v ≡ b → between m a f q b ≡ between l s f r v
+same_enclosed l m r q s a v b f e1 e2 e3 e4 = λ i. between (sym e1 i) (sym e3 i) f (sym e2 i) (sym e4 i)
+
+pub new_node : (t : Tree) (n : ℕ) (u : Tree) → HasSameBrackets t n u → IsNewNode t n u
+new_node t n u h =
+    let child = only_child u h.only in
+    let row : HasRow u 0 0 None (forest_of u) = whole_row u in
+    let below : HasRow u 1 0 (Some 0) (node child.kind child.children empty) =
+    subst (HasRow u 1 0 (Some 0)) child.is (inside_first u 0 0 None u.kind u.children empty row) in
+    let inner = between_brackets u 1 0 (Some 0) child.kind child.children empty below h.new in
+    let place : forest_of u ≡ filled (inside u.kind (here empty) empty) child.kind child.children = ap (λ f. node u.kind f empty) child.is in
+    let kind : child.kind ≡ (item t n).kind =
+    sym (shown u 1 (inside u.kind (here empty) empty) child.kind child.children place refl).kind ∙ sym h.kind in
+    let brackets = same_brackets h.old.brackets
+    (subst (λ k. IsBracketed k (item u 2).kind (item u (1 + (item u 1).below)).kind) (sym h.kind) h.new.brackets) in
+    record {
+      edited = inner.inside;
+      is = child.is ∙ ap (λ k. node k child.children empty) kind
+          ∙ ap (λ f. node (item t n).kind f empty) (inner.is ∙ same_enclosed _ _ _ _ _ _ _ _ inner.inside brackets.0 brackets.1 h.opening h.closing);
+    }
+
+-- the tree with the new node in place of the old one
+pub spliced_tree : (t u v : Tree) (n : ℕ) (s : IsSite t n) (m : IsNewNode t n u) → IsSpliced t n u v
+    → v ≡ rooted (filled s.place (item t n).kind (enclosed t n m.edited))
+spliced_tree t u v n s m h =
+    let e : forest_of v ≡ node NODE_ROOT (filled s.place (item t n).kind (enclosed t n m.edited)) empty =
+    h (inside NODE_ROOT s.place empty) (item t n).kind (enclosed t n s.inner) (item t n).kind (enclosed t n m.edited) s.whole s.number m.is in
+    λ i. record { kind = ap kind_of e i; children = ap inside_of e i }

@@ -1,0 +1,4 @@
+pub mod EditedRange
+pub mod OwnBrackets
+pub mod TreeHeight
+pub mod ParsedText
