@@ -1,5 +1,6 @@
 -- A climb from an element over the nodes around it.
 use Rattle.std.proofs.Common.{◌≡◌, ℕ, zero, suc, ◌+◌, ◌≤◌, ◌<◌, length, Option, Some, None, refl, sym, subst, arith}
+use Rattle.std.specs.Prelude.{IfSome}
 use Rattle.rnix_green.specs.Tree.{Tree, items_of, item}
 use Rattle.rnix_green.proofs.ParentLemmas.{parent_is_before}
 use Rattle.rnix_reparse.specs.TreeHeight.{AreAround, none, one}
@@ -58,3 +59,12 @@ climb_shorter t m l = (let next = lower t m (item t m).parent l refl in omega (a
 -- until no node is left around
 pub climb_ends : (t : Tree) (n depth : ℕ) → IsClimbed t n depth None → AreAround t (item t n).parent depth
 climb_ends t n depth h = (let same : depth + 0 ≡ depth = omega arith in subst (AreAround t (item t n).parent) same (h.count 0 none))
+
+-- a parent is in the tree
+some_parent : (t : Tree) (n : ℕ) (parent : Option ℕ) → n < length (items_of t) → (item t n).parent ≡ parent → IfSome parent (λ m. m < length (items_of t))
+some_parent t n None l e = tt
+some_parent t n (Some p) l e = (let before = parent_is_before t n p l e in omega arith)
+
+-- so is the parent of each element
+pub parent_there : (t : Tree) (n : ℕ) → n < length (items_of t) → IfSome (item t n).parent (λ m. m < length (items_of t))
+parent_there t n l = some_parent t n (item t n).parent l refl

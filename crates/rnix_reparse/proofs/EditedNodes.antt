@@ -28,7 +28,8 @@ boundary_in_node t n a l h low high =
     boundary_inside (text_of (forest_of t)) (item t n).start (item t n).end a low high (ends_in_text t n l) h
 
 -- the tree with the new node is what the edited text is parsed to
-pub parsed_edit : (t u v : Tree) (n : ℕ) (range : Extent) (replacement own new : List ℕ) → n < length (items_of t) → own ≡ text_at record { tree = t; number = n }
+pub parsed_edit : (t u v : Tree) (n : ℕ) (range : Extent) (replacement own new : List ℕ) → n < length (items_of t)
+    → own ≡ text_at record { tree = t; number = n }
     → new ≡ edited record { start = range.start - (item t n).start; end = range.end - (item t n).start } replacement own
     → IsUtf8 (text_of (forest_of t)) → IsUtf8 own → IsUtf8 new → range.start ≤ range.end → IsBetween t n range
     → IsReading (tokens_of (text_of (forest_of t))) t [] → IsReading (tokens_of new) u [] → HasSameBrackets t n u → FitsAt t n u → IsSpliced t n u v

@@ -12,21 +12,23 @@ use Rattle.rnix_proof_reparse.specs.Bracketed.{IsBracketed, set, list, paren, st
 use Rattle.rnix_proof_reparse.specs.LevelsAround.{between}
 use Rattle.rnix_proof_reparse.specs.Reparsed.{rooted}
 use Rattle.rnix_reparse.specs.OwnBrackets.{HasBrackets, HasSameBrackets}
-use Rattle.rnix_reparse.proofs.Rows.{HasRow, whole_row, filled_row, inside_first}
+use Rattle.rnix_reparse.proofs.Rows.{HasRow, whole_row, filled_row, inside_first, parent_in, trees_behind}
 use Rattle.rnix_reparse.proofs.BetweenBrackets.{AreBetween, between_brackets}
 
--- the kind of the first tree, and the trees behind it
-kind_of : Forest → SyntaxKind
+-- the kind of the first tree
+abbrev kind_of : Forest → SyntaxKind
 kind_of empty = NODE_ROOT
 kind_of (leaf k t f) = k
 kind_of (node k c f) = k
 
-inside_of : Forest → Forest
+-- the trees inside the first
+abbrev inside_of : Forest → Forest
 inside_of empty = empty
 inside_of (leaf k t f) = empty
 inside_of (node k c f) = c
 
-rest_of : Forest → Forest
+-- the trees behind the first
+abbrev rest_of : Forest → Forest
 rest_of empty = empty
 rest_of (leaf k t f) = f
 rest_of (node k c f) = f
@@ -88,9 +90,12 @@ inner_of : (t : Tree) (n : ℕ) (place : Context) (k : SyntaxKind) (c : Forest) 
     → AreBetween t (n + 1) (n + (item t n).below) c
 inner_of t n place k c e number h =
     let row : HasRow t 0 0 None (filled place k c) = subst (HasRow t 0 0 None) e (whole_row t) in
-    let found = filled_row t 0 0 None place k c row in
+    let s : ℕ = 0 + length (text_before place) in
+    let p : Option ℕ = parent_in 0 None place in
     let same : 0 + elements_before place ≡ n = omega arith in
-    between_brackets t n _ _ k c _ (subst (λ m. HasRow t m _ _ _) same found) h
+    let own : HasRow t n s p (node k c (trees_behind place)) =
+    subst (λ m. HasRow t m s p (node k c (trees_behind place))) same (filled_row t 0 0 None place k c row) in
+    between_brackets t n s p k c (trees_behind place) own h
 
 pub site : (t : Tree) (n : ℕ) → t.kind ≡ NODE_ROOT → HasBrackets t n → IsSite t n
 site t n root h =

@@ -100,5 +100,6 @@ pub fn reparse(
         }
     }
     let text = edited_text(alloc, whole, range.start(), range.end(), replacement)?;
-    Root::parse(alloc, text.as_str())
+    let parse = Root::parse(alloc, text.as_str())?;
+    Ok(parse)
 }

@@ -23,7 +23,8 @@ fn joined(alloc: Global, texts: [&str; 3]) -> Result<String, AllocError> {
 pub fn parsed(alloc: Global, text: &str) -> Result<Parse, AllocError>
     ensures { IfOk result IsParsedText }
 {
-    Root::parse(alloc, text)
+    let parse = Root::parse(alloc, text)?;
+    Ok(parse)
 }
 
 /// Returns the parse after an edit of the bytes from `start` to `end`, if these are offsets of characters.
@@ -41,7 +42,8 @@ pub fn after_edit(
     if end < start || !text.is_char_boundary(start) || !text.is_char_boundary(end) {
         return Ok(None);
     }
-    Ok(Some(reparse(alloc, old, TextRange::new(start, end), new)?))
+    let parse = reparse(alloc, old, TextRange::new(start, end), new)?;
+    Ok(Some(parse))
 }
 
 // Returns the errors as a text.
@@ -73,7 +75,7 @@ pub fn is_parse_after(alloc: Global, edit: Edit<'_>) -> Result<bool, AllocError>
     }
 }
 
-/// Returns a text with so many lines before it that it is a small part, as the value of the last entry of a set.
+// Returns a text with so many lines before it that it is a small part, as the value of the last entry of a set.
 fn long_before(alloc: Global, before: &str) -> Result<String, AllocError> {
     let mut text = String::from_str(alloc, "{\n")?;
     for _ in 0..400 {

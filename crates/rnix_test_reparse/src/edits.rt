@@ -28,7 +28,7 @@ fn an_edit_inside_a_node_gives_the_parse_of_the_new_text(rt: HostRuntime) -> Res
         ("[ # one\n  a ", "", "# two\n", "b ]"),
         ("f { a = \"", "", "é", "\"; } [ ]"),
     ];
-    assert!(rt; first_wrong(rt.alloc(), &edits)? == None);
+    assert!(rt; first_wrong(rt.alloc(), &edits)?.is_none());
     Ok(())
 }
 
@@ -44,7 +44,7 @@ fn an_edit_of_other_nodes_gives_the_parse_of_the_new_text(rt: HostRuntime) -> Re
         ("./x/", "y", "${z}", "/w"),
         ("x: ", "x", "y", ""),
     ];
-    assert!(rt; first_wrong(rt.alloc(), &edits)? == None);
+    assert!(rt; first_wrong(rt.alloc(), &edits)?.is_none());
     Ok(())
 }
 
@@ -65,7 +65,7 @@ fn an_edit_of_a_bracket_gives_the_parse_of_the_new_text(rt: HostRuntime) -> Resu
         ("{ ", "", "a }: { ", " }"),
         ("{ ", "", "a, ... }: { b = a; ", " }"),
     ];
-    assert!(rt; first_wrong(rt.alloc(), &edits)? == None);
+    assert!(rt; first_wrong(rt.alloc(), &edits)?.is_none());
     Ok(())
 }
 
@@ -81,7 +81,7 @@ fn an_edit_beside_quotes_gives_the_parse_of_the_new_text(rt: HostRuntime) -> Res
         ("\"a$", "", "$", "{b}\""),
         ("'", "", "", "' a ''"),
     ];
-    assert!(rt; first_wrong(rt.alloc(), &edits)? == None);
+    assert!(rt; first_wrong(rt.alloc(), &edits)?.is_none());
     Ok(())
 }
 
@@ -97,7 +97,7 @@ fn an_edit_that_opens_a_comment_gives_the_parse_of_the_new_text(
         ("[ a /* c ", "*/", "", " b ] # */"),
         ("[ a /", "", "*", " b ] /* */"),
     ];
-    assert!(rt; first_wrong(rt.alloc(), &edits)? == None);
+    assert!(rt; first_wrong(rt.alloc(), &edits)?.is_none());
     Ok(())
 }
 
@@ -113,7 +113,7 @@ fn an_edit_with_errors_gives_the_parse_of_the_new_text(rt: HostRuntime) -> Resul
         ("[ ", "a", "{ b, b }: 1", " ]"),
         ("[ \u{1} ", "a", "b", " ]"),
     ];
-    assert!(rt; first_wrong(rt.alloc(), &edits)? == None);
+    assert!(rt; first_wrong(rt.alloc(), &edits)?.is_none());
     Ok(())
 }
 

@@ -1,0 +1,41 @@
+use Rattle.std.proofs.Common.{◌≡◌, [], map, true-eqb, ap, sym, subst, ◌∙◌}
+use Rattle.std.specs.Prelude.{IfSome}
+use Rattle.std.specs.Str.{IsUtf8}
+use Rattle.std.proofs.lemmas.List.{nil_from_length}
+use Rattle.rnix_kinds.specs.Lexical.Tokens.{tokens_of}
+use Rattle.rnix_green.specs.Forest.{text_of}
+use Rattle.rnix_green.specs.Range.{bounds_of}
+use Rattle.rnix_green.specs.Tree.{Tree, forest_of}
+use Rattle.rnix_grammar.specs.Fault.{fault_of}
+use Rattle.rnix_grammar.specs.Parsed.{IsParsed}
+use Rattle.rnix_reparse.specs.EditedRange.{edited}
+use Rattle.rnix_reparse.specs.ParsedText.{IsParsedText}
+use Rattle.rnix_reparse.proofs.OwnTexts.{parsed_text, edited_characters}
+use Rattle.rnix_reparse.proofs.reparsing.reparse.Goals as goal
+
+pub reparse_node-requires-clause-parsed : goal.reparse_node-requires-clause-parsed
+reparse_node-requires-clause-parsed c =
+    let old = c.args.old.now in
+    let empty : c.errors.result.now ≡ [] = nil_from_length _ (true-eqb _ 0 c.if-is_empty.ensures) in
+    let none : old.faults ≡ [] = sym c.errors.ensures ∙ ap (map fault_of) empty in
+    subst (λ (z : Tree). IsParsed (tokens_of (text_of (forest_of z))) z []) (sym c.green.ensures.tree)
+    (subst (λ e. IsParsed (tokens_of (text_of (forest_of old.tree))) old.tree e) none c.requires.parsed)
+
+pub returns-in-Some-clause-again : goal.returns-in-Some-clause-again
+returns-in-Some-clause-again c =
+    let old = c.args.old.now in
+    let range = bounds_of c.args.range in
+    let replacement = c.args.replacement.now in
+    let green = c.green.result.now in
+    let text = text_of (forest_of old.tree) in
+    let found : IsParsed (tokens_of (edited range replacement (text_of (forest_of green)))) c.in-Some.tree [] =
+    subst (λ o. IfSome o (λ tree. IsParsed (tokens_of (edited range replacement (text_of (forest_of green)))) tree [])) c.in-Some.is c.in_ok-tree.ensures in
+    let parsed : IsParsed (tokens_of (edited range replacement text)) c.in-Some.tree [] =
+    subst (λ (z : Tree). IsParsed (tokens_of (edited range replacement (text_of (forest_of z)))) c.in-Some.tree []) c.green.ensures.tree found in
+    let characters = edited_characters range replacement text c.requires.range (subst IsUtf8 c.text-whole.ensures c.text-whole.utf8) c.utf8.replacement in
+    subst IsParsedText (sym c.without_errors.ensures) (parsed_text (edited range replacement text) c.in-Some.tree [] characters parsed)
+
+pub returns-clause-again : goal.returns-clause-again
+returns-clause-again c =
+    let parse = c.in_ok-parse.parse in
+    parsed_text c.as_str.result.now parse.tree parse.faults c.as_str.utf8 c.in_ok-parse.ensures
