@@ -9,15 +9,15 @@ use Rattle.rnix_green.proofs.InsideLemmas.{held}
 use Rattle.rnix_green.proofs.PieceLemmas.{length-items_from}
 use Rattle.rnix_proof_reparse.specs.LevelsAround.{between}
 use Rattle.rnix_reparse.specs.OwnBrackets.{HasBrackets}
-use Rattle.rnix_reparse.proofs.Rows.{HasRow, row_item, first_leaf, first_node, behind_first, inside_first, behind_node_first, first_text}
+use Rattle.rnix_reparse.proofs.ForestsInside.{HasForest, forest_item, first_leaf, first_node, behind_first, inside_first, behind_node_first, first_text}
 
--- a row has no trees, or it has elements
+-- a forest has no trees, or it has elements
 none_or_some : (f : Forest) → (f ≡ empty) ⊎ (0 < element_count f)
 none_or_some empty = inl refl
 none_or_some (leaf k t f) = inr (omega arith)
 none_or_some (node k c f) = inr (omega arith)
 
--- the last tree of a row is a leaf, the element of the number q
+-- the last tree of a forest is a leaf, the element of the number q
 record EndsWithLeaf (t : Tree) (q : ℕ) (f : Forest) : Type 0 where
   before : Forest
   text : List ℕ
@@ -30,8 +30,8 @@ one_more_leaf t q k u f h = record { before = leaf k u h.before; text = h.text; 
 one_more_node : (t : Tree) (q : ℕ) (k : SyntaxKind) (c f : Forest) → EndsWithLeaf t q f → EndsWithLeaf t q (node k c f)
 one_more_node t q k c f h = record { before = node k c h.before; text = h.text; split = ap (node k c) h.split; text_is = h.text_is }
 
--- the elements of a row are in the tree
-there : (t : Tree) (n s : ℕ) (p : Option ℕ) (f : Forest) → HasRow t n s p f → n + element_count f ≤ length (items_of t)
+-- the elements of a forest are in the tree
+there : (t : Tree) (n s : ℕ) (p : Option ℕ) (f : Forest) → HasForest t n s p f → n + element_count f ≤ length (items_of t)
 there t n s p f h =
     omega (
       arith,
@@ -42,8 +42,8 @@ there t n s p f h =
       length-append (items_from n s p f) h.after,
     )
 
--- a token with the parent of its row is not inside the node that is last in the row, nor is it that node
-no_node_last : (t : Tree) (m n q s : ℕ) (k : SyntaxKind) (c : Forest) → HasRow t n s (Some m) (node k c empty) → m < n → q ≡ n + element_count c
+-- a token with the parent of its forest is not inside the node that is last in the forest, nor is it that node
+no_node_last : (t : Tree) (m n q s : ℕ) (k : SyntaxKind) (c : Forest) → HasForest t n s (Some m) (node k c empty) → m < n → q ≡ n + element_count c
     → (item t q).is_node ≡ false → (item t q).parent ≡ Some m → {A : Type 0} → A
 no_node_last t m n q s k c h above last token parent =
     let own = first_node t n s (Some m) k c empty h in
@@ -62,7 +62,7 @@ no_node_last t m n q s k c h above last token parent =
     ]
 
 -- a leaf that is last
-one_leaf : (t : Tree) (m n q s : ℕ) (k : SyntaxKind) (u : List ℕ) → HasRow t n s (Some m) (leaf k u empty) → q ≡ n → EndsWithLeaf t q (leaf k u empty)
+one_leaf : (t : Tree) (m n q s : ℕ) (k : SyntaxKind) (u : List ℕ) → HasForest t n s (Some m) (leaf k u empty) → q ≡ n → EndsWithLeaf t q (leaf k u empty)
 one_leaf t m n q s k u h e =
     let kind : (item t q).kind ≡ k = ap (λ j. (item t j).kind) e ∙ ap (λ (i : Item). i.kind) (first_leaf t n s (Some m) k u empty h) in
     record {
@@ -72,21 +72,21 @@ one_leaf t m n q s k u h e =
       text_is = ap (λ j. text_at record { tree = t; number = j }) e ∙ first_text t n s (Some m) k u empty h;
     }
 
--- the last element of a row, a token with the parent of the row, is its last tree
-ends_with_leaf : (t : Tree) (m n q s : ℕ) (f : Forest) → HasRow t n s (Some m) f → m < n → q + 1 ≡ n + element_count f → n ≤ q
+-- the last element of a forest, a token with the parent of the forest, is its last tree
+ends_with_leaf : (t : Tree) (m n q s : ℕ) (f : Forest) → HasForest t n s (Some m) f → m < n → q + 1 ≡ n + element_count f → n ≤ q
     → (item t q).is_node ≡ false → (item t q).parent ≡ Some m → EndsWithLeaf t q f
 ends_with_leaf t m n q s empty h above last some token parent = absurd (omega arith)
 ends_with_leaf t m n q s (leaf k u f) h above last some token parent = elim (none_or_some f) [
   | inl e ↦
       let none : element_count f ≡ 0 = ap element_count e in
-      subst (λ g. EndsWithLeaf t q (leaf k u g)) (sym e) (one_leaf t m n q s k u (subst (λ g. HasRow t n s (Some m) (leaf k u g)) e h) (omega arith))
+      subst (λ g. EndsWithLeaf t q (leaf k u g)) (sym e) (one_leaf t m n q s k u (subst (λ g. HasForest t n s (Some m) (leaf k u g)) e h) (omega arith))
   | inr more ↦ one_more_leaf t q k u f
       (ends_with_leaf t m (n + 1) q (s + length u) f (behind_first t n s (Some m) k u f h) (omega arith) (omega arith) (omega arith) token parent)
 ]
 ends_with_leaf t m n q s (node k c f) h above last some token parent = elim (none_or_some f) [
   | inl e ↦
       let none : element_count f ≡ 0 = ap element_count e in
-      no_node_last t m n q s k c (subst (λ g. HasRow t n s (Some m) (node k c g)) e h) above (omega arith) token parent
+      no_node_last t m n q s k c (subst (λ g. HasForest t n s (Some m) (node k c g)) e h) above (omega arith) token parent
   | inr more ↦ one_more_node t q k c f
       (ends_with_leaf t m (n + 1 + element_count c) q (s + length (text_of c)) f (behind_node_first t n s (Some m) k c f h) (omega arith) (omega arith)
       (omega arith) token parent)
@@ -99,7 +99,7 @@ pub record AreBetween (t : Tree) (first last : ℕ) (c : Forest) : Type 0 where
       (text_at record { tree = t; number = last })
 
 -- a leaf before others, the last of which is a leaf
-between_leaves : (t : Tree) (m n q s : ℕ) (k : SyntaxKind) (u : List ℕ) (f : Forest) → HasRow t n s (Some m) (leaf k u f) → EndsWithLeaf t q f
+between_leaves : (t : Tree) (m n q s : ℕ) (k : SyntaxKind) (u : List ℕ) (f : Forest) → HasForest t n s (Some m) (leaf k u f) → EndsWithLeaf t q f
     → AreBetween t n q (leaf k u f)
 between_leaves t m n q s k u f h e =
     let kind : (item t n).kind ≡ k = ap (λ (i : Item). i.kind) (first_leaf t n s (Some m) k u f h) in
@@ -113,7 +113,7 @@ between_leaves t m n q s k u f h e =
     }
 
 -- the children of a node whose first and last elements are tokens of its own
-children_between : (t : Tree) (m q s : ℕ) (c : Forest) → HasRow t (m + 1) s (Some m) c → q ≡ m + element_count c → 2 ≤ element_count c
+children_between : (t : Tree) (m q s : ℕ) (c : Forest) → HasForest t (m + 1) s (Some m) c → q ≡ m + element_count c → 2 ≤ element_count c
     → (item t (m + 1)).is_node ≡ false → (item t q).is_node ≡ false → (item t q).parent ≡ Some m → AreBetween t (m + 1) q c
 children_between t m q s empty h last both opening closing parent = absurd (omega arith)
 children_between t m q s (leaf k u f) h last both opening closing parent =
@@ -122,8 +122,8 @@ children_between t m q s (leaf k u f) h last both opening closing parent =
 children_between t m q s (node k c f) h last both opening closing parent =
     absurd (false≢true (sym opening ∙ ap (λ (i : Item). i.is_node) (first_node t (m + 1) s (Some m) k c f h)))
 
--- so it is with a node with brackets that begins a row
-pub between_brackets : (t : Tree) (m s : ℕ) (p : Option ℕ) (k : SyntaxKind) (c f : Forest) → HasRow t m s p (node k c f) → HasBrackets t m
+-- so it is with a node with brackets that begins a forest
+pub between_brackets : (t : Tree) (m s : ℕ) (p : Option ℕ) (k : SyntaxKind) (c f : Forest) → HasForest t m s p (node k c f) → HasBrackets t m
     → AreBetween t (m + 1) (m + (item t m).below) c
 between_brackets t m s p k c f h b =
     let below : (item t m).below ≡ element_count c = ap (λ (i : Item). i.below) (first_node t m s p k c f h) in

@@ -21,20 +21,20 @@ no_more false n m = omega arith
 bounded : (n m l : ℕ) → n ≤ m → max n l ≤ max (suc m) l
 bounded n m l h = omega (arith, h)
 
--- what is behind the first node of a row
+-- what is behind the first node of a forest
 nest_behind : (p k : SyntaxKind) (c f : Forest) → nest p f ≤ nest p (node k c f)
 nest_behind p NODE_PAT_ENTRY (node j d e) f = at_least (nest NODE_PAT_ENTRY e) (nest p f)
 nest_behind p NODE_PAT_ENTRY c f = at_least (if nests p NODE_PAT_ENTRY then suc (nest NODE_PAT_ENTRY c) else nest NODE_PAT_ENTRY c) (nest p f)
 nest_behind p k c f = at_least (if nests p k then suc (nest k c) else nest k c) (nest p f)
 
--- a row that begins with a node
+-- a forest that begins with a node
 nest_first : (p k : SyntaxKind) (c f : Forest) → nest p (node k c f) ≤ max (suc (nest k c)) (nest p f)
 nest_first p NODE_PAT_ENTRY (node j d e) f =
     bounded (nest NODE_PAT_ENTRY e) (nest NODE_PAT_ENTRY (node j d e)) (nest p f) (nest_behind NODE_PAT_ENTRY j d e)
 nest_first p NODE_PAT_ENTRY c f = no_more (nests p NODE_PAT_ENTRY) (nest NODE_PAT_ENTRY c) (nest p f)
 nest_first p k c f = no_more (nests p k) (nest k c) (nest p f)
 
--- a row nests no deeper than elements are inside one another
+-- a forest nests no deeper than elements are inside one another
 nest_height : (p : SyntaxKind) (f : Forest) → nest p f ≤ height f
 nest_height p empty = omega arith
 nest_height p (leaf k t f) = (let rest = nest_height p f in omega (arith, rest))

@@ -1,4 +1,4 @@
-pub mod Rows
+pub mod ForestsInside
 pub mod BetweenBrackets
 pub mod NodesAround
 pub mod EditedTexts

@@ -6,7 +6,7 @@ use Rattle.rnix_green.specs.Forest.{Forest, empty, leaf, node, text_of, element_
 use Rattle.rnix_green.specs.Tree.{Tree, Item, item, forest_of}
 use Rattle.rnix_green.specs.Context.{Context, here, behind_leaf, behind_node, inside, filled, elements_before}
 use Rattle.rnix_reparse.specs.TreeHeight.{AreAround, none, one}
-use Rattle.rnix_reparse.proofs.Rows.{HasRow, whole_row, filled_row, parent_in, first_node, behind_first, inside_first, behind_node_first}
+use Rattle.rnix_reparse.proofs.ForestsInside.{HasForest, whole_forest, filled_forest, parent_in, first_node, behind_first, inside_first, behind_node_first}
 
 -- how many nodes of the trees are around the node
 abbrev pub nodes_around : Context → ℕ
@@ -15,8 +15,8 @@ nodes_around (behind_leaf j t x) = nodes_around x
 nodes_around (behind_node j d x) = nodes_around x
 nodes_around (inside j x f) = suc (nodes_around x)
 
--- as many elements are around it as around its row and in its row
-around_filled : (t : Tree) (n s : ℕ) (p : Option ℕ) (x : Context) (k : SyntaxKind) (c : Forest) (d : ℕ) → HasRow t n s p (filled x k c)
+-- as many elements are around it as around its forest and in its forest
+around_filled : (t : Tree) (n s : ℕ) (p : Option ℕ) (x : Context) (k : SyntaxKind) (c : Forest) (d : ℕ) → HasForest t n s p (filled x k c)
     → AreAround t p d → AreAround t (parent_in n p x) (nodes_around x + d)
 around_filled t n s p (here f) k c d h a = (let same : d ≡ 0 + d = omega arith in subst (AreAround t p) same a)
 around_filled t n s p (behind_leaf j u x) k c d h a = around_filled t (n + 1) (s + length u) p x k c d (behind_first t n s p j u (filled x k c) h) a
@@ -37,11 +37,11 @@ only_count t (Some n) _ _ (one _ a x) (one _ b y) = ap suc (only_count t (item t
 pub counted_around : (t : Tree) (x : Context) (k : SyntaxKind) (c : Forest) (d : ℕ) → forest_of t ≡ filled x k c
     → AreAround t (item t (elements_before x)).parent d → d ≡ nodes_around x
 counted_around t x k c d e a =
-    let row : HasRow t 0 0 None (filled x k c) = subst (HasRow t 0 0 None) e (whole_row t) in
+    let forest : HasForest t 0 0 None (filled x k c) = subst (HasForest t 0 0 None) e (whole_forest t) in
     let place : elements_before x ≡ 0 + elements_before x = omega arith in
     let parent : (item t (elements_before x)).parent ≡ parent_in 0 None x =
     ap (λ m. (item t m).parent) place
-    ∙ ap (λ (i : Item). i.parent) (first_node t (0 + elements_before x) _ (parent_in 0 None x) k c _ (filled_row t 0 0 None x k c row)) in
+    ∙ ap (λ (i : Item). i.parent) (first_node t (0 + elements_before x) _ (parent_in 0 None x) k c _ (filled_forest t 0 0 None x k c forest)) in
     let zero : nodes_around x + 0 ≡ nodes_around x = omega arith in
     only_count t (parent_in 0 None x) d (nodes_around x) (subst (λ q. AreAround t q d) parent a)
-    (subst (AreAround t (parent_in 0 None x)) zero (around_filled t 0 0 None x k c 0 row none))
+    (subst (AreAround t (parent_in 0 None x)) zero (around_filled t 0 0 None x k c 0 forest none))

@@ -12,7 +12,7 @@ use Rattle.rnix_proof_reparse.specs.Bracketed.{IsBracketed, set, list, paren, st
 use Rattle.rnix_proof_reparse.specs.LevelsAround.{between}
 use Rattle.rnix_proof_reparse.specs.Reparsed.{rooted}
 use Rattle.rnix_reparse.specs.OwnBrackets.{HasBrackets, HasSameBrackets}
-use Rattle.rnix_reparse.proofs.Rows.{HasRow, whole_row, filled_row, inside_first, parent_in, trees_behind}
+use Rattle.rnix_reparse.proofs.ForestsInside.{HasForest, whole_forest, filled_forest, inside_first, parent_in, trees_behind}
 use Rattle.rnix_reparse.proofs.BetweenBrackets.{AreBetween, between_brackets}
 
 -- the kind of the first tree
@@ -89,12 +89,12 @@ pub record IsSite (t : Tree) (n : ℕ) : Type 0 where
 inner_of : (t : Tree) (n : ℕ) (place : Context) (k : SyntaxKind) (c : Forest) → forest_of t ≡ filled place k c → elements_before place ≡ n → HasBrackets t n
     → AreBetween t (n + 1) (n + (item t n).below) c
 inner_of t n place k c e number h =
-    let row : HasRow t 0 0 None (filled place k c) = subst (HasRow t 0 0 None) e (whole_row t) in
+    let forest : HasForest t 0 0 None (filled place k c) = subst (HasForest t 0 0 None) e (whole_forest t) in
     let s : ℕ = 0 + length (text_before place) in
     let p : Option ℕ = parent_in 0 None place in
     let same : 0 + elements_before place ≡ n = omega arith in
-    let own : HasRow t n s p (node k c (trees_behind place)) =
-    subst (λ m. HasRow t m s p (node k c (trees_behind place))) same (filled_row t 0 0 None place k c row) in
+    let own : HasForest t n s p (node k c (trees_behind place)) =
+    subst (λ m. HasForest t m s p (node k c (trees_behind place))) same (filled_forest t 0 0 None place k c forest) in
     between_brackets t n s p k c (trees_behind place) own h
 
 pub site : (t : Tree) (n : ℕ) → t.kind ≡ NODE_ROOT → HasBrackets t n → IsSite t n
@@ -126,9 +126,9 @@ same_enclosed l m r q s a v b f e1 e2 e3 e4 = λ i. between (sym e1 i) (sym e3 i
 pub new_node : (t : Tree) (n : ℕ) (u : Tree) → HasSameBrackets t n u → IsNewNode t n u
 new_node t n u h =
     let child = only_child u h.only in
-    let row : HasRow u 0 0 None (forest_of u) = whole_row u in
-    let below : HasRow u 1 0 (Some 0) (node child.kind child.children empty) =
-    subst (HasRow u 1 0 (Some 0)) child.is (inside_first u 0 0 None u.kind u.children empty row) in
+    let forest : HasForest u 0 0 None (forest_of u) = whole_forest u in
+    let below : HasForest u 1 0 (Some 0) (node child.kind child.children empty) =
+    subst (HasForest u 1 0 (Some 0)) child.is (inside_first u 0 0 None u.kind u.children empty forest) in
     let inner = between_brackets u 1 0 (Some 0) child.kind child.children empty below h.new in
     let place : forest_of u ≡ filled (inside u.kind (here empty) empty) child.kind child.children = ap (λ f. node u.kind f empty) child.is in
     let kind : child.kind ≡ (item t n).kind =

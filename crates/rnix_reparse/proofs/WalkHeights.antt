@@ -20,7 +20,7 @@ leaf_height d m h l = omega arith
 node_height : (d m c h : ℕ) → d ≤ m → max (max (max m (d + 1)) (d + 1 + c)) (d + h) ≡ max m (d + max (suc c) h)
 node_height d m c h l = omega arith
 
--- the walk over a row
+-- the walk over a forest
 walk_height : (t : Tree) (n : ℕ) (f : Forest) (d m : ℕ) (more : List Event) → d ≤ m
     → highest d m (map (event_at t) (steps_from n f) ++ more) ≡ highest d (max m (d + height f)) more
 walk_height t n empty d m more l = (let same : m ≡ max m (d + 0) = omega arith in ap (λ x. highest d x more) same)

@@ -9,7 +9,7 @@ pub data AreAround (t : Tree) : Option ℕ → ℕ → Type 0 where
   none : AreAround t None 0
   one : (n d : ℕ) → AreAround t (item t n).parent d → AreAround t (Some n) (suc d)
 
--- how many elements at most are inside one another in a row
+-- how many elements at most are inside one another in a forest
 abbrev pub height : Forest → ℕ
 height empty = 0
 height (leaf k t f) = max 1 (height f)

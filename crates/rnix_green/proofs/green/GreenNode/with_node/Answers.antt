@@ -7,20 +7,38 @@ cut : (t : Tree) (n : ℕ) (es : List Packed) (text : List ℕ) → IsKept t es 
 cut t n es text kept l = subst (λ x. IsCut x (item t n)) (sym kept.text_is) (cut_of t n kept.characters l)
 
 pub overflow_sub-text : goal.overflow_sub-text
-overflow_sub-text c = omega (arith, (cut c.args.self.now c.args.number _ _ c.parts.ensures c.requires.there.is_there).at_end.0, ap (λ i. i.end) c.element-old.ensures.is)
+overflow_sub-text c =
+    omega (
+      arith,
+      (cut c.args.self.now c.args.number _ _ c.parts.ensures c.requires.there.is_there).at_end.0,
+      ap (λ i. i.end) c.element-old.ensures.is,
+    )
 
 pub spliced-requires-clause-short : goal.spliced-requires-clause-short
 spliced-requires-clause-short c =
-    omega (arith, (cut c.args.self.now c.args.number _ _ c.parts.ensures c.requires.there.is_there).at_end.0, ap (λ i. i.end) c.element-old.ensures.is, c.element-old.ensures.ordered, c.in_ok-room-2.ensures.ok)
+    omega (
+      arith,
+      (cut c.args.self.now c.args.number _ _ c.parts.ensures c.requires.there.is_there).at_end.0,
+      ap (λ i. i.end) c.element-old.ensures.is,
+      c.element-old.ensures.ordered,
+      c.in_ok-room-2.ensures.ok,
+    )
 
 pub replaced-requires-clause-at_start : goal.replaced-requires-clause-at_start
-replaced-requires-clause-at_start c = rw (ap (λ i. i.start) c.element-old.ensures.is) (cut c.args.self.now c.args.number _ _ c.parts.ensures c.requires.there.is_there).at_start
+replaced-requires-clause-at_start c =
+    rw (ap (λ i. i.start) c.element-old.ensures.is) (cut c.args.self.now c.args.number _ _ c.parts.ensures c.requires.there.is_there).at_start
 
 pub replaced-requires-clause-at_end : goal.replaced-requires-clause-at_end
-replaced-requires-clause-at_end c = rw (ap (λ i. i.end) c.element-old.ensures.is) (cut c.args.self.now c.args.number _ _ c.parts.ensures c.requires.there.is_there).at_end
+replaced-requires-clause-at_end c =
+    rw (ap (λ i. i.end) c.element-old.ensures.is) (cut c.args.self.now c.args.number _ _ c.parts.ensures c.requires.there.is_there).at_end
 
 pub replaced-requires-clause-within : goal.replaced-requires-clause-within
-replaced-requires-clause-within c = omega (arith, (cut c.args.self.now c.args.number _ _ c.parts.ensures c.requires.there.is_there).at_end.0, ap (λ i. i.end) c.element-old.ensures.is)
+replaced-requires-clause-within c =
+    omega (
+      arith,
+      (cut c.args.self.now c.args.number _ _ c.parts.ensures c.requires.there.is_there).at_end.0,
+      ap (λ i. i.end) c.element-old.ensures.is,
+    )
 
 pub from_parts-requires : goal.from_parts-requires
 from_parts-requires c =

@@ -1,4 +1,4 @@
--- Rows of trees inside a tree.
+-- Forests of trees inside a tree.
 use Rattle.std.proofs.Common.{◌≡◌, ℕ, zero, suc, ◌+◌, ◌-◌, ◌≤◌, ◌<◌, List, [], ◌∷◌, ◌++◌, length, get_or, take, drop, Option, Some, None, true, false}
 use Rattle.std.proofs.Common.{refl, ap, sym, ◌∙◌, subst, arith, append_assoc, append-nil, length-append}
 use Rattle.std.proofs.lemmas.List.{get_or-append_right, get_or_append_left, drop_at, take_at}
@@ -8,8 +8,8 @@ use Rattle.rnix_green.specs.Tree.{Tree, Item, items_from, items_of, forest_of, n
 use Rattle.rnix_green.proofs.PieceLemmas.{length-items_from}
 use Rattle.rnix_green.specs.Context.{Context, here, behind_leaf, behind_node, inside, filled, text_before, elements_before}
 
--- a row is in a tree; the number of its first element, where that starts, and its parent are given
-pub record HasRow (t : Tree) (n s : ℕ) (p : Option ℕ) (f : Forest) : Type 0 where
+-- a forest is in a tree; the number of its first element, where that starts, and its parent are given
+pub record HasForest (t : Tree) (n s : ℕ) (p : Option ℕ) (f : Forest) : Type 0 where
   pub before : List Item
   pub after : List Item
   pub split : items_of t ≡ before ++ (items_from n s p f ++ after)
@@ -19,9 +19,9 @@ pub record HasRow (t : Tree) (n s : ℕ) (p : Option ℕ) (f : Forest) : Type 0 
   pub text : text_of (forest_of t) ≡ text_before ++ (text_of f ++ text_after)
   pub start : length text_before ≡ s
 
--- a tree as a row
-pub whole_row : (t : Tree) → HasRow t 0 0 None (forest_of t)
-whole_row t = record {
+-- a tree as a forest
+pub whole_forest : (t : Tree) → HasForest t 0 0 None (forest_of t)
+whole_forest t = record {
   before = [];
   after = [];
   split = sym (append-nil (items_of t));
@@ -32,10 +32,10 @@ whole_row t = record {
   start = refl;
 }
 
--- an element of a row
-pub row_item : (t : Tree) (n s : ℕ) (p : Option ℕ) (f : Forest) (i : ℕ) → HasRow t n s p f → i < element_count f
+-- an element of a forest
+pub forest_item : (t : Tree) (n s : ℕ) (p : Option ℕ) (f : Forest) (i : ℕ) → HasForest t n s p f → i < element_count f
     → item t (n + i) ≡ get_or (items_from n s p f) i no_item
-row_item t n s p f i h l =
+forest_item t n s p f i h l =
     let count : length (items_from n s p f) ≡ element_count f = length-items_from n s p f in
     let place : n + i - n ≡ i = omega arith in
     ap (λ xs. get_or xs (n + i) no_item) h.split
@@ -43,22 +43,22 @@ row_item t n s p f i h l =
     ∙ ap (λ j. get_or (items_from n s p f ++ h.after) j no_item) place
     ∙ get_or_append_left (items_from n s p f) h.after no_item i (omega arith)
 
--- the first element of a row
-pub first_leaf : (t : Tree) (n s : ℕ) (p : Option ℕ) (k : SyntaxKind) (u : List ℕ) (f : Forest) → HasRow t n s p (leaf k u f)
+-- the first element of a forest
+pub first_leaf : (t : Tree) (n s : ℕ) (p : Option ℕ) (k : SyntaxKind) (u : List ℕ) (f : Forest) → HasForest t n s p (leaf k u f)
     → item t n ≡ record { kind = k; is_node = false; start = s; end = s + length u; parent = p; below = 0 }
 first_leaf t n s p k u f h =
     let same : n + 0 ≡ n = omega arith in
-    ap (item t) (sym same) ∙ row_item t n s p (leaf k u f) 0 h (omega arith)
+    ap (item t) (sym same) ∙ forest_item t n s p (leaf k u f) 0 h (omega arith)
 
-pub first_node : (t : Tree) (n s : ℕ) (p : Option ℕ) (k : SyntaxKind) (c f : Forest) → HasRow t n s p (node k c f)
+pub first_node : (t : Tree) (n s : ℕ) (p : Option ℕ) (k : SyntaxKind) (c f : Forest) → HasForest t n s p (node k c f)
     → item t n ≡ record { kind = k; is_node = true; start = s; end = s + length (text_of c); parent = p; below = element_count c }
 first_node t n s p k c f h =
     let same : n + 0 ≡ n = omega arith in
-    ap (item t) (sym same) ∙ row_item t n s p (node k c f) 0 h (omega arith)
+    ap (item t) (sym same) ∙ forest_item t n s p (node k c f) 0 h (omega arith)
 
--- the row behind a leaf
-pub behind_first : (t : Tree) (n s : ℕ) (p : Option ℕ) (k : SyntaxKind) (u : List ℕ) (f : Forest) → HasRow t n s p (leaf k u f)
-    → HasRow t (n + 1) (s + length u) p f
+-- the forest behind a leaf
+pub behind_first : (t : Tree) (n s : ℕ) (p : Option ℕ) (k : SyntaxKind) (u : List ℕ) (f : Forest) → HasForest t n s p (leaf k u f)
+    → HasForest t (n + 1) (s + length u) p f
 behind_first t n s p k u f h =
     let i : Item = record { kind = k; is_node = false; start = s; end = s + length u; parent = p; below = 0 } in
     record {
@@ -73,8 +73,8 @@ behind_first t n s p k u f h =
       start = omega (arith, h.start, length-append h.text_before u);
     }
 
--- the row inside a node
-pub inside_first : (t : Tree) (n s : ℕ) (p : Option ℕ) (k : SyntaxKind) (c f : Forest) → HasRow t n s p (node k c f) → HasRow t (n + 1) s (Some n) c
+-- the forest inside a node
+pub inside_first : (t : Tree) (n s : ℕ) (p : Option ℕ) (k : SyntaxKind) (c f : Forest) → HasForest t n s p (node k c f) → HasForest t (n + 1) s (Some n) c
 inside_first t n s p k c f h =
     let i : Item = record { kind = k; is_node = true; start = s; end = s + length (text_of c); parent = p; below = element_count c } in
     let xs = items_from (n + 1) s (Some n) c in
@@ -90,9 +90,9 @@ inside_first t n s p k c f h =
       start = h.start;
     }
 
--- the row behind a node
-pub behind_node_first : (t : Tree) (n s : ℕ) (p : Option ℕ) (k : SyntaxKind) (c f : Forest) → HasRow t n s p (node k c f)
-    → HasRow t (n + 1 + element_count c) (s + length (text_of c)) p f
+-- the forest behind a node
+pub behind_node_first : (t : Tree) (n s : ℕ) (p : Option ℕ) (k : SyntaxKind) (c f : Forest) → HasForest t n s p (node k c f)
+    → HasForest t (n + 1 + element_count c) (s + length (text_of c)) p f
 behind_node_first t n s p k c f h =
     let i : Item = record { kind = k; is_node = true; start = s; end = s + length (text_of c); parent = p; below = element_count c } in
     let xs = items_from (n + 1) s (Some n) c in
@@ -117,46 +117,47 @@ text_between whole before part after s e split start end =
     let size : e - s ≡ length part = omega arith in
     ap (λ w. take (e - s) (drop s w)) split ∙ ap (take (e - s)) (drop_at before (part ++ after) s start) ∙ take_at part after (e - s) (sym size)
 
--- the text of the first leaf of a row
-pub first_text : (t : Tree) (n s : ℕ) (p : Option ℕ) (k : SyntaxKind) (u : List ℕ) (f : Forest) → HasRow t n s p (leaf k u f)
+-- the text of the first leaf of a forest
+pub first_text : (t : Tree) (n s : ℕ) (p : Option ℕ) (k : SyntaxKind) (u : List ℕ) (f : Forest) → HasForest t n s p (leaf k u f)
     → text_at record { tree = t; number = n } ≡ u
 first_text t n s p k u f h =
     ap (λ (i : Item). take (i.end - i.start) (drop i.start (text_of (forest_of t)))) (first_leaf t n s p k u f h)
     ∙ text_between (text_of (forest_of t)) h.text_before u (text_of f ++ h.text_after) s (s + length u)
     (h.text ∙ ap (λ x. h.text_before ++ x) (append_assoc u (text_of f) h.text_after)) h.start refl
 
--- the trees behind the node of a context, in its row
+-- the trees behind the node of a context, in its forest
 abbrev pub trees_behind : Context → Forest
 trees_behind (here f) = f
 trees_behind (behind_leaf j t x) = trees_behind x
 trees_behind (behind_node j d x) = trees_behind x
 trees_behind (inside j x f) = trees_behind x
 
--- its parent, in a row of which the number of the first element and the parent are given
+-- its parent, in a forest of which the number of the first element and the parent are given
 abbrev pub parent_in : ℕ → Option ℕ → Context → Option ℕ
 parent_in n p (here f) = p
 parent_in n p (behind_leaf j t x) = parent_in (n + 1) p x
 parent_in n p (behind_node j d x) = parent_in (n + 1 + element_count d) p x
 parent_in n p (inside j x f) = parent_in (n + 1) (Some n) x
 
--- a row from another number on
-moved_row : (t : Tree) (n m s r : ℕ) (p : Option ℕ) (f : Forest) → n ≡ m → s ≡ r → HasRow t n s p f → HasRow t m r p f
-moved_row t n m s r p f e d h = subst (λ i. HasRow t i r p f) e (subst (λ i. HasRow t n i p f) d h)
+-- a forest from another number on
+moved_forest : (t : Tree) (n m s r : ℕ) (p : Option ℕ) (f : Forest) → n ≡ m → s ≡ r → HasForest t n s p f → HasForest t m r p f
+moved_forest t n m s r p f e d h = subst (λ i. HasForest t i r p f) e (subst (λ i. HasForest t n i p f) d h)
 
 -- the node of a context is in the tree
-pub filled_row : (t : Tree) (n s : ℕ) (p : Option ℕ) (x : Context) (k : SyntaxKind) (c : Forest) → HasRow t n s p (filled x k c)
-    → HasRow t (n + elements_before x) (s + length (text_before x)) (parent_in n p x) (node k c (trees_behind x))
-filled_row t n s p (here f) k c h = moved_row t n (n + 0) s (s + 0) p (node k c f) (omega arith) (omega arith) h
-filled_row t n s p (behind_leaf j u x) k c h =
-    moved_row t (n + 1 + elements_before x) (n + suc (elements_before x)) (s + length u + length (text_before x)) (s + length (u ++ text_before x))
+pub filled_forest : (t : Tree) (n s : ℕ) (p : Option ℕ) (x : Context) (k : SyntaxKind) (c : Forest) → HasForest t n s p (filled x k c)
+    → HasForest t (n + elements_before x) (s + length (text_before x)) (parent_in n p x) (node k c (trees_behind x))
+filled_forest t n s p (here f) k c h = moved_forest t n (n + 0) s (s + 0) p (node k c f) (omega arith) (omega arith) h
+filled_forest t n s p (behind_leaf j u x) k c h =
+    moved_forest t (n + 1 + elements_before x) (n + suc (elements_before x)) (s + length u + length (text_before x)) (s + length (u ++ text_before x))
     (parent_in (n + 1) p x) (node k c (trees_behind x)) (omega arith) (omega (arith, length-append u (text_before x)))
-    (filled_row t (n + 1) (s + length u) p x k c (behind_first t n s p j u (filled x k c) h))
-filled_row t n s p (behind_node j d x) k c h =
-    moved_row t (n + 1 + element_count d + elements_before x) (n + suc (element_count d + elements_before x)) (s + length (text_of d) + length (text_before x))
+    (filled_forest t (n + 1) (s + length u) p x k c (behind_first t n s p j u (filled x k c) h))
+filled_forest t n s p (behind_node j d x) k c h =
+    moved_forest t (n + 1 + element_count d + elements_before x) (n + suc (element_count d + elements_before x))
+    (s + length (text_of d) + length (text_before x))
     (s + length (text_of d ++ text_before x))
     (parent_in (n + 1 + element_count d) p x) (node k c (trees_behind x)) (omega arith) (omega (arith, length-append (text_of d) (text_before x)))
-    (filled_row t (n + 1 + element_count d) (s + length (text_of d)) p x k c (behind_node_first t n s p j d (filled x k c) h))
-filled_row t n s p (inside j x f) k c h =
-    moved_row t (n + 1 + elements_before x) (n + suc (elements_before x)) (s + length (text_before x)) (s + length (text_before x))
+    (filled_forest t (n + 1 + element_count d) (s + length (text_of d)) p x k c (behind_node_first t n s p j d (filled x k c) h))
+filled_forest t n s p (inside j x f) k c h =
+    moved_forest t (n + 1 + elements_before x) (n + suc (elements_before x)) (s + length (text_before x)) (s + length (text_before x))
     (parent_in (n + 1) (Some n) x) (node k c (trees_behind x)) (omega arith) refl
-    (filled_row t (n + 1) s (Some n) x k c (inside_first t n s p j (filled x k c) f h))
+    (filled_forest t (n + 1) s (Some n) x k c (inside_first t n s p j (filled x k c) f h))
