@@ -1,5 +1,5 @@
 -- The children of a node with brackets.
-use Rattle.std.proofs.Common.{◌≡◌, ℕ, zero, suc, ◌+◌, ◌-◌, ◌≤◌, ◌<◌, List, length, Option, Some, None, true, false, refl, ap, sym, ◌∙◌, subst, arith, ◌⊎◌, inl, inr, ◌++◌, length-append}
+use Rattle.std.proofs.Common.{◌≡◌, ℕ, ◌+◌, ◌≤◌, ◌<◌, List, length, Option, Some, true, false, refl, ap, sym, ◌∙◌, subst, arith, ◌⊎◌, inl, inr, ◌++◌, length-append}
 use Rattle.std.proofs.lemmas.Bool.{false≢true}
 use Rattle.std.proofs.lemmas.Option.{same_Some}
 use Rattle.rnix_kinds.specs.declared.kinds.SyntaxKind.{SyntaxKind}
@@ -9,7 +9,7 @@ use Rattle.rnix_green.proofs.InsideLemmas.{held}
 use Rattle.rnix_green.proofs.PieceLemmas.{length-items_from}
 use Rattle.rnix_proof_reparse.specs.LevelsAround.{between}
 use Rattle.rnix_reparse.specs.OwnBrackets.{HasBrackets}
-use Rattle.rnix_reparse.proofs.ForestsInside.{HasForest, forest_item, first_leaf, first_node, behind_first, inside_first, behind_node_first, first_text}
+use Rattle.rnix_reparse.proofs.ForestsInside.{HasForest, first_leaf, first_node, behind_first, inside_first, behind_node_first, first_text}
 
 -- a forest has no trees, or it has elements
 none_or_some : (f : Forest) → (f ≡ empty) ⊎ (0 < element_count f)

@@ -1,5 +1,5 @@
 -- A climb from an element over the nodes around it.
-use Rattle.std.proofs.Common.{◌≡◌, ℕ, zero, suc, ◌+◌, ◌≤◌, ◌<◌, length, Option, Some, None, refl, sym, subst, arith}
+use Rattle.std.proofs.Common.{◌≡◌, ℕ, suc, ◌+◌, ◌≤◌, ◌<◌, length, Option, Some, None, refl, subst, arith}
 use Rattle.std.specs.Prelude.{IfSome}
 use Rattle.rnix_green.specs.Tree.{Tree, items_of, item}
 use Rattle.rnix_green.proofs.ParentLemmas.{parent_is_before}

@@ -1,11 +1,10 @@
 -- An edit inside a part of a text, and the characters of the parts.
-use Rattle.std.proofs.Common.{◌≡◌, ℕ, zero, suc, ◌+◌, ◌-◌, ◌≤◌, ◌<◌, List, ◌++◌, length, get_or, take, drop, refl, ap, sym, ◌∙◌, subst, arith, append_assoc, length-append, length-drop}
+use Rattle.std.proofs.Common.{◌≡◌, ℕ, ◌+◌, ◌-◌, ◌≤◌, ◌<◌, List, ◌++◌, length, get_or, take, drop, refl, ap, sym, ◌∙◌, subst, arith, append_assoc, length-append, length-drop}
 use Rattle.std.specs.Str.{IsUtf8, IsCharBoundary}
-use Rattle.std.specs.Prelude.{slice_index}
 use Rattle.std.proofs.Math.Seq.{take-add}
 use Rattle.std.proofs.lemmas.List.{take-take, drop-drop, drop-take, take-append-drop, drop_at, take_at, get_or-take, get_or-drop, length-take-le}
-use Rattle.std.proofs.lemmas.Str.{IsUtf8-take, IsUtf8-drop, IsUtf8-append, IsCharBoundary-start, IsCharBoundary-from_take}
-use Rattle.rnix_reparse.specs.EditedRange.{edited, IsRangeOf}
+use Rattle.std.proofs.lemmas.Str.{IsUtf8-take, IsUtf8-drop, IsCharBoundary-start, IsCharBoundary-from_take}
+use Rattle.rnix_reparse.specs.EditedRange.{edited}
 
 -- where a part of a text begins, what is before it and a place in the part are what is before the place
 front : (t : List ℕ) (s e a : ℕ) → s ≤ a → a ≤ e → take s t ++ take (a - s) (take (e - s) (drop s t)) ≡ take a t

@@ -9,3 +9,4 @@ pub mod Sites
 pub mod SplicedReadings
 pub mod OwnTexts
 pub mod EditedNodes
+pub mod EditedExample

@@ -1,12 +1,12 @@
 -- A node with brackets in a tree below a root.
-use Rattle.std.proofs.Common.{◌≡◌, ℕ, zero, suc, ◌+◌, ◌-◌, ◌≤◌, ◌<◌, List, length, Option, Some, None, refl, ap, sym, ◌∙◌, subst, arith}
+use Rattle.std.proofs.Common.{◌≡◌, ℕ, suc, ◌+◌, List, length, Option, Some, None, refl, ap, sym, ◌∙◌, subst, arith}
 use Rattle.rnix_kinds.specs.declared.kinds.SyntaxKind.{SyntaxKind}
 use Rattle.rnix_kinds.specs.declared.kinds.SyntaxKind.TheVariants.{NODE_ROOT}
-use Rattle.rnix_green.specs.Forest.{Forest, empty, leaf, node, text_of}
+use Rattle.rnix_green.specs.Forest.{Forest, empty, leaf, node}
 use Rattle.rnix_green.specs.Tree.{Tree, item, forest_of, text_at}
 use Rattle.rnix_green.specs.Context.{Context, here, behind_leaf, behind_node, inside, filled, text_before, elements_before}
-use Rattle.rnix_green.specs.Splice.{HasOnlyChild, IsSpliced}
-use Rattle.rnix_green.proofs.ContextLemmas.{HasContext, found, IsShown, shown}
+use Rattle.rnix_green.specs.Splice.{IsSpliced}
+use Rattle.rnix_green.proofs.ContextLemmas.{found, shown}
 use Rattle.rnix_green.proofs.SpliceLemmas.{only_child}
 use Rattle.rnix_proof_reparse.specs.Bracketed.{IsBracketed, set, list, paren, string}
 use Rattle.rnix_proof_reparse.specs.LevelsAround.{between}

@@ -1,5 +1,5 @@
 -- The tree with a new node in place of an old one is the reading of the edited text.
-use Rattle.std.proofs.Common.{◌≡◌, ℕ, zero, suc, ◌+◌, ◌-◌, ◌≤◌, ◌<◌, max, List, [], ◌++◌, length, take, drop, refl, ap, sym, ◌∙◌, subst, arith, append_assoc, append-nil, length-append}
+use Rattle.std.proofs.Common.{◌≡◌, ℕ, suc, ◌+◌, ◌-◌, ◌≤◌, ◌<◌, max, List, [], ◌++◌, length, take, drop, refl, ap, sym, ◌∙◌, subst, arith, append_assoc, length-append}
 use Rattle.std.specs.Str.{IsUtf8}
 use Rattle.std.proofs.lemmas.Str.{IsUtf8-nil, IsUtf8-append}
 use Rattle.std.proofs.lemmas.List.{drop_at, take_at}
@@ -7,9 +7,9 @@ use Rattle.rnix_kinds.specs.declared.kinds.SyntaxKind.{SyntaxKind}
 use Rattle.rnix_kinds.specs.declared.kinds.SyntaxKind.TheVariants.{NODE_ROOT}
 use Rattle.rnix_kinds.specs.Lexical.Tokens.{Lexeme, tokens_of}
 use Rattle.rnix_kinds.proofs.LexicalLemmas.Laws.{AreSound-tokens_under}
-use Rattle.rnix_green.specs.Forest.{Forest, empty, leaf, node, text_of}
+use Rattle.rnix_green.specs.Forest.{empty, node, text_of}
 use Rattle.rnix_green.specs.Tree.{Tree, item, forest_of, text_at}
-use Rattle.rnix_green.specs.Context.{Context, inside, filled, text_before, text_after, elements_before}
+use Rattle.rnix_green.specs.Context.{Context, inside, text_before, text_after, elements_before}
 use Rattle.rnix_green.specs.Splice.{IsSpliced}
 use Rattle.rnix_green.proofs.ContextLemmas.{shown, text_filled}
 use Rattle.rnix_grammar.specs.Fault.{Fault}

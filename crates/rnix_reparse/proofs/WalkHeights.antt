@@ -1,7 +1,6 @@
 -- The greatest depth of a walk is the height of what it walks over.
-use Rattle.std.proofs.Common.{◌≡◌, ℕ, ◌+◌, ◌-◌, ◌≤◌, suc, max, List, [], ◌∷◌, ◌++◌, map, true, false, refl, ap, sym, ◌∙◌, arith, append_assoc, append-nil, if◌then◌else◌}
+use Rattle.std.proofs.Common.{◌≡◌, ℕ, ◌+◌, ◌-◌, ◌≤◌, suc, max, List, [], ◌∷◌, ◌++◌, map, false, ap, sym, ◌∙◌, arith, append_assoc, append-nil, if◌then◌else◌}
 use Rattle.std.proofs.lemmas.List.{map-append}
-use Rattle.rnix_kinds.specs.declared.kinds.SyntaxKind.{SyntaxKind}
 use Rattle.rnix_green.specs.Forest.{Forest, empty, leaf, node, element_count}
 use Rattle.rnix_green.specs.Tree.{Tree, Located, part_at}
 use Rattle.rnix_green.specs.Walk.{Event, steps_from, event_at, preorder_of}

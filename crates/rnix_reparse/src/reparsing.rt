@@ -1,6 +1,6 @@
 //! The parse of a text after an edit.
 
-ghost use Rattle.std.specs.Prelude.{◌≡◌, ◌<◌, length, [], IsTrue, IfOk, IfSome};
+ghost use Rattle.std.specs.Prelude.{◌<◌, length, [], IsTrue, IfOk, IfSome};
 ghost use Rattle.rnix_kinds.specs.Lexical.Tokens.{tokens_of};
 ghost use Rattle.rnix_green.specs.Forest.{text_of};
 ghost use Rattle.rnix_green.specs.Range.{bounds_of};

@@ -1,5 +1,5 @@
-use Rattle.std.proofs.Common.{ℕ, suc, ◌+◌, ◌<◌, Some, sym, ap, subst, ◌∙◌}
-use Rattle.rnix_green.specs.Tree.{Item, items_of, item}
+use Rattle.std.proofs.Common.{suc, ◌+◌, ◌<◌, sym, ap, subst}
+use Rattle.rnix_green.specs.Tree.{Item}
 use Rattle.rnix_reparse.proofs.Climbing.{IsClimbed, left_above, climb_begins, climb_goes_on, climb_shorter, climb_ends}
 use Rattle.rnix_reparse.proofs.nesting.depth_of.Goals as goal
 

@@ -1,4 +1,4 @@
-use Rattle.{std.proofs.Common.ℕ, rnix_reparse.proofs.Climbing.{IsClimbed, left_above}}
+use Rattle.{rnix_reparse.proofs.Climbing.{IsClimbed, left_above}}
 use Rattle.rnix_reparse.proofs.nesting.depth_of.Given as goal
 
 abbrev pub invariant-loop-above : goal.invariant-loop-above

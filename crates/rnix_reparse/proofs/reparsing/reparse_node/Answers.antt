@@ -1,4 +1,4 @@
-use Rattle.std.proofs.Common.{ℕ, suc, ◌<◌, length, sym, ap, subst}
+use Rattle.std.proofs.Common.{suc, ◌<◌, length, sym, ap, subst}
 use Rattle.std.specs.Prelude.{IfSome}
 use Rattle.rnix_green.specs.Tree.{Item, items_of}
 use Rattle.rnix_reparse.proofs.Climbing.{left_above, climb_shorter, parent_there}
