@@ -13,7 +13,7 @@
  * UTF-8 is always refused with RNIX_NOT_UTF8.
  *
  * The result of each call, and what it writes, are proved: docs/theorems.md, "Calls from C". This header, and callers in other languages, are
- * tested.
+ * tested. Only rnix_parse_again and rnix_names_again take arrays that an earlier call has filled. They trust these arrays.
  *
  * Any number of threads may call at the same time: calls share only the C library's malloc, realloc and free, which must be thread-safe. Do not
  * call from a signal handler. No text makes a call need a deep stack. The code needs a processor of the level x86-64-v2 (since about 2009).
@@ -29,7 +29,7 @@ extern "C" {
 #endif
 
 /* The version of the interface that this header describes. */
-#define RNIX_VERSION 5u
+#define RNIX_VERSION 6u
 
 /* Returns the version of the library's interface, which must be RNIX_VERSION. It changes with a function, a struct or a number of this header. */
 uint32_t rnix_version(void);
@@ -38,7 +38,7 @@ uint32_t rnix_version(void);
 enum rnix_refusal {
     RNIX_NOT_UTF8 = -1,   /* the text is not UTF-8 */
     RNIX_NO_MEMORY = -2,  /* malloc or realloc returned NULL, or the tree has 2^32 elements or more */
-    RNIX_NONE_SUCH = -3,  /* there is no such kind, name, error, diagnostic, string or unit of columns; no other refusal applies then */
+    RNIX_NONE_SUCH = -3,  /* there is no such kind, name, error, diagnostic, string, range or unit of columns; no other refusal applies then */
     RNIX_TOO_LONG = -4,   /* the text has 2^32 bytes or more; rnix_tokens has no such limit */
     RNIX_HAS_ERRORS = -5, /* the text has errors (rnix_format) */
     RNIX_DIFFERENT = -6   /* a bug of the formatter: its text would differ in more than white space, or change if formatted again (rnix_format) */
@@ -347,6 +347,19 @@ int64_t rnix_parse_compact(const uint8_t *text, size_t len, struct rnix_range *r
                            size_t link_room, struct rnix_error *errors, size_t error_room, uint64_t *error_count);
 
 /*
+ * Parses a text after an edit that replaces its bytes from `start` to `end`, and writes what rnix_parse_compact would write for the new text. If the
+ * text has no errors before the edit, most of its tree is copied, which takes a fraction of the time of a parse.
+ * `text` is the text before the edit. `ranges` and `links`, each with its length, and `error_count` are what rnix_parse_compact, or this call, has
+ * written for that text: the arrays hold all of its elements. They are not checked: with others, the behavior is undefined.
+ * Returns the number of elements of the new tree. Refusals: RNIX_NOT_UTF8 (either text), RNIX_TOO_LONG (either text, or the new one),
+ * RNIX_NO_MEMORY; RNIX_NONE_SUCH if `start` is after `end`, or one of them is after the end of the text or inside a character.
+ */
+int64_t rnix_parse_again(const uint8_t *text, size_t len, const struct rnix_range *ranges, size_t range_count, const struct rnix_link *links,
+                         size_t link_count, uint64_t error_count, uint64_t start, uint64_t end, const uint8_t *replacement, size_t replacement_len,
+                         struct rnix_range *new_ranges, size_t range_room, struct rnix_link *new_links, size_t link_room,
+                         struct rnix_error *errors, size_t error_room, uint64_t *new_error_count);
+
+/*
  * Writes the message of one error of a text (its number in rnix_errors, from 0) in UTF-8, without a terminating zero. This parses the text again.
  * Returns the number of bytes. Refusals: RNIX_NOT_UTF8, RNIX_TOO_LONG, RNIX_NO_MEMORY; RNIX_NONE_SUCH if no error has the number.
  */
@@ -422,6 +435,15 @@ int64_t rnix_positions(const uint8_t *text, size_t len, uint32_t unit, const uin
  */
 int64_t rnix_names(const uint8_t *text, size_t len, struct rnix_binding *bindings, size_t binding_room, struct rnix_reference *references,
                    size_t reference_room, uint64_t *reference_count);
+
+/*
+ * Writes what rnix_names writes. If the text has no errors, it is not parsed: `ranges` and `links`, each with its length, and `error_count` are what
+ * rnix_parse_compact or rnix_parse_again has written for the text. They are not checked: with others, the behavior is undefined.
+ * Returns the number of bindings. Refusals: RNIX_NOT_UTF8, RNIX_TOO_LONG, RNIX_NO_MEMORY.
+ */
+int64_t rnix_names_again(const uint8_t *text, size_t len, const struct rnix_range *ranges, size_t range_count, const struct rnix_link *links,
+                         size_t link_count, uint64_t error_count, struct rnix_binding *bindings, size_t binding_room,
+                         struct rnix_reference *references, size_t reference_room, uint64_t *reference_count);
 
 /*
  * Parses a text once, and writes what rnix_names and rnix_diagnostics write, and the number of diagnostics to *diagnostic_count (not NULL).

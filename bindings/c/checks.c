@@ -109,6 +109,67 @@ static void check_compact_elements(void) {
     CHECK(errors[0].variant == RNIX_UNEXPECTED_WANTED && errors[0].start == 11);
 }
 
+/* What is kept of the parse of a text. */
+struct kept {
+    struct rnix_range ranges[64];
+    struct rnix_link links[64];
+    struct rnix_error errors[16];
+    uint64_t error_count;
+    int64_t count;
+};
+
+static struct kept kept_of(const char *of) {
+    struct kept kept;
+    memset(&kept, 0, sizeof kept);
+    kept.count = rnix_parse_compact((const uint8_t *)of, strlen(of), kept.ranges, 64, kept.links, 64, kept.errors, 16, &kept.error_count);
+    CHECK(kept.count > 0 && kept.count <= 64 && kept.error_count <= 16);
+    return kept;
+}
+
+/* Parses a text again after an edit, and writes to what is kept. */
+static int64_t again(const char *of, const struct kept *old, uint64_t start, uint64_t end, const char *new, struct kept *kept) {
+    return rnix_parse_again((const uint8_t *)of, strlen(of), old->ranges, (size_t)old->count, old->links, (size_t)old->count, old->error_count, start,
+                            end, (const uint8_t *)new, strlen(new), kept->ranges, 64, kept->links, 64, kept->errors, 16, &kept->error_count);
+}
+
+/* For each range of a text and some replacements: what is written is what is kept of the new text. */
+static void check_edits(const char *of) {
+    static const char *const pieces[] = {"", "x", " ", "{", "]", "\"", "''", "${", "#", "/*", "(c)", "\n"};
+    const struct kept old = kept_of(of);
+    char made[64];
+    for (size_t start = 0; start <= strlen(of); start++) {
+        for (size_t end = start; end <= strlen(of); end++) {
+            for (size_t piece = 0; piece < sizeof pieces / sizeof *pieces; piece++) {
+                struct kept kept;
+                memset(&kept, 0, sizeof kept);
+                kept.count = again(of, &old, start, end, pieces[piece], &kept);
+                snprintf(made, sizeof made, "%.*s%s%s", (int)start, of, pieces[piece], of + end);
+                const struct kept whole = kept_of(made);
+                CHECK(memcmp(&kept, &whole, sizeof kept) == 0);
+            }
+        }
+    }
+}
+
+static void check_again(void) {
+    check_edits("{ a = [ 1 (b) ]; }");
+    check_edits("\"x${y}\" + ''z''");
+    check_edits("[ a ; ]");
+    static const char umlaut[] = "\"\xc3\xa4\"";
+    const struct kept old = kept_of(umlaut);
+    struct kept kept, blank;
+    memset(&kept, 0x5a, sizeof kept);
+    memset(&blank, 0x5a, sizeof blank);
+    CHECK(again(umlaut, &old, 2, 3, "", &kept) == RNIX_NONE_SUCH);
+    CHECK(again(umlaut, &old, 0, 2, "", &kept) == RNIX_NONE_SUCH);
+    CHECK(again(umlaut, &old, 1, 0, "", &kept) == RNIX_NONE_SUCH);
+    CHECK(again(umlaut, &old, 4, 5, "", &kept) == RNIX_NONE_SUCH);
+    CHECK(again(umlaut, &old, 0, UINT64_MAX, "", &kept) == RNIX_NONE_SUCH);
+    CHECK(again(umlaut, &old, 1, 3, "\xc3", &kept) == RNIX_NOT_UTF8);
+    CHECK(memcmp(&kept, &blank, sizeof kept) == 0);
+    CHECK(again(umlaut, &old, 1, 3, "", &kept) == 4 && kept.ranges[1].end == 2);
+}
+
 static void check_other_rooms(void) {
     struct rnix_token tokens[32];
     int64_t count = rnix_tokens(text, len, tokens, 32);
@@ -256,6 +317,30 @@ static void check_names(void) {
     CHECK(references[3].binding == 1 && references[3].kind == RNIX_NODE_IDENT);
 }
 
+/* From what is kept of a text, what rnix_names writes is written, for each of a few rooms. */
+static void check_names_again(void) {
+    static const char *const texts[] = {"let a = 1; in x: [ a x ]", "let a = [ (x: a x"};
+    struct written {
+        struct rnix_binding bindings[4];
+        struct rnix_reference references[4];
+        uint64_t count;
+    } again, whole;
+    for (size_t number = 0; number < 2; number++) {
+        const uint8_t *of = (const uint8_t *)texts[number];
+        const size_t of_len = strlen(texts[number]);
+        const struct kept kept = kept_of(texts[number]);
+        CHECK((kept.error_count > 0) == (number > 0));
+        for (size_t room = 0; room <= 4; room++) {
+            memset(&again, 0x5a, sizeof again);
+            memset(&whole, 0x5a, sizeof whole);
+            int64_t answer = rnix_names_again(of, of_len, kept.ranges, (size_t)kept.count, kept.links, (size_t)kept.count, kept.error_count,
+                                              again.bindings, room, again.references, room, &again.count);
+            CHECK(answer == 2 && answer == rnix_names(of, of_len, whole.bindings, room, whole.references, room, &whole.count));
+            CHECK(memcmp(&again, &whole, sizeof again) == 0);
+        }
+    }
+}
+
 /* One call writes what rnix_names and rnix_diagnostics write, for each of a few rooms. */
 static void check_analysis(void) {
     static const char let[] = "let a = 1; in [ (x: a x";
@@ -372,7 +457,12 @@ static struct rooms {
     uint64_t others[2];
 } rooms, untouched;
 
-enum { CALLS = 13 };
+enum { CALLS = 15 };
+
+/* A text without errors, what is kept of it, and what an edit of it writes. */
+static const char clean[] = "x: [ 1 x ]";
+static const uint8_t clean_new[] = {'(', '3', ')'};
+static struct kept clean_kept;
 
 /* A call of each function that allocates; its arrays are those of `rooms`. */
 static int64_t call(int number, size_t string) {
@@ -393,6 +483,13 @@ static int64_t call(int number, size_t string) {
     case 12:
         return rnix_analysis(text, len, rooms.bindings, 4, rooms.references, 4, &rooms.count, rooms.diagnostics, 4, &rooms.others[0], rooms.bytes,
                              sizeof rooms.bytes, &rooms.others[1]);
+    case 13:
+        return rnix_parse_again((const uint8_t *)clean, sizeof clean - 1, clean_kept.ranges, (size_t)clean_kept.count, clean_kept.links,
+                                (size_t)clean_kept.count, 0, 5, 6, clean_new, sizeof clean_new, rooms.ranges, 64, rooms.links, 64, rooms.errors, 4,
+                                &rooms.count);
+    case 14:
+        return rnix_names_again((const uint8_t *)clean, sizeof clean - 1, clean_kept.ranges, (size_t)clean_kept.count, clean_kept.links,
+                                (size_t)clean_kept.count, 0, rooms.bindings, 4, rooms.references, 4, &rooms.count);
     default: return rnix_positions(text, len, RNIX_UTF16, offsets, 2, rooms.positions, 2);
     }
 }
@@ -401,6 +498,7 @@ static int64_t call(int number, size_t string) {
 static void check_memory(void) {
     size_t string = first_of(RNIX_NODE_STRING);
     memset(&untouched, 0x5a, sizeof untouched);
+    clean_kept = kept_of(clean);
     for (int number = 0; number <= CALLS; number++) {
         int64_t answer = RNIX_NO_MEMORY;
         long given = 1;
@@ -490,6 +588,7 @@ int main(int argc, char **argv) {
     check_kinds();
     check_rooms_of_elements();
     check_compact_elements();
+    check_again();
     check_other_rooms();
     check_strings();
     check_all_strings();
@@ -497,6 +596,7 @@ int main(int argc, char **argv) {
     check_diagnostics();
     check_fixes();
     check_names();
+    check_names_again();
     check_analysis();
     check_format();
     check_refusals();

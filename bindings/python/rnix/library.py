@@ -8,7 +8,7 @@ import os
 import pathlib
 from typing import Any, Callable
 
-VERSION = 5
+VERSION = 6
 NOT_UTF8, NO_MEMORY, NONE_SUCH, TOO_LONG, HAS_ERRORS, DIFFERENT = -1, -2, -3, -4, -5, -6
 NO_NUMBER = 2**64 - 1
 NO_KIND = 2**32 - 1
@@ -161,6 +161,16 @@ _ARGUMENTS = {
     "rnix_tokens": _text(*_array(Token)),
     "rnix_parse": _text(*_array(Element), *_array(Fault), ctypes.POINTER(ctypes.c_uint64)),
     "rnix_parse_compact": _text(*_array(Range), *_array(Link), *_array(Fault), ctypes.POINTER(ctypes.c_uint64)),
+    "rnix_parse_again": _text(
+        *_array(Range),
+        *_array(Link),
+        *[ctypes.c_uint64] * 3,
+        *_text(),
+        *_array(Range),
+        *_array(Link),
+        *_array(Fault),
+        ctypes.POINTER(ctypes.c_uint64),
+    ),
     "rnix_elements": _text(*_array(Element)),
     "rnix_errors": _text(*_array(Fault)),
     "rnix_error_text": _text(ctypes.c_size_t, *_array(ctypes.c_char)),
@@ -170,7 +180,14 @@ _ARGUMENTS = {
     "rnix_diagnostics": _text(*_array(Diagnostic), *_array(ctypes.c_char), ctypes.POINTER(ctypes.c_uint64)),
     "rnix_fix": _text(ctypes.c_size_t, ctypes.POINTER(Fix), *_array(ctypes.c_char)),
     "rnix_format": _text(*_array(ctypes.c_char)),
-    "rnix_names": _text(*_array(Binding), *_array(Reference), ctypes.POINTER(ctypes.c_uint64)),
+    "rnix_names_again": _text(
+        *_array(Range),
+        *_array(Link),
+        ctypes.c_uint64,
+        *_array(Binding),
+        *_array(Reference),
+        ctypes.POINTER(ctypes.c_uint64),
+    ),
     "rnix_positions": _text(ctypes.c_uint32, ctypes.POINTER(ctypes.c_uint64), ctypes.c_size_t, *_array(Position)),
     "rnix_strings": _text(*_array(StringPart), *_array(ctypes.c_char), ctypes.POINTER(ctypes.c_uint64)),
     "rnix_string_text": _text(ctypes.c_size_t, *_array(ctypes.c_char)),

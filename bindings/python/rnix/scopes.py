@@ -53,7 +53,7 @@ def resolve(tree: Tree) -> Resolution:
     bindings, binding_count, references, reference_count = library.listed_twice(
         library.Binding,
         library.Reference,
-        lambda *rooms: LIBRARY.rnix_names(source, len(source), *rooms),
+        lambda *rooms: LIBRARY.rnix_names_again(source, len(source), *tree._kept, *rooms),
         (len(source) // 4 + 8, len(source) // 2 + 8),
     )
     return Resolution(

@@ -9,7 +9,7 @@ import sys
 from itertools import compress, islice
 from typing import TYPE_CHECKING, Any, Generic, Iterable, Iterator, TypeVar, overload
 
-from rnix import library
+from rnix import library, ranges
 from rnix.errors import ParseError, errors_of
 from rnix.kinds import PATHS, TRIVIA
 from rnix.library import KINDS, LIBRARY, NO_PARENT
@@ -40,20 +40,26 @@ _PART_LONGS = 4
 class Tree:
     """The tree of a text, and its errors. It is immutable, so threads may share it."""
 
-    __slots__ = ("_ends", "_insides", "_kinds", "_line_starts", "_parents", "_parts", "_starts", "errors", "source")
+    __slots__ = ("_ends", "_insides", "_kept", "_kinds", "_line_starts", "_parents", "_parts", "_starts", "errors", "source")
 
     def __init__(self, source: bytes) -> None:
+        self._read(source, LIBRARY.rnix_parse_compact, (source, len(source)), 2 * len(source) + 8)
+
+    def _read(self, source: bytes, function: Any, arguments: tuple[Any, ...], guess: int) -> None:
+        """Keeps what a function writes for a text. `arguments` are those before its arrays, and `guess` is the initial capacity for elements."""
         count = ctypes.c_uint64(0)
         faults = (library.Fault * _ERRORS)()
         links: Any = None
 
-        def parse(ranges: Any, room: int) -> Any:
+        def parse(extents: Any, room: int) -> Any:
             nonlocal links
             links = library.room_for(library.Link, room)
-            return LIBRARY.rnix_parse_compact(source, len(source), ranges, room, links, room, faults, _ERRORS, ctypes.byref(count))
+            return function(*arguments, extents, room, links, room, faults, _ERRORS, ctypes.byref(count))
 
-        ranges, length = library.listed(library.Range, parse, guess=2 * len(source) + 8)
-        range_bytes = memoryview(ranges).cast("B")[: _SIZE * _RANGE * length]
+        extents, length = library.listed(library.Range, parse, guess)
+        # What rnix_parse_again takes.
+        self._kept = (extents, length, links, length, count.value)
+        range_bytes = memoryview(extents).cast("B")[: _SIZE * _RANGE * length]
         link_bytes = memoryview(links).cast("B")[: _SIZE * _LINK * length]
         self._starts, self._ends = (range_bytes.cast("I")[column::_RANGE] for column in range(_RANGE))
         self._parents, self._insides = (link_bytes.cast("I")[column::_LINK] for column in range(_LINK - 1))
@@ -87,6 +93,19 @@ class Tree:
             element.end = ends[number]
             element._number = number
             yield element
+
+    def reparse(self, what: Element | tuple[int, int], new: str) -> Tree:
+        """Returns the tree of the text in which `new` replaces a node, a token or a byte range: that of `parse` for the new text.
+
+        If this text has no errors, most of its tree is copied, so that it takes a fraction of the time. This tree stays as it is.
+        """
+        start, end = ranges.checked(self.source, *(what.range if isinstance(what, Element) else what))
+        replacement = new.encode()
+        source = self.source[:start] + replacement + self.source[end:]
+        arguments = (self.source, len(self.source), *self._kept, start, end, replacement, len(replacement))
+        tree = Tree.__new__(Tree)
+        tree._read(source, LIBRARY.rnix_parse_again, arguments, len(self._kinds) + 2 * len(replacement) + 8)
+        return tree
 
     def position(self, offset: int) -> tuple[int, int]:
         """Returns the line and column of a byte offset, both counted from 1. Columns count characters."""

@@ -246,6 +246,45 @@ class Batches(unittest.TestCase):
             self.assertTrue(all(one.binding is None or one.binding < len(names.bindings) for one in names.references))
 
 
+class Reparsing(unittest.TestCase):
+    def check(self, tree, what, new):
+        """Returns the tree after an edit, which must be that of the new text."""
+        start, end = what.range if isinstance(what, rnix.Element) else what
+        edited = tree.reparse(what, new)
+        whole = rnix.parse(tree.source[:start] + new.encode() + tree.source[end:])
+        self.assertEqual(edited.source, whole.source)
+        self.assertEqual(list(printer.lines(edited)), list(printer.lines(whole)), whole.text)
+        self.assertEqual(list(map(str, edited.errors)), list(map(str, whole.errors)))
+        return edited
+
+    def test_each_edit_gives_the_tree_of_the_new_text(self):
+        text = "# ä\n{ a, b ? [ 1 ] }@c: let d = \"x${e}y\"; in (rec { f = ''\n  g ${{ h = 2; }.h}\n''; }) /* i */ // { j.k = l: m; }"
+        tree = rnix.parse(text)
+        places = [place for place in range(len(tree.source) + 1) if place == len(tree.source) or tree.source[place] & 0xC0 != 0x80]
+        for start in places:
+            for end in (start, start + 1, start + 3):
+                if end in places:
+                    for new in ("", "x", "{", "]", '"', "''", "${", "#", "a = 1; "):
+                        self.check(tree, (start, end), new)
+        self.assertEqual(tree.text, text)
+
+    def test_stored_texts_are_edited(self):
+        for number, (text, _) in enumerate(list(stored("trees"))[::5]):
+            tree = rnix.parse(text)
+            elements = list(tree.root.walk())
+            self.check(self.check(tree, elements[number % len(elements)], "[ a ]"), (0, 0), "(")
+
+    def test_a_node_is_replaced(self):
+        tree = rnix.parse("{ a = [ 1 2 ]; }")
+        one = next(tree.root.find(rnix.ast.Literal))
+        self.assertEqual(self.check(tree, one, "[ ]").text, "{ a = [ [ ] 2 ]; }")
+
+    def test_other_ranges_are_refused(self):
+        tree = rnix.parse("aä")
+        for bad in [(-1, 0), (1, 0), (0, 4), (2, 3), (2, 2)]:
+            self.assertRaises(rnix.EditError, tree.reparse, bad, "")
+
+
 class Edits(unittest.TestCase):
     def test_a_value_is_replaced_and_all_else_stays(self):
         text = '{ # ä\n  version = "1.0"; }'

@@ -79,11 +79,14 @@ pub fn diagnostics(parse: &Parse<Root>) -> Vec<Diagnostic> {
     decoded(&found, &messages)
 }
 
-/// Returns what [`resolve`](crate::scopes::resolve) and [`diagnostics`] return. The library parses the text for both once.
+/// Returns what [`resolve`](crate::scopes::resolve) and [`diagnostics`] return. If the text has errors, the library parses it for both once.
 ///
 /// # Panics
 /// If memory runs out.
 pub fn names_and_diagnostics(parse: &Parse<Root>) -> (Resolution, Vec<Diagnostic>) {
+    if parse.errors().is_empty() {
+        return (scopes::resolve(parse), Vec::new());
+    }
     let root = parse.syntax();
     let (text, count) = (root.tree.text(0), parse.errors().len());
     let (bindings, references) = scopes::guesses(text);

@@ -4,7 +4,7 @@ use crate::error::Refused;
 use crate::SyntaxKind;
 
 /// The version of the interface that this file declares.
-pub const VERSION: u32 = 5;
+pub const VERSION: u32 = 6;
 
 /// Negative results: why a call was refused.
 pub const NOT_UTF8: i64 = -1;
@@ -132,6 +132,26 @@ extern "C" {
         error_room: usize,
         error_count: *mut u64,
     ) -> i64;
+    fn rnix_parse_again(
+        text: *const u8,
+        len: usize,
+        ranges: *const Range,
+        range_count: usize,
+        links: *const Link,
+        link_count: usize,
+        error_count: u64,
+        start: u64,
+        end: u64,
+        replacement: *const u8,
+        replacement_len: usize,
+        new_ranges: *mut Range,
+        range_room: usize,
+        new_links: *mut Link,
+        link_room: usize,
+        errors: *mut Fault,
+        error_room: usize,
+        new_error_count: *mut u64,
+    ) -> i64;
     pub fn rnix_strings(
         text: *const u8,
         len: usize,
@@ -159,9 +179,14 @@ extern "C" {
         buffer_room: usize,
     ) -> i64;
     pub fn rnix_format(text: *const u8, len: usize, buffer: *mut u8, room: usize) -> i64;
-    pub fn rnix_names(
+    fn rnix_names_again(
         text: *const u8,
         len: usize,
+        ranges: *const Range,
+        range_count: usize,
+        links: *const Link,
+        link_count: usize,
+        error_count: u64,
         bindings: *mut Binding,
         binding_room: usize,
         references: *mut Reference,
@@ -286,32 +311,122 @@ pub struct Parsed {
     pub errors: Vec<Fault>,
 }
 
-/// Parses a text. The guesses are the initial capacities for the elements and for the errors.
-pub fn parsed(text: &str, guesses: (usize, usize)) -> Result<Parsed, Refused> {
+// The elements and the errors that a call writes. It takes the two arrays for elements and their room, the array for errors and its room, and where to
+// write the number of errors.
+//
+// The call must fill its arrays as `listed_twice` requires, both arrays for elements alike.
+unsafe fn parsed_by(
+    guesses: (usize, usize),
+    mut call: impl FnMut(*mut Range, *mut Link, usize, *mut Fault, usize, *mut u64) -> i64,
+) -> Result<Parsed, Refused> {
     let mut links: Vec<Link> = Vec::new();
-    // SAFETY: the call fills its arrays as `listed_twice` requires.
+    // SAFETY: the caller promises it.
     let (ranges, errors) = unsafe {
         listed_twice(guesses, |ranges, len, errors, error_room, error_count| {
             if links.try_reserve_exact(len).is_err() {
                 return NO_MEMORY;
             }
-            let room = links.as_mut_ptr();
-            rnix_parse_compact(
-                text.as_ptr(),
-                text.len(),
-                ranges,
-                len,
-                room,
-                len,
-                errors,
-                error_room,
-                error_count,
-            )
+            call(ranges, links.as_mut_ptr(), len, errors, error_room, error_count)
         })
     }?;
     // SAFETY: the last call had room for all elements in both arrays, and has initialized as many in one as in the other.
     unsafe { links.set_len(ranges.len()) };
     Ok(Parsed { ranges, links, errors })
+}
+
+/// Parses a text. The guesses are the initial capacities for the elements and for the errors.
+pub fn parsed(text: &str, guesses: (usize, usize)) -> Result<Parsed, Refused> {
+    // SAFETY: the text and the arrays have these lengths.
+    unsafe {
+        parsed_by(guesses, |ranges, links, room, errors, error_room, error_count| {
+            rnix_parse_compact(
+                text.as_ptr(),
+                text.len(),
+                ranges,
+                room,
+                links,
+                room,
+                errors,
+                error_room,
+                error_count,
+            )
+        })
+    }
+}
+
+/// What is kept of the parse of a text: the elements, in two lists of one length, and the number of errors.
+#[derive(Clone, Copy)]
+pub struct Kept<'t> {
+    pub text: &'t str,
+    pub ranges: &'t [Range],
+    pub links: &'t [Link],
+    pub error_count: usize,
+}
+
+/// Parses a text after an edit that replaces the bytes in a range, which must be one of the text.
+///
+/// # Safety
+/// What is kept must be of a parse of the text.
+pub unsafe fn parsed_again(
+    kept: Kept<'_>,
+    range: std::ops::Range<usize>,
+    replacement: &str,
+    guesses: (usize, usize),
+) -> Result<Parsed, Refused> {
+    // SAFETY: the texts and the arrays have these lengths, and the caller promises the rest.
+    unsafe {
+        parsed_by(guesses, |ranges, links, room, errors, error_room, error_count| {
+            rnix_parse_again(
+                kept.text.as_ptr(),
+                kept.text.len(),
+                kept.ranges.as_ptr(),
+                kept.ranges.len(),
+                kept.links.as_ptr(),
+                kept.links.len(),
+                kept.error_count as u64,
+                range.start as u64,
+                range.end as u64,
+                replacement.as_ptr(),
+                replacement.len(),
+                ranges,
+                room,
+                links,
+                room,
+                errors,
+                error_room,
+                error_count,
+            )
+        })
+    }
+}
+
+/// Returns the bindings and the references of a text. The guesses are the initial capacities for both.
+///
+/// # Safety
+/// What is kept must be of a parse of the text.
+pub unsafe fn names(kept: Kept<'_>, guesses: (usize, usize)) -> Result<(Vec<Binding>, Vec<Reference>), Refused> {
+    // SAFETY: the text and the arrays have these lengths, and the caller promises the rest.
+    unsafe {
+        listed_twice(
+            guesses,
+            |bindings, room, references, reference_room, reference_count| {
+                rnix_names_again(
+                    kept.text.as_ptr(),
+                    kept.text.len(),
+                    kept.ranges.as_ptr(),
+                    kept.ranges.len(),
+                    kept.links.as_ptr(),
+                    kept.links.len(),
+                    kept.error_count as u64,
+                    bindings,
+                    room,
+                    references,
+                    reference_room,
+                    reference_count,
+                )
+            },
+        )
+    }
 }
 
 /// The names of a text, and its diagnostics with their joined messages.

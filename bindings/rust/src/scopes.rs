@@ -8,7 +8,6 @@
 //! assert_eq!(names.uses(1).count(), 0);
 //! ```
 
-use crate::error::Refused;
 use crate::syntax::node::SyntaxNode;
 use crate::{ffi, Parse, Root, SyntaxKind, TextRange, TextSize};
 
@@ -59,27 +58,6 @@ pub(crate) fn guesses(text: &str) -> (usize, usize) {
     (text.len() / 4 + 8, text.len() / 2 + 8)
 }
 
-// Encodes the bindings and references of a text.
-fn read(text: &str) -> Result<(Vec<ffi::Binding>, Vec<ffi::Reference>), Refused> {
-    // SAFETY: the call fills its arrays as `listed_twice` requires.
-    unsafe {
-        ffi::listed_twice(
-            guesses(text),
-            |room, len, references, reference_room, reference_count| {
-                ffi::rnix_names(
-                    text.as_ptr(),
-                    text.len(),
-                    room,
-                    len,
-                    references,
-                    reference_room,
-                    reference_count,
-                )
-            },
-        )
-    }
-}
-
 // Finds nodes. The search for each begins at the one before, since names come in the order of the text, and many of them have one scope.
 struct Finder<'t> {
     root: &'t SyntaxNode,
@@ -118,12 +96,13 @@ pub(crate) fn resolution(root: &SyntaxNode, bindings: &[ffi::Binding], reference
     }
 }
 
-/// Returns the bindings and references of a text.
+/// Returns the bindings and references of a text. If it has errors, the library parses it again.
 ///
 /// # Panics
 /// If memory runs out.
 pub fn resolve(parse: &Parse<Root>) -> Resolution {
     let root = parse.syntax();
-    let (bindings, references) = read(root.tree.text(0)).unwrap_or_else(|refused| panic!("{refused}"));
+    let names = root.tree.names(parse.errors().len(), guesses(root.tree.text(0)));
+    let (bindings, references) = names.unwrap_or_else(|refused| panic!("{refused}"));
     resolution(&root, &bindings, &references)
 }

@@ -1,7 +1,7 @@
 //! A text and the elements of its tree, which nodes and tokens share.
 
 use crate::error::{errors_of, ParseError, Refused};
-use crate::ffi::{self, Link, Range, NO_PARENT};
+use crate::ffi::{self, Kept, Link, Parsed, Range, NO_PARENT};
 use crate::strings::Strings;
 use crate::{SyntaxKind, TextRange, TextSize};
 use std::sync::{Arc, OnceLock};
@@ -27,25 +27,79 @@ fn initial_capacity(text: &str) -> usize {
 // Initial capacity for errors.
 const ERRORS: usize = 16;
 
+// The texts, one after the other.
+fn joined(texts: &[&str]) -> Result<String, Refused> {
+    let len = texts.iter().map(|text| text.len()).sum();
+    let mut joined = String::new();
+    joined.try_reserve_exact(len).map_err(|_| Refused::NoMemory)?;
+    joined.extend(texts.iter().copied());
+    Ok(joined)
+}
+
 impl Tree {
+    // A text with what was parsed of it.
+    fn new(text: String, parsed: Parsed) -> (Tree, Vec<ParseError>) {
+        let errors = errors_of(&text, &parsed.errors);
+        let tree = Tree {
+            text: text.into(),
+            ranges: parsed.ranges.into(),
+            links: parsed.links.into(),
+            origin: None,
+            strings: OnceLock::new(),
+        };
+        (tree, errors)
+    }
+
     /// Parses a text.
     pub(crate) fn read(text: &str) -> Result<(Tree, Vec<ParseError>), Refused> {
         // SAFETY: the function takes no pointers.
         let version = unsafe { ffi::rnix_version() };
         assert_eq!(version, ffi::VERSION, "librnix.a is of another version than this crate");
         let parsed = ffi::parsed(text, (initial_capacity(text), ERRORS))?;
-        let errors = errors_of(text, &parsed.errors);
-        let mut copy = String::new();
-        copy.try_reserve_exact(text.len()).map_err(|_| Refused::NoMemory)?;
-        copy.push_str(text);
-        let tree = Tree {
-            text: copy.into(),
-            ranges: parsed.ranges.into(),
-            links: parsed.links.into(),
-            origin: None,
-            strings: OnceLock::new(),
-        };
-        Ok((tree, errors))
+        Ok(Tree::new(joined(&[text])?, parsed))
+    }
+
+    // What the library wrote for the text, which has so many errors.
+    fn kept(&self, error_count: usize) -> Kept<'_> {
+        assert!(
+            self.origin.is_none(),
+            "a subtree has other offsets and numbers than the library wrote"
+        );
+        Kept {
+            text: &self.text,
+            ranges: &self.ranges,
+            links: &self.links,
+            error_count,
+        }
+    }
+
+    /// Returns the encoded bindings and references of the text of this tree, which has so many errors. The tree must be that of a whole text.
+    pub(crate) fn names(
+        &self,
+        error_count: usize,
+        guesses: (usize, usize),
+    ) -> Result<(Vec<ffi::Binding>, Vec<ffi::Reference>), Refused> {
+        // SAFETY: `kept` returns what was kept.
+        unsafe { ffi::names(self.kept(error_count), guesses) }
+    }
+
+    /// Parses the text of this tree, which has so many errors, after an edit that replaces the bytes in a range. The tree must be that of a whole text.
+    ///
+    /// # Panics
+    /// If the range is not one of the text, or starts or ends inside a character.
+    pub(crate) fn read_again(
+        &self,
+        error_count: usize,
+        range: std::ops::Range<usize>,
+        replacement: &str,
+    ) -> Result<(Tree, Vec<ParseError>), Refused> {
+        assert!(self.text.get(range.clone()).is_some(), "the range is one of the text");
+        let text = joined(&[&self.text[..range.start], replacement, &self.text[range.end..]])?;
+        let kept = self.kept(error_count);
+        let guess = self.links.len().saturating_add(initial_capacity(replacement));
+        // SAFETY: `kept` returns what was kept.
+        let parsed = unsafe { ffi::parsed_again(kept, range, replacement, (guess, ERRORS)) }?;
+        Ok(Tree::new(text, parsed))
     }
 
     #[inline]

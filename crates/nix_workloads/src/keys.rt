@@ -45,8 +45,8 @@ fn add_token(token: &SyntaxToken<'_>, digest: &mut Digest) {
     digest.add_text(token.text());
 }
 
-// Adds what is at an offset: its tokens, the nodes around the last of them, and what covers a few bytes after it.
-fn add_place(root: &SyntaxNode<'_>, offset: usize, len: usize, digest: &mut Digest) {
+/// Adds what is at an offset: its tokens, the nodes around the last of them, and what covers a few bytes after it.
+pub fn add_place(root: &SyntaxNode<'_>, offset: usize, len: usize, digest: &mut Digest) {
     match root.token_at_offset(offset) {
         TokenAtOffset::None => digest.add_number(0),
         TokenAtOffset::Single(token) => {

@@ -1,8 +1,12 @@
 //! Does jobs that users of the library wait for, on texts that it makes itself: `nix_workloads JOB SEED SIZE` prints how many results the job had, and a
-//! digest of them all. `all` does each job. It calls the public functions of the libraries alone, and none that takes work twice on one text, or on one
-//! name or place of it.
+//! digest of them all. `all` does each job but `anew` and `again`, and `compare` compares what these two call. A job calls the public functions of the
+//! libraries alone, and none that takes work twice on one text, or on one name or place of it.
 #![tactic(auto)]
 
+mod again;
+mod again_compared;
+mod again_rules;
+mod anew;
 mod awkward;
 mod check;
 mod convert;
@@ -15,6 +19,7 @@ mod numbers;
 mod packages;
 mod pins;
 mod results;
+mod small_edits;
 mod source;
 mod template;
 mod words;
@@ -43,6 +48,8 @@ fn work(
         "convert" => convert::convert(alloc, words, seed, size, digest),
         "keys" => keys::press(alloc, words, seed, size, digest),
         "awkward" => awkward::awkward(alloc, words, seed, size, digest),
+        "anew" => anew::anew(alloc, words, seed, size, digest),
+        "again" => again::again(alloc, words, seed, size, digest),
         _ => Ok(()),
     }
 }
@@ -58,6 +65,14 @@ fn report(rt: &HostRuntime, words: &Words, job: &str, seed: u64, size: usize) ->
     )
 }
 
+// Does each job of `JOBS`.
+fn report_all(rt: &HostRuntime, words: &Words, seed: u64, size: usize) -> io::Result<()> {
+    for job in JOBS {
+        report(rt, words, job, seed, size)?;
+    }
+    Ok(())
+}
+
 fn main(rt: HostRuntime) -> io::Result<()> {
     let mut args = env::args(&rt)?;
     let _program = args.next();
@@ -66,14 +81,14 @@ fn main(rt: HostRuntime) -> io::Result<()> {
             let seed = seed.as_str().parse().unwrap_or(0);
             let size = size.as_str().parse().unwrap_or(0);
             let words = Words::new(rt.alloc())?;
-            if job.as_str() != "all" {
-                return report(&rt, &words, job.as_str(), seed, size);
+            match job.as_str() {
+                "all" => report_all(&rt, &words, seed, size),
+                "compare" => again_compared::compare(&rt, &words, seed, size),
+                job => report(&rt, &words, job, seed, size),
             }
-            for job in JOBS {
-                report(&rt, &words, job, seed, size)?;
-            }
-            Ok(())
         }
-        _ => println!(rt; "nix_workloads check|index|edit|convert|keys|awkward|all SEED SIZE"),
+        _ => println!(rt;
+            "nix_workloads check|index|edit|convert|keys|awkward|anew|again|all|compare SEED SIZE"
+        ),
     }
 }

@@ -1,9 +1,12 @@
+pub mod EditedLengths
 pub mod ElementNumbers
 pub mod FewElements
 pub mod FilledLemmas
+pub mod KeptTrees
 pub mod KindNames
 pub mod NumberedSpots
 pub mod ShortTrees
+pub mod WrittenElements
 pub mod WrittenFixes
 pub mod WrittenNames
 pub mod WrittenParts

@@ -1,3 +1,4 @@
+pub mod AgainCalls
 pub mod AllStrings
 pub mod Answers
 pub mod CompactElements
@@ -6,6 +7,7 @@ pub mod Elements
 pub mod Errors
 pub mod FixCalls
 pub mod Formatting
+pub mod KeptArrays
 pub mod KindCalls
 pub mod Messages
 pub mod NameCalls

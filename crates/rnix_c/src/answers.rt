@@ -40,6 +40,7 @@ pub const NO_KIND: u32 = u32::MAX;
 pub fn checked<'t>(text: &'t [u8]) -> Result<&'t str, i64>
     ensures utf8 { IfOk result (λ _. IsUtf8 text.now) }
     ensures same { IfOk result (λ checked. checked.now ≡ text.now) }
+    ensures short { IfOk result (λ _. length text.now < 2 ^ 32) }
     ensures refused { IfErr result (λ answer. IsRefused text.now answer) }
 {
     let Ok(checked) = str::from_utf8(text) else {

@@ -12,12 +12,12 @@ ghost use Rattle.rnix_c.specs.Errors.{errors_of};
 
 use crate::answers::parsed;
 use crate::errors::{self, RnixError};
-use rnix::{GreenNode, ParseError};
+use rnix::{GreenNode, Parse, ParseError};
 use rnix_green::Element;
 use std::alloc::Global;
 
 /// The parent of the root.
-const NO_PARENT: u32 = u32::MAX;
+pub const NO_PARENT: u32 = u32::MAX;
 
 /// The range of a node or a token. It is half-open, in bytes.
 #[repr(C)]
@@ -108,8 +108,7 @@ fn write_compact(
     errors: &mut [RnixError],
     error_count: &mut u64,
 ) -> i64
-    requires few { HaveShortNumbers green.now }
-    requires short { length (text_of (forest_of green.now)) < 2 ^ 32 }
+    ensures few { HaveShortNumbers green.now }
     ensures ranges { IsWritten (ranges_of green.now) result ranges.old ranges.new }
     ensures links { links.new ≡ filled (links_of green.now) links.old }
     ensures errors { errors.new ≡ filled (errors_of (map fault_of faults.now)) errors.old }
@@ -120,6 +119,30 @@ fn write_compact(
     errors::fill(faults, errors);
     *error_count = faults.len() as u64;
     count as i64
+}
+
+/// Writes the elements and the errors of a parse, and the number of errors, and returns how many elements there are.
+pub fn write_parse(
+    read: &Parse,
+    ranges: &mut [RnixRange],
+    links: &mut [RnixLink],
+    errors: &mut [RnixError],
+    error_count: &mut u64,
+) -> i64
+    ensures few { HaveShortNumbers read.now.tree }
+    ensures ranges { IsWritten (ranges_of read.now.tree) result ranges.old ranges.new }
+    ensures links { links.new ≡ filled (links_of read.now.tree) links.old }
+    ensures errors { errors.new ≡ filled (errors_of read.now.faults) errors.old }
+    ensures count { error_count.new ≡ length read.now.faults }
+{
+    write_compact(
+        read.green(),
+        read.errors(),
+        ranges,
+        links,
+        errors,
+        error_count,
+    )
 }
 
 /// The elements of a text in two arrays, and its errors: how many elements there are, at most three for each byte and three more, and fewer than

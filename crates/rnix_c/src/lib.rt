@@ -3,6 +3,7 @@
 
 ghost use Rattle.std.specs.Prelude.{◌≡◌};
 
+mod again;
 mod all_strings;
 mod analysis;
 mod answers;
@@ -12,9 +13,11 @@ mod elements;
 mod errors;
 mod fixes;
 mod formatting;
+mod kept_arrays;
 mod kinds;
 mod messages;
 mod names;
+mod names_again;
 mod positions;
 mod strings;
 mod tokens;
@@ -23,7 +26,7 @@ mod tree;
 /// The number of this interface. It changes where a function, a struct or the number of a kind does.
 #[unsafe(no_mangle)]
 pub extern "C" fn rnix_version() -> u32
-    ensures { result ≡ 5 }
+    ensures { result ≡ 6 }
 {
-    5
+    6
 }

@@ -2,6 +2,7 @@
 #![tactic(auto)]
 
 mod builder;
+mod elements;
 mod entries;
 mod green;
 mod packed;
@@ -11,6 +12,7 @@ mod splice;
 mod text_builder;
 
 pub use builder::{Checkpoint, GreenNodeBuilder};
+pub use elements::ElementList;
 pub use green::{Element, GreenNode};
 pub use range::{TextRange, TextSize};
 pub use text_builder::TextBuilder;

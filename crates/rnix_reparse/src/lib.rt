@@ -3,8 +3,11 @@
 
 mod brackets;
 mod nesting;
+mod own;
 mod reparsing;
 mod replacing;
 mod texts;
 
+pub use own::{editable, parse_own};
 pub use reparsing::reparse;
+pub use texts::edited_text;

@@ -7,7 +7,7 @@ ghost use Rattle.rnix_reparse.specs.EditedRange.{edited};
 use std::alloc::{AllocError, Global};
 
 /// Returns a text with a replacement for the bytes from `start` to `end`.
-pub(crate) fn edited_text(
+pub fn edited_text(
     alloc: Global,
     text: &str,
     start: usize,

@@ -1,11 +1,12 @@
 //! What is known of a text: its tree, its errors, its names, and its diagnostics.
 
+use crate::change::Change;
 use crate::protocol::{Code, Failure};
 use rnix::ast::{Dynamic, Expr, InterpolPart, Str};
 use rnix::diagnostics::{names_and_diagnostics, Diagnostic};
 use rnix::scopes::{Binding, Reference, Resolution};
 use rnix::syntax::ast::AstNode as _;
-use rnix::{Parse, Root, SyntaxKind, SyntaxNode, SyntaxToken, TextRange, TextSize};
+use rnix::{Parse, Refused, Root, SyntaxKind, SyntaxNode, SyntaxToken, TextRange, TextSize};
 use std::cell::OnceCell;
 
 /// The tree of a text, what its names refer to, and what is wrong with it.
@@ -33,7 +34,18 @@ impl Analysis {
     /// # Errors
     /// Memory runs out.
     pub fn new(text: &str) -> Result<Analysis, Failure> {
-        let parse = Root::try_parse(text);
+        Analysis::of(Root::try_parse(text))
+    }
+
+    /// Parses a text that comes from an earlier one by a change, from the parse of the earlier one.
+    ///
+    /// # Errors
+    /// Memory runs out.
+    pub fn after(earlier: &Parse<Root>, change: &Change, text: &str) -> Result<Analysis, Failure> {
+        Analysis::of(earlier.try_reparse(change.old.clone(), &text[change.new.clone()]))
+    }
+
+    fn of(parse: Result<Parse<Root>, Refused>) -> Result<Analysis, Failure> {
         Ok(Analysis {
             parse: parse.map_err(|refused| Failure::new(Code::InternalError, refused.to_string()))?,
             found: OnceCell::new(),

@@ -1,10 +1,12 @@
 //! The documents that the client has open.
 
 use crate::analysis::Analysis;
+use crate::change::Change;
 use crate::features::delta::Sent;
 use crate::json::Value;
 use crate::protocol::{positions_of, uri_of, Failure};
 use crate::text::{Encoding, Text};
+use rnix::{Parse, Root};
 use std::cell::{OnceCell, RefCell};
 use std::collections::HashMap;
 
@@ -20,6 +22,8 @@ pub struct Document {
     pub sent: RefCell<Option<Sent>>,
     // Whether the text has changed since its diagnostics were sent.
     is_new: bool,
+    // The parse of the last text that was parsed, and how it has changed since; none if the whole text was replaced.
+    earlier: RefCell<Option<(Parse<Root>, Change)>>,
     analysis: OnceCell<Result<Analysis, Failure>>,
 }
 
@@ -29,28 +33,52 @@ pub struct Documents {
     open: HashMap<String, Document>,
 }
 
-// Applies one change of a text: a new text, or one for a range.
-fn apply(text: &mut Text, change: &Value, encoding: Encoding) -> Result<(), Failure> {
-    let new = change.get("text").and_then(Value::as_str);
-    let new = new.ok_or_else(|| Failure::params("a change has no text"))?;
-    match change.get("range") {
-        None | Some(Value::Null) => *text = Text::new(new.to_owned(), encoding),
-        Some(range) => {
-            let (start, end) = positions_of(range)?;
-            text.replace(start, end, new);
-        }
-    }
-    Ok(())
-}
-
 impl Document {
-    /// Returns what is known of the text.
+    /// Returns what is known of the text. It is parsed from the parse of an earlier text, if there is one.
     ///
     /// # Errors
     /// Memory runs out.
     pub fn analysis(&self) -> Result<&Analysis, Failure> {
-        let analysis = self.analysis.get_or_init(|| Analysis::new(self.text.content()));
+        let text = self.text.content();
+        let analysis = self.analysis.get_or_init(|| match self.earlier.take() {
+            Some((parse, change)) => Analysis::after(&parse, &change, text),
+            None => Analysis::new(text),
+        });
         analysis.as_ref().map_err(Failure::clone)
+    }
+
+    // Applies one change of the text: a new text, or one for a range.
+    fn apply(&mut self, change: &Value, encoding: Encoding) -> Result<(), Failure> {
+        let new = change.get("text").and_then(Value::as_str);
+        let new = new.ok_or_else(|| Failure::params("a change has no text"))?;
+        match change.get("range") {
+            None | Some(Value::Null) => {
+                self.text = Text::new(new.to_owned(), encoding);
+                self.forget();
+                self.earlier.take();
+            }
+            Some(range) => {
+                let (start, end) = positions_of(range)?;
+                let change = self.text.replace(start, end, new);
+                self.keep(change);
+            }
+        }
+        Ok(())
+    }
+
+    // Forgets what is known of the text.
+    fn forget(&mut self) -> Option<Analysis> {
+        self.analysis.take()?.ok()
+    }
+
+    // Keeps the parse of the text before a change.
+    fn keep(&mut self, change: Change) {
+        let earlier = match (self.forget(), self.earlier.take()) {
+            (Some(analysis), _) => Some((analysis.parse, change)),
+            (None, Some((parse, earlier))) => Some((parse, earlier.then(&change))),
+            (None, None) => None,
+        };
+        self.earlier = RefCell::new(earlier);
     }
 }
 
@@ -69,6 +97,7 @@ impl Documents {
             text: Text::new(text.to_owned(), encoding),
             sent: RefCell::default(),
             is_new: true,
+            earlier: RefCell::default(),
             analysis: OnceCell::new(),
         };
         self.open.insert(uri, document);
@@ -85,10 +114,7 @@ impl Documents {
         let changes = changes.ok_or_else(|| Failure::params("contentChanges is missing"))?;
         document.version = params.at(&["textDocument", "version"]).cloned();
         document.is_new = true;
-        document.analysis = OnceCell::new();
-        changes
-            .iter()
-            .try_for_each(|change| apply(&mut document.text, change, encoding))
+        changes.iter().try_for_each(|change| document.apply(change, encoding))
     }
 
     /// Closes a document, and returns its name.
@@ -187,6 +213,42 @@ mod tests {
             documents.change(&changes, Encoding::Utf16).unwrap();
             let document = documents.get(&changes).unwrap();
             assert_eq!(document.text.content(), String::from_utf16(&units).unwrap());
+        }
+    }
+
+    // The tree and the errors of a document, as text.
+    fn parsed(document: &Document) -> String {
+        let parse = &document.analysis().unwrap().parse;
+        format!("{:#?} {:?}", parse.syntax(), parse.errors())
+    }
+
+    #[test]
+    fn after_changes_a_document_is_parsed_as_its_text() {
+        let mut numbers = Numbers(5);
+        let text = "{\n  a = [ 1 ];\n  b = { c = \"${a}\"; };\n}\n".repeat(3);
+        let mut documents = Documents::default();
+        documents
+            .open(&params("a", Value::Null, &text), Encoding::Utf16)
+            .unwrap();
+        for turn in 0..2000 {
+            let new = ["", "x", " ", "{", "}", "\"", "[ ]", "# d\n", "e = 1;", "${"][numbers.below(10)];
+            let mut from = place(&mut numbers);
+            from.line %= 12;
+            let mut to = from;
+            to.column += numbers.below(3);
+            let range = Value::read(&Value::Range(from, to).written()).unwrap();
+            let whole = ("text", Value::from(text.as_str()));
+            let change = match turn % 40 {
+                0 => object([whole]),
+                _ => object([("range", range), ("text", new.into())]),
+            };
+            let changes = params("contentChanges", array([change]), "");
+            documents.change(&changes, Encoding::Utf16).unwrap();
+            if numbers.below(3) > 0 {
+                let document = documents.get(&changes).unwrap();
+                let anew = Root::parse(document.text.content());
+                assert_eq!(parsed(document), format!("{:#?} {:?}", anew.syntax(), anew.errors()));
+            }
         }
     }
 }

@@ -1,6 +1,7 @@
 //! A language server for Nix: `rnix-ls` speaks the Language Server Protocol over standard input and output.
 
 mod analysis;
+mod change;
 mod client;
 mod documents;
 mod features;

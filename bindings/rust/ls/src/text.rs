@@ -6,6 +6,7 @@
 mod cursor;
 mod units;
 
+use crate::change::Change;
 pub use cursor::Cursor;
 use std::cell::OnceCell;
 use std::ops::Range;
@@ -142,8 +143,8 @@ impl Text {
         }
     }
 
-    /// Replaces the text between two positions, which may come in either order.
-    pub fn replace(&mut self, from: Position, to: Position, new: &str) {
+    /// Replaces the text between two positions, which may come in either order. Returns the change.
+    pub fn replace(&mut self, from: Position, to: Position, new: &str) -> Change {
         let (one, other) = (self.offset(from), self.offset(to));
         let (start, end) = (one.min(other), one.max(other));
         self.content.replace_range(start..end, new);
@@ -157,6 +158,7 @@ impl Text {
         }
         self.starts.splice(kept..after, starts);
         self.units = OnceCell::new();
+        Change::new(start..end, new.len())
     }
 }
 

@@ -1,0 +1,54 @@
+//! Small edits, after each of which the text is parsed from the tree of the text before.
+
+ghost use Rattle.rnix_reparse.specs.ParsedText.{IsParsedText};
+
+use crate::digest::Digest;
+use crate::numbers::{Numbers, mixed};
+use crate::small_edits::{EDITS, add_edited, edited_text, small_edit};
+use crate::words::Words;
+use rnix::Parse;
+use rnix_reparse::{editable, parse_own, reparse};
+use std::alloc::{AllocError, Global};
+use std::io;
+
+// Edits a text. An edit that leaves errors is taken back.
+fn edit_again(
+    alloc: Global,
+    words: &Words,
+    read: Parse,
+    seed: u64,
+    digest: &mut Digest,
+) -> Result<(), AllocError>
+    requires { IsParsedText read }
+{
+    let mut numbers = Numbers::new(seed);
+    let mut last = read;
+    for _edit in 0..EDITS {
+        let edit = small_edit(words, last.text(), &mut numbers);
+        if let Some(range) = editable(last.text(), edit.start, edit.end) {
+            let made = reparse(alloc, &last, range, edit.new)?;
+            add_edited(&made, edit, digest);
+            if made.errors().is_empty() {
+                last = made;
+            }
+        }
+    }
+    Ok(())
+}
+
+/// Makes small edits of so many texts, with the results of `anew`.
+pub fn again(
+    alloc: Global,
+    words: &Words,
+    seed: u64,
+    size: usize,
+    digest: &mut Digest,
+) -> io::Result<()> {
+    let seed = mixed(seed);
+    for number in 0..size {
+        let own = mixed(seed.wrapping_add(number as u64));
+        let text = edited_text(alloc, words, number, own)?;
+        edit_again(alloc, words, parse_own(alloc, text.as_str())?, own, digest)?;
+    }
+    Ok(())
+}

@@ -1,0 +1,150 @@
+//! Compares parses after random edits with parses of the new texts.
+
+ghost use Rattle.rnix_reparse.specs.ParsedText.{IsParsedText};
+
+use crate::again_rules::{expression, written};
+use crate::anew::text_after;
+use crate::digest::Digest;
+use crate::numbers::{Numbers, mixed};
+use crate::packages::{Files, listing};
+use crate::results::add_parse;
+use crate::small_edits::SmallEdit;
+use crate::words::Words;
+use rnix::{Parse, Root};
+use rnix_reparse::{editable, parse_own, reparse};
+use std::alloc::{AllocError, Global};
+use std::io;
+
+// How many edits are made of each text.
+const EDITS: usize = 20;
+
+// How many edits were made, how many of these of texts without errors, and how many texts after edits have none; and the differences.
+#[derive(Clone, Copy)]
+struct Counts {
+    edits: u64,
+    clean: u64,
+    left_clean: u64,
+    different: u64,
+}
+
+// Returns whether two parses have one tree and the same errors.
+fn is_same(one: &Parse, other: &Parse) -> bool {
+    let (mut first, mut second) = (Digest::new(), Digest::new());
+    add_parse(one, &mut first);
+    add_parse(other, &mut second);
+    one.green().is_same(other.green()) && first.sum() == second.sum()
+}
+
+// Returns a random edit of a text: most remove up to eight bytes, most write a piece, some two.
+fn random_edit(text: &str, numbers: &mut Numbers) -> (usize, usize, &'static str, &'static str) {
+    let start = numbers.below(text.len().saturating_add(1));
+    let removed = match numbers.below(8) {
+        0..=2 => 0,
+        3..=5 => 1,
+        6 => numbers.below(8),
+        _ => numbers.below(60),
+    };
+    let end = start.saturating_add(removed).min(text.len());
+    match numbers.below(8) {
+        0..=1 => (start, end, "", ""),
+        2 => (start, end, written(numbers), written(numbers)),
+        _ => (start, end, written(numbers), ""),
+    }
+}
+
+// Counts an edit, and prints it if the parse after it is another than that of the new text.
+fn count(
+    rt: &HostRuntime,
+    old: &Parse,
+    edit: SmallEdit<'_>,
+    new: &Parse,
+    counts: &mut Counts,
+) -> io::Result<()> {
+    counts.edits = counts.edits.wrapping_add(1);
+    counts.clean = counts
+        .clean
+        .wrapping_add(u64::from(old.errors().is_empty()));
+    counts.left_clean = counts
+        .left_clean
+        .wrapping_add(u64::from(new.errors().is_empty()));
+    let Some(text) = text_after(rt.alloc(), old.text(), edit)? else {
+        return Ok(());
+    };
+    let whole = Root::parse(rt.alloc(), text.as_str())?;
+    if !is_same(new, &whole) {
+        counts.different = counts.different.wrapping_add(1);
+        println!(rt;
+            "{}..{} <{}> in <{}>",
+            edit.start,
+            edit.end,
+            edit.new,
+            old.text()
+        )?;
+    }
+    Ok(())
+}
+
+// Edits a text. Of twelve edits that leave errors, eleven are taken back.
+fn compare_edits(
+    rt: &HostRuntime,
+    read: Parse,
+    numbers: &mut Numbers,
+    counts: &mut Counts,
+) -> io::Result<()>
+    requires { IsParsedText read }
+{
+    let mut last = read;
+    for _edit in 0..EDITS {
+        let (start, end, first, second) = random_edit(last.text(), numbers);
+        let mut new = String::from_str(rt.alloc(), first)?;
+        new.push_str(second)?;
+        if let Some(range) = editable(last.text(), start, end) {
+            let made = reparse(rt.alloc(), &last, range, new.as_str())?;
+            let edit = SmallEdit {
+                start,
+                end,
+                new: new.as_str(),
+            };
+            count(rt, &last, edit, &made, counts)?;
+            if made.errors().is_empty() || numbers.below(12) == 0 {
+                last = made;
+            }
+        }
+    }
+    Ok(())
+}
+
+// A text: of 400, 396 are short expressions, three are packages, and one is a list of 20 KB.
+fn text_of(
+    alloc: Global,
+    words: &Words,
+    files: &Files,
+    numbers: &mut Numbers,
+) -> Result<String, AllocError> {
+    match numbers.below(400) {
+        0 => listing(alloc, words, numbers.next(), 350),
+        1..=3 => files.file(alloc, words, numbers.next()),
+        _ => expression(alloc, numbers),
+    }
+}
+
+/// Makes about so many edits, and prints how many parses after them are other ones than those of the new texts.
+pub fn compare(rt: &HostRuntime, words: &Words, seed: u64, size: usize) -> io::Result<()> {
+    let mut numbers = Numbers::new(mixed(seed));
+    let files = Files::new(rt.alloc())?;
+    let mut counts = Counts {
+        edits: 0,
+        clean: 0,
+        left_clean: 0,
+        different: 0,
+    };
+    for _text in 0..size / EDITS {
+        let text = text_of(rt.alloc(), words, &files, &mut numbers)?;
+        let read = parse_own(rt.alloc(), text.as_str())?;
+        compare_edits(rt, read, &mut numbers, &mut counts)?;
+    }
+    println!(rt;
+        "compare: {} edits, {} of texts without errors, {} to such texts, {} different",
+        counts.edits, counts.clean, counts.left_clean, counts.different
+    )
+}

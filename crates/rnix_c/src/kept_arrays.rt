@@ -1,0 +1,132 @@
+//! The tree of a text, from the arrays that hold its elements.
+
+ghost use Rattle.std.specs.Prelude.{◌≡◌, ◌<◌, ◌^◌, [], ◌∷◌, ◌++◌, length, map, IfOk, IfErr, OnOk, IsUtf8};
+ghost use Rattle.rnix_kinds.specs.declared.kinds.SyntaxKind.{SyntaxKind};
+ghost use Rattle.rnix_kinds.specs.declared.kinds.SyntaxKind.TheVariants.{NODE_ROOT};
+ghost use Rattle.rnix_kinds.specs.SyntaxKind.{discriminant_of};
+ghost use Rattle.rnix_kinds.specs.Lexical.Tokens.{tokens_of};
+ghost use Rattle.rnix_green.specs.Kept.{kept_of};
+ghost use Rattle.rnix_green.specs.Forest.{text_of};
+ghost use Rattle.rnix_green.specs.Tree.{Tree, items_of, forest_of};
+ghost use Rattle.rnix_grammar.specs.Parsed.{IsParsed};
+ghost use Rattle.rnix_reparse.specs.ParsedText.{IsParsedText};
+ghost use Rattle.rnix_c.specs.Answers.{IsRefused};
+ghost use Rattle.rnix_c.specs.KeptArrays.{HoldTree, HoldParse, kept_parent, kept_size, kept_by};
+
+use crate::answers::{NO_MEMORY, checked, parse_of};
+use crate::compact::{NO_PARENT, RnixLink, RnixRange};
+use rnix::{GreenNode, Parse, SyntaxKind};
+use rnix_green::ElementList;
+use std::alloc::{AllocError, Global};
+
+// The kind of a number; where no kind has it, one of them.
+fn kind_of(number: u16) -> SyntaxKind
+    ensures { (kind : SyntaxKind) → discriminant_of kind ≡ number → result ≡ kind }
+{
+    match SyntaxKind::from_raw(number) {
+        Some(kind) => kind,
+        None => SyntaxKind::TOKEN_ERROR,
+    }
+}
+
+// The number of a parent; 0 for the root.
+fn kept_parent(parent: u32) -> usize
+    ensures { result ≡ kept_parent parent }
+{
+    if parent == NO_PARENT {
+        0
+    } else {
+        parent as usize
+    }
+}
+
+// The size of an element: 0 for a token.
+fn kept_size(link: RnixLink) -> usize
+    ensures { result ≡ kept_size link.is_token link.inside }
+{
+    if link.is_token == 0 {
+        link.inside as usize + 1
+    } else {
+        0
+    }
+}
+
+// Adds the element that a range and a link describe.
+fn add(list: &mut ElementList, range: RnixRange, link: RnixLink) -> Result<(), AllocError>
+    ensures { OnOk result ((kind : SyntaxKind) → discriminant_of kind ≡ link.kind → list.new ≡ list.old ++ (kept_by kind range link ∷ [])) }
+{
+    let (parent, size) = (kept_parent(link.parent), kept_size(link));
+    list.push(kind_of(link.kind), range.start as usize, parent, size)
+}
+
+// The elements that the arrays hold.
+fn elements_of(
+    alloc: Global,
+    ranges: &[RnixRange],
+    links: &[RnixLink],
+) -> Result<ElementList, AllocError>
+    ensures { IfOk result (λ list. (tree : Tree) → HoldTree ranges.now links.now tree → list ≡ map kept_of (items_of tree)) }
+{
+    let count = ranges.len().min(links.len());
+    let mut list = ElementList::with_capacity(alloc, count)?;
+    for number in 0..count {
+        add(&mut list, ranges[number], links[number])?;
+    }
+    Ok(list)
+}
+
+// The tree of a text without errors, from the arrays that hold its elements.
+fn tree_of(
+    alloc: Global,
+    text: &str,
+    ranges: &[RnixRange],
+    links: &[RnixLink],
+) -> Result<GreenNode, AllocError>
+    requires short { length text.now < 2 ^ 32 }
+    requires kept { HoldParse text.now ranges.now links.now 0 }
+    ensures root { IfOk result (λ green. green.kind ≡ NODE_ROOT) }
+    ensures read { IfOk result (λ green. IsParsed (tokens_of text.now) green []) }
+{
+    let list = elements_of(alloc, ranges, links)?;
+    let green = list.into_tree(text)?;
+    Ok(green)
+}
+
+/// The parse of a text without errors, from the arrays that hold its elements. Nothing is parsed.
+pub fn parse_kept(
+    alloc: Global,
+    text: &str,
+    ranges: &[RnixRange],
+    links: &[RnixLink],
+) -> Result<Parse, AllocError>
+    requires short { length text.now < 2 ^ 32 }
+    requires kept { HoldParse text.now ranges.now links.now 0 }
+    ensures own { IfOk result (λ read. IsParsedText read) }
+    ensures text { IfOk result (λ read. text_of (forest_of read.tree) ≡ text.now) }
+{
+    let green = tree_of(alloc, text, ranges, links)?;
+    Ok(Parse::without_errors(alloc, green))
+}
+
+/// The parse of a text, from what is kept of its parse: from the arrays if the text has no errors, and else by parsing it. Or why it is refused.
+pub fn parse_of_kept(
+    alloc: Global,
+    text: &[u8],
+    ranges: &[RnixRange],
+    links: &[RnixLink],
+    error_count: u64,
+) -> Result<Parse, i64>
+    requires { HoldParse text.now ranges.now links.now error_count }
+    ensures utf8 { IfOk result (λ _. IsUtf8 text.now) }
+    ensures read { IfOk result (λ read. IsParsed (tokens_of text.now) read.tree read.faults) }
+    ensures refused { IfErr result (λ answer. IsRefused text.now answer) }
+{
+    if error_count > 0 {
+        return parse_of(alloc, text);
+    }
+    let text = checked(text)?;
+    match parse_kept(alloc, text, ranges, links) {
+        Ok(read) => Ok(read),
+        Err(_) => Err(NO_MEMORY),
+    }
+}
