@@ -7,7 +7,7 @@ use crate::numbers::{Numbers, mixed};
 use crate::small_edits::{EDITS, add_edited, edited_text, small_edit};
 use crate::words::Words;
 use rnix::Parse;
-use rnix_reparse::{editable, parse_own, reparse};
+use rnix_reparse::{editable_range, parse_text, reparse};
 use std::alloc::{AllocError, Global};
 use std::io;
 
@@ -25,7 +25,7 @@ fn edit_again(
     let mut last = read;
     for _edit in 0..EDITS {
         let edit = small_edit(words, last.text(), &mut numbers);
-        if let Some(range) = editable(last.text(), edit.start, edit.end) {
+        if let Some(range) = editable_range(last.text(), edit.start, edit.end) {
             let made = reparse(alloc, &last, range, edit.new)?;
             add_edited(&made, edit, digest);
             if made.errors().is_empty() {
@@ -48,7 +48,7 @@ pub fn again(
     for number in 0..size {
         let own = mixed(seed.wrapping_add(number as u64));
         let text = edited_text(alloc, words, number, own)?;
-        edit_again(alloc, words, parse_own(alloc, text.as_str())?, own, digest)?;
+        edit_again(alloc, words, parse_text(alloc, text.as_str())?, own, digest)?;
     }
     Ok(())
 }

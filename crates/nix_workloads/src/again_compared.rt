@@ -11,7 +11,7 @@ use crate::results::add_parse;
 use crate::small_edits::SmallEdit;
 use crate::words::Words;
 use rnix::{Parse, Root};
-use rnix_reparse::{editable, parse_own, reparse};
+use rnix_reparse::{editable_range, parse_text, reparse};
 use std::alloc::{AllocError, Global};
 use std::io;
 
@@ -98,7 +98,7 @@ fn compare_edits(
         let (start, end, first, second) = random_edit(last.text(), numbers);
         let mut new = String::from_str(rt.alloc(), first)?;
         new.push_str(second)?;
-        if let Some(range) = editable(last.text(), start, end) {
+        if let Some(range) = editable_range(last.text(), start, end) {
             let made = reparse(rt.alloc(), &last, range, new.as_str())?;
             let edit = SmallEdit {
                 start,
@@ -140,7 +140,7 @@ pub fn compare(rt: &HostRuntime, words: &Words, seed: u64, size: usize) -> io::R
     };
     for _text in 0..size / EDITS {
         let text = text_of(rt.alloc(), words, &files, &mut numbers)?;
-        let read = parse_own(rt.alloc(), text.as_str())?;
+        let read = parse_text(rt.alloc(), text.as_str())?;
         compare_edits(rt, read, &mut numbers, &mut counts)?;
     }
     println!(rt;

@@ -5,7 +5,7 @@ use Rattle.rnix_grammar.specs.Fault.{Fault}
 use Rattle.rnix_grammar.specs.Parsed.{IsParsed}
 use Rattle.rnix_kinds.specs.Lexical.Tokens.{tokens_of}
 use Rattle.rnix_reparse.specs.EditedRange.{edited}
-use Rattle.rnix_reparse.specs.Own.{between, IsEditable}
+use Rattle.rnix_reparse.specs.EditableRanges.{between, IsEditable}
 use Rattle.rnix_c.specs.Answers.{none_such, too_long, IsRefused}
 
 -- why an edit of a text is not made: there is no such range, or the text after it would have 2 ^ 32 bytes or more

@@ -5,7 +5,7 @@ ghost use Rattle.rnix_kinds.specs.Lexical.Tokens.{tokens_of};
 ghost use Rattle.rnix_green.specs.Range.{bounds_of};
 ghost use Rattle.rnix_grammar.specs.Parsed.{IsParsed};
 ghost use Rattle.rnix_reparse.specs.EditedRange.{edited, IsRangeOf};
-ghost use Rattle.rnix_reparse.specs.Own.{between, IsEditable};
+ghost use Rattle.rnix_reparse.specs.EditableRanges.{between, IsEditable};
 ghost use Rattle.rnix_c.specs.Answers.{filled, IsWritten};
 ghost use Rattle.rnix_c.specs.Elements.{AreFew};
 ghost use Rattle.rnix_c.specs.CompactElements.{ranges_of, links_of, HaveShortNumbers};
@@ -18,7 +18,7 @@ use crate::compact::{RnixLink, RnixRange, write_parse};
 use crate::errors::RnixError;
 use crate::kept_arrays::parse_kept;
 use rnix::{Parse, Root, TextRange};
-use rnix_reparse::{editable, edited_text, reparse};
+use rnix_reparse::{editable_range, edited_text, reparse};
 use std::alloc::{AllocError, Global};
 
 // The most bytes that a text has.
@@ -85,7 +85,7 @@ fn checked_range(text: &str, start: usize, end: usize, replacement: &str) -> Res
     ensures found { IfOk result (λ range. (bounds_of range ≡ between start end) × IsEditable text.now start end) }
     ensures refused { IfErr result (λ answer. IsNoEdit text.now start end replacement.now answer) }
 {
-    let Some(range) = editable(text, start, end) else {
+    let Some(range) = editable_range(text, start, end) else {
         return Err(NONE_SUCH);
     };
     let kept = text.len() - (end - start);

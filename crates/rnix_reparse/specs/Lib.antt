@@ -2,4 +2,4 @@ pub mod EditedRange
 pub mod OwnBrackets
 pub mod TreeHeight
 pub mod ParsedText
-pub mod Own
+pub mod EditableRanges

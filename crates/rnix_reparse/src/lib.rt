@@ -2,12 +2,12 @@
 #![tactic(auto)]
 
 mod brackets;
+mod editable;
 mod nesting;
-mod own;
 mod reparsing;
 mod replacing;
 mod texts;
 
-pub use own::{editable, parse_own};
+pub use editable::{editable_range, parse_text};
 pub use reparsing::reparse;
 pub use texts::edited_text;

@@ -1,18 +1,18 @@
-//! What `reparse` requires.
+//! Parses and ranges as `reparse` requires them.
 
 ghost use Rattle.std.specs.Prelude.{◌≡◌, ◌≤◌, IfOk, IfSome, IfNone};
 ghost use Rattle.rnix_green.specs.Forest.{text_of};
 ghost use Rattle.rnix_green.specs.Range.{bounds_of};
 ghost use Rattle.rnix_green.specs.Tree.{forest_of};
 ghost use Rattle.rnix_reparse.specs.EditedRange.{IsRangeOf};
-ghost use Rattle.rnix_reparse.specs.Own.{between, IsEditable};
+ghost use Rattle.rnix_reparse.specs.EditableRanges.{between, IsEditable};
 ghost use Rattle.rnix_reparse.specs.ParsedText.{IsParsedText};
 
 use rnix::{Parse, Root, TextRange, TextSize};
 use std::alloc::{AllocError, Global};
 
 /// Returns the range between two offsets, or `None` if one of them is after the end of the text or inside a character, or they are not in order.
-pub fn editable(text: &str, start: TextSize, end: TextSize) -> Option<TextRange>
+pub fn editable_range(text: &str, start: TextSize, end: TextSize) -> Option<TextRange>
     ensures bounds { IfSome result (λ range. bounds_of range ≡ between start end) }
     ensures range { IfSome result (λ range. IsRangeOf text.now (bounds_of range)) }
     ensures found { IfSome result (λ _. IsEditable text.now start end) }
@@ -30,9 +30,9 @@ pub fn editable(text: &str, start: TextSize, end: TextSize) -> Option<TextRange>
     Some(TextRange::new(start, end))
 }
 
-/// Parses a text, like `Root::parse`. The parse may be edited by `reparse`.
-pub fn parse_own(alloc: Global, text: &str) -> Result<Parse, AllocError>
-    ensures own { IfOk result IsParsedText }
+/// Parses a text, like `Root::parse`, and says of the parse what `reparse` requires.
+pub fn parse_text(alloc: Global, text: &str) -> Result<Parse, AllocError>
+    ensures parsed { IfOk result IsParsedText }
     ensures text { IfOk result (λ read. text_of (forest_of read.tree) ≡ text.now) }
 {
     let read = Root::parse(alloc, text)?;
