@@ -148,7 +148,7 @@ unfolding content
 no_control remaining bs b h plain quote backslash = ap (content 0) h ∙ third_of_four (b == 34) (b == 92) (nat_lt b 32) _ _ _ _ plain quote backslash
 
 -- a byte at the front of what is left
-head_is : (remaining : List ℕ) (b : ℕ) → 0 < length remaining → get_or remaining 0 0 ≡ b → remaining ≡ b ∷ drop 1 remaining
+pub head_is : (remaining : List ℕ) (b : ℕ) → 0 < length remaining → get_or remaining 0 0 ≡ b → remaining ≡ b ∷ drop 1 remaining
 head_is [] b some is = absurd (omega (arith, some))
 head_is (x ∷ xs) b some is = ap (λ y. y ∷ xs) is
 
@@ -174,7 +174,7 @@ pub end_next : (text mid remaining : List ℕ) → IsReadTo text mid remaining �
 end_next text mid remaining h none = read_wrong text mid remaining h (no_quote remaining none)
 
 -- a byte comes next that needs an escape, or ends the string
-run_stops : (rest remaining : List ℕ) → remaining ≡ drop (prefix_len is_plain rest) rest → 0 < length remaining → is_plain (get_or remaining 0 0) ≡ false
+pub run_stops : (rest remaining : List ℕ) → remaining ≡ drop (prefix_len is_plain rest) rest → 0 < length remaining → is_plain (get_or remaining 0 0) ≡ false
 run_stops rest remaining is some =
     let n = prefix_len is_plain rest in
     let len : length remaining ≡ length rest - n = ap length is ∙ length-drop n rest in

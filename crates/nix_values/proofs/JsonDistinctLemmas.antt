@@ -1,5 +1,5 @@
 -- Names that are read in JSON differ from those that their set has.
-use Rattle.std.proofs.Common.{◌≡◌, ◌∙◌, ℕ, ◌+◌, ◌-◌, ◌<◌, Bool, true, false, List, [], ◌∷◌, ◌++◌, length, map, Option, Some, None, IfNone, ⊎_elim, sym, refl, ap, subst, arith}
+use Rattle.std.proofs.Common.{◌≡◌, ◌∙◌, ℕ, ◌+◌, ◌-◌, ◌<◌, Bool, true, false, List, [], ◌∷◌, ◌++◌, length, map, Option, Some, None, IfNone, ⊎_elim, sym, refl, ap, subst, arith, append-nil}
 use Rattle.std.specs.Prelude.{slice_get}
 use Rattle.std.proofs.lemmas.Bool.{cases_Bool, cases_eq, cond-true, cond-false}
 use Rattle.std.proofs.lemmas.List.{length-append}
@@ -8,13 +8,15 @@ use Rattle.nix_values.specs.declared.json_reader.State.{State}
 use Rattle.nix_values.specs.declared.json_reader.State.TheVariants as state
 use Rattle.nix_values.specs.declared.json_reader.Frame.{Frame}
 use Rattle.nix_values.specs.declared.json_reader.Reading.{Reading}
-use Rattle.nix_values.specs.Contents.{Plain, Entry, entry_of}
+use Rattle.nix_values.specs.Contents.{Plain, null, Entry, entry_of}
+use Rattle.nix_values.specs.Json.{Part}
+use Rattle.nix_values.specs.JsonNames.{next_entry}
 use Rattle.nix_values.specs.FoundKeys.{found_keys}
 use Rattle.nix_values.specs.IndexedAttributes.{found_in}
 use Rattle.nix_values.specs.RepeatedNames.{entry_key, entry_keys, HasDistinctNames}
 use Rattle.nix_values.specs.JsonLocations.{last_frame, set_of, in_set}
-use Rattle.nix_values.specs.JsonReading.{name_of, entries_in, is_value_next, is_colon_next, state_behind, opened, IsInside, IsPlacedIn, IsFree, IsNextFree, IsDistinct, IsNotTaken, IsAdded}
-use Rattle.nix_values.proofs.JsonStateLemmas.{inside_last, one_sort, behind_comma}
+use Rattle.nix_values.specs.JsonReading.{more_of, rest_of, parts_in, IsState, name_of, entries_in, is_value_next, is_colon_next, state_behind, opened, IsInside, IsPlacedIn, IsFree, IsNextFree, IsDistinct, IsNotTaken, IsAdded}
+use Rattle.nix_values.proofs.JsonStateLemmas.{some_inside, inside_last, one_sort, behind_comma}
 use Rattle.nix_values.proofs.BuiltLemmas.{get_last}
 use Rattle.nix_values.proofs.RepeatedNameLemmas.{key_front, key_added, key_within}
 use Rattle.nix_values.proofs.JsonLocationLemmas.{next_key}
@@ -143,3 +145,30 @@ begun_distinct r items is = record {
         let within : number < length (entries_in r) = key_within (entries_in r) number key e in
         let empty : length (entries_in r) ≡ 0 = ap (λ xs. length (map entry_of xs)) items in
         absurd (omega (arith, within, empty))
+
+-- nothing is known of the next value
+none_next : (es next : List Entry) → next ≡ [] → HasDistinctNames es → HasDistinctNames (es ++ next)
+none_next es next none distinct = subst (λ ys. HasDistinctNames (es ++ ys)) (sym none) (subst HasDistinctNames (sym (append-nil es)) distinct)
+
+more_next : (b : Bool) (d : ℕ) (ps : List Part) → next_entry (more_of b d ∷ ps) ≡ []
+more_next true d ps = refl
+more_next false d ps = refl
+
+-- no set has a name twice, with that of the next value
+pub distinct_next : (s : State) (r : Reading) → IsState s r.frames.items (name_of r.name) → IsPlacedIn r → HasDistinctNames (entries_in r) → IsNextFree s r →
+    HasDistinctNames (entries_in r ++ next_entry (parts_in s r.frames.items (name_of r.name)))
+distinct_next state.Value r sound placed distinct free =
+    let e : Entry = record { depth = length r.frames.items; name = name_of r.name; plain = null } in
+    distinct_more (entries_in r) e (set_of (last_frame r.frames.items)) distinct (next_key r.found r.attributes r.frames.items e placed refl) free
+distinct_next state.Colon r sound placed distinct free =
+    let e : Entry = record { depth = length r.frames.items; name = name_of r.name; plain = null } in
+    distinct_more (entries_in r) e (set_of (last_frame r.frames.items)) distinct (next_key r.found r.attributes r.frames.items e placed refl) free
+distinct_next state.ValueOrClose r sound placed distinct free = none_next (entries_in r) [] refl distinct
+distinct_next state.Name r sound placed distinct free = none_next (entries_in r) [] refl distinct
+distinct_next state.NameOrClose r sound placed distinct free = none_next (entries_in r) [] refl distinct
+distinct_next state.CommaOrClose r sound placed distinct free =
+    let fs : List Frame = r.frames.items in
+    let inside = some_inside fs sound.0 in
+    none_next (entries_in r) (next_entry (rest_of fs)) (ap next_entry inside.1 ∙ more_next inside.0 (length fs) _) distinct
+distinct_next state.End r sound placed distinct free =
+    none_next (entries_in r) (next_entry (rest_of r.frames.items)) (ap (λ fs. next_entry (rest_of fs)) sound.0) distinct

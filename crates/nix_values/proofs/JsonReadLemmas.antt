@@ -35,7 +35,7 @@ begun_sound r begun = sound_in r state.Value [] [] begun.is_state begun.no_frame
 -- a token is read
 pub read_token : (found : Option Token) (bytes : List ℕ) (at end next : ℕ) (old new : Reading) → IsReadUpTo bytes at old → at < length bytes →
     is_space (get_or bytes at 0) ≡ false → at < end → token_at (get_or bytes at 0) (drop (at + 1) bytes) ≡ option_map (λ t. (t, end - at)) found →
-    FoundOrNot (Ok tt) old found new → tokens_behind 0 (drop next bytes) ≡ tokens_behind 0 (drop end bytes) →
+    FoundOrNot (Ok tt) old found at new → tokens_behind 0 (drop next bytes) ≡ tokens_behind 0 (drop end bytes) →
     IsReadUpTo bytes next new × IsSound new × IsPlacedIn new × IsDistinct new
 read_token None bytes at end next old new so_far there solid onward is h space = absurd h
 read_token (Some t) bytes at end next old new so_far there solid onward is takes space = (
@@ -49,14 +49,14 @@ read_token (Some t) bytes at end next old new so_far there solid onward is takes
 -- a token does not fit
 pub read_wrong_token : (found : Option Token) (stop : JsonStop) (bytes : List ℕ) (at end : ℕ) (old new : Reading) → IsReadUpTo bytes at old →
     at < length bytes → is_space (get_or bytes at 0) ≡ false → at < end →
-    token_at (get_or bytes at 0) (drop (at + 1) bytes) ≡ option_map (λ t. (t, end - at)) found → FoundOrNot (Err stop) old found new →
+    token_at (get_or bytes at 0) (drop (at + 1) bytes) ≡ option_map (λ t. (t, end - at)) found → FoundOrNot (Err stop) old found at new →
     IfStopped stop (json_values bytes ≡ None) (RepeatsIn bytes)
 read_wrong_token None stop bytes at end old new so_far there solid onward is h =
     stopped_text stop bytes (no_token (json_values bytes) (parts_remaining old) bytes at (entries_in old) so_far there solid is)
 read_wrong_token (Some t) stop bytes at end old new so_far there solid onward is h =
     stopped_map stop (parts_from (parts_remaining old) t ≡ None) (json_values bytes ≡ None) (RepeatsWith old t) (RepeatsIn bytes)
     (λ wrong. wrong_token (json_values bytes) (parts_remaining old) bytes at end t (entries_in old) so_far there solid onward is wrong)
-    (λ repeats. repeating_token (json_values bytes) (parts_remaining old) bytes at end t (entries_in old) so_far there solid onward is repeats) h
+    (λ repeats. repeating_token (json_values bytes) (parts_remaining old) bytes at end t (entries_in old) so_far there solid onward is repeats) h.0
 
 -- there is no token
 pub read_no_token : (stop : JsonStop) (bytes : List ℕ) (at : ℕ) (r : Reading) → IsReadUpTo bytes at r → at < length bytes →

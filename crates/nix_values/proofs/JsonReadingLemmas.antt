@@ -1,5 +1,5 @@
 -- What the reader of JSON does with each token.
-use Rattle.std.proofs.Common.{◌≡◌, ◌∙◌, ℕ, ◌-◌, ◌<◌, true, false, Bool, List, [], ◌∷◌, ◌++◌, length, take, ap, sym, refl, subst, arith, append-nil, inl, inr, Some, None, Result}
+use Rattle.std.proofs.Common.{◌≡◌, ◌∙◌, ◌-◌, ◌<◌, true, false, Bool, List, [], ◌∷◌, ◌++◌, length, take, ap, sym, refl, subst, arith, append-nil, inl, inr, ⊎_elim, ℕ, Some, None, Result}
 use Rattle.std.specs.Prelude.{Ok, Err, option_and_then}
 use Rattle.std.proofs.lemmas.Bool.{cases_lt}
 use Rattle.std.proofs.lemmas.List.{nil_from_length}
@@ -13,15 +13,20 @@ use Rattle.nix_values.specs.declared.json_error.JsonStop.{JsonStop}
 use Rattle.nix_values.specs.declared.json_error.JsonStop.TheVariants.{Memory, Refused}
 use Rattle.nix_values.specs.Contents.{Plain, text, Entry}
 use Rattle.nix_values.specs.Json.{Token, Part, in_front, parts_from, values_of, json_values, opening, closing, comma, colon, string, scalar, entry}
-use Rattle.nix_values.specs.JsonReading.{parts_in, parts_remaining, name_of, IsInside, IsState, IsSound, is_value_next, is_name_next, is_close_next, is_comma_next, is_colon_next, opened, opened_plain, state_behind, entries_in, IsPlacedIn, IsDistinct, IsAdded, Takes, IfRefused, IfStopped, RepeatsWith, RepeatsIn, TakesOrNot}
+use Rattle.nix_values.specs.JsonReading.{parts_in, parts_remaining, name_of, IsInside, IsState, IsSound, is_value_next, is_name_next, is_close_next, is_comma_next, is_colon_next, opened, opened_plain, state_behind, entries_in, IsPlacedIn, IsDistinct, IsAdded, KeepsLocated, Takes, IfRefused, IfStopped, IsTokenError, RepeatsWith, RepeatsIn, TakesOrNot}
+use Rattle.nix_values.specs.JsonErrors.{error_at, unfitting}
+use Rattle.nix_values.proofs.JsonReasonLemmas.{plain_unfit}
 use Rattle.nix_values.proofs.JsonStateLemmas.{rest_pop, parts_behind, state_sound, scalar_fits, name_fits, string_scalar, opened_sound, open_fits, close_fits, behind_comma, comma_fits, comma_sound, colon_fits, none_inside}
 
 -- what a refusal may say
-pub stopped : (stop : JsonStop) (old : Reading) (token : Token) → parts_from (parts_remaining old) token ≡ None →
-    IfStopped stop (parts_from (parts_remaining old) token ≡ None) (RepeatsWith old token)
-stopped Memory old token h = tt
-stopped (Refused error) old token h =
-    (λ other. h, λ rest more e. absurd (none-some more (sym (ap (λ taken. option_and_then (λ r. in_front r.1 (values_of r.0 rest)) taken) h) ∙ e)))
+pub stopped : (stop : JsonStop) (old : Reading) (token : Token) (at : ℕ) → parts_from (parts_remaining old) token ≡ None →
+    stop ≡ Refused (error_at (unfitting (parts_remaining old) token) at) →
+    IfStopped stop (parts_from (parts_remaining old) token ≡ None) (RepeatsWith old token) × IsTokenError stop old token at
+stopped Memory old token at h is = (tt, tt)
+stopped (Refused error) old token at h is = (
+  (λ other. h, λ rest more e. absurd (none-some more (sym (ap (λ taken. option_and_then (λ r. in_front r.1 (values_of r.0 rest)) taken) h) ∙ e))),
+  inl (h, cc is),
+)
 
 pub stopped_text : (stop : JsonStop) (bytes : List ℕ) → json_values bytes ≡ None → IfStopped stop (json_values bytes ≡ None) (RepeatsIn bytes)
 stopped_text Memory bytes h = tt
@@ -51,10 +56,10 @@ sound_in r s fs name s_is fs_is name_is h =
     (subst (λ gs. IsState s gs (name_of r.name)) (sym fs_is) (subst (IsState s fs) (sym name_is) h))
 
 -- a value that holds no values
-pub takes_scalar : (old mid new : Reading) (p : Plain) → IsSound old → is_value_next old.state ≡ true → IsAdded old p mid →
+pub takes_scalar : (old mid new : Reading) (at : ℕ) (p : Plain) → IsSound old → is_value_next old.state ≡ true → IsAdded old p mid →
     new.state ≡ state_behind mid.frames.items → new.frames.items ≡ mid.frames.items → name_of new.name ≡ name_of mid.name →
-    entries_in new ≡ entries_in mid → IsPlacedIn new → IsDistinct new → Takes old (scalar p) new
-takes_scalar old mid new p sound next added s_is fs_is name_is es_is placed distinct =
+    entries_in new ≡ entries_in mid → IsPlacedIn new → IsDistinct new → KeepsLocated old (scalar p) at new → Takes old (scalar p) at new
+takes_scalar old mid new at p sound next added s_is fs_is name_is es_is placed distinct located =
     let fs : List Frame = old.frames.items in
     let st : new.state ≡ state_behind fs = s_is ∙ ap state_behind added.frames in
     let frames : new.frames.items ≡ fs = fs_is ∙ added.frames in
@@ -68,13 +73,15 @@ takes_scalar old mid new p sound next added s_is fs_is name_is es_is placed dist
       sound = sound_in new (state_behind fs) fs [] st frames name (state_sound fs [] refl);
       placed = placed;
       distinct = distinct;
+      located = located;
     }
 
 -- the beginning of a list or a set
-pub takes_open : (old mid new : Reading) (b : Bool) (f : Frame) → IsSound old → is_value_next old.state ≡ true → length old.frames.items < MOST_DEPTH →
+pub takes_open : (old mid new : Reading) (at : ℕ) (b : Bool) (f : Frame) → IsSound old → is_value_next old.state ≡ true → length old.frames.items < MOST_DEPTH →
     IsAdded old (opened_plain b) mid → f.is_set ≡ b → new.state ≡ opened b → new.frames.items ≡ mid.frames.items ++ f ∷ [] →
-    name_of new.name ≡ name_of mid.name → entries_in new ≡ entries_in mid → IsPlacedIn new → IsDistinct new → Takes old (opening b) new
-takes_open old mid new b f sound next room added is s_is fs_is name_is es_is placed distinct =
+    name_of new.name ≡ name_of mid.name → entries_in new ≡ entries_in mid → IsPlacedIn new → IsDistinct new → KeepsLocated old (opening b) at new →
+    Takes old (opening b) at new
+takes_open old mid new at b f sound next room added is s_is fs_is name_is es_is placed distinct located =
     let fs : List Frame = old.frames.items in
     let frames : new.frames.items ≡ fs ++ f ∷ [] = fs_is ∙ ap (λ gs. gs ++ f ∷ []) added.frames in
     let name : name_of new.name ≡ [] = name_is ∙ added.no_name in
@@ -87,12 +94,14 @@ takes_open old mid new b f sound next room added is s_is fs_is name_is es_is pla
       sound = sound_in new (opened b) (fs ++ f ∷ []) [] s_is frames name (opened_sound b fs f [] is refl);
       placed = placed;
       distinct = distinct;
+      located = located;
     }
 
 -- a name
-pub takes_name : (old new : Reading) (t : List ℕ) → IsSound old → is_name_next old.state ≡ true → new.state ≡ state.Colon →
-    new.frames.items ≡ old.frames.items → name_of new.name ≡ t → entries_in new ≡ entries_in old → IsPlacedIn new → IsDistinct new → Takes old (string t) new
-takes_name old new t sound next s_is fs_is name_is es_is placed distinct =
+pub takes_name : (old new : Reading) (at : ℕ) (t : List ℕ) → IsSound old → is_name_next old.state ≡ true → new.state ≡ state.Colon →
+    new.frames.items ≡ old.frames.items → name_of new.name ≡ t → entries_in new ≡ entries_in old → IsPlacedIn new → IsDistinct new →
+    KeepsLocated old (string t) at new → Takes old (string t) at new
+takes_name old new at t sound next s_is fs_is name_is es_is placed distinct located =
     let fs : List Frame = old.frames.items in
     let none : List Entry = [] in
     record {
@@ -103,13 +112,15 @@ takes_name old new t sound next s_is fs_is name_is es_is placed distinct =
       sound = sound_in new state.Colon fs t s_is fs_is name_is tt;
       placed = placed;
       distinct = distinct;
+      located = located;
     }
 
 -- the end of a list or a set
-pub takes_close : (old new : Reading) (b : Bool) → IsSound old → is_close_next old.state ≡ true → IsInside b old.frames.items →
+pub takes_close : (old new : Reading) (at : ℕ) (b : Bool) → IsSound old → is_close_next old.state ≡ true → IsInside b old.frames.items →
     new.state ≡ state_behind new.frames.items → new.frames.items ≡ take (length old.frames.items - 1) old.frames.items →
-    name_of new.name ≡ name_of old.name → entries_in new ≡ entries_in old → IsPlacedIn new → IsDistinct new → Takes old (closing b) new
-takes_close old new b sound next inside s_is fs_is name_is es_is placed distinct =
+    name_of new.name ≡ name_of old.name → entries_in new ≡ entries_in old → IsPlacedIn new → IsDistinct new → KeepsLocated old (closing b) at new →
+    Takes old (closing b) at new
+takes_close old new at b sound next inside s_is fs_is name_is es_is placed distinct located =
     let fs : List Frame = old.frames.items in
     let none : List Entry = [] in
     let some : 0 < length fs = elim (cases_lt 0 (length fs)) [
@@ -128,13 +139,14 @@ takes_close old new b sound next inside s_is fs_is name_is es_is placed distinct
       sound = sound_in new (state_behind new.frames.items) new.frames.items [] s_is refl name (state_sound new.frames.items [] refl);
       placed = placed;
       distinct = distinct;
+      located = located;
     }
 
 -- a comma
-pub takes_comma : (old new : Reading) (b : Bool) → IsSound old → is_comma_next old.state ≡ true → IsInside b old.frames.items →
+pub takes_comma : (old new : Reading) (at : ℕ) (b : Bool) → IsSound old → is_comma_next old.state ≡ true → IsInside b old.frames.items →
     new.state ≡ behind_comma b → new.frames.items ≡ old.frames.items → name_of new.name ≡ name_of old.name → entries_in new ≡ entries_in old →
-    IsPlacedIn new → IsDistinct new → Takes old comma new
-takes_comma old new b sound next inside s_is fs_is name_is es_is placed distinct =
+    IsPlacedIn new → IsDistinct new → KeepsLocated old comma at new → Takes old comma at new
+takes_comma old new at b sound next inside s_is fs_is name_is es_is placed distinct located =
     let fs : List Frame = old.frames.items in
     let name : List ℕ = name_of old.name in
     let none : List Entry = [] in
@@ -146,13 +158,14 @@ takes_comma old new b sound next inside s_is fs_is name_is es_is placed distinct
       sound = sound_in new (behind_comma b) fs name s_is fs_is name_is (comma_sound b old.state fs name next inside sound);
       placed = placed;
       distinct = distinct;
+      located = located;
     }
 
 -- a colon
-pub takes_colon : (old new : Reading) → is_colon_next old.state ≡ true → new.state ≡ state.Value →
+pub takes_colon : (old new : Reading) (at : ℕ) → is_colon_next old.state ≡ true → new.state ≡ state.Value →
     new.frames.items ≡ old.frames.items → name_of new.name ≡ name_of old.name → entries_in new ≡ entries_in old → IsPlacedIn new → IsDistinct new →
-    Takes old colon new
-takes_colon old new next s_is fs_is name_is es_is placed distinct =
+    KeepsLocated old colon at new → Takes old colon at new
+takes_colon old new at next s_is fs_is name_is es_is placed distinct located =
     let fs : List Frame = old.frames.items in
     let name : List ℕ = name_of old.name in
     let none : List Entry = [] in
@@ -163,6 +176,7 @@ takes_colon old new next s_is fs_is name_is es_is placed distinct =
       sound = sound_in new state.Value fs name s_is fs_is name_is tt;
       placed = placed;
       distinct = distinct;
+      located = located;
     }
 
 -- what a refusal says of one text, it says of another
@@ -179,21 +193,39 @@ pub stopped_refused : (stop : JsonStop) (P : Type 0) (bytes : List ℕ) → (P �
 stopped_refused Memory P bytes f h = tt
 stopped_refused (Refused error) P bytes f h = stopped_text (Refused error) bytes (f h)
 
+-- the error of a value that is a string is that of the string
+text_error : (stop : JsonStop) (old : Reading) (t : List ℕ) (at : ℕ) →
+    parts_from (parts_remaining old) (string t) ≡ parts_from (parts_remaining old) (scalar (text t)) → IsTokenError stop old (scalar (text t)) at →
+    IsTokenError stop old (string t) at
+text_error Memory old t at same h = tt
+text_error (Refused error) old t at same h =
+    ⊎_elim
+    (λ wrong. inl (
+      same ∙ wrong.0,
+      wrong.1 ∙ ap (λ reason. error_at reason at)
+          (plain_unfit (parts_remaining old) (scalar (text t)) refl ∙ sym (plain_unfit (parts_remaining old) (string t) refl)),
+    ))
+    (λ again. let other : scalar (text t) ≡ string again.name = again.token_is in absurd (cc))
+    h
+
 -- a string where no name is next is a value
-pub text_taken : (r : Result (Unit {0}) JsonStop) (old new : Reading) (t : List ℕ) → is_name_next old.state ≡ false → IsSound old →
-    TakesOrNot r old (scalar (text t)) new → TakesOrNot r old (string t) new
-text_taken (Ok x) old new t next sound h = record {
+pub text_taken : (r : Result (Unit {0}) JsonStop) (old new : Reading) (t : List ℕ) (at : ℕ) → is_name_next old.state ≡ false → IsSound old →
+    TakesOrNot r old (scalar (text t)) at new → TakesOrNot r old (string t) at new
+text_taken (Ok x) old new t at next sound h = record {
   added = h.added;
   parts = sym (string_scalar old.state old.frames.items (name_of old.name) t next sound) ∙ h.parts;
   entries = h.entries;
   sound = h.sound;
   placed = h.placed;
   distinct = h.distinct;
+  located = λ all len some token read found. h.located all len some tt read found;
 }
-text_taken (Err stop) old new t next sound h =
+text_taken (Err stop) old new t at next sound h =
     let same : parts_from (parts_remaining old) (scalar (text t)) ≡ parts_from (parts_remaining old) (string t) =
-    string_scalar old.state old.frames.items (name_of old.name) t next sound in
-    stopped_map stop (parts_from (parts_remaining old) (scalar (text t)) ≡ None) (parts_from (parts_remaining old) (string t) ≡ None)
-    (RepeatsWith old (scalar (text t))) (RepeatsWith old (string t))
-    (λ none. sym same ∙ none)
-    (λ repeats rest more e. repeats rest more (ap (λ taken. option_and_then (λ r. in_front r.1 (values_of r.0 rest)) taken) same ∙ e)) h
+    string_scalar old.state old.frames.items (name_of old.name) t next sound in (
+      stopped_map stop (parts_from (parts_remaining old) (scalar (text t)) ≡ None) (parts_from (parts_remaining old) (string t) ≡ None)
+          (RepeatsWith old (scalar (text t))) (RepeatsWith old (string t))
+          (λ none. sym same ∙ none)
+          (λ repeats rest more e. repeats rest more (ap (λ taken. option_and_then (λ r. in_front r.1 (values_of r.0 rest)) taken) same ∙ e)) h.0,
+      text_error stop old t at (sym same) h.1,
+    )

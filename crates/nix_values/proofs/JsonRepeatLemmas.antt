@@ -69,12 +69,12 @@ bytes_begin d t ps rest more e = by (tokens_behind 0 rest) e
     by (Some tokens) e = named_begins d t ps tokens more e
 
 -- a name comes next only in a set
-name_inside : (s : State) (fs : List Frame) (name : List ℕ) → is_name_next s ≡ true → IsState s fs name → IsInside true fs
+pub name_inside : (s : State) (fs : List Frame) (name : List ℕ) → is_name_next s ≡ true → IsState s fs name → IsInside true fs
 name_inside state.Name fs name next h = h.0
 name_inside state.NameOrClose fs name next h = h.0
 name_inside _ fs name next h = absurd (cc)
 
-last_set : (fs : List Frame) (f : Frame) → last_frame fs ≡ Some f → IsInside true fs → f.is_set ≡ true
+pub last_set : (fs : List Frame) (f : Frame) → last_frame fs ≡ Some f → IsInside true fs → f.is_set ≡ true
 last_set fs f last inside =
     let some : length fs - 1 < length fs = slice_get_within fs (length fs - 1) f last in
     let len : length fs ≡ length fs - 1 + 1 = omega (arith, some) in

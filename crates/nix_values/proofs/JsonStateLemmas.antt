@@ -57,7 +57,7 @@ rest_pop fs new some is =
     ap rest_of is ∙ sym (ap (drop 1) (inside_of fs (take n fs) (get_or fs n no_frame) (last_of fs n no_frame len)))
 
 -- some are opening
-some_inside : (fs : List Frame) → 0 < length fs → (b : Bool) × IsInside b fs
+pub some_inside : (fs : List Frame) → 0 < length fs → (b : Bool) × IsInside b fs
 some_inside fs some =
     let n = length fs - 1 in
     let len : length fs ≡ n + 1 = omega arith in

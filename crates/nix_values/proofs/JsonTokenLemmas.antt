@@ -26,7 +26,7 @@ pub space_more : (bytes : List ℕ) (i : ℕ) → i < length bytes → is_space 
 space_more bytes i there h = sym (ap (tokens_behind 0) (drop_more bytes i 0 there) ∙ space_first (get_or bytes i 0) (drop (i + 1) bytes) h)
 
 -- a token, and those after it
-abbrev before : Token → Option (List Token) → Option (List Token)
+abbrev pub before : Token → Option (List Token) → Option (List Token)
 before t found = option_map (λ ts. t ∷ ts) found
 
 token_first : (b : ℕ) (bytes : List ℕ) (t : Token) (n : ℕ) → is_space b ≡ false → token_at b bytes ≡ Some (t, n) →
@@ -46,7 +46,7 @@ none_behind : (taken : Taken) → None ≡ option_and_then (λ r. in_front r.1 N
 none_behind None = refl
 none_behind (Some r) = refl
 
-over_token : (parts : List Part) (t : Token) (ts : Option (List Token)) →
+pub over_token : (parts : List Part) (t : Token) (ts : Option (List Token)) →
     option_and_then (meaning parts) (before t ts) ≡ option_and_then (λ r. in_front r.1 (option_and_then (meaning r.0) ts)) (parts_from parts t)
 unfolding meaning
 over_token parts t None = none_behind (parts_from parts t)
@@ -64,7 +64,7 @@ values_step parts bytes i end t there solid onward found =
     ap (option_and_then (meaning parts)) tokens ∙ over_token parts t (tokens_behind 0 (drop end bytes))
 
 -- values in front of values in front of others
-in_front_twice : (es fs : List Entry) (x : Option (List Entry)) → in_front es (in_front fs x) ≡ in_front (es ++ fs) x
+pub in_front_twice : (es fs : List Entry) (x : Option (List Entry)) → in_front es (in_front fs x) ≡ in_front (es ++ fs) x
 in_front_twice es fs None = refl
 in_front_twice es fs (Some gs) = ap Some (sym (append_assoc es fs gs))
 

@@ -1,10 +1,11 @@
 -- What the reader of JSON has read: the parts that are still to come, and the values so far.
-use Rattle.std.specs.Prelude.{◌≡◌, ◌≢◌, ℕ, ◌+◌, ◌-◌, ◌<◌, ◌≤◌, Bool, true, false, List, [], ◌∷◌, ◌++◌, length, take, drop, map, slice_index, Option, Some, None, option_map, option_and_then, Result, MatchResult, String, string_bytes}
+use Rattle.std.specs.Prelude.{◌≡◌, ◌≢◌, ℕ, ◌+◌, ◌-◌, ◌<◌, ◌≤◌, ◌⊎◌, if◌then◌else◌, Bool, true, false, List, [], ◌∷◌, ◌++◌, length, take, drop, map, slice_index, Option, Some, None, option_map, option_and_then, Result, MatchResult, String, string_bytes}
 use Rattle.std.specs.Char.{encode_utf8}
 use Rattle.std.specs.List.{prefix_len}
 use Rattle.nix_values.specs.JsonEscapes.{is_plain}
 use Rattle.nix_values.specs.declared.data.Data.{Data}
-use Rattle.nix_values.specs.declared.json_error.JsonReason.TheVariants.{Repeated}
+use Rattle.nix_values.specs.declared.json_error.JsonReason.{JsonReason}
+use Rattle.nix_values.specs.declared.json_error.JsonReason.TheVariants.{NoValue, NoName, NoColon, NoCommaInList, NoCommaInObject, AfterValue, Repeated}
 use Rattle.nix_values.specs.declared.json_error.JsonError.{JsonError}
 use Rattle.nix_values.specs.declared.json_error.JsonStop.{JsonStop}
 use Rattle.nix_values.specs.declared.json_error.JsonStop.TheVariants.{Memory, Refused}
@@ -18,8 +19,10 @@ use Rattle.nix_values.specs.declared.json_reader.Reading.{Reading}
 use Rattle.nix_values.specs.Contents.{Plain, list, set, plain_of, Entry, entry_of, contents}
 use Rattle.nix_values.specs.JsonContent.{escape_at}
 use Rattle.nix_values.specs.Json.{Token, opening, closing, comma, colon, string, scalar, word_at, Part, value, first_item, more_items, first_member, more_members, member, named, entry, in_front, parts_from, values_of, json_values, IsJson}
+use Rattle.nix_values.specs.JsonErrors.{error_at, expected, unfitting, token_error, json_error}
+use Rattle.nix_values.specs.JsonNames.{IsTokenAt, IsReadTo, IsNameAt, IsJsonError}
 use Rattle.nix_values.specs.RepeatedNames.{entry_keys, HasRepeatedName, HasDistinctNames}
-use Rattle.nix_values.specs.FoundKeys.{found_keys}
+use Rattle.nix_values.specs.FoundKeys.{found_keys, offset_of}
 use Rattle.nix_values.specs.JsonLocations.{last_frame, set_of, in_set, IsPlaced}
 
 -- a part of a text ends after a byte of ASCII
@@ -34,6 +37,14 @@ Finds r wanted = MatchResult r (λ x. wanted ≡ Some x) (λ e. wanted ≡ None)
 abbrev pub IfRefused : JsonStop → Type 0 → Type 0
 IfRefused Memory none = Unit {0}
 IfRefused (Refused error) none = none
+
+-- a refusal is for this error, or for want of memory
+abbrev pub IsRefusal : JsonStop → JsonError → Type 0
+IsRefusal Memory wanted = Unit {0}
+IsRefusal (Refused error) wanted = error ≡ wanted
+
+abbrev pub RefusesWith : {T : Type 0} → Result T JsonStop → JsonError → Type 0
+RefusesWith r wanted = MatchResult r (λ x. Unit {0}) (λ stop. IsRefusal stop wanted)
 
 -- what was read, or that there is nothing to read
 abbrev pub Reads : {T : Type 0} → Result T JsonStop → (T → Type 0) → Type 0 → Type 0
@@ -59,6 +70,11 @@ token_of kind.Colon = Some colon
 token_of (kind.Text t) = Some (string (string_bytes t))
 token_of (kind.Scalar v) = Some (scalar (plain_of v))
 token_of kind.Other = None
+
+-- where no token was found, and no string or number either, something is missing
+abbrev pub MissesIfOther : Found → List ℕ → ℕ → Type 0
+MissesIfOther token text at =
+    token_of token ≡ None → (parts : List Part) → token_error parts at (slice_index text at) (drop (at + 1) text) ≡ error_at (expected parts) at
 
 -- a text begins with this word, or with none
 abbrev pub IsWord : List ℕ → Found → ℕ → Type 0
@@ -187,6 +203,21 @@ abbrev pub is_end : State → Bool
 is_end state.End = true
 is_end _ = false
 
+-- what is missing after a value in the innermost list or set
+abbrev pub comma_reason : Option Frame → JsonReason
+comma_reason None = NoCommaInList
+comma_reason (Some frame) = if frame.is_set then NoCommaInObject else NoCommaInList
+
+-- what is missing where a token does not fit
+abbrev pub reason_in : State → List Frame → JsonReason
+reason_in state.Value frames = NoValue
+reason_in state.ValueOrClose frames = NoValue
+reason_in state.Name frames = NoName
+reason_in state.NameOrClose frames = NoName
+reason_in state.Colon frames = NoColon
+reason_in state.CommaOrClose frames = comma_reason (last_frame frames)
+reason_in state.End frames = AfterValue
+
 -- what comes after a value
 abbrev pub state_behind : List Frame → State
 state_behind [] = state.End
@@ -214,14 +245,57 @@ pub record IsAdded (old : Reading) (plain : Plain) (new : Reading) : Type 0 wher
   pub frames : new.frames.items ≡ old.frames.items
   pub no_name : name_of new.name ≡ []
 
--- a token is taken
-pub record Takes (old : Reading) (token : Token) (new : Reading) : Type 0 where
+-- the offset at which a value is found, by its name, if that is known
+abbrev pub next_offset : {Z : Type 0} → Option (String Z × ℕ) → ℕ → ℕ
+next_offset None at = at
+next_offset (Some n) at = n.1
+
+-- the name of a set that is known begins at its offset, which is before another one
+abbrev pub IsNamed : {Z : Type 0} → List ℕ → ℕ → ℕ → Option (String Z × ℕ) → Type 0
+IsNamed text at s None = ⊥
+IsNamed text at s (Some n) = (n.1 < at) × IsNameAt text n.1 s (string_bytes n.0)
+
+-- so it is with the name of the next value, if that is an attribute
+abbrev pub HasNextName : List ℕ → ℕ → Reading → Type 0
+HasNextName text at r = (s : ℕ) → set_of (last_frame r.frames.items) ≡ Some s → IsNamed text at s r.name
+
+abbrev pub IsNextLocated : State → List ℕ → ℕ → Reading → Type 0
+IsNextLocated state.Value text at r = HasNextName text at r
+IsNextLocated state.Colon text at r = HasNextName text at r
+IsNextLocated _ text at r = Unit {0}
+
+-- the names of the attributes so far begin at their offsets, which are before another one
+pub record IsLocated (text : List ℕ) (at : ℕ) (r : Reading) : Type 0 where
+  pub found : (number s offset : ℕ) (name : List ℕ) → found_keys r.found number ≡ Some (s, name) → offset_of r.found number ≡ Some offset →
+      (offset < at) × IsNameAt text offset s name
+  pub next : IsNextLocated r.state text at r
+
+-- a string begins at an offset, if a token is one
+abbrev pub IsStringAt : List ℕ → ℕ → Token → ℕ → Type 0
+IsStringAt text at (string name) len = IsTokenAt text at (string name) len
+IsStringAt text at _ len = Unit {0}
+
+-- names are still where they begin after a token at an offset
+abbrev pub KeepsLocated : Reading → Token → ℕ → Reading → Type 0
+KeepsLocated old token at new = (text : List ℕ) (len : ℕ) → 0 < len → IsStringAt text at token len → IsReadTo text at (parts_remaining old) (entries_in old) →
+    IsLocated text at old → IsLocated text (at + len) new
+
+-- the value that is added is found at an offset
+pub record AddsLocation (old : Reading) (at : ℕ) (new : Reading) : Type 0 where
+  pub key_same : (number : ℕ) → (number ≡ length old.found.items.items → ⊥) → found_keys new.found number ≡ found_keys old.found number
+  pub key_new : found_keys new.found (length old.found.items.items) ≡ in_set (set_of (last_frame old.frames.items)) (name_of old.name)
+  pub offset_same : (number : ℕ) → (number ≡ length old.found.items.items → ⊥) → offset_of new.found number ≡ offset_of old.found number
+  pub offset_new : offset_of new.found (length old.found.items.items) ≡ Some (next_offset old.name at)
+
+-- a token at an offset is taken
+pub record Takes (old : Reading) (token : Token) (at : ℕ) (new : Reading) : Type 0 where
   pub added : List Entry
   pub parts : parts_from (parts_remaining old) token ≡ Some (parts_remaining new, added)
   pub entries : entries_in new ≡ entries_in old ++ added
   pub sound : IsSound new
   pub placed : IsPlacedIn new
   pub distinct : IsDistinct new
+  pub located : KeepsLocated old token at new
 
 -- a text is refused: unless the reason is a repeated name, the first holds of it; in any case the second does
 abbrev pub IfWrong : JsonError → Type 0 → Type 0 → Type 0
@@ -239,18 +313,33 @@ values_with parts token rest = option_and_then (λ r. in_front r.1 (values_of r.
 abbrev pub RepeatsWith : Reading → Token → Type 0
 RepeatsWith r token = (rest : List ℕ) (more : List Entry) → values_with (parts_remaining r) token rest ≡ Some more → HasRepeatedName (entries_in r ++ more)
 
+-- the name that a token is was found before in its set
+pub record IsRepeat (old : Reading) (token : Token) (at : ℕ) (error : JsonError) : Type 0 where
+  pub name : List ℕ
+  pub number : ℕ
+  pub token_is : token ≡ string name
+  pub next : is_name_next old.state ≡ true
+  pub taken : IsTaken old number name
+  pub error_is : error ≡ record { reason = Repeated; offset = at; first = offset_of old.found number }
+
+-- the error of a token that does not fit, or is a name again
+abbrev pub IsTokenError : JsonStop → Reading → Token → ℕ → Type 0
+IsTokenError Memory old token at = Unit {0}
+IsTokenError (Refused error) old token at =
+    ((parts_from (parts_remaining old) token ≡ None) × (error ≡ error_at (unfitting (parts_remaining old) token) at)) ⊎ IsRepeat old token at error
+
 -- a token is taken, or it does not fit
-abbrev pub TakesOrNot : Result (Unit {0}) JsonStop → Reading → Token → Reading → Type 0
-TakesOrNot r old token new = MatchResult r (λ x. Takes old token new)
-    (λ stop. IfStopped stop (parts_from (parts_remaining old) token ≡ None) (RepeatsWith old token))
+abbrev pub TakesOrNot : Result (Unit {0}) JsonStop → Reading → Token → ℕ → Reading → Type 0
+TakesOrNot r old token at new = MatchResult r (λ x. Takes old token at new)
+    (λ stop. IfStopped stop (parts_from (parts_remaining old) token ≡ None) (RepeatsWith old token) × IsTokenError stop old token at)
 
 -- the same of what the reader found
-abbrev pub FoundOrNot : Result (Unit {0}) JsonStop → Reading → Option Token → Reading → Type 0
-FoundOrNot r old None new = MatchResult r (λ x. ⊥) (λ stop. Unit {0})
-FoundOrNot r old (Some token) new = TakesOrNot r old token new
+abbrev pub FoundOrNot : Result (Unit {0}) JsonStop → Reading → Option Token → ℕ → Reading → Type 0
+FoundOrNot r old None at new = MatchResult r (λ x. ⊥) (λ stop. IsRefusal stop (error_at (reason_in old.state old.frames.items) at))
+FoundOrNot r old (Some token) at new = TakesOrNot r old token at new
 
-abbrev pub TakesTokenOrNot : Result (Unit {0}) JsonStop → Reading → Found → Reading → Type 0
-TakesTokenOrNot r old token new = FoundOrNot r old (token_of token) new
+abbrev pub TakesTokenOrNot : Result (Unit {0}) JsonStop → Reading → Found → ℕ → Reading → Type 0
+TakesTokenOrNot r old token at new = FoundOrNot r old (token_of token) at new
 
 -- if a text means values, some set has two of one name
 abbrev pub RepeatsIn : List ℕ → Type 0
@@ -267,3 +356,12 @@ ReadsDistinct r = MatchResult r (λ found. HasDistinctNames (contents found)) (�
 -- the data of a text, or it means no values
 abbrev pub ReadsJson : Result Data JsonStop → List ℕ → Type 0
 ReadsJson r text = MatchResult r (λ found. IsJson text (contents found)) (λ stop. IfStopped stop (json_values text ≡ None) (RepeatsIn text))
+
+-- a refusal is for the error of the text
+abbrev pub IsTextError : JsonStop → List ℕ → Type 0
+IsTextError Memory text = Unit {0}
+IsTextError (Refused error) text = IsJsonError text error
+
+-- a text that is read has no error
+abbrev pub ReadsError : Result Data JsonStop → List ℕ → Type 0
+ReadsError r text = MatchResult r (λ found. json_error text ≡ None) (λ stop. IsTextError stop text)

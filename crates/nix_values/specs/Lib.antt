@@ -4,6 +4,8 @@ pub mod Floats
 pub mod JsonContent
 pub mod JsonNumbers
 pub mod Json
+pub mod JsonErrors
+pub mod JsonNames
 pub mod JsonReading
 pub mod AttributeHash
 pub mod HashSlots

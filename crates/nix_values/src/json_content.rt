@@ -1,9 +1,12 @@
 //! The values of JSON strings.
 
-ghost use Rattle.std.specs.Prelude.{◌≡◌, ◌≢◌, ◌-◌, ◌<◌, ◌≤◌, ◌⊎◌, true, false, length, slice_index, Some, None, IfSome, IfOk, string_bytes};
+ghost use Rattle.std.specs.Prelude.{◌≡◌, ◌≢◌, ◌+◌, ◌-◌, ◌^◌, ◌<◌, ◌≤◌, ◌⊎◌, true, false, length, slice_index, Some, None, IfSome, IfOk, string_bytes};
 ghost use Rattle.std.specs.Char.{is_digit};
 ghost use Rattle.nix_values.specs.JsonContent.{IsHexAt, code_unit, is_high, low_half, paired, escaped_unit, numbered, short_escape, escape_at, content};
-ghost use Rattle.nix_values.specs.JsonReading.{EndsAscii, Finds, Reads, IsRun, IsEscape};
+ghost use Rattle.std.specs.Result.{IfErr};
+ghost use Rattle.nix_values.specs.declared.json_error.JsonReason.TheVariants.{LoneSurrogate};
+ghost use Rattle.nix_values.specs.JsonErrors.{error_at, no_unit, no_escape, no_character, string_error};
+ghost use Rattle.nix_values.specs.JsonReading.{EndsAscii, Finds, Reads, RefusesWith, IsRun, IsEscape};
 
 use crate::bytes::{byte_at, bytes_from};
 use crate::json_error::{JsonReason, JsonStop, refused};
@@ -49,6 +52,7 @@ fn paired(high: u32, low: Option<u32>) -> Result<(char, usize), JsonReason>
     requires { is_high high ≡ true }
     ensures found { Finds result (paired high low) }
     ensures len { IfOk result (λ found. (found.1 ≡ 11) × (low ≢ None)) }
+    ensures reason { IfErr result (λ reason. reason ≡ LoneSurrogate) }
 {
     let Some(low) = low else {
         return Err(JsonReason::LoneSurrogate);
@@ -74,6 +78,7 @@ fn escaped_unit(unit: u32, rest: &[u8]) -> Result<(char, usize), JsonReason>
     requires { unit < 65536 }
     ensures found { Finds result (escaped_unit (Some unit) rest.now) }
     ensures len { IfOk result (λ found. (found.1 ≡ 5) ⊎ ((found.1 ≡ 11) × EndsAscii rest.now 6)) }
+    ensures reason { IfErr result (λ reason. reason ≡ no_unit (Some unit)) }
 {
     if unit == 0 {
         return Err(JsonReason::HasNul);
@@ -91,6 +96,7 @@ fn escaped_unit(unit: u32, rest: &[u8]) -> Result<(char, usize), JsonReason>
 fn numbered(text: &[u8]) -> Result<(char, usize), JsonReason>
     ensures found { Finds result (numbered text.now) }
     ensures ascii { IfOk result (λ found. (0 < found.1) × EndsAscii text.now (found.1 - 1)) }
+    ensures reason { IfErr result (λ reason. reason ≡ no_unit (code_unit text.now)) }
 {
     match code_unit(text) {
         Some(unit) => escaped_unit(unit, bytes_from(text, 4)),
@@ -120,6 +126,7 @@ fn short_escape(letter: u8) -> Option<char>
 fn escape_at(rest: &[u8]) -> Result<(char, usize), JsonReason>
     ensures found { Finds result (escape_at rest.now) }
     ensures ascii { IfOk result (λ found. EndsAscii rest.now found.1) }
+    ensures reason { IfErr result (λ reason. reason ≡ no_escape rest.now) }
 {
     let letter = byte_at(rest, 0);
     if letter == b'u' {
@@ -132,7 +139,9 @@ fn escape_at(rest: &[u8]) -> Result<(char, usize), JsonReason>
 }
 
 // Returns why a byte is not allowed in a string.
-fn control_reason(byte: u8) -> JsonReason {
+fn control_reason(byte: u8) -> JsonReason
+    ensures { result ≡ no_character byte }
+{
     if byte == 0 {
         JsonReason::HasNul
     } else {
@@ -151,7 +160,8 @@ fn after_plain<'t>(text: &'t str, value: &mut String) -> Result<&'t str, AllocEr
 
 // Writes the character of an escape, and returns the rest of the text. The text begins after the backslash, which is at an offset.
 fn after_escape<'t>(text: &'t str, at: usize, value: &mut String) -> Result<&'t str, JsonStop>
-    ensures { Reads result (λ rest. IsEscape (string_bytes value.old) text.now (string_bytes value.new) rest.now) (escape_at text.now ≡ None) }
+    ensures read { Reads result (λ rest. IsEscape (string_bytes value.old) text.now (string_bytes value.new) rest.now) (escape_at text.now ≡ None) }
+    ensures error { RefusesWith result (error_at (no_escape text.now) at) }
 {
     match escape_at(text.as_bytes()) {
         Ok((letter, len)) => {
@@ -166,6 +176,7 @@ fn after_escape<'t>(text: &'t str, at: usize, value: &mut String) -> Result<&'t 
 pub fn json_string(alloc: Global, text: &str, start: usize) -> Result<(String, usize), JsonStop>
     ensures read { Reads result (λ found. content 0 text.now ≡ Some (string_bytes found.0, found.1)) (content 0 text.now ≡ None) }
     ensures within { IfOk result (λ found. found.1 ≤ length text.now) }
+    ensures error { start + length text.now < 2 ^ 64 → RefusesWith result (string_error (start - 1) 0 start text.now) }
 {
     let mut value = String::new(alloc);
     let mut rest = text;

@@ -1,9 +1,10 @@
 //! The values of a JSON text so far.
 
-ghost use Rattle.std.specs.Prelude.{◌≡◌, [], length, OnOk};
+ghost use Rattle.std.specs.Prelude.{◌≡◌, [], length, string_bytes, OnOk};
 ghost use Rattle.nix_values.specs.IndexedAttributes.{IsConsistent};
-ghost use Rattle.nix_values.specs.FoundKeys.{found_keys};
+ghost use Rattle.nix_values.specs.FoundKeys.{found_keys, offset_of};
 ghost use Rattle.nix_values.specs.Attached.{IsAttached};
+ghost use Rattle.nix_values.specs.JsonReading.{name_of, next_offset};
 
 use crate::attributes::{Attributes, Values};
 use crate::data::Item;
@@ -25,6 +26,17 @@ pub struct Found {
     pub items: Vec<Item>,
     /// The location of each value.
     pub locations: Vec<Location>,
+}
+
+/// Returns a name with its offset, or no name at an offset.
+pub fn named_or(alloc: Global, name: Option<(String, usize)>, at: usize) -> (String, usize)
+    ensures name { string_bytes result.0 ≡ name_of name }
+    ensures offset { result.1 ≡ next_offset name at }
+{
+    match name {
+        Some(named) => named,
+        None => (String::new(alloc), at),
+    }
 }
 
 impl Found {
@@ -57,7 +69,9 @@ impl Found {
     }
 
     /// Returns the offset of a value's name, or of the value if it has no name.
-    pub fn offset(&self, number: usize) -> Option<usize> {
+    pub fn offset(&self, number: usize) -> Option<usize>
+        ensures { result ≡ offset_of self.now number }
+    {
         self.locations.get(number).map(|location| location.offset)
     }
 }

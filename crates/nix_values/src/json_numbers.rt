@@ -1,11 +1,12 @@
 //! Numbers of JSON.
 
-ghost use Rattle.std.specs.Prelude.{◌≡◌, ◌<◌, ◌≤◌, true, length, Some, None, IfSome, IfOk, option_map};
+ghost use Rattle.std.specs.Prelude.{◌≡◌, ℕ, ◌<◌, ◌≤◌, true, length, Some, None, IfSome, IfOk, option_map};
 ghost use Rattle.std.specs.Str.Parse.{IsNumeral};
 ghost use Rattle.nix_values.specs.Contents.{plain_of};
 ghost use Rattle.nix_values.specs.Floats.{without_first};
 ghost use Rattle.nix_values.specs.JsonNumbers.{some_digits, whole_end, fraction_end, exponent_end, decimals_end, unsigned_start, number_end, integer_value, number_value, number_at};
-ghost use Rattle.nix_values.specs.JsonReading.{EndsAscii, Reads};
+ghost use Rattle.nix_values.specs.JsonErrors.{error_at, no_value, no_number};
+ghost use Rattle.nix_values.specs.JsonReading.{EndsAscii, Reads, RefusesWith};
 
 use crate::bytes::{byte_at, digits};
 use crate::data::Value;
@@ -119,7 +120,8 @@ fn number_value(
     start: usize,
 ) -> Result<Value, JsonStop>
     requires { is_integer ≡ true → IsNumeral 10 (without_first 45 number.now) }
-    ensures { Reads result (λ value. number_value is_integer number.now ≡ Some (plain_of value)) (number_value is_integer number.now ≡ None) }
+    ensures read { Reads result (λ value. number_value is_integer number.now ≡ Some (plain_of value)) (number_value is_integer number.now ≡ None) }
+    ensures error { (end : ℕ) → RefusesWith result (error_at (no_value (Some (end, is_integer))) start) }
 {
     if is_integer {
         return match integer_value(number) {
@@ -137,6 +139,7 @@ fn number_value(
 pub fn json_number(alloc: Global, text: &str, start: usize) -> Result<(Value, usize), JsonStop>
     ensures read { Reads result (λ found. number_at text.now ≡ Some (plain_of found.0, found.1)) (number_at text.now ≡ None) }
     ensures within { IfOk result (λ found. (0 < found.1) × (found.1 ≤ length text.now)) }
+    ensures error { RefusesWith result (error_at (no_number text.now) start) }
 {
     let Some((end, is_integer)) = number_end(text.as_bytes()) else {
         return Err(refused(JsonReason::NoNumber, start));

@@ -1,16 +1,18 @@
 //! The data of a JSON text.
 
-ghost use Rattle.std.specs.Prelude.{◌≡◌, [], IfNone, IfSome, IfOk, OnOk, MatchResult, length, string_bytes};
+ghost use Rattle.std.specs.Prelude.{◌≡◌, [], None, IfNone, IfSome, IfOk, OnOk, MatchResult, length, string_bytes};
 ghost use Rattle.nix_values.specs.Contents.{plain_of, contents};
 ghost use Rattle.nix_values.specs.Json.{opening, closing, comma, colon, string, scalar, IsJson};
 ghost use Rattle.nix_values.specs.JsonLocations.{last_frame, set_of};
-ghost use Rattle.nix_values.specs.JsonReading.{opened, opened_plain, IsNoJson, ReadsJson, ReadsDistinct};
+ghost use Rattle.nix_values.specs.JsonErrors.{error_at, json_error};
+ghost use Rattle.nix_values.specs.JsonNames.{IsJsonError};
+ghost use Rattle.nix_values.specs.JsonReading.{opened, opened_plain, IsNoJson, ReadsJson, ReadsDistinct, ReadsError};
 ghost use Rattle.nix_values.specs.RepeatedNames.{HasDistinctNames};
 
 use crate::attributes::Attributes;
 use crate::data::{Data, Item, Value};
 use crate::json_error::{JsonError, JsonReason, JsonStop, refused};
-use crate::json_found::{Found, Location};
+use crate::json_found::{Found, Location, named_or};
 use crate::json_tokens::{Token, after_space, json_token};
 use std::alloc::{AllocError, Global};
 
@@ -69,7 +71,8 @@ fn opened(is_set: bool) -> State
 
 impl Reading {
     ghost use Rattle.nix_values.specs.JsonReading.{is_value_next, is_name_next, is_close_next, is_comma_next, is_colon_next, is_end, state_behind, IsInside, IsSound, IsAdded, TakesOrNot, TakesTokenOrNot, IsBegun};
-    ghost use Rattle.nix_values.specs.JsonReading.{entries_in, IsPlacedIn, IsTaken, IsNotTaken, IsDistinct};
+    ghost use Rattle.nix_values.specs.declared.json_error.JsonStop.TheVariants.{Refused};
+    ghost use Rattle.nix_values.specs.JsonReading.{comma_reason, reason_in, AddsLocation, entries_in, IsPlacedIn, IsTaken, IsNotTaken, IsDistinct};
 
     // Returns the state before the first token.
     fn new(alloc: Global) -> Reading
@@ -111,21 +114,34 @@ impl Reading {
         }
     }
 
-    // Returns why a token does not fit.
-    fn unexpected(&self, at: usize) -> JsonStop {
-        let is_set = match self.innermost() {
-            Some(frame) => frame.is_set,
-            None => false,
-        };
-        let reason = match self.state {
+    // Returns what is missing after a value.
+    fn comma_reason(&self) -> JsonReason
+        ensures { result ≡ comma_reason (last_frame self.now.frames.items) }
+    {
+        match self.innermost() {
+            Some(frame) if frame.is_set => JsonReason::NoCommaInObject,
+            _ => JsonReason::NoCommaInList,
+        }
+    }
+
+    // Returns what is missing.
+    fn expected(&self) -> JsonReason
+        ensures { result ≡ reason_in self.now.state self.now.frames.items }
+    {
+        match self.state {
             State::Value | State::ValueOrClose => JsonReason::NoValue,
             State::Name | State::NameOrClose => JsonReason::NoName,
             State::Colon => JsonReason::NoColon,
-            State::CommaOrClose if is_set => JsonReason::NoCommaInObject,
-            State::CommaOrClose => JsonReason::NoCommaInList,
+            State::CommaOrClose => self.comma_reason(),
             State::End => JsonReason::AfterValue,
-        };
-        refused(reason, at)
+        }
+    }
+
+    // Returns why a token does not fit.
+    fn unexpected(&self, at: usize) -> JsonStop
+        ensures { result ≡ Refused (error_at (reason_in self.now.state self.now.frames.items) at) }
+    {
+        refused(self.expected(), at)
     }
 
     // Returns the innermost set, if it is in no list.
@@ -144,13 +160,11 @@ impl Reading {
         ensures added { OnOk result (IsAdded self.old (plain_of value) self.new) }
         ensures placed { OnOk result (IsPlacedIn self.new) }
         ensures number { IfOk result (λ number. number ≡ length (entries_in self.old)) }
+        ensures located { OnOk result (AddsLocation self.old at self.new) }
     {
         let number = self.found.items.len();
         let depth = self.frames.len();
-        let (name, offset) = match self.name.take() {
-            Some(named) => named,
-            None => (String::new(self.alloc), at),
-        };
+        let (name, offset) = named_or(self.alloc, self.name.take(), at);
         let set = self.innermost_set();
         self.found
             .attach(self.alloc, &mut self.attributes, set, name.as_str())?;
@@ -209,7 +223,7 @@ impl Reading {
         requires sound { IsSound self.old }
         requires placed { IsPlacedIn self.old }
         requires distinct { IsDistinct self.old }
-        ensures { TakesOrNot result self.old (scalar (plain_of value)) self.new }
+        ensures { TakesOrNot result self.old (scalar (plain_of value)) at self.new }
     {
         if !self.is_value_next() {
             return Err(self.unexpected(at));
@@ -224,7 +238,7 @@ impl Reading {
         requires sound { IsSound self.old }
         requires placed { IsPlacedIn self.old }
         requires distinct { IsDistinct self.old }
-        ensures { TakesOrNot result self.old (opening is_set) self.new }
+        ensures { TakesOrNot result self.old (opening is_set) at self.new }
     {
         if !self.is_value_next() {
             return Err(self.unexpected(at));
@@ -253,7 +267,7 @@ impl Reading {
         requires sound { IsSound self.old }
         requires placed { IsPlacedIn self.old }
         requires distinct { IsDistinct self.old }
-        ensures { TakesOrNot result self.old (string (string_bytes text)) self.new }
+        ensures { TakesOrNot result self.old (string (string_bytes text)) at self.new }
     {
         if !self.is_name_next() {
             return self.take_scalar(Value::Text(text), at);
@@ -275,7 +289,7 @@ impl Reading {
         requires sound { IsSound self.old }
         requires placed { IsPlacedIn self.old }
         requires distinct { IsDistinct self.old }
-        ensures { TakesOrNot result self.old (closing is_set) self.new }
+        ensures { TakesOrNot result self.old (closing is_set) at self.new }
     {
         if !self.is_close_next() {
             return Err(self.unexpected(at));
@@ -296,7 +310,7 @@ impl Reading {
         requires sound { IsSound self.old }
         requires placed { IsPlacedIn self.old }
         requires distinct { IsDistinct self.old }
-        ensures { TakesOrNot result self.old comma self.new }
+        ensures { TakesOrNot result self.old comma at self.new }
     {
         if !self.is_comma_next() {
             return Err(self.unexpected(at));
@@ -317,7 +331,7 @@ impl Reading {
         requires sound { IsSound self.old }
         requires placed { IsPlacedIn self.old }
         requires distinct { IsDistinct self.old }
-        ensures { TakesOrNot result self.old colon self.new }
+        ensures { TakesOrNot result self.old colon at self.new }
     {
         if !self.is_colon_next() {
             return Err(self.unexpected(at));
@@ -331,7 +345,7 @@ impl Reading {
         requires sound { IsSound self.old }
         requires placed { IsPlacedIn self.old }
         requires distinct { IsDistinct self.old }
-        ensures { TakesTokenOrNot result self.old token self.new }
+        ensures { TakesTokenOrNot result self.old token at self.new }
     {
         match token {
             Token::Scalar(value) => self.take_scalar(value, at),
@@ -349,6 +363,7 @@ impl Reading {
 fn read(alloc: Global, text: &str) -> Result<Data, JsonStop>
     ensures read { ReadsJson result text.now }
     ensures distinct { ReadsDistinct result }
+    ensures error { ReadsError result text.now }
 {
     let mut reading = Reading::new(alloc);
     let mut at = after_space(text, 0);
@@ -375,6 +390,7 @@ fn read(alloc: Global, text: &str) -> Result<Data, JsonStop>
 pub fn data_of_json(alloc: Global, text: &str) -> Result<Result<Data, JsonError>, AllocError>
     ensures read { IfOk result (λ outcome. MatchResult outcome (λ found. IsJson text.now (contents found)) (λ error. IsNoJson error text.now)) }
     ensures distinct { IfOk result (λ outcome. IfOk outcome (λ found. HasDistinctNames (contents found))) }
+    ensures error { IfOk result (λ outcome. MatchResult outcome (λ found. json_error text.now ≡ None) (λ error. IsJsonError text.now error)) }
 {
     match read(alloc, text) {
         Ok(found) => Ok(Ok(found)),

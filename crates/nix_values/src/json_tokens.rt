@@ -1,8 +1,9 @@
 //! Tokens of JSON.
 
-ghost use Rattle.std.specs.Prelude.{◌≡◌, ◌+◌, ◌-◌, ◌<◌, ◌≤◌, true, false, length, drop, slice_index, IfOk};
-ghost use Rattle.nix_values.specs.Json.{is_space, word_at, string_at, scalar_at, token_at, tokens_behind};
-ghost use Rattle.nix_values.specs.JsonReading.{IsWord, IsCutOf, ReadsCut};
+ghost use Rattle.std.specs.Prelude.{◌≡◌, ◌≢◌, ℕ, ◌+◌, ◌-◌, ◌<◌, ◌≤◌, true, false, List, None, length, drop, slice_index, IfOk};
+ghost use Rattle.nix_values.specs.Json.{Part, is_space, word_at, string_at, scalar_at, token_at, tokens_behind};
+ghost use Rattle.nix_values.specs.JsonErrors.{error_at, no_number, string_error, token_error};
+ghost use Rattle.nix_values.specs.JsonReading.{token_of, IsWord, IsCutOf, ReadsCut, RefusesWith, MissesIfOther};
 
 use crate::bytes::{byte_at, bytes_from};
 use crate::data::Value;
@@ -55,6 +56,7 @@ fn after_more_space(bytes: &[u8], at: usize) -> usize
     ensures onward { at ≤ result }
     ensures within { result ≤ length bytes.now }
     ensures stops { result < length bytes.now → is_space (slice_index bytes.now result) ≡ false }
+    ensures spaces { (i : ℕ) → at ≤ i → i < result → is_space (slice_index bytes.now i) ≡ true }
 {
     for next in at..bytes.len() {
         if !is_space(bytes[next]) {
@@ -72,6 +74,7 @@ pub fn after_space(text: &str, at: usize) -> usize
     ensures onward { at ≤ result }
     ensures within { result ≤ length text.now }
     ensures stops { result < length text.now → is_space (slice_index text.now result) ≡ false }
+    ensures spaces { (i : ℕ) → at ≤ i → i < result → is_space (slice_index text.now i) ≡ true }
 {
     if is_space(byte_at(text.as_bytes(), at)) {
         after_more_space(text.as_bytes(), at)
@@ -111,7 +114,9 @@ fn word(bytes: &[u8], at: usize) -> Cut
 fn string_token(alloc: Global, text: &str, at: usize) -> Result<Cut, JsonStop>
     requires within { at < length text.now }
     requires quote { slice_index text.now at ≡ 34 }
-    ensures { ReadsCut result (string_at (drop (at + 1) text.now)) text.now at }
+    ensures read { ReadsCut result (string_at (drop (at + 1) text.now)) text.now at }
+    ensures token { IfOk result (λ cut. token_of cut.token ≢ None) }
+    ensures error { RefusesWith result (string_error at 0 (at + 1) (drop (at + 1) text.now)) }
 {
     let (_quote, behind) = text.split_at(at + 1);
     match json_string(alloc, behind, at + 1) {
@@ -127,7 +132,9 @@ fn string_token(alloc: Global, text: &str, at: usize) -> Result<Cut, JsonStop>
 fn number_token(alloc: Global, text: &str, at: usize) -> Result<Cut, JsonStop>
     requires within { at < length text.now }
     requires ascii { slice_index text.now at < 128 }
-    ensures { ReadsCut result (scalar_at (drop at text.now)) text.now at }
+    ensures read { ReadsCut result (scalar_at (drop at text.now)) text.now at }
+    ensures token { IfOk result (λ cut. token_of cut.token ≢ None) }
+    ensures error { RefusesWith result (error_at (no_number (drop at text.now)) at) }
 {
     let (_front, behind) = text.split_at(at);
     match json_number(alloc, behind, at) {
@@ -143,7 +150,9 @@ fn number_token(alloc: Global, text: &str, at: usize) -> Result<Cut, JsonStop>
 #[tactic(auto, unfolding(crate::specs::Json::token_at))]
 pub fn json_token(alloc: Global, text: &str, at: usize) -> Result<Cut, JsonStop>
     requires { at < length text.now }
-    ensures { ReadsCut result (token_at (slice_index text.now at) (drop (at + 1) text.now)) text.now at }
+    ensures read { ReadsCut result (token_at (slice_index text.now at) (drop (at + 1) text.now)) text.now at }
+    ensures other { IfOk result (λ cut. MissesIfOther cut.token text.now at) }
+    ensures error { (parts : List Part) → RefusesWith result (token_error parts at (slice_index text.now at) (drop (at + 1) text.now)) }
 {
     let token = match byte_at(text.as_bytes(), at) {
         b'[' => Token::Open(false),

@@ -2,6 +2,7 @@ use Rattle.std.proofs.Common.{◌≡◌, ◌-◌, ◌<◌, ◌≤◌, false, len
 use Rattle.nix_values.specs.Json.{is_space}
 use Rattle.nix_values.specs.JsonReading.{IsSound, IsPlacedIn, IsDistinct}
 use Rattle.nix_values.proofs.JsonReadLemmas.{IsReadUpTo}
+use Rattle.nix_values.proofs.JsonReadErrorLemmas.{StopsFrom, IsReadIn}
 use Rattle.nix_values.proofs.json_reader.read.Given as goal
 
 -- the values so far are in front of those that the rest of the text means
@@ -13,6 +14,8 @@ invariant-loop-at l = record {
   placed : IsPlacedIn l.reading;
   distinct : IsDistinct l.reading;
   remaining : IsReadUpTo l.text l.at l.reading;
+  stops : StopsFrom l.text l.at l.reading;
+  read : IsReadIn l.text l.at l.reading;
 }
 
 abbrev pub decreases-loop-at : goal.decreases-loop-at
