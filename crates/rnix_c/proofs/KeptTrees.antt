@@ -57,7 +57,7 @@ kept_tree text tree faults es utf8 short few p e =
 -- where there are no errors, the list of them is empty
 no_faults : (faults : List Fault) → 0 ≡ length faults → faults ≡ []
 no_faults [] e = refl
-no_faults (fault ∷ faults) e = absurd (omega arith)
+no_faults (first ∷ others) e = absurd (omega arith)
 
 module _ (text : List ℕ) (ranges : List RnixRange) (links : List RnixLink) (es : List Packed) (h : HoldParse text ranges links 0) (utf8 : IsUtf8 text)
     (short : length text < 2 ^ 32) (is : (tree : Tree) → HoldTree ranges links tree → es ≡ map kept_of (items_of tree)) where

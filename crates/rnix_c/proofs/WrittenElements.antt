@@ -1,5 +1,5 @@
 -- What is kept of a tree is found again in the arrays that hold what is written of it.
-use Rattle.std.proofs.Common.{◌≡◌, ℕ, zero, suc, ◌+◌, ◌-◌, ◌<◌, ◌^◌, ◌==◌, cond, Bool, true, false, List, [], ◌∷◌, ◌++◌, length, map, take, get_or, Option, Some, None, refl, sym, ap, ◌∙◌, arith}
+use Rattle.std.proofs.Common.{◌≡◌, ℕ, suc, ◌+◌, ◌-◌, ◌<◌, ◌^◌, cond, Bool, true, false, List, [], ◌∷◌, ◌++◌, length, map, take, get_or, Option, Some, None, refl, sym, ap, ◌∙◌, arith}
 use Rattle.std.{specs.Prelude.{IfSome}, proofs.lemmas.{Bool.{ne_eqb}, List.{get_or-map, length-map, map-append, take_more}}}
 use Rattle.rnix_kinds.{specs.{declared.kinds.SyntaxKind.{SyntaxKind}, SyntaxKind.{discriminant_of}}}
 use Rattle.rnix_green.{specs.{declared.packed.Packed.{Packed}, Packed.{packed}, Kept.{kept_of, parent_or_root}, Tree.{Tree, Item, no_item, items_of, item}}, proofs.ParentLemmas.{parent_is_before}}

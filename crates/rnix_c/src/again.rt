@@ -2,7 +2,9 @@
 
 ghost use Rattle.std.specs.Prelude.{◌≡◌, ◌≤◌, ◌<◌, ◌^◌, length, IfOk, IfErr, IsUtf8};
 ghost use Rattle.rnix_kinds.specs.Lexical.Tokens.{tokens_of};
+ghost use Rattle.rnix_green.specs.Forest.{text_of};
 ghost use Rattle.rnix_green.specs.Range.{bounds_of};
+ghost use Rattle.rnix_green.specs.Tree.{forest_of};
 ghost use Rattle.rnix_grammar.specs.Parsed.{IsParsed};
 ghost use Rattle.rnix_reparse.specs.EditedRange.{edited, IsRangeOf};
 ghost use Rattle.rnix_reparse.specs.EditableRanges.{between, IsEditable};
@@ -21,7 +23,7 @@ use rnix::{Parse, Root, TextRange};
 use rnix_reparse::{editable_range, edited_text, reparse};
 use std::alloc::{AllocError, Global};
 
-// The most bytes that a text has.
+// The most bytes that a text has, and the most elements of a tree.
 const LONGEST: usize = u32::MAX as usize;
 
 // Parses the text after an edit, if the text before has no errors.
@@ -83,6 +85,7 @@ fn parse_edited(
 // The range of an edit, or why it cannot be made.
 fn checked_range(text: &str, start: usize, end: usize, replacement: &str) -> Result<TextRange, i64>
     ensures found { IfOk result (λ range. (bounds_of range ≡ between start end) × IsEditable text.now start end) }
+    ensures short { IfOk result (λ _. length (edited (between start end) replacement.now text.now) < 2 ^ 32) }
     ensures refused { IfErr result (λ answer. IsNoEdit text.now start end replacement.now answer) }
 {
     let Some(range) = editable_range(text, start, end) else {
@@ -110,15 +113,21 @@ fn parsed_again(
     ensures editable { IfOk result (λ _. IsEditable text.now start end) }
     ensures utf8 { IfOk result (λ _. IsUtf8 (edited (between start end) replacement.now text.now)) }
     ensures read { IfOk result (λ read. IsParsed (tokens_of (edited (between start end) replacement.now text.now)) read.tree read.faults) }
+    ensures few { IfOk result (λ read. HaveShortNumbers read.tree) }
+    ensures short { IfOk result (λ read. length (text_of (forest_of read.tree)) < 2 ^ 32) }
     ensures refused { IfErr result (λ answer. IsEditRefused text.now start end replacement.now answer) }
 {
     let text = checked(text)?;
     let replacement = checked(replacement)?;
     let range = checked_range(text, start, end, replacement)?;
-    match parse_edited(alloc, text, ranges, links, error_count, range, replacement) {
-        Ok(read) => Ok(read),
-        Err(_) => Err(NO_MEMORY),
+    let Ok(read) = parse_edited(alloc, text, ranges, links, error_count, range, replacement) else {
+        return Err(NO_MEMORY);
+    };
+    // No tree has more elements, but the contract of the parse does not say so.
+    if read.green().element_count() > LONGEST {
+        return Err(NO_MEMORY);
     }
+    Ok(read)
 }
 
 /// The elements, in two arrays, and the errors of a text after an edit that replaces the bytes from `start` to `end`: how many elements there are, as

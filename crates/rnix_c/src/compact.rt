@@ -108,7 +108,8 @@ fn write_compact(
     errors: &mut [RnixError],
     error_count: &mut u64,
 ) -> i64
-    ensures few { HaveShortNumbers green.now }
+    requires few { HaveShortNumbers green.now }
+    requires short { length (text_of (forest_of green.now)) < 2 ^ 32 }
     ensures ranges { IsWritten (ranges_of green.now) result ranges.old ranges.new }
     ensures links { links.new ≡ filled (links_of green.now) links.old }
     ensures errors { errors.new ≡ filled (errors_of (map fault_of faults.now)) errors.old }
@@ -129,7 +130,8 @@ pub fn write_parse(
     errors: &mut [RnixError],
     error_count: &mut u64,
 ) -> i64
-    ensures few { HaveShortNumbers read.now.tree }
+    requires few { HaveShortNumbers read.now.tree }
+    requires short { length (text_of (forest_of read.now.tree)) < 2 ^ 32 }
     ensures ranges { IsWritten (ranges_of read.now.tree) result ranges.old ranges.new }
     ensures links { links.new ≡ filled (links_of read.now.tree) links.old }
     ensures errors { errors.new ≡ filled (errors_of read.now.faults) errors.old }

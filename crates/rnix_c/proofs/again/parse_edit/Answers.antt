@@ -14,4 +14,4 @@ pub returns : goal.returns
 returns c =
     let read = c.in_ok-read.read in
     subst (λ (text : List ℕ). IsParsed (tokens_of (edited (bounds_of c.args.range) c.args.replacement.now text)) read.tree read.faults)
-    c.in_ok-old.ensures.text c.in_ok-read.ensures
+    c.in_ok-old.ensures.text c.in_ok-read.ensures.new
