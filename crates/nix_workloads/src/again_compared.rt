@@ -1,5 +1,6 @@
 //! Compares parses after random edits with parses of the new texts.
 
+ghost use Rattle.std.specs.Prelude.{IfOk};
 ghost use Rattle.rnix_reparse.specs.ParsedText.{IsParsedText};
 
 use crate::again_rules::{expression, written};
@@ -84,7 +85,30 @@ fn count(
     Ok(())
 }
 
-// Edits a text. Of twelve edits that leave errors, eleven are taken back.
+// Returns the parse of a text after an edit, or the one before: of twelve edits that leave errors, eleven are taken back.
+fn parse_after(
+    rt: &HostRuntime,
+    last: Parse,
+    edit: SmallEdit<'_>,
+    numbers: &mut Numbers,
+    counts: &mut Counts,
+) -> io::Result<Parse>
+    requires { IsParsedText last }
+    ensures { IfOk result IsParsedText }
+{
+    let Some(range) = editable_range(last.text(), edit.start, edit.end) else {
+        return Ok(last);
+    };
+    let made = reparse(rt.alloc(), &last, range, edit.new)?;
+    count(rt, &last, edit, &made, counts)?;
+    let is_kept = made.errors().is_empty() || numbers.below(12) == 0;
+    if !is_kept {
+        return Ok(last);
+    }
+    Ok(made)
+}
+
+// Edits a text again and again.
 fn compare_edits(
     rt: &HostRuntime,
     read: Parse,
@@ -96,20 +120,10 @@ fn compare_edits(
     let mut last = read;
     for _edit in 0..EDITS {
         let (start, end, first, second) = random_edit(last.text(), numbers);
-        let mut new = String::from_str(rt.alloc(), first)?;
-        new.push_str(second)?;
-        if let Some(range) = editable_range(last.text(), start, end) {
-            let made = reparse(rt.alloc(), &last, range, new.as_str())?;
-            let edit = SmallEdit {
-                start,
-                end,
-                new: new.as_str(),
-            };
-            count(rt, &last, edit, &made, counts)?;
-            if made.errors().is_empty() || numbers.below(12) == 0 {
-                last = made;
-            }
-        }
+        let mut text = String::from_str(rt.alloc(), first)?;
+        text.push_str(second)?;
+        let new = text.as_str();
+        last = parse_after(rt, last, SmallEdit { start, end, new }, numbers, counts)?;
     }
     Ok(())
 }
