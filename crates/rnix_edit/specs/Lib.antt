@@ -3,7 +3,5 @@ pub mod Line
 pub mod EditRanges
 pub mod Steps
 pub mod SameSteps
-pub mod ShownEvents
-pub mod Alone
 pub mod Edited
 pub mod Tried

@@ -29,7 +29,6 @@ abbrev pub IsUnread : Refusal → List ℕ → ℕ → ℕ → List ℕ → Type
 IsUnread refusal.NotInText text start end new = ¬ (IsInside text start end × IsBetween text start end)
 IsUnread refusal.HasErrors text start end new = IsReadWithErrors (spliced text start end new)
 IsUnread refusal.ReadOtherwise text start end new = ⊥
-IsUnread refusal.NodeReadOtherwise text start end new = ⊥
 
 -- the new text, if there is one, is this text, with its reading
 abbrev pub IfRead : List ℕ → Tried → Type 0

@@ -9,8 +9,6 @@ pub enum Refusal {
     HasErrors,
     /// The new text parses differently around the edited place.
     ReadOtherwise,
-    /// The new node is read in another way than its text alone.
-    NodeReadOtherwise,
 }
 
 /// The result of an edit: the new text, or the reason why it is refused.

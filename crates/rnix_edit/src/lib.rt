@@ -1,19 +1,16 @@
-//! Edits of a text by its nodes: each is refused unless the new text, parsed again, has the old tree around the edited place, and there the new node.
+//! Edits of a text by its nodes. An edit is refused unless the new text, parsed again, has the old tree around the edited place.
 #![tactic(auto)]
 
-mod alone;
 mod blanks;
 mod check;
 mod cut;
 mod edited;
 mod gap;
 mod insert;
-mod joining;
 mod line;
 mod node_range;
 mod removing;
 mod replacing;
-mod same_tree;
 mod steps;
 mod tried;
 

@@ -6,7 +6,6 @@ ghost use Rattle.rnix_green.specs.Tree.{item_of};
 ghost use Rattle.rnix_edit.specs.Edited.{IfDone, IfRefused, spliced, node_range_at, IsTreeReplaced, IsReplaced, IsNotReplaced};
 ghost use Rattle.rnix_edit.specs.Tried.{IsUnread, IfRead, IfNotRead};
 
-use crate::alone::kept_if_alike;
 use crate::check::is_around;
 use crate::edited::{Edited, Refusal};
 use crate::node_range::{NodeRange, node_range_of};
@@ -53,15 +52,7 @@ fn is_replaced(
     is_around(root, old, other, node_range_at(kind, old.start, new))
 }
 
-// Returns the kind and the range of a new text in place of a node.
-fn replaced_range(node: &SyntaxNode<'_>, kind: SyntaxKind, new: &str) -> NodeRange
-    ensures { result ≡ node_range_at kind (item_of node.now).start new.now }
-{
-    let old = node_range_of(node);
-    node_range_at(kind, old.start, new)
-}
-
-/// Returns the text with a new text in place of a node. The new text must parse as one node of this kind, the same as alone.
+/// Returns the text with a new text in place of a node. The new text must parse as one node of this kind.
 /// `root` is the root of the tree of `text`.
 pub fn replace(
     alloc: Global,
@@ -78,11 +69,8 @@ pub fn replace(
         Tried::Read(made, read) => (made, read),
         Tried::Refused(refusal) => return Ok(Edited::Refused(refusal)),
     };
-    let other = read.syntax();
-    if is_replaced(root, node, kind, new, &other) {
-        let target = replaced_range(node, kind, new);
-        let kept = kept_if_alike(alloc, made, &other, target, new)?;
-        Ok(kept)
+    if is_replaced(root, node, kind, new, &read.syntax()) {
+        Ok(Edited::Done(made))
     } else {
         Ok(Edited::Refused(Refusal::ReadOtherwise))
     }
