@@ -10,7 +10,7 @@ use crate::words::Words;
 use rnix::Parse;
 use std::alloc::{AllocError, Global};
 
-/// An edit: the offsets of what is removed, and what stands there afterwards.
+/// An edit: the offsets of what is removed, and what replaces it.
 #[derive(Clone, Copy)]
 pub struct SmallEdit<'w> {
     pub start: usize,
@@ -99,7 +99,7 @@ pub fn small_edit<'w>(words: &'w Words, text: &str, numbers: &mut Numbers) -> Sm
     }
 }
 
-/// Adds what was read of a text after an edit, and what stands at its place.
+/// Adds the parse of a text after an edit, and what is at the edited place.
 pub fn add_edited(read: &Parse, edit: SmallEdit<'_>, digest: &mut Digest) {
     add_parse(read, digest);
     add_place(&read.syntax(), edit.start, edit.new.len(), digest);
