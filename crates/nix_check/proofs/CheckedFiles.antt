@@ -2,7 +2,7 @@
 use Rattle.std.proofs.Common.{◌≡◌, ◌∙◌, ℕ, ◌+◌, ◌<◌, List, [], ◌∷◌, ◌++◌, length, map, take, get_or, Option, sym, subst, inl, inr}
 use Rattle.std.proofs.KnownBytes.{Appends-nil, Appends-kept, Appends-trans, Keeps-trans}
 use Rattle.std.specs.{Prelude.{string_bytes, String}, Io.KnownBytes.{Appends, Keeps}, declared.alloc.Global.Global}
-use Rattle.nix_cli.{specs.MessageLocations.shown_name, proofs.DoneLemmas.names_more}
+use Rattle.nix_cli.{specs.MessageLocations.display_name, proofs.DoneLemmas.names_more}
 use Rattle.nix_check.specs.declared.{report.Tally.Tally, style.Style.Style}
 use Rattle.nix_check.specs.{Printed.IsChecked, ErrorReport.{IsTextCounted, IsFileCounted, AreChecked, one_checked}}
 
@@ -30,10 +30,10 @@ checked_before style name text earlier old mid new count checked kept = record {
 
 -- a file that is read is counted
 pub file_checked : (style : Style) (file name text : List ℕ) (before after : Tally) (old mid new : Option (List ℕ)) → Keeps old mid →
-    name ≡ shown_name file → IsTextCounted style name text before mid new after → IsFileCounted style file before old new after
+    name ≡ display_name file → IsTextCounted style name text before mid new after → IsFileCounted style file before old new after
 file_checked style file name text before after old mid new kept is counted =
     let shown = subst (λ (n : List ℕ). IsTextCounted style n text before mid new after) is counted in
-    inr (text, (shown.0, checked_after style (shown_name file) text before.errors old mid new shown.0 kept shown.1, shown.2))
+    inr (text, (shown.0, checked_after style (display_name file) text before.errors old mid new shown.0 kept shown.1, shown.2))
 
 -- a file is counted before known bytes are kept
 pub counted_before : (style : Style) (file : List ℕ) (before after : Tally) (old mid new : Option (List ℕ)) →
@@ -42,7 +42,7 @@ counted_before style file before after old mid new (inl unread) kept = inl (Keep
 counted_before style file before after old mid new (inr checked) kept =
     inr (
       checked.0,
-      (checked.1.0, checked_before style (shown_name file) checked.0 before.errors old mid new checked.1.0 checked.1.1 kept, checked.1.2),
+      (checked.1.0, checked_before style (display_name file) checked.0 before.errors old mid new checked.1.0 checked.1.1 kept, checked.1.2),
     )
 
 -- one file more is counted

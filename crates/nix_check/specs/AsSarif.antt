@@ -24,12 +24,12 @@ sarif_head program version =
     ++ sarif_rules ++ codes "}},\"columnKind\":\"unicodeCodePoints\",\"results\":["
 
 -- true or false
-abbrev pub truth_text : Bool → List ℕ
-truth_text is_true = if is_true then codes "true" else codes "false"
+abbrev pub bool_text : Bool → List ℕ
+bool_text is_true = if is_true then codes "true" else codes "false"
 
 -- what follows the last result: whether all files were read
 abbrev pub sarif_tail : Bool → List ℕ
-sarif_tail is_complete = codes "\n],\"invocations\":[{\"executionSuccessful\":" ++ truth_text is_complete ++ codes "}]}]}\n"
+sarif_tail is_complete = codes "\n],\"invocations\":[{\"executionSuccessful\":" ++ bool_text is_complete ++ codes "}]}]}\n"
 
 -- whether a byte needs no escape in a URI: an ASCII letter, a digit or one of `/.-_~`
 abbrev pub is_unreserved : ℕ → Bool

@@ -2,7 +2,7 @@
 use Rattle.std.specs.Prelude.{◌≡◌, ◌⊎◌, ℕ, ◌+◌, ◌-◌, ◌^◌, ◌==◌, min, List, [], ◌∷◌, ◌++◌, codes, decimal, Option, if◌then◌else◌}
 use Rattle.std.specs.Io.KnownBytes.{Appends, Keeps}
 use Rattle.nix_cli.specs.declared.arguments.TheConstants.{VERSION}
-use Rattle.nix_cli.specs.MessageLocations.{shown_name}
+use Rattle.nix_cli.specs.MessageLocations.{display_name}
 use Rattle.nix_check.specs.declared.report.Tally.{Tally}
 use Rattle.nix_check.specs.declared.style.Style.{Style}
 use Rattle.nix_check.specs.declared.style.Format.{Format}
@@ -26,7 +26,7 @@ IsTextCounted style name text before old new after = (count : ℕ) × IsChecked 
 
 -- a file that is read has a text, which is counted
 abbrev pub IsFileChecked : Style → List ℕ → Tally → Option (List ℕ) → Option (List ℕ) → Tally → Type 0
-IsFileChecked style file before old new after = (text : List ℕ) × IsTextCounted style (shown_name file) text before old new after
+IsFileChecked style file before old new after = (text : List ℕ) × IsTextCounted style (display_name file) text before old new after
 
 -- a file that is not read is counted, and nothing is printed
 abbrev pub IsFileUnread : Tally → Option (List ℕ) → Option (List ℕ) → Tally → Type 0

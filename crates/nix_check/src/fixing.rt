@@ -2,12 +2,12 @@
 
 use crate::check::check_text;
 use crate::style::Style;
-use nix_cli::{FAILED, FOUND, Files, Program, read_text, replace_text, shown_name};
+use nix_cli::{FAILED, FOUND, Files, Program, display_name, read_text, replace_text};
 use nix_fixes::{FixedText, fixed};
 use std::io::{self, Write};
 
 // The greatest number of diagnostics of a file for which fixes are tried. Each attempt takes about as long as checking the file.
-const MOST_TRIED: usize = 1000;
+const MAX_TRIED: usize = 1000;
 
 // Writes a fixed text: to its file if it has fixes, or to standard output if it was read from standard input. Reports what fails.
 fn write_fixed(
@@ -53,11 +53,11 @@ fn fix_file<W: Write>(
     let Some(text) = read_text(rt, program, name)? else {
         return Ok(None);
     };
-    let made = fixed(rt.alloc(), text.as_str(), MOST_TRIED)?;
+    let made = fixed(rt.alloc(), text.as_str(), MAX_TRIED)?;
     if !write_fixed(rt, program, name, &made)? {
         return Ok(None);
     }
-    let shown = shown_name(name);
+    let shown = display_name(name);
     write_fixes(shown, made.fixes, out)?;
     let remaining = check_text(rt.alloc(), shown, made.text.as_str(), style, 0, out)?;
     out.flush()?;

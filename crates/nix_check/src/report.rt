@@ -8,7 +8,7 @@ use crate::PROGRAM;
 use crate::check::check_text;
 use crate::sarif::{write_head, write_tail};
 use crate::style::{Format, Style};
-use nix_cli::{FAILED, FOUND, Inputs, Progress, shown_name};
+use nix_cli::{FAILED, FOUND, Inputs, Progress, display_name};
 use std::alloc::Global;
 use std::io::{self, Write};
 
@@ -83,7 +83,7 @@ fn check_file<W: Write>(
     match inputs.read_text(rt, &PROGRAM, name, out)? {
         Some(text) => count_text(
             rt.alloc(),
-            shown_name(name),
+            display_name(name),
             text.as_str(),
             style,
             tally,

@@ -5,7 +5,7 @@ ghost use Rattle.std.specs.List.{flat_map};
 ghost use Rattle.std.specs.Io.KnownBytes.{Appends};
 ghost use Rattle.nix_cli.specs.MessageLocations.{IsIndexed};
 ghost use Rattle.nix_check.specs.Listed.{comma_joined};
-ghost use Rattle.nix_check.specs.AsSarif.{sarif_rules, sarif_head, truth_text, sarif_tail, is_unreserved, upper_digit, uri_byte, uri, region, location, message_object, related_location, rule_members, sarif_result, separator};
+ghost use Rattle.nix_check.specs.AsSarif.{sarif_rules, sarif_head, bool_text, sarif_tail, is_unreserved, upper_digit, uri_byte, uri, region, location, message_object, related_location, rule_members, sarif_result, separator};
 
 use crate::json::write_comma;
 use nix_cli::{Source, VERSION, write_json_string};
@@ -50,8 +50,8 @@ pub fn write_head<W: Write>(program: &str, out: &mut W) -> io::Result<()>
 }
 
 // Writes `true` or `false`.
-fn write_truth<W: Write>(is_true: bool, out: &mut W) -> io::Result<()>
-    ensures { OnOk result (Appends (W.contents out.old) (W.contents out.new) (truth_text is_true)) }
+fn write_bool<W: Write>(is_true: bool, out: &mut W) -> io::Result<()>
+    ensures { OnOk result (Appends (W.contents out.old) (W.contents out.new) (bool_text is_true)) }
 {
     out.write_all(if is_true { b"true" } else { b"false" })
 }
@@ -61,7 +61,7 @@ pub fn write_tail<W: Write>(is_complete: bool, out: &mut W) -> io::Result<()>
     ensures { OnOk result (Appends (W.contents out.old) (W.contents out.new) (sarif_tail is_complete)) }
 {
     out.write_all(b"\n],\"invocations\":[{\"executionSuccessful\":")?;
-    write_truth(is_complete, out)?;
+    write_bool(is_complete, out)?;
     out.write_all(b"}]}]}\n")
 }
 

@@ -6,8 +6,8 @@ use Rattle.rnix_text.specs.Positions.{position_at}
 use Rattle.nix_cli.specs.declared.source.Source.{Source}
 
 -- the name of a file in messages: that of standard input is `-`
-abbrev pub shown_name : List ℕ → List ℕ
-shown_name name = if bytes_eq name (codes "-") then codes "<stdin>" else name
+abbrev pub display_name : List ℕ → List ℕ
+display_name name = if bytes_eq name (codes "-") then codes "<stdin>" else name
 
 -- whether a character of a text begins at an offset, or its last one ends there
 abbrev pub is_boundary : List ℕ → ℕ → Bool

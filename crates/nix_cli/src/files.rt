@@ -2,7 +2,7 @@
 
 ghost use Rattle.std.specs.Prelude.{◌≡◌};
 ghost use Rattle.std.specs.Io.KnownBytes.{Keeps};
-ghost use Rattle.nix_cli.specs.MessageLocations.{shown_name};
+ghost use Rattle.nix_cli.specs.MessageLocations.{display_name};
 ghost use Rattle.nix_cli.specs.Statuses.{first_status};
 
 use crate::arguments::Program;
@@ -64,7 +64,7 @@ enum Links {
     // Links to regular files, and links to nothing.
     Read,
     // No links.
-    PassedOver,
+    Skipped,
 }
 
 // The contents of a folder and the folders in it.
@@ -75,7 +75,7 @@ struct Found {
     // The folders that are still to be read.
     folders: Vec<String>,
     // The names ending with `.nix` that were skipped, each with the reason.
-    passed_over: Vec<String>,
+    skipped: Vec<String>,
     // Which symbolic links count as files.
     links: Links,
     // Whether all of the files are regular.
@@ -87,7 +87,7 @@ fn reason_of(rt: &HostRuntime, name: &str, kind: FileType, links: Links) -> Opti
     if kind.is_file() {
         return None;
     }
-    if kind.is_symlink() && links == Links::PassedOver {
+    if kind.is_symlink() && links == Links::Skipped {
         return Some("a symbolic link");
     }
     match fs::metadata(rt, name) {
@@ -106,7 +106,7 @@ fn add_file(
     match reason_of(rt, name.as_str(), kind, found.links) {
         Some(reason) => {
             let message = format!(in rt.alloc(); "{name}: {reason}, passed over")?;
-            found.passed_over.push(message)?;
+            found.skipped.push(message)?;
         }
         None => {
             found.names.push(name)?;
@@ -136,7 +136,7 @@ fn files_below(rt: &HostRuntime, folder: &str, links: Links) -> io::Result<Found
     let mut found = Found {
         names: Vec::new(rt.alloc()),
         folders: Vec::new(rt.alloc()),
-        passed_over: Vec::new(rt.alloc()),
+        skipped: Vec::new(rt.alloc()),
         links,
         are_regular: true,
     };
@@ -148,7 +148,7 @@ fn files_below(rt: &HostRuntime, folder: &str, links: Links) -> io::Result<Found
         list(rt, next.as_str(), &mut found)?;
     }
     found.names.sort()?;
-    found.passed_over.sort()?;
+    found.skipped.sort()?;
     Ok(found)
 }
 
@@ -169,7 +169,7 @@ fn add_folder(
     };
     inputs.files.names.extend(below.names)?;
     inputs.are_regular = inputs.are_regular && below.are_regular;
-    for message in &below.passed_over {
+    for message in &below.skipped {
         eprintln!(rt; "{}: {message}", program.name)?;
     }
     Ok(())
@@ -177,7 +177,7 @@ fn add_folder(
 
 /// Returns the files that a program replaces: those of [`find_inputs`], except that symbolic links in folders are skipped and reported.
 pub fn find_files(rt: &HostRuntime, program: &Program, names: &[String]) -> io::Result<Files> {
-    Ok(inputs_of(rt, program, names, Links::PassedOver)?.files)
+    Ok(inputs_of(rt, program, names, Links::Skipped)?.files)
 }
 
 /// Returns the files that the arguments name, for [`Inputs::read_text`]. `-` and no names mean standard input. A folder means all regular files in it and
@@ -218,8 +218,8 @@ fn inputs_of(
 }
 
 /// Returns the name of a file in messages.
-pub fn shown_name(name: &str) -> &str
-    ensures { result.now ≡ shown_name name.now }
+pub fn display_name(name: &str) -> &str
+    ensures { result.now ≡ display_name name.now }
 {
     if name == "-" { "<stdin>" } else { name }
 }
@@ -244,24 +244,24 @@ pub fn location_of(text: &str, offset: usize) -> (usize, usize) {
 
 // The reason why a text could not be read, as messages print it after the name of the file.
 #[derive(Drop)]
-enum Unread {
+enum ReadError {
     // The file or standard input could not be read.
     Failed(io::Error),
     // The bytes at this line and column are not UTF-8.
     NotUtf8(usize, usize),
 }
 
-impl fmt::Display for Unread {
+impl fmt::Display for ReadError {
     fn fmt<W: fmt::Write>(&self, f: &mut fmt::Formatter<W>) -> fmt::Result {
         match self {
-            Unread::Failed(error) => write!(f, ": {error}"),
-            Unread::NotUtf8(line, column) => write!(f, ":{line}:{column}: not UTF-8"),
+            ReadError::Failed(error) => write!(f, ": {error}"),
+            ReadError::NotUtf8(line, column) => write!(f, ":{line}:{column}: not UTF-8"),
         }
     }
 }
 
 // Reads the text of a file, or of standard input for `-`.
-fn text_of(rt: &HostRuntime, name: &str) -> Result<String, Unread> {
+fn text_of(rt: &HostRuntime, name: &str) -> Result<String, ReadError> {
     let mut bytes = Vec::new(rt.alloc());
     let outcome = if name == "-" {
         rt.stdin().read_to_end(&mut bytes).map(|_count| ())
@@ -269,7 +269,7 @@ fn text_of(rt: &HostRuntime, name: &str) -> Result<String, Unread> {
         fs::read(rt, name).map(|read| bytes = read)
     };
     if let Err(error) = outcome {
-        return Err(Unread::Failed(error));
+        return Err(ReadError::Failed(error));
     }
     match String::from_utf8(bytes) {
         Ok(text) => Ok(text),
@@ -281,7 +281,7 @@ fn text_of(rt: &HostRuntime, name: &str) -> Result<String, Unread> {
                 Ok(text) => end_location(text),
                 Err(_) => (1, 1),
             };
-            Err(Unread::NotUtf8(line, column))
+            Err(ReadError::NotUtf8(line, column))
         }
     }
 }
@@ -291,7 +291,7 @@ pub fn read_text(rt: &HostRuntime, program: &Program, name: &str) -> io::Result<
     match text_of(rt, name) {
         Ok(text) => Ok(Some(text)),
         Err(unread) => {
-            eprintln!(rt; "{}: {}{unread}", program.name, shown_name(name))?;
+            eprintln!(rt; "{}: {}{unread}", program.name, display_name(name))?;
             Ok(None)
         }
     }
@@ -299,7 +299,7 @@ pub fn read_text(rt: &HostRuntime, program: &Program, name: &str) -> io::Result<
 
 impl Inputs {
     // Returns whether reading one of the files may wait: it is standard input, or not a regular file. Returns false if this is unknown; reading then fails.
-    fn may_wait(&self, rt: &HostRuntime, name: &str) -> bool {
+    fn may_block(&self, rt: &HostRuntime, name: &str) -> bool {
         if name == "-" || self.are_regular {
             return name == "-";
         }
@@ -320,14 +320,14 @@ impl Inputs {
     ) -> io::Result<Option<String>>
         ensures { Keeps (W.contents out.old) (W.contents out.new) }
     {
-        if self.may_wait(rt, name) {
+        if self.may_block(rt, name) {
             out.flush()?;
         }
         match text_of(rt, name) {
             Ok(text) => Ok(Some(text)),
             Err(unread) => {
                 let flushed = out.flush();
-                eprintln!(rt; "{}: {}{unread}", program.name, shown_name(name))?;
+                eprintln!(rt; "{}: {}{unread}", program.name, display_name(name))?;
                 flushed?;
                 Ok(None)
             }

@@ -17,7 +17,7 @@ pub use ending::{FAILED, FOUND, end, refuse, refuse_after_output};
 pub use excerpt::write_excerpt;
 pub use file_replacement::{replace_text, replaceable};
 pub use files::{
-    Files, Inputs, find_files, find_inputs, location_of, read_text, shown_name, write_text,
+    Files, Inputs, display_name, find_files, find_inputs, location_of, read_text, write_text,
 };
 pub use json::{write_json_string, write_shown};
 pub use progress::Progress;

@@ -5,7 +5,7 @@ use Rattle.std.specs.{List.{flat_map, Sorted.{IsNonDecreasingBy, IsPermutation}}
 use Rattle.rnix_kinds.specs.Lexical.Tokens.{tokens_of}
 use Rattle.rnix_green.specs.Tree.{Tree, Located}
 use Rattle.rnix_grammar.specs.{declared.error.ParseError.ParseError, Fault.{Fault, fault_of}, Parsed.IsParsed}
-use Rattle.nix_cli.specs.MessageLocations.{shown_name}
+use Rattle.nix_cli.specs.MessageLocations.{display_name}
 use Rattle.nix_dead.specs.{Dead.{Listed, listed_name, dead_in}, declared.dead.Name.Name}
 use Rattle.nix_dead.specs.Report.{name_output, status_of, AreReported, IsReported, IsFileReported}
 
@@ -75,7 +75,7 @@ kept_appended old mid new bytes kept written = Appends-trans old mid new [] byte
 
 -- a file is reported after known bytes were kept
 pub file_reported : (is_json : Bool) (file text : List ℕ) (old mid new : Option (List ℕ)) (status : ℕ) → Keeps old mid →
-    IsReported is_json (shown_name file) text mid new status → IsFileReported is_json file old new status
+    IsReported is_json (display_name file) text mid new status → IsFileReported is_json file old new status
 file_reported is_json file text old mid new status kept reported = inr (
   text,
   record {
@@ -87,7 +87,7 @@ file_reported is_json file text old mid new status kept reported = inr (
       names = own.names;
       exactly = own.exactly;
       order = own.order;
-      written = kept_appended old mid new (flat_map (name_output is_json (shown_name file) text) own.names) kept own.written;
+      written = kept_appended old mid new (flat_map (name_output is_json (display_name file) text) own.names) kept own.written;
       status_is = own.status_is;
     };
   },

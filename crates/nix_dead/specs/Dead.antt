@@ -17,16 +17,16 @@ use Rattle.nix_scopes.specs.Scopes.{Bound, Resolved, number_in, bindings_in, res
 use Rattle.nix_dead.specs.declared.dead.Name.{Name}
 
 -- whether a name is marked as unused on purpose: it starts with `_`
-abbrev pub is_unmeant : List ℕ → Bool
-is_unmeant text = starts_with nat_eq text (codes "_")
+abbrev pub is_ignored : List ℕ → Bool
+is_ignored text = starts_with nat_eq text (codes "_")
 
 -- whether a binding is the value of a legacy `let`
 abbrev pub is_body : Bound → Bool
 is_body bound = same_kind (item_of bound.scope).kind k.NODE_LEGACY_LET && bytes_eq bound.text (codes "body")
 
 -- whether a binding is reported if nothing refers to it: it is not an attribute of a set, and not marked as unused on purpose
-abbrev pub is_judged : Bound → Bool
-is_judged bound = not (same_kind (item_of bound.scope).kind k.NODE_ATTR_SET) && (not (is_body bound) && not (is_unmeant bound.text))
+abbrev pub is_reportable : Bound → Bool
+is_reportable bound = not (same_kind (item_of bound.scope).kind k.NODE_ATTR_SET) && (not (is_body bound) && not (is_ignored bound.text))
 
 -- whether a reference refers to the binding of a number
 abbrev pub refers : ℕ → Resolved → Bool
@@ -41,35 +41,35 @@ abbrev pub listed : Bound → Listed
 listed bound = (bound.text, (extent_of bound.node).start)
 
 -- whether a node with this parent names a whole pattern, as `args` does in `args@{ a }`
-abbrev pub names_whole : Option Located → Bool
-names_whole None = false
-names_whole (Some parent) = same_kind (item_of parent).kind k.NODE_PAT_BIND
+abbrev pub names_pattern : Option Located → Bool
+names_pattern None = false
+names_pattern (Some parent) = same_kind (item_of parent).kind k.NODE_PAT_BIND
 
 -- whether a binding is the name of a whole pattern
-abbrev pub is_whole : Bound → Bool
-is_whole bound = names_whole (parent_of bound.node)
+abbrev pub is_pattern_name : Bound → Bool
+is_pattern_name bound = names_pattern (parent_of bound.node)
 
 -- where the scope of a binding starts
 abbrev pub scope_start : Bound → ℕ
 scope_start bound = (extent_of bound.scope).start
 
 -- whether the binding of a number is the name of the whole pattern of the function that starts at an offset, and is referred to
-abbrev pub is_used_whole : List Resolved → ℕ → ℕ → Bound → Bool
-is_used_whole names start number bound = list_any (refers number) names && (is_whole bound && (start == scope_start bound))
+abbrev pub is_used_pattern_name : List Resolved → ℕ → ℕ → Bound → Bool
+is_used_pattern_name names start number bound = list_any (refers number) names && (is_pattern_name bound && (start == scope_start bound))
 
 -- whether one of these bindings, with the numbers from this one on, is such a name: through it, each argument of the function may be used
-abbrev pub has_used_whole : List Resolved → ℕ → ℕ → List Bound → Bool
-has_used_whole names start number [] = false
-has_used_whole names start number (bound ∷ more) = is_used_whole names start number bound || has_used_whole names start (number + 1) more
+abbrev pub has_used_pattern_name : List Resolved → ℕ → ℕ → List Bound → Bool
+has_used_pattern_name names start number [] = false
+has_used_pattern_name names start number (bound ∷ more) = is_used_pattern_name names start number bound || has_used_pattern_name names start (number + 1) more
 
 -- whether a binding is used: it is referred to, or it may be through the name of its whole pattern
 abbrev pub is_used : List Bound → List Resolved → ℕ → Bound → Bool
-is_used bindings names number bound = list_any (refers number) names || has_used_whole names (scope_start bound) 0 bindings
+is_used bindings names number bound = list_any (refers number) names || has_used_pattern_name names (scope_start bound) 0 bindings
 
 -- whether the binding of a number is dead: the first of its name in its scope, to be reported, and not used
 abbrev pub is_dead : List Bound → List Resolved → ℕ → Bound → Bool
 is_dead bindings names number bound =
-    is_number number (number_in bindings bound.text bound.scope) && (is_judged bound && not (is_used bindings names number bound))
+    is_number number (number_in bindings bound.text bound.scope) && (is_reportable bound && not (is_used bindings names number bound))
 
 -- the dead ones among bindings with the numbers from this one on
 abbrev pub dead_from : List Bound → List Resolved → ℕ → List Bound → List Listed
@@ -95,13 +95,15 @@ pub record AreMarked (count : ℕ) (references : List Reference) (marks : List B
   pub marks_are : (number : ℕ) (d : Bool) → number < count → get_or marks number d ≡ list_any (refers number) (map resolved_of references)
 
 -- whether the binding of a number is marked, and the name of the whole pattern of the function that starts at an offset
-abbrev pub is_marked_whole : List Bool → ℕ → ℕ → Binding → Bool
-is_marked_whole marks start number binding = get_or marks number false && (is_whole (bound_of binding) && (start == scope_start (bound_of binding)))
+abbrev pub is_marked_pattern_name : List Bool → ℕ → ℕ → Binding → Bool
+is_marked_pattern_name marks start number binding =
+    get_or marks number false && (is_pattern_name (bound_of binding) && (start == scope_start (bound_of binding)))
 
 -- whether one of these bindings, with the numbers from this one on, is so
-abbrev pub has_marked_whole : List Bool → ℕ → ℕ → List Binding → Bool
-has_marked_whole marks start number [] = false
-has_marked_whole marks start number (binding ∷ more) = is_marked_whole marks start number binding || has_marked_whole marks start (number + 1) more
+abbrev pub has_marked_pattern_name : List Bool → ℕ → ℕ → List Binding → Bool
+has_marked_pattern_name marks start number [] = false
+has_marked_pattern_name marks start number (binding ∷ more) =
+    is_marked_pattern_name marks start number binding || has_marked_pattern_name marks start (number + 1) more
 
 -- whether an offset is in a set
 abbrev pub has_offset : BTreeSet ℕ → ℕ → Bool
@@ -109,12 +111,12 @@ has_offset offsets start = contains nat_cmp offsets start
 
 -- the binding of a number, if it is the first of its name, to be reported, not marked, and its scope does not start at one of the offsets
 abbrev pub unmarked : List Bool → BTreeSet ℕ → ℕ → Binding → List Listed
-unmarked marks wholes number binding =
+unmarked marks patterns number binding =
     if nat_eq binding.first number
-    && (is_judged (bound_of binding) && not (get_or marks number true || has_offset wholes (scope_start (bound_of binding))))
+    && (is_reportable (bound_of binding) && not (get_or marks number true || has_offset patterns (scope_start (bound_of binding))))
     then listed (bound_of binding) ∷ [] else []
 
 -- those among bindings with the numbers from this one on
 abbrev pub unmarked_from : List Bool → BTreeSet ℕ → ℕ → List Binding → List Listed
-unmarked_from marks wholes number [] = []
-unmarked_from marks wholes number (binding ∷ more) = unmarked marks wholes number binding ++ unmarked_from marks wholes (number + 1) more
+unmarked_from marks patterns number [] = []
+unmarked_from marks patterns number (binding ∷ more) = unmarked marks patterns number binding ++ unmarked_from marks patterns (number + 1) more

@@ -8,7 +8,7 @@ use Rattle.rnix_green.specs.Tree.{Tree, Located}
 use Rattle.rnix_grammar.specs.Fault.{Fault}
 use Rattle.rnix_grammar.specs.Parsed.{IsParsed}
 use Rattle.nix_cli.specs.JsonString.{json_string, shown_text}
-use Rattle.nix_cli.specs.MessageLocations.{shown_name, line_and_column, location_text}
+use Rattle.nix_cli.specs.MessageLocations.{display_name, line_and_column, location_text}
 use Rattle.nix_dead.specs.Dead.{Listed, listed_name, dead_in}
 use Rattle.nix_dead.specs.declared.dead.Name.{Name}
 
@@ -55,4 +55,4 @@ pub record IsReported (is_json : Bool) (file text : List ℕ) (old new : Option 
 -- a file is reported: nothing is written of one that is not read, and its status is 2; otherwise it has a text, which is reported
 abbrev pub IsFileReported : Bool → List ℕ → Option (List ℕ) → Option (List ℕ) → ℕ → Type 0
 IsFileReported is_json file old new status =
-    (Keeps old new × (status ≡ 2)) ⊎ ((text : List ℕ) × IsReported is_json (shown_name file) text old new status)
+    (Keeps old new × (status ≡ 2)) ⊎ ((text : List ℕ) × IsReported is_json (display_name file) text old new status)

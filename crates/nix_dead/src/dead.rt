@@ -3,8 +3,8 @@
 ghost use Rattle.std.specs.Prelude.{◌≡◌, ◌++◌, ◌||◌, ℕ, map, IfOk, OnOk};
 ghost use Rattle.std.specs.List.Sorted.{IsNonDecreasingBy, IsPermutation};
 ghost use Rattle.nix_scopes.specs.Bound.{bound_of};
-ghost use Rattle.nix_dead.specs.Dead.{is_unmeant, is_judged, is_whole, marked, AreMarked, listed_name, unmarked, unmarked_from, dead_in};
-ghost use Rattle.nix_dead.specs.Dead.{has_offset, is_marked_whole, has_marked_whole, scope_start};
+ghost use Rattle.nix_dead.specs.Dead.{is_ignored, is_reportable, is_pattern_name, marked, AreMarked, listed_name, unmarked, unmarked_from, dead_in};
+ghost use Rattle.nix_dead.specs.Dead.{has_offset, is_marked_pattern_name, has_marked_pattern_name, scope_start};
 ghost use Rattle.nix_dead.specs.declared.dead.Name.{Name as Dead};
 
 use nix_scopes::{Binding, Reference, resolve};
@@ -23,19 +23,19 @@ pub struct Name<'t> {
 }
 
 // Returns whether a name is marked as unused on purpose: it starts with `_`.
-fn is_unmeant(name: &str) -> bool
-    ensures { result ≡ is_unmeant name.now }
+fn is_ignored(name: &str) -> bool
+    ensures { result ≡ is_ignored name.now }
 {
     name.as_bytes().starts_with(b"_")
 }
 
 // Returns whether to report a binding if it is unused. The names of a `rec` set are attributes, and the `body` of a legacy `let` is its value.
-fn is_judged(binding: &Binding<'_>) -> bool
-    ensures { result ≡ is_judged (bound_of binding.now) }
+fn is_reportable(binding: &Binding<'_>) -> bool
+    ensures { result ≡ is_reportable (bound_of binding.now) }
 {
     let scope = binding.scope.kind();
     let is_body = scope == SyntaxKind::NODE_LEGACY_LET && binding.text.as_str() == "body";
-    scope != SyntaxKind::NODE_ATTR_SET && !is_body && !is_unmeant(binding.text.as_str())
+    scope != SyntaxKind::NODE_ATTR_SET && !is_body && !is_ignored(binding.text.as_str())
 }
 
 // Marks the item with a number as used, if the list has one.
@@ -66,8 +66,8 @@ fn used_bindings(
 }
 
 // Returns whether a binding is the name of a whole pattern, as `args` in `args@{ a }`.
-fn is_whole(binding: &Binding<'_>) -> bool
-    ensures { result ≡ is_whole (bound_of binding.now) }
+fn is_pattern_name(binding: &Binding<'_>) -> bool
+    ensures { result ≡ is_pattern_name (bound_of binding.now) }
 {
     match binding.node.parent() {
         Some(parent) => parent.kind() == SyntaxKind::NODE_PAT_BIND,
@@ -76,42 +76,42 @@ fn is_whole(binding: &Binding<'_>) -> bool
 }
 
 // Adds the start of a function, if the binding is the name of its whole pattern and is used.
-fn add_whole(
+fn add_used_pattern(
     number: usize,
     binding: &Binding<'_>,
     is_used: &[bool],
-    wholes: &mut BTreeSet<usize>,
+    patterns: &mut BTreeSet<usize>,
 ) -> Result<(), AllocError>
     ensures { OnOk result ((start : ℕ) →
-        has_offset wholes.new start ≡ (has_offset wholes.old start || is_marked_whole is_used.now start number binding.now)) }
+        has_offset patterns.new start ≡ (has_offset patterns.old start || is_marked_pattern_name is_used.now start number binding.now)) }
 {
     let is_used = is_used.get(number).copied().unwrap_or(false);
-    if is_used && is_whole(binding) {
-        wholes.insert(binding.scope.text_range().start())?;
+    if is_used && is_pattern_name(binding) {
+        patterns.insert(binding.scope.text_range().start())?;
     }
     Ok(())
 }
 
 // Returns the starts of the functions whose pattern has a name of its own that is used.
-fn used_wholes(
+fn used_patterns(
     alloc: Global,
     bindings: &[Binding<'_>],
     is_used: &[bool],
 ) -> Result<BTreeSet<usize>, AllocError>
-    ensures { IfOk result (λ wholes. (start : ℕ) → has_offset wholes start ≡ has_marked_whole is_used.now start 0 bindings.now) }
+    ensures { IfOk result (λ patterns. (start : ℕ) → has_offset patterns start ≡ has_marked_pattern_name is_used.now start 0 bindings.now) }
 {
-    let mut wholes = BTreeSet::new(alloc);
+    let mut patterns = BTreeSet::new(alloc);
     for number in 0..bindings.len() {
-        add_whole(number, &bindings[number], is_used, &mut wholes)?;
+        add_used_pattern(number, &bindings[number], is_used, &mut patterns)?;
     }
-    Ok(wholes)
+    Ok(patterns)
 }
 
 // Returns whether a binding is in the scope of a pattern whose own name is used.
-fn is_in_whole(binding: &Binding<'_>, wholes: &BTreeSet<usize>) -> bool
-    ensures { result ≡ has_offset wholes.now (scope_start (bound_of binding.now)) }
+fn is_in_used_pattern(binding: &Binding<'_>, patterns: &BTreeSet<usize>) -> bool
+    ensures { result ≡ has_offset patterns.now (scope_start (bound_of binding.now)) }
 {
-    wholes.contains(&binding.scope.text_range().start())
+    patterns.contains(&binding.scope.text_range().start())
 }
 
 // Adds a binding if it is the first part of its name, is unused, and is to be reported.
@@ -119,13 +119,17 @@ fn add_unused<'t>(
     number: usize,
     binding: &Binding<'t>,
     is_used: &[bool],
-    wholes: &BTreeSet<usize>,
+    patterns: &BTreeSet<usize>,
     dead: &mut Vec<Name<'t>>,
 ) -> Result<(), AllocError>
-    ensures { OnOk result (map listed_name dead.new.items ≡ map listed_name dead.old.items ++ unmarked is_used.now wholes.now number binding.now) }
+    ensures { OnOk result (map listed_name dead.new.items ≡ map listed_name dead.old.items ++ unmarked is_used.now patterns.now number binding.now) }
 {
     let is_used = is_used.get(number).copied().unwrap_or(true);
-    if binding.first == number && is_judged(binding) && !is_used && !is_in_whole(binding, wholes) {
+    if binding.first == number
+        && is_reportable(binding)
+        && !is_used
+        && !is_in_used_pattern(binding, patterns)
+    {
         dead.push(Name {
             text: binding.text.clone()?,
             start: binding.node.text_range().start(),
@@ -139,13 +143,13 @@ fn unused<'t>(
     alloc: Global,
     bindings: &[Binding<'t>],
     is_used: &[bool],
-    wholes: &BTreeSet<usize>,
+    patterns: &BTreeSet<usize>,
 ) -> Result<Vec<Name<'t>>, AllocError>
-    ensures { IfOk result (λ dead. map listed_name dead.items ≡ unmarked_from is_used.now wholes.now 0 bindings.now) }
+    ensures { IfOk result (λ dead. map listed_name dead.items ≡ unmarked_from is_used.now patterns.now 0 bindings.now) }
 {
     let mut dead = Vec::new(alloc);
     for number in 0..bindings.len() {
-        add_unused(number, &bindings[number], is_used, wholes, &mut dead)?;
+        add_unused(number, &bindings[number], is_used, patterns, &mut dead)?;
     }
     Ok(dead)
 }
@@ -158,8 +162,8 @@ pub fn dead_names<'t>(alloc: Global, root: &SyntaxNode<'t>) -> Result<Vec<Name<'
 {
     let names = resolve(alloc, root)?;
     let is_used = used_bindings(alloc, names.bindings().len(), names.references())?;
-    let wholes = used_wholes(alloc, names.bindings(), &is_used)?;
-    let mut dead = unused(alloc, names.bindings(), &is_used, &wholes)?;
+    let patterns = used_patterns(alloc, names.bindings(), &is_used)?;
+    let mut dead = unused(alloc, names.bindings(), &is_used, &patterns)?;
     dead.sort_by_key(
         |name: &Name<'_>| -> usize
             ensures { result ≡ name.now.start }

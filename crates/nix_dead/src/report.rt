@@ -10,8 +10,8 @@ ghost use Rattle.nix_dead.specs.Report.{name_line, name_object, name_output, Are
 use crate::PROGRAM;
 use crate::dead::{Name, dead_names};
 use nix_cli::{
-    FAILED, FOUND, Inputs, Source, location_of, refuse_after_output, shown_name, write_json_string,
-    write_shown, write_source_location,
+    FAILED, FOUND, Inputs, Source, display_name, location_of, refuse_after_output,
+    write_json_string, write_shown, write_source_location,
 };
 use rnix::{Parse, Root, SyntaxNode};
 use rnix_text::{ColumnUnit, LineIndex};
@@ -150,7 +150,7 @@ fn report_file<W: Write>(
     ensures { IfOk result (IsFileReported is_json file.now (W.contents out.old) (W.contents out.new)) }
 {
     match inputs.read_text(rt, &PROGRAM, file, out)? {
-        Some(text) => report(rt, shown_name(file), text.as_str(), is_json, out),
+        Some(text) => report(rt, display_name(file), text.as_str(), is_json, out),
         None => Ok(FAILED),
     }
 }

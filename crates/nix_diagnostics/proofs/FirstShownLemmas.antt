@@ -11,7 +11,7 @@ use Rattle.nix_diagnostics.specs.declared.diagnostic.FirstDiagnostics.{FirstDiag
 use Rattle.nix_diagnostics.specs.Codes.{code_of}
 use Rattle.nix_diagnostics.specs.Locations.{location_of}
 use Rattle.nix_diagnostics.specs.Following.{follows}
-use Rattle.nix_diagnostics.specs.Shown.{AreShown, CoverRuns, IsFolded, IsSingle, IsWorded, Shows, none, shown}
+use Rattle.nix_diagnostics.specs.Shown.{AreShown, CoverRuns, IsFolded, IsSingle, HasMessage, Shows, none, shown}
 use Rattle.nix_diagnostics.specs.FirstShown.{AreFirst, IsCountFolded, IsCountAdded}
 use Rattle.nix_diagnostics.proofs.ShownLemmas.{nothing_shown, no_errors, shown_added, shown_folded, some_shown, last_run, all_shown, covers_runs}
 
@@ -25,7 +25,7 @@ pub record AreFirstOf (root : Located) (all faults : List Fault) (most : ℕ) (f
 -- there are no more diagnostics than errors
 pub few_shown : (root : Located) (all faults : List Fault) (ds : List Diagnostic) → Shows root all faults ds → length ds ≤ length faults
 few_shown root all _ _ none = omega arith
-few_shown root all _ _ (shown faults more ds fault d are new follow at worded code from end) =
+few_shown root all _ _ (shown faults more ds fault d are new follow at has_message code from end) =
     omega (arith, few_shown root all faults ds are, length_push ds d, length-append faults (fault ∷ more))
 
 -- so their number is at most that of the errors
@@ -147,14 +147,14 @@ pub added_behind : (root : Located) (all faults more : List Fault) (most : ℕ) 
 added_behind root all faults more most old new fault range are added some full does_not at is =
     let inside : most ≤ length are.ds = enough most old.first.items are.ds are.first full in
     let last = has_last are.ds (omega (arith, some, inside)) in
-    let worded : IsWorded last.d = (last_run root all faults are.ds last.before last.d are.are last.is).worded in
+    let has_message : HasMessage last.d = (last_run root all faults are.ds last.before last.d are.are last.is).has_message in
     let n = length faults in
     let d : Diagnostic =
     record { code = code_of fault; range = range; message = last.d.message; first_error = n; end_error = n + 1; notes = last.d.notes } in
     record {
       ds = are.ds ++ d ∷ [];
       are = shown_added root all faults more are.ds (are.ds ++ d ∷ []) fault d are.are does_not
-          record { code = refl; range = at; worded = worded; first = refl; end = refl } is refl;
+          record { code = refl; range = at; has_message = has_message; first = refl; end = refl } is refl;
       first = added.first ∙ append-nil old.first.items ∙ are.first ∙ sym (take-append-le most are.ds (d ∷ []) inside);
       count = added.count ∙ ap (λ n. n + 1) are.count ∙ sym (length_push are.ds d);
     }

@@ -7,55 +7,55 @@ use Rattle.rnix_grammar.specs.Ranges.{range_in}
 use Rattle.rnix_green.specs.declared.range.TextRange.{TextRange}
 use Rattle.rnix_green.specs.Range.{Extent, bounds_of}
 use Rattle.nix_diagnostics.specs.Locations.{location_of}
-use Rattle.nix_diagnostics.specs.Slips.{is_slip}
-use Rattle.nix_diagnostics.specs.Apart.{is_apart, since, larger, reach, ends_between, semicolons_of}
+use Rattle.nix_diagnostics.specs.TokenErrors.{is_token_error}
+use Rattle.nix_diagnostics.specs.Independence.{is_independent, since, larger, reach, ends_between, semicolons_of}
 use Rattle.nix_diagnostics.specs.Ends.{is_from, ends_in_string}
 use Rattle.nix_diagnostics.specs.FaultNodes.{error_node, group_of, are_one}
-use Rattle.nix_diagnostics.specs.Following.{is_extra, last_from, last_slip, are_close, is_near, group_if, skips_if, skips, is_lost, has_skipped, is_closing, is_joined, follows}
-use Rattle.nix_diagnostics.specs.Known.{is_close_after, loses_in, is_apart_in, follows_in, Knows, HasReached}
+use Rattle.nix_diagnostics.specs.Following.{is_extra, last_from, last_token_error, are_close, is_near, group_if, skips_if, skips, is_lost, has_skipped, is_closing, is_joined, follows}
+use Rattle.nix_diagnostics.specs.Known.{is_close_after, loses_in, is_independent_in, follows_in, Knows, HasReached}
 use Rattle.nix_diagnostics.specs.declared.folding.Folding.{Folding}
-use Rattle.nix_diagnostics.proofs.ApartLemmas.{since_more, first_le, reach_slip, reach_other}
+use Rattle.nix_diagnostics.proofs.IndependenceLemmas.{since_more, first_le, reach_token_error, reach_other}
 use Rattle.nix_diagnostics.proofs.LostLemmas.{and_true, lost_push, lost_other, skipped_push, skipped_other}
 
 -- one more error is the last one if it is about an unexpected or a missing token
 last_push : (before : Option Fault) (faults : List Fault) (fault : Fault) →
-    last_from before (faults ++ fault ∷ []) ≡ (if is_slip fault then Some fault else last_from before faults)
+    last_from before (faults ++ fault ∷ []) ≡ (if is_token_error fault then Some fault else last_from before faults)
 last_push before [] fault = refl
-last_push before (f ∷ faults) fault = last_push (if is_slip f then Some f else before) faults fault
+last_push before (f ∷ faults) fault = last_push (if is_token_error f then Some f else before) faults fault
 
 -- such an error is then the last one
-pub slip_last : (faults : List Fault) (fault : Fault) → is_slip fault ≡ true → last_slip (faults ++ fault ∷ []) ≡ Some fault
-slip_last faults fault is = last_push None faults fault ∙ ap (λ b. if b then Some fault else last_from None faults) is
+pub token_error_last : (faults : List Fault) (fault : Fault) → is_token_error fault ≡ true → last_token_error (faults ++ fault ∷ []) ≡ Some fault
+token_error_last faults fault is = last_push None faults fault ∙ ap (λ b. if b then Some fault else last_from None faults) is
 
 -- another error changes nothing
-pub other_last : (faults : List Fault) (fault : Fault) → is_slip fault ≡ false → last_slip (faults ++ fault ∷ []) ≡ last_slip faults
+pub other_last : (faults : List Fault) (fault : Fault) → is_token_error fault ≡ false → last_token_error (faults ++ fault ∷ []) ≡ last_token_error faults
 other_last faults fault is = last_push None faults fault ∙ ap (λ b. if b then Some fault else last_from None faults) is
 
 -- an error about an unexpected or a missing token is not about tokens after the expression
-slip_not_extra : (fault : Fault) → is_slip fault ≡ true → false ≡ is_extra fault
-slip_not_extra (unexpected_at range) is = refl
-slip_not_extra (extra range) is = absurd (grind (arith, is))
-slip_not_extra (unwanted kind range kinds) is = refl
-slip_not_extra (double_bind range) is = refl
-slip_not_extra unexpected_eof is = refl
-slip_not_extra (unexpected_eof_wanted kinds) is = refl
-slip_not_extra (duplicated_args range name) is = refl
-slip_not_extra too_deep is = refl
+token_error_not_extra : (fault : Fault) → is_token_error fault ≡ true → false ≡ is_extra fault
+token_error_not_extra (unexpected_at range) is = refl
+token_error_not_extra (extra range) is = absurd (grind (arith, is))
+token_error_not_extra (unwanted kind range kinds) is = refl
+token_error_not_extra (double_bind range) is = refl
+token_error_not_extra unexpected_eof is = refl
+token_error_not_extra (unexpected_eof_wanted kinds) is = refl
+token_error_not_extra (duplicated_args range name) is = refl
+token_error_not_extra too_deep is = refl
 
--- the state knows whether an error is apart from the earlier ones
-pub apart_known : (root : Located) (all before : List Fault) (fault : Fault) (f : Folding) (location : TextRange) → Knows root all before f →
-    bounds_of location ≡ location_of root fault → is_apart_in f location ≡ is_apart root before fault
-apart_known root all before fault f location known at =
+-- the state knows whether an error is independent of the earlier ones
+pub independent_known : (root : Located) (all before : List Fault) (fault : Fault) (f : Folding) (location : TextRange) → Knows root all before f →
+    bounds_of location ≡ location_of root fault → is_independent_in f location ≡ is_independent root before fault
+independent_known root all before fault f location known at =
     ap (λ l. ends_between f.reach location.start l) known.remaining
     ∙ (ap (λ r. ends_between r location.start (since r (semicolons_of root))) known.reaches
     ∙ ap (λ (e : Extent). ends_between (reach root before) e.start (since (reach root before) (semicolons_of root))) at)
 
 -- whether an error is near the last one depends on the place of that alone
 near_known : (root : Located) (before : List Fault) (fault : Fault) (last : Option ℕ) (location : TextRange) →
-    last ≡ option_map (λ x. (location_of root x).end) (last_slip before) → bounds_of location ≡ location_of root fault →
-    is_close_after (text_at root) last location.start ≡ is_near root (last_slip before) fault
+    last ≡ option_map (λ x. (location_of root x).end) (last_token_error before) → bounds_of location ≡ location_of root fault →
+    is_close_after (text_at root) last location.start ≡ is_near root (last_token_error before) fault
 near_known root before fault last location is at =
-    ap (λ e. is_close_after (text_at root) e location.start) is ∙ near (last_slip before) where
+    ap (λ e. is_close_after (text_at root) e location.start) is ∙ near (last_token_error before) where
       near : (o : Option Fault) →
           is_close_after (text_at root) (option_map (λ x. (location_of root x).end) o) location.start ≡ is_near root o fault
       near None = refl
@@ -67,15 +67,15 @@ last_known root None last is = ap is_some is
 last_known root (Some fault) last is = ap is_some is
 
 -- the state judges an error about an unexpected or a missing token
-pub judged_slip : (root : Located) (all before : List Fault) (fault : Fault) (f : Folding) (apart : Bool) (group : Option TextRange) (location : TextRange)
-    (b : Bool) → Knows root all before f → bounds_of location ≡ location_of root fault → is_slip fault ≡ true →
-    apart ≡ is_apart root before fault → option_map bounds_of group ≡ group_of root fault →
-    b ≡ follows_in root f apart group location → b ≡ follows root all before fault
-judged_slip root all before fault f apart group location b known at slip apart_is own result =
-    let some = last_known root (last_slip before) f.last known.last in
-    let other = slip_not_extra fault slip in
+pub judged_token_error : (root : Located) (all before : List Fault) (fault : Fault) (f : Folding) (independent : Bool) (group : Option TextRange)
+    (location : TextRange) (b : Bool) → Knows root all before f → bounds_of location ≡ location_of root fault → is_token_error fault ≡ true →
+    independent ≡ is_independent root before fault → option_map bounds_of group ≡ group_of root fault →
+    b ≡ follows_in root f independent group location → b ≡ follows root all before fault
+judged_token_error root all before fault f independent group location b known at token_error apart_is own result =
+    let some = last_known root (last_token_error before) f.last known.last in
+    let other = token_error_not_extra fault token_error in
     let near = near_known root before fault f.last location known.last at in
-    result ∙ (λ k. some k && (other k || (known.in_string k || (sym slip k
+    result ∙ (λ k. some k && (other k || (known.in_string k || (sym token_error k
     && (if apart_is k then known.unbalanced k && (known.closed k && nat_le (known.end k) (at k).end)
     else known.lost k || (are_one (own k) (known.group k) || near k))))))
 
@@ -85,35 +85,35 @@ pub skips_known : (root : Located) (all before : List Fault) (fault : Fault) (f 
 skips_known root all before fault f found b known is result = result ∙ (λ k. skips_if (known.extra k) (is k))
 
 -- the parser has lost its way at an error or before it, as the state knows
-pub lost_known : (root : Located) (all before : List Fault) (fault : Fault) (f : Folding) (apart skipped : Bool) (location : TextRange) (b : Bool) →
-    Knows root all before f → bounds_of location ≡ location_of root fault → is_slip fault ≡ true → apart ≡ is_apart root before fault →
-    skipped ≡ skips root fault → b ≡ ((f.is_lost && not apart) || loses_in f fault skipped location) → b ≡ is_lost root all (before ++ fault ∷ [])
-lost_known root all before fault f apart skipped location b known at slip apart_is own result =
+pub lost_known : (root : Located) (all before : List Fault) (fault : Fault) (f : Folding) (independent skipped : Bool) (location : TextRange) (b : Bool) →
+    Knows root all before f → bounds_of location ≡ location_of root fault → is_token_error fault ≡ true → independent ≡ is_independent root before fault →
+    skipped ≡ skips root fault → b ≡ ((f.is_lost && not independent) || loses_in f fault skipped location) → b ≡ is_lost root all (before ++ fault ∷ [])
+lost_known root all before fault f independent skipped location b known at token_error apart_is own result =
     result
-    ∙ (λ k. (known.lost k && not (sym slip k && apart_is k)) || (sym slip k && (is_none (range_in fault)
+    ∙ (λ k. (known.lost k && not (sym token_error k && apart_is k)) || (sym token_error k && (is_none (range_in fault)
     || (nat_le (known.end k) (at k).end || (is_from (known.lost_from k) (at k).start || own k)))))
     ∙ sym (lost_push root all before fault)
 
 -- brackets were skipped at an error or before it, as the state knows
 pub unbalanced_known : (root : Located) (all before : List Fault) (fault : Fault) (f : Folding) (skipped : Bool) (b : Bool) →
-    Knows root all before f → is_slip fault ≡ true → skipped ≡ skips root fault → b ≡ (f.is_unbalanced || skipped) →
+    Knows root all before f → is_token_error fault ≡ true → skipped ≡ skips root fault → b ≡ (f.is_unbalanced || skipped) →
     b ≡ has_skipped root (before ++ fault ∷ [])
-unbalanced_known root all before fault f skipped b known slip own result =
-    result ∙ (λ k. known.unbalanced k || (sym slip k && own k)) ∙ sym (skipped_push root before fault)
+unbalanced_known root all before fault f skipped b known token_error own result =
+    result ∙ (λ k. known.unbalanced k || (sym token_error k && own k)) ∙ sym (skipped_push root before fault)
 
 -- what is known after an error about an unexpected or a missing token
-pub knows_slip : (root : Located) (all before : List Fault) (fault : Fault) (f mid new : Folding) (far : ℕ) → Knows root all before f →
-    is_slip fault ≡ true → far ≡ (location_of root fault).end → HasReached mid new far → mid.last ≡ Some far → mid.end ≡ f.end → mid.extra ≡ f.extra →
+pub knows_token_error : (root : Located) (all before : List Fault) (fault : Fault) (f mid new : Folding) (far : ℕ) → Knows root all before f →
+    is_token_error fault ≡ true → far ≡ (location_of root fault).end → HasReached mid new far → mid.last ≡ Some far → mid.end ≡ f.end → mid.extra ≡ f.extra →
     mid.lost_from ≡ f.lost_from → mid.reach ≡ f.reach → drop mid.passed mid.semicolons.items ≡ drop f.passed f.semicolons.items →
     mid.in_string ≡ f.in_string → mid.ends_closed ≡ f.ends_closed → option_map bounds_of mid.group ≡ group_of root fault →
     mid.is_lost ≡ is_lost root all (before ++ fault ∷ []) → mid.is_unbalanced ≡ has_skipped root (before ++ fault ∷ []) →
     Knows root all (before ++ fault ∷ []) new
-knows_slip root all before fault f mid new far known slip far_is noted at end single from further rest inside closed group lost skip =
+knows_token_error root all before fault f mid new far known token_error far_is noted at end single from further rest inside closed group lost skip =
     let reached : HasReached mid new (location_of root fault).end = subst (λ n. HasReached mid new n) far_is noted in
     let last : mid.last ≡ Some (location_of root fault).end = at ∙ ap Some far_is in
-    let is : last_slip (before ++ fault ∷ []) ≡ Some fault = slip_last before fault slip in
+    let is : last_token_error (before ++ fault ∷ []) ≡ Some fault = token_error_last before fault token_error in
     let reach_is : larger mid.reach (location_of root fault).end ≡ reach root (before ++ fault ∷ []) =
-    ap (λ r. larger r (location_of root fault).end) (further ∙ known.reaches) ∙ sym (reach_slip root before fault slip) in
+    ap (λ r. larger r (location_of root fault).end) (further ∙ known.reaches) ∙ sym (reach_token_error root before fault token_error) in
     record {
       last = ap (λ (n : Folding). n.last) reached.is ∙ last ∙ ap (option_map (λ x. (location_of root x).end)) (sym is);
       end = ap (λ (n : Folding). n.end) reached.is ∙ end ∙ known.end;
@@ -132,10 +132,10 @@ knows_slip root all before fault f mid new far known slip far_is noted at end si
     }
 
 -- what is known after another error
-pub knows_other : (root : Located) (all before : List Fault) (fault : Fault) (f : Folding) → Knows root all before f → is_slip fault ≡ false →
+pub knows_other : (root : Located) (all before : List Fault) (fault : Fault) (f : Folding) → Knows root all before f → is_token_error fault ≡ false →
     Knows root all (before ++ fault ∷ []) f
 knows_other root all before fault f known other =
-    let is : last_slip (before ++ fault ∷ []) ≡ last_slip before = other_last before fault other in
+    let is : last_token_error (before ++ fault ∷ []) ≡ last_token_error before = other_last before fault other in
     record {
       last = known.last ∙ ap (option_map (λ x. (location_of root x).end)) (sym is);
       end = known.end;
@@ -152,14 +152,14 @@ knows_other root all before fault f known other =
 
 -- the tests that remain if an error is about an unexpected or a missing token, and not about tokens after the expression
 abbrev rest_of : (root : Located) (all before : List Fault) (fault : Fault) → Bool
-rest_of root all before fault = if is_apart root before fault then is_closing root before fault else is_joined root all before fault
+rest_of root all before fault = if is_independent root before fault then is_closing root before fault else is_joined root all before fault
 
 -- the state judges an error about tokens after the expression
 pub judged_extra : (root : Located) (all before : List Fault) (fault : Fault) (f : Folding) (b : Bool) → Knows root all before f →
     is_extra fault ≡ true → b ≡ is_some f.last → b ≡ follows root all before fault
 judged_extra root all before fault f b known is counts =
-    counts ∙ last_known root (last_slip before) f.last known.last ∙ sym (and_true (is_some (last_slip before)))
-    ∙ (λ k. is_some (last_slip before) && (sym is k || (ends_in_string root || (is_slip fault && rest_of root all before fault))))
+    counts ∙ last_known root (last_token_error before) f.last known.last ∙ sym (and_true (is_some (last_token_error before)))
+    ∙ (λ k. is_some (last_token_error before) && (sym is k || (ends_in_string root || (is_token_error fault && rest_of root all before fault))))
 
 -- one of two tests, of which the second fails, and another one
 both_ways : (inside some : Bool) → (inside && some) ≡ (some && (inside || false))
@@ -169,11 +169,11 @@ both_ways false true = refl
 both_ways false false = refl
 
 -- the state judges a repeated name
-pub judged_name : (root : Located) (all before : List Fault) (fault : Fault) (f : Folding) (b : Bool) → Knows root all before f → is_slip fault ≡ false →
+pub judged_name : (root : Located) (all before : List Fault) (fault : Fault) (f : Folding) (b : Bool) → Knows root all before f → is_token_error fault ≡ false →
     is_extra fault ≡ false → b ≡ (f.in_string && is_some f.last) → b ≡ follows root all before fault
 judged_name root all before fault f b known other is counts =
-    let some = last_known root (last_slip before) f.last known.last in
+    let some = last_known root (last_token_error before) f.last known.last in
     counts
     ∙ (λ k. known.in_string k && some k)
-    ∙ both_ways (ends_in_string root) (is_some (last_slip before))
-    ∙ (λ k. is_some (last_slip before) && (sym is k || (ends_in_string root || (sym other k && rest_of root all before fault))))
+    ∙ both_ways (ends_in_string root) (is_some (last_token_error before))
+    ∙ (λ k. is_some (last_token_error before) && (sym is k || (ends_in_string root || (sym other k && rest_of root all before fault))))

@@ -1,6 +1,6 @@
 pub mod BracketExamples
-pub mod ApartExamples
-pub mod ApartLemmas
+pub mod IndependenceExamples
+pub mod IndependenceLemmas
 pub mod FaultNodeLemmas
 pub mod UnmatchedLemmas
 pub mod LostLemmas

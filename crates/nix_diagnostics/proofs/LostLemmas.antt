@@ -6,8 +6,8 @@ use Rattle.std.proofs.lemmas.List.{append_assoc, append-nil}
 use Rattle.std.proofs.lemmas.List.Folds.{list_any-append}
 use Rattle.rnix_green.specs.Tree.{Located}
 use Rattle.rnix_grammar.specs.Fault.{Fault}
-use Rattle.nix_diagnostics.specs.Slips.{is_slip}
-use Rattle.nix_diagnostics.specs.Apart.{is_apart}
+use Rattle.nix_diagnostics.specs.TokenErrors.{is_token_error}
+use Rattle.nix_diagnostics.specs.Independence.{is_independent}
 use Rattle.nix_diagnostics.specs.Following.{loses, loses_at, skips, is_back, none_back, is_lost_in, is_lost, has_skipped}
 
 -- one of two tests, of which the second fails
@@ -64,22 +64,23 @@ pub lost_push : (root : Located) (all before : List Fault) (fault : Fault) →
 lost_push root all before fault = lost_in_push root all [] before fault
 
 -- after an error that is not about an unexpected or a missing token it has, if it had before
-pub lost_other : (root : Located) (all before : List Fault) (fault : Fault) → is_slip fault ≡ false →
+pub lost_other : (root : Located) (all before : List Fault) (fault : Fault) → is_token_error fault ≡ false →
     is_lost root all (before ++ fault ∷ []) ≡ is_lost root all before
 lost_other root all before fault other =
     lost_push root all before fault
-    ∙ (λ k. (is_lost root all before && not (other k && is_apart root before fault)) || (other k && loses_at root all fault))
+    ∙ (λ k. (is_lost root all before && not (other k && is_independent root before fault)) || (other k && loses_at root all fault))
     ∙ or_false (is_lost root all before && true)
     ∙ and_true (is_lost root all before)
 
 -- brackets were skipped at some errors and one more
 pub skipped_push : (root : Located) (before : List Fault) (fault : Fault) →
-    has_skipped root (before ++ fault ∷ []) ≡ (has_skipped root before || (is_slip fault && skips root fault))
+    has_skipped root (before ++ fault ∷ []) ≡ (has_skipped root before || (is_token_error fault && skips root fault))
 skipped_push root before fault =
-    list_any-append (λ f. is_slip f && skips root f) before (fault ∷ []) ∙ ap (λ b. has_skipped root before || b) (or_false (is_slip fault && skips root fault))
+    list_any-append (λ f. is_token_error f && skips root f) before (fault ∷ [])
+    ∙ ap (λ b. has_skipped root before || b) (or_false (is_token_error fault && skips root fault))
 
 -- after an error that is not about an unexpected or a missing token they were, if they were before
-pub skipped_other : (root : Located) (before : List Fault) (fault : Fault) → is_slip fault ≡ false →
+pub skipped_other : (root : Located) (before : List Fault) (fault : Fault) → is_token_error fault ≡ false →
     has_skipped root (before ++ fault ∷ []) ≡ has_skipped root before
 skipped_other root before fault other =
     skipped_push root before fault ∙ (λ k. has_skipped root before || (other k && skips root fault)) ∙ or_false (has_skipped root before)

@@ -11,21 +11,21 @@ use Rattle.rnix_grammar.specs.Fault.{Fault, fault_of, duplicated_args}
 use Rattle.rnix_grammar.specs.Ranges.{range_in}
 use Rattle.std.specs.Global.{Vec}
 use Rattle.nix_diagnostics.specs.declared.diagnostic.{Diagnostic.{Diagnostic}, FirstDiagnostics.{FirstDiagnostics}}
-use Rattle.nix_diagnostics.specs.{Locations.{range_or, location_of}, Slips.{is_slip, is_repeated_name}, Following.{follows, last_from, last_slip}}
+use Rattle.nix_diagnostics.specs.{Locations.{range_or, location_of}, TokenErrors.{is_token_error, is_repeated_name}, Following.{follows, last_from, last_token_error}}
 use Rattle.nix_diagnostics.proofs.FirstShownLemmas.{AreFirstOf, added_behind, all_first}
 use Rattle.nix_diagnostics.specs.FirstShown.{AreFirst}
 
 -- an error about a repeated name is not one about an unexpected or a missing token
-no_slip : (fault : Fault) → is_repeated_name fault ≡ true → is_slip fault ≡ false
-no_slip (duplicated_args range name) is = refl
-no_slip fault is = cc
+no_token_error : (fault : Fault) → is_repeated_name fault ≡ true → is_token_error fault ≡ false
+no_token_error (duplicated_args range name) is = refl
+no_token_error fault is = cc
 
 -- so none of them is the last such error
 no_last : (errors : List ParseError) → list_all (λ e. is_repeated_name (fault_of e)) errors ≡ true → last_from None (map fault_of errors) ≡ None
 no_last [] are = refl
 no_last (e ∷ errors) are =
     let both = and_parts (is_repeated_name (fault_of e)) (list_all (λ e. is_repeated_name (fault_of e)) errors) are in
-    ap (λ b. last_from (if b then Some (fault_of e) else None) (map fault_of errors)) (no_slip (fault_of e) both.0) ∙ no_last errors both.1
+    ap (λ b. last_from (if b then Some (fault_of e) else None) (map fault_of errors)) (no_token_error (fault_of e) both.0) ∙ no_last errors both.1
 
 nothing_and : (o : Option Fault) (b : Bool) → o ≡ None → (is_some o && b) ≡ false
 nothing_and o b none = ap (λ (x : Option Fault). is_some x && b) none
@@ -33,7 +33,7 @@ nothing_and o b none = ap (λ (x : Option Fault). is_some x && b) none
 -- no error follows from them
 pub none_follows : (root : Located) (all : List Fault) (errors : List ParseError) (fault : Fault) →
     list_all (λ e. is_repeated_name (fault_of e)) errors ≡ true → follows root all (map fault_of errors) fault ≡ false
-none_follows root all errors fault are = nothing_and (last_slip (map fault_of errors)) _ (no_last errors are)
+none_follows root all errors fault are = nothing_and (last_token_error (map fault_of errors)) _ (no_last errors are)
 
 -- the first of some such errors are such errors
 pub first_names : (errors : List ParseError) (n : ℕ) → list_all (λ e. is_repeated_name (fault_of e)) errors ≡ true →

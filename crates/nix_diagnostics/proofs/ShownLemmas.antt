@@ -10,7 +10,7 @@ use Rattle.nix_diagnostics.specs.declared.diagnostic.Diagnostic.{Diagnostic}
 use Rattle.nix_diagnostics.specs.Codes.{code_of}
 use Rattle.nix_diagnostics.specs.Locations.{location_of}
 use Rattle.nix_diagnostics.specs.Following.{follows, firsts, firsts_from, next_or, run_ends}
-use Rattle.nix_diagnostics.specs.Shown.{IsWorded, IsFolded, IsSingle, AllFollow, Shows, CoverRuns, none, one_more, shown, ShowsEach, none_each, one_each}
+use Rattle.nix_diagnostics.specs.Shown.{HasMessage, IsFolded, IsSingle, AllFollow, Shows, CoverRuns, none, one_more, shown, ShowsEach, none_each, one_each}
 
 -- no diagnostics show no errors
 pub nothing_shown : (root : Located) (all faults : List Fault) (ds : List Diagnostic) → faults ≡ [] → ds ≡ [] → Shows root all faults ds
@@ -25,7 +25,7 @@ no_errors root (e ∷ es) faults ds no_error is no_ds = absurd (omega (arith, no
 -- what no diagnostics show is no errors
 pub none_shown : (root : Located) (all faults : List Fault) (ds : List Diagnostic) → Shows root all faults ds → ds ≡ [] → faults ≡ []
 none_shown root all _ _ none is = refl
-none_shown root all _ _ (shown faults more ds fault d are first follow at worded code from end) is =
+none_shown root all _ _ (shown faults more ds fault d are first follow at has_message code from end) is =
     absurd (omega (arith, sym (length_push ds d) ∙ ap length is))
 
 -- where an error follows, there is a diagnostic
@@ -43,7 +43,7 @@ pub shown_added : (root : Located) (all faults more : List Fault) (ds next : Lis
 shown_added root all faults more ds next fault d are new single is added =
     subst (λ f. Shows root all f next) (sym is)
     (subst (λ r. Shows root all (faults ++ fault ∷ []) r) (sym added)
-    (shown faults [] ds fault d are new none single.range single.worded single.code single.first (single.end ∙ sym (length_push faults fault))))
+    (shown faults [] ds fault d are new none single.range single.has_message single.code single.first (single.end ∙ sym (length_push faults fault))))
 
 -- one error more is shown by one diagnostic more
 pub each_added : (root : Located) (faults more : List Fault) (ds next : List Diagnostic) (fault : Fault) (d : Diagnostic) → ShowsEach root faults ds →
@@ -87,7 +87,7 @@ pub record IsLastRun (root : Located) (all faults : List Fault) (before : List D
   pub new : follows root all earlier fault ≡ false
   pub follow : AllFollow root all (earlier ++ fault ∷ []) more
   pub at : bounds_of d.range ≡ location_of root fault
-  pub worded : IsWorded d
+  pub has_message : HasMessage d
   pub code : d.code ≡ code_of fault
   pub first : d.first_error ≡ length earlier
 
@@ -95,7 +95,7 @@ pub record IsLastRun (root : Located) (all faults : List Fault) (before : List D
 pub last_run : (root : Located) (all faults : List Fault) (ds before : List Diagnostic) (d : Diagnostic) → Shows root all faults ds → ds ≡ before ++ d ∷ [] →
     IsLastRun root all faults before d
 last_run root all _ _ before d none is = absurd (omega (arith, ap length is ∙ length_push before d))
-last_run root all _ _ before d (shown earlier more ds fault own are new follow at worded code first end) is =
+last_run root all _ _ before d (shown earlier more ds fault own are new follow at has_message code first end) is =
     let same = same_from_push ds before own d is in
     record {
       earlier = earlier;
@@ -106,7 +106,7 @@ last_run root all _ _ before d (shown earlier more ds fault own are new follow a
       new = new;
       follow = follow;
       at = subst (λ (x : Diagnostic). bounds_of x.range ≡ location_of root fault) same.1 at;
-      worded = subst IsWorded same.1 worded;
+      has_message = subst HasMessage same.1 has_message;
       code = subst (λ (x : Diagnostic). x.code ≡ code_of fault) same.1 code;
       first = subst (λ (x : Diagnostic). x.first_error ≡ length earlier) same.1 first;
     }
@@ -126,7 +126,7 @@ shown_folded root all faults more number old new fault are folded does counts is
     (shown last.earlier (last.more ++ fault ∷ []) folded.before last.fault folded.next last.are last.new
     (one_more last.more fault last.follow (subst (λ f. follows root all f fault ≡ true) before_is does))
     (ap bounds_of folded.range ∙ last.at)
-    (subst (λ m. 0 < length (string_bytes m)) (sym folded.message) last.worded)
+    (subst (λ m. 0 < length (string_bytes m)) (sym folded.message) last.has_message)
     (folded.code ∙ last.code)
     (folded.first ∙ last.first)
     (folded.end ∙ sym length_is ∙ ap length parts)))
@@ -193,7 +193,7 @@ ends_push end first (n ∷ runs) = (λ k. next runs k ∷ ends_push end first ru
 begins_run : (root : Located) (all faults : List Fault) (ds : List Diagnostic) → Shows root all faults ds →
     map (λ (d : Diagnostic). d.first_error) ds ≡ firsts_from root all [] faults
 begins_run root all _ _ none = refl
-begins_run root all _ _ (shown faults more ds fault d are new follow at worded code first end) =
+begins_run root all _ _ (shown faults more ds fault d are new follow at has_message code first end) =
     map-append (λ (x : Diagnostic). x.first_error) ds (d ∷ [])
     ∙ (λ k. begins_run root all faults ds are k ++ first k ∷ [])
     ∙ sym (one_first root all faults more fault new follow)
@@ -202,7 +202,7 @@ begins_run root all _ _ (shown faults more ds fault d are new follow at worded c
 ends_run : (root : Located) (all faults : List Fault) (ds : List Diagnostic) → Shows root all faults ds →
     map (λ (d : Diagnostic). d.end_error) ds ≡ run_ends (length faults) (firsts_from root all [] faults)
 ends_run root all _ _ none = refl
-ends_run root all _ _ (shown faults more ds fault d are new follow at worded code first end) =
+ends_run root all _ _ (shown faults more ds fault d are new follow at has_message code first end) =
     map-append (λ (x : Diagnostic). x.end_error) ds (d ∷ [])
     ∙ (λ k. ends_run root all faults ds are k ++ end k ∷ [])
     ∙ sym (ends_push (length (faults ++ fault ∷ more)) (length faults) (firsts_from root all [] faults))

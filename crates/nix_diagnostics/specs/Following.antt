@@ -1,4 +1,4 @@
--- Which errors follow from an earlier one, and so share its diagnostic. A slip is an error about an unexpected or missing token.
+-- Which errors follow from an earlier one, and so share its diagnostic. A token error is an error about an unexpected or missing token.
 use Rattle.std.specs.Prelude.{ℕ, ◌+◌, ◌-◌, ◌==◌, Bool, true, false, not, nat_lt, nat_le, ◌||◌, ◌&&◌, List, [], ◌∷◌, ◌++◌, length, take, drop, Option, Some, None}
 use Rattle.std.specs.Prelude.{is_some, is_none, if◌then◌else◌}
 use Rattle.std.specs.List.{list_any}
@@ -9,8 +9,8 @@ use Rattle.rnix_grammar.specs.Ranges.{range_in}
 use Rattle.nix_diagnostics.specs.Locations.{end_of_items, location_of}
 use Rattle.nix_diagnostics.specs.Brackets.{skips_brackets}
 use Rattle.nix_diagnostics.specs.Unmatched.{unmatched}
-use Rattle.nix_diagnostics.specs.Slips.{is_slip}
-use Rattle.nix_diagnostics.specs.Apart.{is_apart}
+use Rattle.nix_diagnostics.specs.TokenErrors.{is_token_error}
+use Rattle.nix_diagnostics.specs.Independence.{is_independent}
 use Rattle.nix_diagnostics.specs.Ends.{ends_in_string, ends_closed, lost_from, is_from}
 use Rattle.nix_diagnostics.specs.FaultNodes.{error_node, group_of, are_one}
 
@@ -19,14 +19,14 @@ abbrev pub is_extra : Fault → Bool
 is_extra (extra range) = true
 is_extra fault = false
 
--- the last of some slips, or the given error if there is none
+-- the last of some token errors, or the given error if there is none
 abbrev pub last_from : Option Fault → List Fault → Option Fault
 last_from before [] = before
-last_from before (fault ∷ faults) = last_from (if is_slip fault then Some fault else before) faults
+last_from before (fault ∷ faults) = last_from (if is_token_error fault then Some fault else before) faults
 
--- the last slip
-abbrev pub last_slip : List Fault → Option Fault
-last_slip faults = last_from None faults
+-- the last token error
+abbrev pub last_token_error : List Fault → Option Fault
+last_token_error faults = last_from None faults
 
 -- white space
 abbrev pub is_blank : ℕ → Bool
@@ -70,13 +70,13 @@ loses_at root all fault =
     is_none (range_in fault) || (nat_le (end_of_items root) (location_of root fault).end
     || (is_from (lost_from root all) (location_of root fault).start || skips root fault))
 
--- the parser loses its way at an error, which is such a slip
+-- the parser loses its way at an error, which is such a token error
 abbrev pub loses : Located → List Fault → Fault → Bool
-loses root all fault = is_slip fault && loses_at root all fault
+loses root all fault = is_token_error fault && loses_at root all fault
 
--- the parser is back on its way at an error: it is a slip, and apart from those before it
+-- the parser is back on its way at an error: it is a token error, and independent of those before it
 abbrev pub is_back : Located → List Fault → Fault → Bool
-is_back root before fault = is_slip fault && is_apart root before fault
+is_back root before fault = is_token_error fault && is_independent root before fault
 
 -- the parser is not back on its way at any of some errors
 abbrev pub none_back : Located → List Fault → List Fault → Bool
@@ -93,26 +93,26 @@ is_lost_in root all before (fault ∷ faults) =
 abbrev pub is_lost : Located → List Fault → List Fault → Bool
 is_lost root all before = is_lost_in root all [] before
 
--- the error node of one of the slips skips brackets
+-- the error node of one of the token errors skips brackets
 abbrev pub has_skipped : Located → List Fault → Bool
-has_skipped root before = list_any (λ fault. is_slip fault && skips root fault) before
+has_skipped root before = list_any (λ fault. is_token_error fault && skips root fault) before
 
--- an error at the end of a text follows even if it is apart: the last item closes something, and an earlier slip skipped brackets
+-- an error at the end of a text follows even if it is independent: the last item closes something, and an earlier token error skipped brackets
 abbrev pub is_closing : Located → List Fault → Fault → Bool
 is_closing root before fault = has_skipped root before && (ends_closed root && nat_le (end_of_items root) (location_of root fault).end)
 
--- an error that is not apart from earlier ones shares their diagnostic: the parser has lost its way, or the error is in the list, pattern or other such
--- node of the last slip, or near that slip
+-- an error that is not independent of earlier ones shares their diagnostic: the parser has lost its way, or the error is in the list, pattern or other such
+-- node of the last token error, or near that token error
 abbrev pub is_joined : Located → List Fault → List Fault → Fault → Bool
 is_joined root all before fault =
-    is_lost root all before || (are_one (group_of root fault) (group_if root (last_slip before)) || is_near root (last_slip before) fault)
+    is_lost root all before || (are_one (group_of root fault) (group_if root (last_token_error before)) || is_near root (last_token_error before) fault)
 
--- an error follows from earlier ones, one of which is a slip: it is about tokens after the expression; or the text ends inside a string; or the error is
--- a slip itself, and shares their diagnostic
+-- an error follows from earlier ones, one of which is a token error: it is about tokens after the expression; or the text ends inside a string; or the error is
+-- a token error itself, and shares their diagnostic
 abbrev pub follows : Located → List Fault → List Fault → Fault → Bool
 follows root all before fault =
-    is_some (last_slip before) && (is_extra fault || (ends_in_string root || (is_slip fault
-    && (if is_apart root before fault then is_closing root before fault else is_joined root all before fault))))
+    is_some (last_token_error before) && (is_extra fault || (ends_in_string root || (is_token_error fault
+    && (if is_independent root before fault then is_closing root before fault else is_joined root all before fault))))
 
 -- the numbers of those among the later errors that follow from no earlier one
 abbrev pub firsts_from : Located → List Fault → List Fault → List Fault → List ℕ

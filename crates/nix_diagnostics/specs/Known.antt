@@ -1,4 +1,4 @@
--- What the state of a `Folding` says about the errors so far. A slip is an error about an unexpected or missing token.
+-- What the state of a `Folding` says about the errors so far. A token error is an error about an unexpected or missing token.
 use Rattle.std.specs.Prelude.{◌≡◌, ℕ, drop, if◌then◌else◌, nat_le, ◌&&◌, ◌||◌, Bool, true, false, List, [], ◌∷◌, ◌++◌, Option, Some, None, option_map, is_some, is_none}
 use Rattle.rnix_green.specs.declared.range.TextRange.{TextRange}
 use Rattle.rnix_green.specs.Range.{Extent, bounds_of}
@@ -9,8 +9,8 @@ use Rattle.nix_diagnostics.specs.Locations.{end_of_items, location_of}
 use Rattle.nix_diagnostics.specs.Unmatched.{unmatched}
 use Rattle.nix_diagnostics.specs.Ends.{last_kind, ends_in_string, ends_closed, lost_from, is_from}
 use Rattle.nix_diagnostics.specs.FaultNodes.{are_one}
-use Rattle.nix_diagnostics.specs.Following.{last_slip, are_close, group_if, is_lost, has_skipped, follows}
-use Rattle.nix_diagnostics.specs.Apart.{since, larger, ends_between, reach, semicolons_of}
+use Rattle.nix_diagnostics.specs.Following.{last_token_error, are_close, group_if, is_lost, has_skipped, follows}
+use Rattle.nix_diagnostics.specs.Independence.{since, larger, ends_between, reach, semicolons_of}
 use Rattle.nix_diagnostics.specs.declared.folding.Folding.{Folding}
 use Rattle.nix_diagnostics.specs.declared.brackets.Matching.{Matching}
 
@@ -30,29 +30,30 @@ abbrev pub is_close_after : List ℕ → Option ℕ → ℕ → Bool
 is_close_after text None offset = false
 is_close_after text (Some last) offset = are_close text last offset
 
--- an error at this location is apart from the earlier ones
-abbrev pub is_apart_in : Folding → TextRange → Bool
-is_apart_in f location = ends_between f.reach location.start (drop f.passed f.semicolons.items)
+-- an error at this location is independent of the earlier ones
+abbrev pub is_independent_in : Folding → TextRange → Bool
+is_independent_in f location = ends_between f.reach location.start (drop f.passed f.semicolons.items)
 
--- a slip at this location, with this list, pattern or other such node around it, shares the diagnostic of the earlier ones, from which it is
--- not apart: the parser has lost its way, or the last slip has the same node around it, or is close before it
+-- a token error at this location, with this list, pattern or other such node around it, shares the diagnostic of the earlier ones, from which it is
+-- not independent: the parser has lost its way, or the last token error has the same node around it, or is close before it
 abbrev pub is_joined_in : Located → Folding → Option TextRange → TextRange → Bool
 is_joined_in root f group location =
     f.is_lost || (are_one (option_map bounds_of group) (option_map bounds_of f.group) || is_close_after (text_at root) f.last location.start)
 
--- such a slip follows from earlier ones: there are some, and the text ends inside a string; or it is apart from them, brackets were skipped, and it is
--- at the end of a text whose last item closes something; or it is not apart, and shares their diagnostic
+-- such a token error follows from earlier ones: there are some, and the text ends inside a string; or it is independent of them, brackets were skipped, and
+-- it is at the end of a text whose last item closes something; or it is not independent, and shares their diagnostic
 abbrev pub follows_in : Located → Folding → Bool → Option TextRange → TextRange → Bool
-follows_in root f apart group location =
-    is_some f.last && (f.in_string || (if apart then f.is_unbalanced && (f.ends_closed && nat_le f.end location.end) else is_joined_in root f group location))
+follows_in root f independent group location =
+    is_some f.last
+    && (f.in_string || (if independent then f.is_unbalanced && (f.ends_closed && nat_le f.end location.end) else is_joined_in root f group location))
 
 -- the state fits the errors so far
 pub record Knows (root : Located) (all before : List Fault) (f : Folding) : Type 0 where
-  pub last : f.last ≡ option_map (λ fault. (location_of root fault).end) (last_slip before)
+  pub last : f.last ≡ option_map (λ fault. (location_of root fault).end) (last_token_error before)
   pub end : f.end ≡ end_of_items root
   pub extra : option_map bounds_of f.extra ≡ unmatched root
   pub lost_from : f.lost_from ≡ lost_from root all
-  pub group : option_map bounds_of f.group ≡ group_if root (last_slip before)
+  pub group : option_map bounds_of f.group ≡ group_if root (last_token_error before)
   pub lost : f.is_lost ≡ is_lost root all before
   pub unbalanced : f.is_unbalanced ≡ has_skipped root before
   pub in_string : f.in_string ≡ ends_in_string root

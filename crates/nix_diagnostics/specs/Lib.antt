@@ -3,8 +3,8 @@ pub mod Brackets
 pub mod Unmatched
 pub mod Ends
 pub mod FaultNodes
-pub mod Slips
-pub mod Apart
+pub mod TokenErrors
+pub mod Independence
 pub mod Following
 pub mod Known
 pub mod Codes

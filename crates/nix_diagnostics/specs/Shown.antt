@@ -9,8 +9,8 @@ use Rattle.nix_diagnostics.specs.Following.{follows, firsts, run_ends}
 use Rattle.nix_diagnostics.specs.declared.diagnostic.Diagnostic.{Diagnostic}
 
 -- the message of a diagnostic is not empty
-abbrev pub IsWorded : Diagnostic → Type 0
-IsWorded d = 0 < length (string_bytes d.message)
+abbrev pub HasMessage : Diagnostic → Type 0
+HasMessage d = 0 < length (string_bytes d.message)
 
 -- each of some errors follows from those before it
 pub data AllFollow (root : Located) (all before : List Fault) : List Fault → Type 0 where
@@ -24,7 +24,7 @@ pub data Shows (root : Located) (all : List Fault) : List Fault → List Diagnos
   none : Shows root all [] []
   shown : (faults more : List Fault) (ds : List Diagnostic) (fault : Fault) (d : Diagnostic) → Shows root all faults ds →
       follows root all faults fault ≡ false → AllFollow root all (faults ++ fault ∷ []) more →
-      bounds_of d.range ≡ location_of root fault → IsWorded d → d.code ≡ code_of fault →
+      bounds_of d.range ≡ location_of root fault → HasMessage d → d.code ≡ code_of fault →
       d.first_error ≡ length faults → d.end_error ≡ length (faults ++ fault ∷ more) →
       Shows root all (faults ++ fault ∷ more) (ds ++ d ∷ [])
 
@@ -41,7 +41,7 @@ pub record CoverRuns (root : Located) (all : List Fault) (ds : List Diagnostic) 
 pub record IsSingle (root : Located) (number : ℕ) (fault : Fault) (d : Diagnostic) : Type 0 where
   pub code : d.code ≡ code_of fault
   pub range : bounds_of d.range ≡ location_of root fault
-  pub worded : IsWorded d
+  pub has_message : HasMessage d
   pub first : d.first_error ≡ number
   pub end : d.end_error ≡ number + 1
 

@@ -2,17 +2,17 @@
 
 ghost use Rattle.std.specs.Prelude.{◌≡◌, IfOk};
 ghost use Rattle.rnix_kinds.specs.SyntaxKind.{is_trivia};
-ghost use Rattle.nix_diagnostics.specs.Apart.{semicolons_of};
+ghost use Rattle.nix_diagnostics.specs.Independence.{semicolons_of};
 ghost use Rattle.nix_diagnostics.specs.Known.{IsMatching};
 
-use crate::apart::{Semicolon, add_semicolon};
 use crate::openings::{Openings, is_bracket, opener_of, opens};
+use crate::semicolons::{Semicolon, add_semicolon};
 use SyntaxKind::*;
 use rnix::{NodeOrToken, SyntaxKind, SyntaxNode, SyntaxToken, TextRange};
 use std::alloc::{AllocError, Global};
 
 // The greatest number of openings that are stored. The parser stops at expressions nested more than 512 deep.
-const MOST_OPEN: usize = 2048;
+const MAX_OPEN: usize = 2048;
 
 /// A token that opens something.
 #[derive(Clone, Copy)]
@@ -113,7 +113,7 @@ impl Brackets {
 
     // Adds the opening that a token begins.
     fn add_opening(&mut self, kind: SyntaxKind, range: TextRange) -> Result<(), AllocError> {
-        if self.open.len() == MOST_OPEN {
+        if self.open.len() == MAX_OPEN {
             self.deeper = self.deeper.saturating_add(1);
             return Ok(());
         }

@@ -3,7 +3,7 @@
 use crate::brackets::Opening;
 use crate::near::{first_part, indentation, line_start, text_before};
 use crate::replacement::Replacement;
-use crate::unwanted::Unwanted;
+use crate::unexpected::UnexpectedToken;
 use SyntaxKind::*;
 use rnix::{SyntaxKind, TextRange};
 
@@ -42,21 +42,21 @@ fn last_bracket(opener: SyntaxKind) -> Option<&'static str> {
 // Closes what is open before an unexpected token, or in its place if it is a closing bracket that matches none.
 fn closing_before(
     opener: SyntaxKind,
-    unwanted: &Unwanted<'_>,
+    unexpected: &UnexpectedToken<'_>,
     extra: Option<TextRange>,
 ) -> Option<Replacement> {
-    let range = unwanted.token.text_range();
+    let range = unexpected.token.text_range();
     if let Some(keyword) = next_keyword(opener) {
         return Some(Replacement::insertion(range.start(), keyword));
     }
     let is_bracket = matches!(
-        unwanted.token.kind(),
+        unexpected.token.kind(),
         TOKEN_R_BRACE | TOKEN_R_BRACK | TOKEN_R_PAREN
     );
     if is_bracket && extra == Some(range) {
         return Some(Replacement::new(range, closing_bracket(opener, false)?));
     }
-    let before = unwanted.before.as_ref()?;
+    let before = unexpected.before.as_ref()?;
     let closing = closing_bracket(opener, true)?;
     Some(Replacement::insertion(before.text_range().end(), closing))
 }
@@ -128,7 +128,7 @@ fn closing_at_end(opening: Opening, end: usize, text: &str) -> Option<Replacemen
 /// text.
 pub fn closing(
     opening: Opening,
-    unwanted: Option<&Unwanted<'_>>,
+    unexpected: Option<&UnexpectedToken<'_>>,
     location: TextRange,
     extra: Option<TextRange>,
     text: &str,
@@ -136,8 +136,8 @@ pub fn closing(
     if opening.kind == TOKEN_STRING_START {
         return closing_quote(opening, text).filter(|_| opening.range.len() == 1);
     }
-    match unwanted {
-        Some(unwanted) => closing_before(opening.kind, unwanted, extra),
+    match unexpected {
+        Some(unexpected) => closing_before(opening.kind, unexpected, extra),
         None => closing_at_end(opening, location.end(), text),
     }
 }

@@ -8,7 +8,7 @@ ghost use Rattle.rnix.specs.ParseResult.{root_of};
 ghost use Rattle.nix_diagnostics.specs.Locations.{end_of_items, error_range, own_range, location_of};
 ghost use Rattle.nix_diagnostics.specs.Shown.{IsFolded, IsSingle, ShowsEach, AreShown, CoverRuns};
 ghost use Rattle.nix_diagnostics.specs.FirstShown.{AreFirst};
-ghost use Rattle.nix_diagnostics.specs.Slips.{is_repeated_name};
+ghost use Rattle.nix_diagnostics.specs.TokenErrors.{is_repeated_name};
 
 use crate::brackets::match_brackets;
 use crate::code::Code;
@@ -16,7 +16,7 @@ use crate::error_nodes::error_node;
 use crate::folding::Folding;
 use crate::message::message;
 use crate::notes::{Note, NoteFinder};
-use crate::slips::are_repeated_names;
+use crate::token_errors::are_repeated_names;
 use rnix::{Parse, ParseError, SyntaxKind, SyntaxNode, TextRange};
 use std::alloc::{AllocError, Global};
 

@@ -11,9 +11,9 @@ ghost use Rattle.nix_diagnostics.specs.FaultNodes.{IsFrom, token_from, if_error,
 use rnix::{ParseError, SyntaxKind, SyntaxNode, SyntaxToken, TextRange};
 
 // The number of tokens that are looked at before the token of an error is searched for in the whole tree.
-const MOST_STEPS: usize = 32;
+const MAX_STEPS: usize = 32;
 // The number of trivia that are skipped to find the previous token.
-const MOST_TRIVIA: usize = 64;
+const MAX_TRIVIA: usize = 64;
 
 // Returns the token that starts at an offset, if it is among the next few tokens from `from` on.
 fn near_token<'t>(from: &SyntaxToken<'t>, offset: usize) -> Option<SyntaxToken<'t>>
@@ -21,7 +21,7 @@ fn near_token<'t>(from: &SyntaxToken<'t>, offset: usize) -> Option<SyntaxToken<'
     ensures { IfSome result (IsFrom from.now offset) }
 {
     let mut token = from.clone();
-    for _step in 0..MOST_STEPS {
+    for _step in 0..MAX_STEPS {
         let range = token.text_range();
         if range.start() == offset && offset < range.end() {
             return Some(token);
@@ -173,7 +173,7 @@ pub fn error_node<'t>(
 /// Returns the previous token other than trivia.
 pub fn token_before<'t>(token: &SyntaxToken<'t>) -> Option<SyntaxToken<'t>> {
     let mut before = token.prev_token();
-    for _step in 0..MOST_TRIVIA {
+    for _step in 0..MAX_TRIVIA {
         match before {
             Some(trivia) if trivia.kind().is_trivia() => before = trivia.prev_token(),
             _ => break,

@@ -8,18 +8,18 @@ ghost use Rattle.rnix_grammar.specs.Fault.{fault_of};
 ghost use Rattle.rnix_grammar.specs.Ranges.{range_in};
 ghost use Rattle.nix_diagnostics.specs.Locations.{location_of};
 ghost use Rattle.nix_diagnostics.specs.Brackets.{has_range, closes_around, depth_after, skips_brackets};
-ghost use Rattle.nix_diagnostics.specs.Slips.{is_slip};
-ghost use Rattle.nix_diagnostics.specs.Apart.{larger, semicolons_of};
+ghost use Rattle.nix_diagnostics.specs.TokenErrors.{is_token_error};
+ghost use Rattle.nix_diagnostics.specs.Independence.{larger, semicolons_of};
 ghost use Rattle.nix_diagnostics.specs.FaultNodes.{error_node, is_group, range_if_group, group_around, are_one};
 ghost use Rattle.nix_diagnostics.specs.Following.{is_extra, skips_if};
-ghost use Rattle.nix_diagnostics.specs.Known.{loses_in, is_apart_in, is_joined_in, follows_in, IsMatching, Knows, HasReached, JudgesNext};
+ghost use Rattle.nix_diagnostics.specs.Known.{loses_in, is_independent_in, is_joined_in, follows_in, IsMatching, Knows, HasReached, JudgesNext};
 
-use crate::apart::{Semicolon, ends_between, first_since};
 use crate::brackets::Matching;
 use crate::ends::{ends_closed, ends_in_string, is_from, lost_from};
 use crate::near::are_close;
 use crate::openings::{closes, opens};
-use crate::slips::is_slip;
+use crate::semicolons::{Semicolon, ends_between, first_since};
+use crate::token_errors::is_token_error;
 use SyntaxKind::*;
 use rnix::{NodeOrToken, ParseError, SyntaxKind, SyntaxNode, SyntaxToken, TextRange};
 
@@ -212,17 +212,17 @@ impl Folding {
             || skips
     }
 
-    // Returns whether the parser has lost track after an error: at this error, or before it if the error is not apart from the earlier ones.
+    // Returns whether the parser has lost track after an error: at this error, or before it if the error is not independent of the earlier ones.
     fn is_lost_at(
         &self,
-        is_apart: bool,
+        is_independent: bool,
         error: &ParseError,
         skips: bool,
         location: TextRange,
     ) -> bool
-        ensures { result ≡ ((self.now.is_lost && not is_apart) || loses_in self.now (fault_of error.now) skips location) }
+        ensures { result ≡ ((self.now.is_lost && not is_independent) || loses_in self.now (fault_of error.now) skips location) }
     {
-        self.is_lost && !is_apart || self.loses(error, skips, location)
+        self.is_lost && !is_independent || self.loses(error, skips, location)
     }
 
     // Returns whether brackets were skipped at an error or before it. `skips` says whether its node skips some.
@@ -232,9 +232,9 @@ impl Folding {
         self.is_unbalanced || skips
     }
 
-    // Returns whether an error is apart from the earlier ones: between them an entry ends, in a set or `let` that starts before their end.
-    fn is_apart(&self, location: TextRange) -> bool
-        ensures { result ≡ is_apart_in self.now location }
+    // Returns whether an error is independent of the earlier ones: between them an entry ends, in a set or `let` that starts before their end.
+    fn is_independent(&self, location: TextRange) -> bool
+        ensures { result ≡ is_independent_in self.now location }
     {
         ends_between(
             self.semicolons.as_slice(),
@@ -244,8 +244,8 @@ impl Folding {
         )
     }
 
-    // Returns whether an error that is not apart from the earlier ones shares their diagnostic: the parser has lost track, or the error is in the same list,
-    // pattern, .. as the last one, or near its end `last`.
+    // Returns whether an error that is not independent of the earlier ones shares their diagnostic: the parser has lost track, or the error is in the same
+    // list, pattern, .. as the last one, or near its end `last`.
     fn is_joined(
         &self,
         root: &SyntaxNode<'_>,
@@ -262,15 +262,15 @@ impl Folding {
         are_close(root.text().as_bytes(), last, location.start())
     }
 
-    // Returns whether an error follows from the earlier ones. `is_apart` says whether it is apart from them.
+    // Returns whether an error follows from the earlier ones. `is_independent` says whether it is independent of them.
     fn follows(
         &self,
         root: &SyntaxNode<'_>,
-        is_apart: bool,
+        is_independent: bool,
         group: Option<TextRange>,
         location: TextRange,
     ) -> bool
-        ensures { result ≡ follows_in root.now self.now is_apart group location }
+        ensures { result ≡ follows_in root.now self.now is_independent group location }
     {
         let Some(last) = self.last else {
             return false;
@@ -278,7 +278,7 @@ impl Folding {
         if self.in_string {
             return true;
         }
-        if is_apart {
+        if is_independent {
             return self.is_unbalanced && self.ends_closed && self.end <= location.end();
         }
         self.is_joined(root, group, last, location)
@@ -300,23 +300,23 @@ impl Folding {
     }
 
     // Adds an error about an unexpected or a missing token, and returns whether it follows from earlier ones.
-    fn add_slip(
+    fn add_token_error(
         &mut self,
         root: &SyntaxNode<'_>,
         error: &ParseError,
         node: &Option<SyntaxNode<'_>>,
         location: TextRange,
     ) -> bool
-        requires slip { is_slip (fault_of error.now) ≡ true }
+        requires token_error { is_token_error (fault_of error.now) ≡ true }
         requires location { bounds_of location ≡ location_of root.now (fault_of error.now) }
         requires node { node.now ≡ error_node root.now (fault_of error.now) }
         ensures { JudgesNext root.now (fault_of error.now) self.old self.new result }
     {
         let group = group_of(node);
-        let is_apart = self.is_apart(location);
-        let follows = self.follows(root, is_apart, group, location);
+        let is_independent = self.is_independent(location);
+        let follows = self.follows(root, is_independent, group, location);
         let skips = self.skips_if(node);
-        let is_lost = self.is_lost_at(is_apart, error, skips, location);
+        let is_lost = self.is_lost_at(is_independent, error, skips, location);
         let is_unbalanced = self.is_unbalanced_at(skips);
         let end = location.end();
         self.is_lost = is_lost;
@@ -339,8 +339,8 @@ impl Folding {
         requires node { node.now ≡ error_node root.now (fault_of error.now) }
         ensures { JudgesNext root.now (fault_of error.now) self.old self.new result }
     {
-        if is_slip(error) {
-            self.add_slip(root, error, node, location)
+        if is_token_error(error) {
+            self.add_token_error(root, error, node, location)
         } else if is_extra(error) {
             self.last.is_some()
         } else {

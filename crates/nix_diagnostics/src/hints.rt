@@ -1,6 +1,6 @@
 //! Guesses at what was meant.
 
-use crate::unwanted::Unwanted;
+use crate::unexpected::UnexpectedToken;
 use SyntaxKind::*;
 use rnix::SyntaxKind;
 
@@ -107,11 +107,11 @@ fn unknown(text: &str) -> Option<Hint> {
 }
 
 // Returns the hint for a token in a pattern, or in braces that were read as a set.
-fn in_pattern(unwanted: &Unwanted<'_>) -> Option<Hint> {
-    match unwanted.token.kind() {
+fn in_pattern(unexpected: &UnexpectedToken<'_>) -> Option<Hint> {
+    match unexpected.token.kind() {
         TOKEN_ASSIGN => Some(Hint::DefaultValue),
-        TOKEN_COMMA if unwanted.kind_before() == Some(TOKEN_ELLIPSIS) => Some(Hint::Ellipsis),
-        TOKEN_COMMA if unwanted.wanted == Some(TOKEN_SEMICOLON) => Some(Hint::DefaultValue),
+        TOKEN_COMMA if unexpected.kind_before() == Some(TOKEN_ELLIPSIS) => Some(Hint::Ellipsis),
+        TOKEN_COMMA if unexpected.expected == Some(TOKEN_SEMICOLON) => Some(Hint::DefaultValue),
         TOKEN_SEMICOLON | TOKEN_IDENT => Some(Hint::Commas),
         kind if is_keyword(kind) => Some(Hint::KeywordArgument),
         _ => None,
@@ -119,13 +119,13 @@ fn in_pattern(unwanted: &Unwanted<'_>) -> Option<Hint> {
 }
 
 // Returns the hint for a token where another is expected.
-fn instead_of(wanted: SyntaxKind, unwanted: &Unwanted<'_>) -> Option<Hint> {
-    match (unwanted.token.kind(), wanted) {
+fn instead_of(expected: SyntaxKind, unexpected: &UnexpectedToken<'_>) -> Option<Hint> {
+    match (unexpected.token.kind(), expected) {
         (TOKEN_EQUAL | TOKEN_COLON, TOKEN_ASSIGN) => Some(Hint::Binding),
         (TOKEN_SEMICOLON, TOKEN_ASSIGN) => Some(Hint::Entry),
         (TOKEN_COMMA, TOKEN_SEMICOLON) => Some(Hint::Semicolons),
-        (TOKEN_ASSIGN, _) if unwanted.kind_after() == Some(TOKEN_MORE) => Some(Hint::Arrow),
-        (TOKEN_ASSIGN, TOKEN_SEMICOLON) if unwanted.end_of_value().is_some() => None,
+        (TOKEN_ASSIGN, _) if unexpected.kind_after() == Some(TOKEN_MORE) => Some(Hint::Arrow),
+        (TOKEN_ASSIGN, TOKEN_SEMICOLON) if unexpected.end_of_value().is_some() => None,
         (TOKEN_ASSIGN, TOKEN_THEN | TOKEN_ELSE | TOKEN_R_PAREN | TOKEN_SEMICOLON) => Some(
             Hint::Comparison,
         ),
@@ -139,25 +139,25 @@ fn instead_of(wanted: SyntaxKind, unwanted: &Unwanted<'_>) -> Option<Hint> {
 }
 
 /// Returns what an unexpected token was meant to be, if there is a guess.
-pub fn hint_of(unwanted: &Unwanted<'_>) -> Option<Hint> {
-    let kind = unwanted.token.kind();
+pub fn hint_of(unexpected: &UnexpectedToken<'_>) -> Option<Hint> {
+    let kind = unexpected.token.kind();
     match kind {
-        TOKEN_ERROR => return unknown(unwanted.token.text()),
-        TOKEN_COMMA | TOKEN_SEMICOLON if unwanted.parent.kind() == NODE_LIST => return Some(
+        TOKEN_ERROR => return unknown(unexpected.token.text()),
+        TOKEN_COMMA | TOKEN_SEMICOLON if unexpected.parent.kind() == NODE_LIST => return Some(
             Hint::List,
         ),
-        TOKEN_MORE if unwanted.kind_before() == Some(TOKEN_ASSIGN) => return Some(Hint::Arrow),
-        TOKEN_UPDATE if unwanted.wants_expression() || unwanted.wants_name() => {
+        TOKEN_MORE if unexpected.kind_before() == Some(TOKEN_ASSIGN) => return Some(Hint::Arrow),
+        TOKEN_UPDATE if unexpected.expects_expression() || unexpected.expects_name() => {
             return Some(Hint::Comment);
         }
         _ => {}
     }
-    if unwanted.is_in_pattern {
-        return in_pattern(unwanted);
+    if unexpected.is_in_pattern {
+        return in_pattern(unexpected);
     }
-    let is_inherited = unwanted.parent.kind() == NODE_INHERIT;
-    if unwanted.wants_name() && is_keyword(kind) && !is_inherited {
+    let is_inherited = unexpected.parent.kind() == NODE_INHERIT;
+    if unexpected.expects_name() && is_keyword(kind) && !is_inherited {
         return Some(Hint::KeywordName);
     }
-    instead_of(unwanted.wanted?, unwanted)
+    instead_of(unexpected.expected?, unexpected)
 }

@@ -1,7 +1,6 @@
 //! Syntax errors as diagnostics for people: one for each mistake, with a message, a range and notes.
 #![tactic(auto)]
 
-mod apart;
 mod brackets;
 mod closings;
 mod code;
@@ -16,8 +15,9 @@ mod notes;
 mod openings;
 mod proposals;
 mod replacement;
-mod slips;
-mod unwanted;
+mod semicolons;
+mod token_errors;
+mod unexpected;
 mod words;
 
 pub use code::{Code, Severity};

@@ -2,14 +2,14 @@
 
 ghost use Rattle.std.specs.Prelude.{◌<◌, length, IfOk, string_bytes};
 
-use crate::words::{LONGEST, add_found, add_shown, add_wanted};
+use crate::words::{LONGEST, add_expected, add_found, add_shown};
 use rnix::ast::{AstNode, Attrpath, AttrpathValue};
 use rnix::{ParseError, SyntaxKind, SyntaxNode};
 use std::alloc::{AllocError, Global};
 
 // Returns the words that say where in its node a token is missing.
-fn context(wanted: SyntaxKind, parent: SyntaxKind) -> &'static str {
-    match (wanted, parent) {
+fn context(expected: SyntaxKind, parent: SyntaxKind) -> &'static str {
+    match (expected, parent) {
         (SyntaxKind::TOKEN_SEMICOLON, SyntaxKind::NODE_WITH) => " after the set of \"with\"",
         (SyntaxKind::TOKEN_SEMICOLON, SyntaxKind::NODE_ASSERT) => " after the condition",
         (SyntaxKind::TOKEN_SEMICOLON, SyntaxKind::NODE_INHERIT) => " after the inherited names",
@@ -23,10 +23,14 @@ fn context(wanted: SyntaxKind, parent: SyntaxKind) -> &'static str {
 }
 
 // Adds where in an entry a token is missing. A name that is long or spans several lines is not quoted.
-fn add_entry(wanted: SyntaxKind, path: &Attrpath<'_>, text: &mut String) -> Result<(), AllocError> {
+fn add_entry(
+    expected: SyntaxKind,
+    path: &Attrpath<'_>,
+    text: &mut String,
+) -> Result<(), AllocError> {
     let name = path.syntax().text();
     let is_long = name.len() > LONGEST || name.contains('\n');
-    match wanted {
+    match expected {
         SyntaxKind::TOKEN_SEMICOLON if is_long => return text.push_str(" after the value"),
         SyntaxKind::TOKEN_ASSIGN if is_long => return text.push_str(" after the name"),
         SyntaxKind::TOKEN_SEMICOLON => text.push_str(" after the value of \"")?,
@@ -39,24 +43,24 @@ fn add_entry(wanted: SyntaxKind, path: &Attrpath<'_>, text: &mut String) -> Resu
 
 // Adds where the missing token belongs; in an entry with the entry's name.
 fn add_context(
-    wanted: SyntaxKind,
+    expected: SyntaxKind,
     parent: SyntaxNode<'_>,
     text: &mut String,
 ) -> Result<(), AllocError> {
-    text.push_str(context(wanted, parent.kind()))?;
+    text.push_str(context(expected, parent.kind()))?;
     match AttrpathValue::cast(parent).and_then(|entry| entry.attrpath()) {
-        Some(path) => add_entry(wanted, &path, text),
+        Some(path) => add_entry(expected, &path, text),
         None => Ok(()),
     }
 }
 
 // Adds where a token is missing, and what was found in its place.
-fn add_unwanted(
-    wanted: &[SyntaxKind],
+fn add_unexpected(
+    expected: &[SyntaxKind],
     node: &SyntaxNode<'_>,
     text: &mut String,
 ) -> Result<(), AllocError> {
-    if let (Some(kind), Some(parent)) = (wanted.first(), node.parent()) {
+    if let (Some(kind), Some(parent)) = (expected.first(), node.parent()) {
         add_context(*kind, parent, text)?;
     }
     if let Some(token) = node.first_token() {
@@ -88,7 +92,7 @@ fn headline(error: &ParseError) -> &'static str
 }
 
 // Initial capacity of the rest of a message, in bytes: most are shorter.
-const ROOM: usize = 80;
+const CAPACITY: usize = 80;
 
 // Returns the rest of the message: what was expected, where, and what was found.
 fn details(
@@ -96,21 +100,21 @@ fn details(
     error: &ParseError,
     node: Option<&SyntaxNode<'_>>,
 ) -> Result<String, AllocError> {
-    let mut text = String::with_capacity(alloc, ROOM)?;
+    let mut text = String::with_capacity(alloc, CAPACITY)?;
     match error {
-        ParseError::UnexpectedWanted(_, _, wanted) => {
-            add_wanted(wanted, &mut text)?;
+        ParseError::UnexpectedWanted(_, _, expected) => {
+            add_expected(expected, &mut text)?;
             if let Some(node) = node {
-                add_unwanted(wanted, node, &mut text)?;
+                add_unexpected(expected, node, &mut text)?;
             }
         }
         ParseError::UnexpectedExtra(_) => {
             if let Some(node) = node {
-                add_unwanted(&[], node, &mut text)?;
+                add_unexpected(&[], node, &mut text)?;
             }
         }
-        ParseError::UnexpectedEOFWanted(wanted) => {
-            add_wanted(wanted, &mut text)?;
+        ParseError::UnexpectedEOFWanted(expected) => {
+            add_expected(expected, &mut text)?;
             text.push_str(", found the end of the file")?;
         }
         _ => {}

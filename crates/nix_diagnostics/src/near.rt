@@ -4,9 +4,9 @@ ghost use Rattle.std.specs.Prelude.{◌≡◌, false, nat_lt};
 ghost use Rattle.nix_diagnostics.specs.Following.{is_blank, words, are_close};
 
 // The number of characters that are searched for another one.
-const MOST_SEARCHED: usize = 200;
+const MAX_SEARCHED: usize = 200;
 // The greatest number of bytes that are searched line by line.
-const MOST_BYTES: usize = 20_000;
+const MAX_BYTES: usize = 20_000;
 
 // Returns whether a byte is white space.
 fn is_blank(byte: u8) -> bool
@@ -48,7 +48,7 @@ pub fn text_before(text: &str, start: usize, character: char) -> Option<&str> {
     let rest = text.get(start..)?;
     let (end, _) = rest
         .char_indices()
-        .take(MOST_SEARCHED)
+        .take(MAX_SEARCHED)
         .find(|(_, next)| *next == character)?;
     rest.get(..end)
 }
@@ -57,7 +57,7 @@ pub fn text_before(text: &str, start: usize, character: char) -> Option<&str> {
 pub fn line_start(text: &str, offset: usize) -> Option<usize> {
     let before = text.get(..offset)?;
     let mut start = offset;
-    for character in before.chars().rev().take(MOST_SEARCHED) {
+    for character in before.chars().rev().take(MAX_SEARCHED) {
         if character == '\n' {
             return Some(start);
         }
@@ -74,7 +74,7 @@ pub fn indentation(line: &str) -> usize {
 /// Returns the first 20,000 bytes of a text, or up to three less, so that they end between characters.
 pub fn first_part(text: &str) -> &str {
     for fewer in 0..4 {
-        if let Some(part) = text.get(..MOST_BYTES - fewer) {
+        if let Some(part) = text.get(..MAX_BYTES - fewer) {
             return part;
         }
     }

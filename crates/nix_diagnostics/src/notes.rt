@@ -6,14 +6,14 @@ use crate::error_nodes::token_before;
 use crate::hints::hint_of;
 use crate::proposals::proposal;
 use crate::replacement::Replacement;
-use crate::unwanted::Unwanted;
+use crate::unexpected::UnexpectedToken;
 use SyntaxKind::*;
 use rnix::ast::{AstNode, Pattern};
 use rnix::{ParseError, SyntaxKind, SyntaxNode, TextRange};
 use std::alloc::{AllocError, Global};
 
 // The greatest number of entries of patterns that are searched for first declarations, for all errors of a text together.
-const MOST_ENTRIES: usize = 100_000;
+const MAX_ENTRIES: usize = 100_000;
 
 /// A note that may help with an error.
 #[derive(Clone, Copy)]
@@ -87,13 +87,15 @@ fn first_argument(
 }
 
 // Returns the place before an unexpected token where a ";" is missing.
-fn missing_semicolon(unwanted: &Unwanted<'_>) -> Option<Note> {
-    let offset = match unwanted.parent.kind() {
-        NODE_INHERIT if unwanted.token.kind() == TOKEN_ASSIGN => {
-            token_before(unwanted.before.as_ref()?)?.text_range().end()
+fn missing_semicolon(unexpected: &UnexpectedToken<'_>) -> Option<Note> {
+    let offset = match unexpected.parent.kind() {
+        NODE_INHERIT if unexpected.token.kind() == TOKEN_ASSIGN => {
+            token_before(unexpected.before.as_ref()?)?
+                .text_range()
+                .end()
         }
-        NODE_INHERIT => unwanted.before.as_ref()?.text_range().end(),
-        _ if unwanted.wanted == Some(TOKEN_SEMICOLON) => unwanted.end_of_value()?,
+        NODE_INHERIT => unexpected.before.as_ref()?.text_range().end(),
+        _ if unexpected.expected == Some(TOKEN_SEMICOLON) => unexpected.end_of_value()?,
         _ => return None,
     };
     Some(Note {
@@ -111,7 +113,7 @@ fn open_inherit(
 ) -> Option<Note> {
     let is_missing = match error {
         ParseError::UnexpectedEOF => true,
-        ParseError::UnexpectedEOFWanted(wanted) => wanted.contains(&TOKEN_SEMICOLON),
+        ParseError::UnexpectedEOFWanted(expected) => expected.contains(&TOKEN_SEMICOLON),
         _ => false,
     };
     if !is_missing {
@@ -127,29 +129,30 @@ fn open_inherit(
 // Returns the note on an unexpected token: a hint, or the place where a `;` is missing. If `is_explained`, an unclosed opening explains the error, and only
 // hints are returned.
 fn remark(
-    unwanted: &Unwanted<'_>,
+    unexpected: &UnexpectedToken<'_>,
     is_explained: bool,
     extra: Option<TextRange>,
     text: &str,
 ) -> Option<Note> {
-    let kind = unwanted.token.kind();
+    let kind = unexpected.token.kind();
     let is_closing = matches!(kind, TOKEN_R_BRACE | TOKEN_R_BRACK | TOKEN_R_PAREN);
-    if is_closing && !is_explained && extra == Some(unwanted.token.text_range()) {
+    if is_closing && !is_explained && extra == Some(unexpected.token.text_range()) {
         return Some(Note {
             range: None,
             message: "no opening bracket matches this",
-            replacement: Some(Replacement::new(unwanted.token.text_range(), "")),
+            replacement: Some(Replacement::new(unexpected.token.text_range(), "")),
         });
     }
-    match hint_of(unwanted) {
-        Some(_) if is_explained && kind == TOKEN_SEMICOLON && unwanted.wants_expression() => None,
+    match hint_of(unexpected) {
+        Some(_) if is_explained && kind == TOKEN_SEMICOLON && unexpected.expects_expression() =>
+            None,
         Some(hint) => Some(Note {
             range: None,
             message: hint.message(),
-            replacement: proposal(hint, unwanted, text),
+            replacement: proposal(hint, unexpected, text),
         }),
         None if is_explained => None,
-        None => missing_semicolon(unwanted),
+        None => missing_semicolon(unexpected),
     }
 }
 
@@ -176,7 +179,7 @@ impl NoteFinder {
     pub fn new(matching: Matching) -> NoteFinder {
         NoteFinder {
             matching,
-            entries_remaining: MOST_ENTRIES,
+            entries_remaining: MAX_ENTRIES,
         }
     }
 
@@ -200,7 +203,7 @@ impl NoteFinder {
         }
         let mut notes = Vec::new(alloc);
         let (mismatch, text) = (self.matching.mismatch, root.text());
-        let unwanted = Unwanted::of(error, node, &self.matching);
+        let unexpected = UnexpectedToken::of(error, node, &self.matching);
         let unclosed = mismatch
             .unclosed
             .filter(|opening| opening.range.start() <= location.start());
@@ -208,12 +211,12 @@ impl NoteFinder {
             notes.push(Note {
                 range: Some(opening.range),
                 message: opened(opening),
-                replacement: closing(opening, unwanted.as_ref(), location, mismatch.extra, text),
+                replacement: closing(opening, unexpected.as_ref(), location, mismatch.extra, text),
             })?;
         }
         notes.extend(open_inherit(error, mismatch.inherit, location))?;
-        if let Some(unwanted) = unwanted {
-            notes.extend(remark(&unwanted, unclosed.is_some(), mismatch.extra, text))?;
+        if let Some(unexpected) = unexpected {
+            notes.extend(remark(&unexpected, unclosed.is_some(), mismatch.extra, text))?;
         }
         Ok(notes)
     }

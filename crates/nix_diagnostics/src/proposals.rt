@@ -3,13 +3,13 @@
 use crate::hints::Hint;
 use crate::near::text_before;
 use crate::replacement::Replacement;
-use crate::unwanted::Unwanted;
+use crate::unexpected::UnexpectedToken;
 use SyntaxKind::*;
 use rnix::ast::{AstNode, AttrpathValue, BinOp, BinOpKind};
 use rnix::{SyntaxKind, SyntaxNode, SyntaxToken, TextRange};
 
 // The number of nodes in which the comparison before another operator is searched for.
-const MOST_AROUND: usize = 64;
+const MAX_AROUND: usize = 64;
 
 // Writes a text for a token.
 fn instead(token: &SyntaxToken<'_>, text: &'static str) -> Option<Replacement> {
@@ -17,57 +17,57 @@ fn instead(token: &SyntaxToken<'_>, text: &'static str) -> Option<Replacement> {
 }
 
 // Writes `=` for `==` or `:`, after a space if none precedes it.
-fn binding(unwanted: &Unwanted<'_>) -> Option<Replacement> {
-    let range = unwanted.token.text_range();
-    let before = unwanted.before.as_ref()?;
+fn binding(unexpected: &UnexpectedToken<'_>) -> Option<Replacement> {
+    let range = unexpected.token.text_range();
+    let before = unexpected.before.as_ref()?;
     let touches = before.text_range().end() == range.start();
     Some(Replacement::new(range, if touches { " =" } else { "=" }))
 }
 
 // Removes a token, or makes it a space if the next item follows at once.
-fn removal(unwanted: &Unwanted<'_>) -> Replacement {
-    let is_apart = unwanted.kind_after() == Some(TOKEN_WHITESPACE);
-    let text = if is_apart { "" } else { " " };
-    Replacement::new(unwanted.token.text_range(), text)
+fn removal(unexpected: &UnexpectedToken<'_>) -> Replacement {
+    let is_independent = unexpected.kind_after() == Some(TOKEN_WHITESPACE);
+    let text = if is_independent { "" } else { " " };
+    Replacement::new(unexpected.token.text_range(), text)
 }
 
 // Writes `?` for the `=` of a default. If the parser found an entry, the unexpected token is the one after its value.
-fn default_value(unwanted: &Unwanted<'_>) -> Option<Replacement> {
-    if unwanted.token.kind() == TOKEN_ASSIGN {
-        return instead(&unwanted.token, "?");
+fn default_value(unexpected: &UnexpectedToken<'_>) -> Option<Replacement> {
+    if unexpected.token.kind() == TOKEN_ASSIGN {
+        return instead(&unexpected.token, "?");
     }
-    let entry = AttrpathValue::cast(unwanted.parent.clone())?;
+    let entry = AttrpathValue::cast(unexpected.parent.clone())?;
     let sign = entry.assign_token()?;
     instead(&sign, "?")
 }
 
 // Writes `,` for `;`, or after the previous name.
-fn comma(unwanted: &Unwanted<'_>) -> Option<Replacement> {
-    if unwanted.token.kind() == TOKEN_SEMICOLON {
-        return instead(&unwanted.token, ",");
+fn comma(unexpected: &UnexpectedToken<'_>) -> Option<Replacement> {
+    if unexpected.token.kind() == TOKEN_SEMICOLON {
+        return instead(&unexpected.token, ",");
     }
-    let before = unwanted.before.as_ref()?;
+    let before = unexpected.before.as_ref()?;
     Some(Replacement::insertion(before.text_range().end(), ","))
 }
 
 // Writes `=` for a `=>` that binds a name, and `:` for the `=>` of a function.
-fn arrow(unwanted: &Unwanted<'_>) -> Option<Replacement> {
-    let range = unwanted.token.text_range();
-    if unwanted.token.kind() == TOKEN_MORE {
+fn arrow(unexpected: &UnexpectedToken<'_>) -> Option<Replacement> {
+    let range = unexpected.token.text_range();
+    if unexpected.token.kind() == TOKEN_MORE {
         return Some(Replacement::new(range, ""));
     }
-    let rest = unwanted.token.next_token()?;
+    let rest = unexpected.token.next_token()?;
     Some(Replacement::new(range.cover(rest.text_range()), ":"))
 }
 
 // Writes `${` and `}` around a name after `$`.
-fn interpolation(unwanted: &Unwanted<'_>) -> Option<Replacement> {
-    let name = unwanted.token.next_token()?;
+fn interpolation(unexpected: &UnexpectedToken<'_>) -> Option<Replacement> {
+    let name = unexpected.token.next_token()?;
     if name.kind() != TOKEN_IDENT {
         return None;
     }
     Some(Replacement {
-        range: unwanted.token.text_range().cover(name.text_range()),
+        range: unexpected.token.text_range().cover(name.text_range()),
         before: "${",
         kept: name.text_range(),
         after: "}",
@@ -91,10 +91,10 @@ fn is_comparison(node: &SyntaxNode<'_>) -> bool {
 }
 
 // Writes parentheses around the comparison before another operator.
-fn parentheses(unwanted: &Unwanted<'_>) -> Option<Replacement> {
-    let before = unwanted.before.as_ref()?;
+fn parentheses(unexpected: &UnexpectedToken<'_>) -> Option<Replacement> {
+    let before = unexpected.before.as_ref()?;
     let end = before.text_range().end();
-    for node in before.parent_ancestors().take(MOST_AROUND) {
+    for node in before.parent_ancestors().take(MAX_AROUND) {
         let range = node.text_range();
         if range.end() == end && is_comparison(&node) {
             return Some(Replacement {
@@ -146,18 +146,18 @@ fn visible(token: &SyntaxToken<'_>) -> Replacement {
 }
 
 /// Returns the replacement that a hint about an unexpected token proposes.
-pub fn proposal(hint: Hint, unwanted: &Unwanted<'_>, text: &str) -> Option<Replacement> {
-    let token = &unwanted.token;
+pub fn proposal(hint: Hint, unexpected: &UnexpectedToken<'_>, text: &str) -> Option<Replacement> {
+    let token = &unexpected.token;
     match hint {
-        Hint::List => Some(removal(unwanted)),
+        Hint::List => Some(removal(unexpected)),
         // After a call, the `=` may also be that of the next entry.
-        Hint::Comparison if unwanted.call_in_value().is_some() => None,
+        Hint::Comparison if unexpected.call_in_value().is_some() => None,
         Hint::Comparison => instead(token, "=="),
-        Hint::Binding => binding(unwanted),
-        Hint::DefaultValue => default_value(unwanted),
-        Hint::Commas => comma(unwanted),
+        Hint::Binding => binding(unexpected),
+        Hint::DefaultValue => default_value(unexpected),
+        Hint::Commas => comma(unexpected),
         Hint::Semicolons => instead(token, ";"),
-        Hint::Arrow => arrow(unwanted),
+        Hint::Arrow => arrow(unexpected),
         Hint::Comment => instead(token, "#"),
         Hint::KeywordName => Some(Replacement {
             range: token.text_range(),
@@ -168,9 +168,9 @@ pub fn proposal(hint: Hint, unwanted: &Unwanted<'_>, text: &str) -> Option<Repla
         Hint::Quotes => quotes(token, text),
         Hint::And => instead(token, "&&"),
         Hint::Or => instead(token, "||"),
-        Hint::Interpolation => interpolation(unwanted),
+        Hint::Interpolation => interpolation(unexpected),
         Hint::Invisible => Some(visible(token)),
-        Hint::Chain => parentheses(unwanted),
+        Hint::Chain => parentheses(unexpected),
         Hint::Entry | Hint::Ellipsis | Hint::ElseBranch | Hint::KeywordArgument => { None }
     }
 }

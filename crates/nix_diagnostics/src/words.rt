@@ -26,8 +26,8 @@ fn word(kind: SyntaxKind) -> &'static str {
 }
 
 /// Adds the words for a list of expected kinds.
-pub fn add_wanted(wanted: &[SyntaxKind], text: &mut String) -> Result<(), AllocError> {
-    match wanted.first() {
+pub fn add_expected(expected: &[SyntaxKind], text: &mut String) -> Result<(), AllocError> {
+    match expected.first() {
         // The kinds that start an expression.
         Some(SyntaxKind::TOKEN_L_PAREN) => return text.push_str("an expression"),
         // The kinds that are names of attributes.
@@ -36,9 +36,9 @@ pub fn add_wanted(wanted: &[SyntaxKind], text: &mut String) -> Result<(), AllocE
         Some(SyntaxKind::TOKEN_STRING_END) => return text.push_str("the end of the string"),
         _ => {}
     }
-    for (number, kind) in wanted.iter().enumerate() {
+    for (number, kind) in expected.iter().enumerate() {
         if number > 0 {
-            let is_last = number == wanted.len().saturating_sub(1);
+            let is_last = number == expected.len().saturating_sub(1);
             text.push_str(if is_last { " or " } else { ", " })?;
         }
         text.push_str(word(*kind))?;

@@ -4,10 +4,10 @@ use Rattle.std.proofs.lemmas.Slice.Eq.{bytes_eq-Decides}
 use Rattle.std.specs.{Prelude.{None, option_map, option_and_then, if◌then◌else◌}, List.concat, Str.bytes_eq}
 use Rattle.nix_format.specs.declared.diff.DiffLine.{DiffLine, TheVariants.{Common, Removed, Added}}
 use Rattle.nix_format.specs.Diff.{line_feed, lines_with, lines_of, old_lines, new_lines, IsDiff}
-use Rattle.nix_format.specs.Applied.{behind_line, applied_to, applied, reversed}
+use Rattle.nix_format.specs.Applied.{after_line, applied_to, applied, reversed}
 
 -- lines that begin with a line
-pub behind_itself : (line : List ℕ) (rest : List (List ℕ)) → behind_line line (line ∷ rest) ≡ Some rest
+pub behind_itself : (line : List ℕ) (rest : List (List ℕ)) → after_line line (line ∷ rest) ≡ Some rest
 behind_itself line rest = ap (λ t. if t then Some rest else None) ((bytes_eq-Decides line line).1 refl)
 
 -- a diff makes the lines of the new text of those of the old one

@@ -6,17 +6,17 @@ use Rattle.nix_format.specs.declared.diff.DiffLine.TheVariants.{Common, Removed,
 use Rattle.nix_format.specs.Diff.{lines_of}
 
 -- the lines after a line, if they begin with it
-abbrev pub behind_line : List ℕ → List (List ℕ) → Option (List (List ℕ))
-behind_line line [] = None
-behind_line line (first ∷ rest) = if bytes_eq line first then Some rest else None
+abbrev pub after_line : List ℕ → List (List ℕ) → Option (List (List ℕ))
+after_line line [] = None
+after_line line (first ∷ rest) = if bytes_eq line first then Some rest else None
 
 -- the lines that a diff makes of lines, if it applies to them: a common line is the next one, and stays; a removed line is the next one, and goes; an added
 -- line comes before the next one; and at the end no lines are left
 abbrev pub applied_to : List DiffLine → List (List ℕ) → Option (List (List ℕ))
 applied_to [] [] = Some []
 applied_to [] (line ∷ rest) = None
-applied_to (Common line ∷ diff) lines = option_map (λ made. line.now ∷ made) (option_and_then (applied_to diff) (behind_line line.now lines))
-applied_to (Removed line ∷ diff) lines = option_and_then (applied_to diff) (behind_line line.now lines)
+applied_to (Common line ∷ diff) lines = option_map (λ made. line.now ∷ made) (option_and_then (applied_to diff) (after_line line.now lines))
+applied_to (Removed line ∷ diff) lines = option_and_then (applied_to diff) (after_line line.now lines)
 applied_to (Added line ∷ diff) lines = option_map (λ made. line.now ∷ made) (applied_to diff lines)
 
 -- the text that a diff makes of a text, if it applies to it
@@ -37,6 +37,6 @@ reversed diff = map reversed_line diff
 abbrev pub applied_first : List DiffLine → List (List ℕ) → Option (List (List ℕ) × List (List ℕ))
 applied_first [] lines = Some ([], lines)
 applied_first (Common line ∷ diff) lines =
-    option_map (λ made. (line.now ∷ made.0, made.1)) (option_and_then (applied_first diff) (behind_line line.now lines))
-applied_first (Removed line ∷ diff) lines = option_and_then (applied_first diff) (behind_line line.now lines)
+    option_map (λ made. (line.now ∷ made.0, made.1)) (option_and_then (applied_first diff) (after_line line.now lines))
+applied_first (Removed line ∷ diff) lines = option_and_then (applied_first diff) (after_line line.now lines)
 applied_first (Added line ∷ diff) lines = option_map (λ made. (line.now ∷ made.0, made.1)) (applied_first diff lines)

@@ -1,8 +1,8 @@
 -- What becomes of files: what is printed of each, its outcome, the counts over all files, and the exit status. A text is the list of its bytes.
 use Rattle.std.specs.Prelude.{◌≡◌, ℕ, ◌+◌, ◌-◌, ◌^◌, ◌==◌, nat_lt, min, length, Bool, true, false, List, [], ◌∷◌, ◌++◌, codes, Option, if◌then◌else◌}
 use Rattle.std.specs.{Str.bytes_eq, Io.KnownBytes.{Appends, Keeps}}
-use Rattle.nix_cli.specs.MessageLocations.{shown_name}
-use Rattle.nix_formatting.specs.{Formatted.{IsFaulty, IsFaultless}, Reindented.IsReformatted}
+use Rattle.nix_cli.specs.MessageLocations.{display_name}
+use Rattle.nix_formatting.specs.{Formatted.{IsWithErrors, IsWithoutErrors}, Reindented.IsReformatted}
 use Rattle.nix_format.specs.declared.file.Task.{Task}
 use Rattle.nix_format.specs.declared.file.Task.TheVariants.{Write, Check, Diff, Print}
 use Rattle.nix_format.specs.declared.file.Outcome.{Outcome}
@@ -20,7 +20,7 @@ Prints Holds old new = (bytes : List ℕ) × Holds bytes × Appends old new byte
 
 -- the name of a file whose text differs
 abbrev pub changed_name : Bool → List ℕ → List ℕ
-changed_name is_same name = if is_same then [] else shown_name name ++ codes "\n"
+changed_name is_same name = if is_same then [] else display_name name ++ codes "\n"
 
 -- a diff of texts that differ
 abbrev pub IsDiffOf : Bool → List ℕ → List ℕ → List ℕ → Type 0
@@ -64,9 +64,9 @@ pub data IsFinished (task : Task) (name text made : List ℕ) (old new : Option 
 -- the outcome for a text
 pub data IsTextFormatted (task : Task) (name text : List ℕ) (old new : Option (List ℕ)) : Outcome → Type 0 where
   -- it has errors
-  faulty : IsFaulty text → Keeps old new → IsTextFormatted task name text old new Failed
+  faulty : IsWithErrors text → Keeps old new → IsTextFormatted task name text old new Failed
   -- its new text would differ in more than white space, or change if formatted again
-  refused : IsFaultless text → Keeps old new → IsTextFormatted task name text old new Failed
+  refused : IsWithoutErrors text → Keeps old new → IsTextFormatted task name text old new Failed
   -- it has a formatted text
   formatted : (made : List ℕ) (outcome : Outcome) → IsReformatted text made → IsFinished task name text made old new outcome →
       IsTextFormatted task name text old new outcome
@@ -90,7 +90,7 @@ counted Failed tally = record { changed = tally.changed; same = tally.same; fail
 
 -- the line in front of a text, if it has one
 abbrev pub heading : Bool → List ℕ → List ℕ
-heading has_headings name = if has_headings then codes "# " ++ shown_name name ++ codes ":\n" else []
+heading has_headings name = if has_headings then codes "# " ++ display_name name ++ codes ":\n" else []
 
 -- files are formatted one after the other. Before the first one only the folders count that could not be read
 pub data AreFormatted (task : Task) (has_headings : Bool) (failed : ℕ) (old : Option (List ℕ)) : List (List ℕ) → Option (List ℕ) → Tally → Type 0 where

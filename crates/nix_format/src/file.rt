@@ -5,7 +5,7 @@ ghost use Rattle.std.specs.Io.KnownBytes.{Appends};
 ghost use Rattle.nix_format.specs.Outcomes.{changed_name, input_text, writes, Prints, IsDiffOf, IsPrinted, IsReplaced, IsFinished, IsTextFormatted, IsFileFormatted};
 
 use crate::unified::unified_diff;
-use nix_cli::{Program, location_of, read_text, replace_text, replaceable, shown_name};
+use nix_cli::{Program, display_name, location_of, read_text, replace_text, replaceable};
 use nix_diagnostics::first_diagnostics;
 use nix_formatting::{Formatting, formatted};
 use rnix::Root;
@@ -63,7 +63,7 @@ struct Change<'a> {
 fn write_errors(rt: &HostRuntime, program: &Program, name: &str, text: &str) -> io::Result<()> {
     let read = Root::parse(rt.alloc(), text)?;
     let found = first_diagnostics(rt.alloc(), &read, LIMIT)?;
-    let shown = shown_name(name);
+    let shown = display_name(name);
     for diagnostic in &found.first {
         let (line, column) = location_of(text, diagnostic.range.start());
         let message = diagnostic.message.as_str();
@@ -109,7 +109,7 @@ fn write_name<W: Write>(name: &str, is_same: bool, out: &mut W) -> io::Result<()
     if is_same {
         Ok(())
     } else {
-        writeln!(out, "{}", shown_name(name))
+        writeln!(out, "{}", display_name(name))
     }
 }
 
@@ -125,7 +125,7 @@ fn write_diff<W: Write>(
     if is_same {
         return Ok(());
     }
-    let diff = unified_diff(alloc, shown_name(change.name), change.old, change.new)?;
+    let diff = unified_diff(alloc, display_name(change.name), change.old, change.new)?;
     out.write_all(diff.as_bytes())
 }
 
@@ -186,7 +186,7 @@ fn write_refusal(rt: &HostRuntime, program: &Program, name: &str) -> io::Result<
     eprintln!(rt;
         "{}: {}: this text is left as it is: its new text would differ in more than white space, or change again, which is a bug; please report it",
         program.name,
-        shown_name(name)
+        display_name(name)
     )
 }
 
@@ -210,7 +210,7 @@ fn format_text<W: Write>(
             };
             finish(rt, program, change, task, out)
         }
-        Formatting::Faulty => {
+        Formatting::HasErrors => {
             write_errors(rt, program, name, text)?;
             Ok(Outcome::Failed)
         }

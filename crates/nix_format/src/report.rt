@@ -6,7 +6,7 @@ ghost use Rattle.nix_format.specs.Outcomes.{heading, counted, found_status, stat
 
 use crate::PROGRAM;
 use crate::file::{Outcome, Task, format_file};
-use nix_cli::{FAILED, FOUND, Files, Progress, shown_name};
+use nix_cli::{FAILED, FOUND, Files, Progress, display_name};
 use std::io::{self, Write};
 
 // The numbers of files with each outcome.
@@ -73,7 +73,7 @@ fn write_heading<W: Write>(has_headings: bool, name: &str, out: &mut W) -> io::R
     ensures { OnOk result (Appends (W.contents out.old) (W.contents out.new) (heading has_headings name.now)) }
 {
     if has_headings {
-        writeln!(out, "# {}:", shown_name(name))
+        writeln!(out, "# {}:", display_name(name))
     } else {
         Ok(())
     }

@@ -1,5 +1,5 @@
-pub mod SolidLemmas
-pub mod SpotLemmas
+pub mod VisibleTokenLemmas
+pub mod PlacedTokenLemmas
 pub mod OutcomeLemmas
 pub mod WalkStepLemmas
 mod WalkStepExamples

@@ -4,31 +4,31 @@ use Rattle.rnix_kinds.specs.Lexical.Tokens.{tokens_of}
 use Rattle.rnix_green.specs.Tree.{Tree}
 use Rattle.rnix_grammar.specs.{Fault.Fault, Reading.IsReading, Parsed.IsParsed}
 use Rattle.rnix_parser.proofs.OneReading.{one_reading}
-use Rattle.nix_formatting.specs.{Relayout.IsRelayout, WalkSteps.steps_in, Reindented.IsReformatted}
+use Rattle.nix_formatting.specs.{SpaceChange.IsSpaceChange, WalkSteps.steps_in, Reindented.IsReformatted}
 use Rattle.nix_formatting.proofs.OutlineLemmas.{outlines_same, values_same, nix_values_same}
 use Rattle.nix_formatting.specs.declared.formatting.Formatting.{Formatting}
 use Rattle.nix_formatting.specs.declared.formatting.Formatting.TheVariants as formatting
-use Rattle.nix_formatting.specs.Formatted.{IsFaultless, IsFaulty, IsOutcome}
+use Rattle.nix_formatting.specs.Formatted.{IsWithoutErrors, IsWithErrors, IsOutcome}
 
 -- no text is read both with errors and without
-not_both : (text : List ℕ) → IsFaulty text → IsFaultless text → ⊥
+not_both : (text : List ℕ) → IsWithErrors text → IsWithoutErrors text → ⊥
 not_both text faulty faultless =
     faulty.some (one_reading (tokens_of text) faulty.tree faultless.0 faulty.faults [] faulty.read faultless.1).1
 
--- the result for a text with errors is `Faulty`
-faulty_exactly : (text : List ℕ) (result : Formatting) → IsOutcome text result → IsFaulty text → result ≡ formatting.Faulty
-faulty_exactly text (formatting.Formatted made) (inl right) faulty = absurd (not_both text faulty (right.tree.before, right.tree.old_read))
-faulty_exactly text (formatting.Formatted made) (inr right) faulty = absurd (not_both text faulty (right.before, right.old_read))
-faulty_exactly text formatting.Faulty right faulty = refl
-faulty_exactly text formatting.Refused right faulty = absurd (not_both text faulty right)
+-- the result for a text with errors is `HasErrors`
+has_errors_exactly : (text : List ℕ) (result : Formatting) → IsOutcome text result → IsWithErrors text → result ≡ formatting.HasErrors
+has_errors_exactly text (formatting.Formatted made) (inl right) faulty = absurd (not_both text faulty (right.tree.before, right.tree.old_read))
+has_errors_exactly text (formatting.Formatted made) (inr right) faulty = absurd (not_both text faulty (right.before, right.old_read))
+has_errors_exactly text formatting.HasErrors right faulty = refl
+has_errors_exactly text formatting.Refused right faulty = absurd (not_both text faulty right)
 
 -- a text that is parsed without errors has none
-pub faultless : (text : List ℕ) (tree : Tree) (faults : List Fault) → IsParsed (tokens_of text) tree faults → faults ≡ [] → IsFaultless text
+pub faultless : (text : List ℕ) (tree : Tree) (faults : List Fault) → IsParsed (tokens_of text) tree faults → faults ≡ [] → IsWithoutErrors text
 faultless text tree faults parsed none = (tree, subst (IsReading (tokens_of text) tree) none parsed.reading)
 
 -- only white space differs
-pub relaid_only : (old new : List ℕ) → IsRelayout old new → IsReformatted old new
-relaid_only old new h = inl h
+pub only_space_changed : (old new : List ℕ) → IsSpaceChange old new → IsReformatted old new
+only_space_changed old new h = inl h
 
 -- both texts are parsed without errors, and walks over their trees have the same steps
 pub reindented : (old new : List ℕ) (before after : Tree) (ds es : List Fault) → IsParsed (tokens_of old) before ds → ds ≡ []

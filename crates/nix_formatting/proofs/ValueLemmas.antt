@@ -15,7 +15,7 @@ use Rattle.rnix_base.specs.Value.{without_escapes, ended, value_indentation, ded
 use Rattle.rnix.specs.StringParts.{normalized_parts}
 use Rattle.nix_formatting.specs.Bare.{bare, bare_parts, parts_among, bare_among}
 use Rattle.nix_formatting.specs.Pairs.{same_shown}
-use Rattle.nix_formatting.specs.Solids.{same_flag}
+use Rattle.nix_formatting.specs.VisibleTokens.{same_flag}
 use Rattle.nix_formatting.specs.Values.{interpolation_symbol, with_symbols, symbols_of, written_parts, value_of, nix_value_of, both_values}
 
 -- bare parts have the same bytes and interpolations

@@ -11,7 +11,7 @@ use Rattle.rnix_tree.specs.Spots.{event_of}
 use Rattle.nix_formatting.specs.Outline.{text_unless}
 use Rattle.nix_formatting.specs.Values.{both_values}
 use Rattle.nix_formatting.specs.WalkSteps.{Step, Shown, shown_node, shown_token, step_of, is_step, step_if, steps_of}
-use Rattle.nix_formatting.specs.Pairs.{Met, IsNextStep, AreSame, same_shown, same_nodes, same_tokens, AreCompared, IsPassed}
+use Rattle.nix_formatting.specs.Pairs.{ProgramEvent, IsNextStep, AreSame, same_shown, same_nodes, same_tokens, AreCompared, IsPassed}
 use Rattle.nix_formatting.specs.declared.walks.Pair.{Pair}
 use Rattle.nix_formatting.specs.declared.walks.Pair.TheVariants as pair
 
@@ -107,7 +107,7 @@ both_pass olds news olds_remaining news_remaining old new is_old is_new same res
     is_new ∙ ap (λ s. s ∷ steps_of news_remaining) same ∙ ap (λ ss. step_of old ∷ ss) rest ∙ sym is_old
 
 -- the contract of a step of both walks
-pub passed : (olds news olds_remaining news_remaining : List Event) (old new : Option Met) (p : Pair)
+pub passed : (olds news olds_remaining news_remaining : List Event) (old new : Option ProgramEvent) (p : Pair)
     → IsNextStep olds old olds_remaining → IsNextStep news new news_remaining → AreCompared p old new → IsPassed olds news olds_remaining news_remaining p
 passed olds news olds_remaining news_remaining (Some old) (Some new) pair.Same is_old is_new compared =
     both_pass olds news olds_remaining news_remaining (event_of old) (event_of new) is_old is_new compared

@@ -9,19 +9,19 @@ use Rattle.nix_formatting.specs.declared.formatting.Formatting.{Formatting}
 use Rattle.nix_formatting.specs.declared.formatting.Formatting.TheVariants as formatting
 
 -- the text has no errors
-abbrev pub IsFaultless : List ℕ → Type 0
-IsFaultless text = (tree : Tree) × IsReading (tokens_of text) tree []
+abbrev pub IsWithoutErrors : List ℕ → Type 0
+IsWithoutErrors text = (tree : Tree) × IsReading (tokens_of text) tree []
 
 -- the text has errors
-pub record IsFaulty (text : List ℕ) : Type 0 where
+pub record IsWithErrors (text : List ℕ) : Type 0 where
   pub tree : Tree
   pub faults : List Fault
   pub read : IsReading (tokens_of text) tree faults
   pub some : ¬ (faults ≡ [])
 
 -- the result is correct: a formatted text differs only in white space and in the indentation of strings in `''`, and the text has errors
--- exactly if the result is `Faulty`
+-- exactly if the result is `HasErrors`
 abbrev pub IsOutcome : List ℕ → Formatting → Type 0
 IsOutcome text (formatting.Formatted made) = IsReformatted text (string_bytes made)
-IsOutcome text formatting.Faulty = IsFaulty text
-IsOutcome text formatting.Refused = IsFaultless text
+IsOutcome text formatting.HasErrors = IsWithErrors text
+IsOutcome text formatting.Refused = IsWithoutErrors text

@@ -1,5 +1,5 @@
-pub mod Relayout
-pub mod Solids
+pub mod SpaceChange
+pub mod VisibleTokens
 pub mod Outline
 pub mod Values
 pub mod Bare

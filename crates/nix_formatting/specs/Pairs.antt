@@ -13,11 +13,11 @@ use Rattle.nix_formatting.specs.declared.walks.Pair.{Pair}
 use Rattle.nix_formatting.specs.declared.walks.Pair.TheVariants as pair
 
 -- an event of a walk, as a value of the program
-abbrev pub Met : Type 0
-Met = WalkEvent (NodeOrToken Located Located)
+abbrev pub ProgramEvent : Type 0
+ProgramEvent = WalkEvent (NodeOrToken Located Located)
 
 -- the next step was returned, if there is one
-abbrev pub IsNextStep : List Event → Option Met → List Event → Type 0
+abbrev pub IsNextStep : List Event → Option ProgramEvent → List Event → Type 0
 IsNextStep before None after = steps_of before ≡ []
 IsNextStep before (Some met) after = steps_of before ≡ step_of (event_of met) ∷ steps_of after
 
@@ -45,7 +45,7 @@ same_tokens old new =
     && (same_kind (item_of old).kind TOKEN_STRING_CONTENT || bytes_eq (text_at old) (text_at new))
 
 -- the result of comparing two events
-abbrev pub AreCompared : Pair → Option Met → Option Met → Type 0
+abbrev pub AreCompared : Pair → Option ProgramEvent → Option ProgramEvent → Type 0
 AreCompared pair.Same (Some old) (Some new) = AreSame (event_of old) (event_of new)
 AreCompared pair.Same old new = ⊥
 AreCompared pair.Differ old new = Unit {0}

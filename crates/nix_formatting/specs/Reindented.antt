@@ -3,7 +3,7 @@ use Rattle.std.specs.Prelude.{◌≡◌, ◌⊎◌, ℕ, List, []}
 use Rattle.rnix_kinds.specs.Lexical.Tokens.{tokens_of}
 use Rattle.rnix_green.specs.Tree.{Tree, forest_of}
 use Rattle.rnix_grammar.specs.Reading.{IsReading}
-use Rattle.nix_formatting.specs.Relayout.{IsRelayout}
+use Rattle.nix_formatting.specs.SpaceChange.{IsSpaceChange}
 use Rattle.nix_formatting.specs.Outline.{outline}
 use Rattle.nix_formatting.specs.Values.{string_values, nix_string_values}
 
@@ -21,4 +21,4 @@ pub record IsReindented (old new : List ℕ) : Type 0 where
 
 -- the new text differs from the old one only in white space, or also in the indentation of strings in `''`
 abbrev pub IsReformatted : List ℕ → List ℕ → Type 0
-IsReformatted old new = IsRelayout old new ⊎ IsReindented old new
+IsReformatted old new = IsSpaceChange old new ⊎ IsReindented old new

@@ -3,15 +3,15 @@
 ghost use Rattle.std.specs.Prelude.{◌≡◌, true, IfOk};
 ghost use Rattle.rnix_grammar.specs.TokenKinds.{is_piece_start};
 ghost use Rattle.rnix_proof_layout.specs.AlikeItems.{ends_piece};
-ghost use Rattle.nix_formatting.specs.Relayout.{solids_of};
-ghost use Rattle.nix_formatting.specs.Solids.{IsNextSolid, same_flag, same_solid, AreCompared, IsStep};
+ghost use Rattle.nix_formatting.specs.SpaceChange.{visible_tokens_of};
+ghost use Rattle.nix_formatting.specs.VisibleTokens.{IsNextVisible, same_flag, same_visible, AreCompared, IsStep};
 
 use rnix::{SyntaxKind, Tokenizer, tokenize};
 use std::alloc::{AllocError, Global};
 
 // A token other than white space.
 #[derive(Clone, Copy)]
-struct Solid<'t> {
+struct VisibleToken<'t> {
     kind: SyntaxKind,
     text: &'t str,
     // Whether it follows a part of a path without white space between, and would continue the path.
@@ -45,18 +45,18 @@ fn is_piece_start(kind: SyntaxKind) -> bool
 }
 
 // Returns the next token other than white space; `in_path` is whether a part of a path precedes the first token.
-fn next_solid<'t>(
+fn next_visible<'t>(
     tokens: &mut Tokenizer<'t>,
     in_path: bool,
-) -> Result<Option<Solid<'t>>, AllocError>
-    ensures { IfOk result (λ found. IsNextSolid in_path tokens.old found tokens.new) }
+) -> Result<Option<VisibleToken<'t>>, AllocError>
+    ensures { IfOk result (λ found. IsNextVisible in_path tokens.old found tokens.new) }
 {
     let mut in_path = in_path;
     while let Some(token) = tokens.next_token() {
         let (kind, text) = token?;
         if kind != SyntaxKind::TOKEN_WHITESPACE {
             let joins = in_path && is_piece_start(kind);
-            return Ok(Some(Solid { kind, text, joins }));
+            return Ok(Some(VisibleToken { kind, text, joins }));
         }
         in_path = false;
     }
@@ -82,15 +82,15 @@ pub fn same_flag(old: bool, new: bool) -> bool
 }
 
 // Returns whether two tokens are the same.
-fn is_same(old: &Solid<'_>, new: &Solid<'_>) -> bool
-    ensures { result ≡ same_solid old.now new.now }
+fn is_same(old: &VisibleToken<'_>, new: &VisibleToken<'_>) -> bool
+    ensures { result ≡ same_visible old.now new.now }
 {
     old.kind == new.kind && old.text == new.text && same_flag(old.joins, new.joins)
 }
 
 // Compares the next tokens of two texts.
-#[tactic(auto, using(crate::proofs::SolidLemmas::solids_same))]
-fn compared<'t>(old: Option<Solid<'t>>, new: Option<Solid<'t>>) -> Step
+#[tactic(auto, using(crate::proofs::VisibleTokenLemmas::visible_tokens_same))]
+fn compared<'t>(old: Option<VisibleToken<'t>>, new: Option<VisibleToken<'t>>) -> Step
     ensures { AreCompared result old.entry new.entry }
 {
     match (old, new) {
@@ -107,7 +107,7 @@ fn compared<'t>(old: Option<Solid<'t>>, new: Option<Solid<'t>>) -> Step
 }
 
 // Compares the next tokens of two texts and advances past them.
-#[tactic(auto, using(crate::proofs::SolidLemmas::stepped))]
+#[tactic(auto, using(crate::proofs::VisibleTokenLemmas::stepped))]
 fn next_step(
     olds: &mut Tokenizer<'_>,
     news: &mut Tokenizer<'_>,
@@ -115,15 +115,15 @@ fn next_step(
 ) -> Result<Step, AllocError>
     ensures { IfOk result (IsStep in_path olds.old news.old olds.new news.new) }
 {
-    let old = next_solid(olds, in_path)?;
-    let new = next_solid(news, in_path)?;
+    let old = next_visible(olds, in_path)?;
+    let new = next_visible(news, in_path)?;
     Ok(compared(old, new))
 }
 
 /// Returns whether two texts have the same tokens except for white space, and the same parts of paths without white space between them.
-#[tactic(auto, using(crate::proofs::SolidLemmas::same_text, crate::proofs::SolidLemmas::same_step, crate::proofs::SolidLemmas::end_step))]
-pub fn have_same_solids(alloc: Global, old: &str, new: &str) -> Result<bool, AllocError>
-    ensures { IfOk result (λ are_same. are_same ≡ true → solids_of new.now ≡ solids_of old.now) }
+#[tactic(auto, using(crate::proofs::VisibleTokenLemmas::same_text, crate::proofs::VisibleTokenLemmas::same_step, crate::proofs::VisibleTokenLemmas::end_step))]
+pub fn have_same_visible_tokens(alloc: Global, old: &str, new: &str) -> Result<bool, AllocError>
+    ensures { IfOk result (λ are_same. are_same ≡ true → visible_tokens_of new.now ≡ visible_tokens_of old.now) }
 {
     if old == new {
         return Ok(true);

@@ -3,11 +3,11 @@
 ghost use Rattle.std.specs.Prelude.{◌≡◌, [], IfOk};
 ghost use Rattle.rnix_kinds.specs.Lexical.Tokens.{tokens_of};
 ghost use Rattle.rnix_grammar.specs.Parsed.{IsParsed};
-ghost use Rattle.nix_formatting.specs.Relayout.{solids_of, IsRelayout};
-ghost use Rattle.nix_formatting.specs.Formatted.{IsFaultless, IsOutcome};
+ghost use Rattle.nix_formatting.specs.SpaceChange.{visible_tokens_of, IsSpaceChange};
+ghost use Rattle.nix_formatting.specs.Formatted.{IsWithoutErrors, IsOutcome};
 
-use crate::alike::have_same_solids;
-use crate::settling::settled;
+use crate::alike::have_same_visible_tokens;
+use crate::stabilizing::stabilized;
 use crate::walks::have_same_steps;
 use nix_layout::styled;
 use rnix::laws::{has_reading, layout, one_list};
@@ -20,7 +20,7 @@ pub enum Formatting {
     /// The formatted text.
     Formatted(String),
     /// The text has errors.
-    Faulty,
+    HasErrors,
     /// The text has no errors, but the new text differs in more than white space and the indentation of strings, or changes each time it is formatted again.
     /// This is a bug of the layout.
     Refused,
@@ -28,9 +28,9 @@ pub enum Formatting {
 
 // Two texts with the same tokens except for white space have the same tree, if one of them has no errors.
 fn read_alike(text: &str, made: &str)
-    requires faultless { IsFaultless text.now }
-    requires same { solids_of made.now ≡ solids_of text.now }
-    ensures { IsRelayout text.now made.now }
+    requires faultless { IsWithoutErrors text.now }
+    requires same { visible_tokens_of made.now ≡ visible_tokens_of text.now }
+    ensures { IsSpaceChange text.now made.now }
 {
     one_list(text);
     one_list(made);
@@ -62,13 +62,13 @@ fn with_same_steps(
 }
 
 // Returns the new text if it has the same tokens as the old one, except for white space and the indentation of strings.
-#[tactic(auto, using(crate::proofs::OutcomeLemmas::relaid_only))]
+#[tactic(auto, using(crate::proofs::OutcomeLemmas::only_space_changed))]
 fn compared(alloc: Global, text: &str, read: &Parse, made: String) -> Result<Formatting, AllocError>
     requires read { IsParsed (tokens_of text.now) read.now.tree read.now.faults }
     requires faultless { read.now.faults ≡ [] }
     ensures { IfOk result (IsOutcome text.now) }
 {
-    if have_same_solids(alloc, text, made.as_str())? {
+    if have_same_visible_tokens(alloc, text, made.as_str())? {
         read_alike(text, made.as_str());
         return Ok(Formatting::Formatted(made));
     }
@@ -77,17 +77,17 @@ fn compared(alloc: Global, text: &str, read: &Parse, made: String) -> Result<For
 
 /// Formats a text in the style of Nixpkgs. The new text has the same tokens, comments included, and the same tree, except for white space and the
 /// indentation of strings in `''`, whose values stay the same. It is compared with the old text, and the result is `Refused` if it differs in more. Formatting
-/// it again changes nothing: if the layout cannot tell, the new text is formatted again, a few times at most. The result is `Faulty` exactly if the text has
+/// it again changes nothing: if the layout cannot tell, the new text is formatted again, a few times at most. The result is `HasErrors` exactly if the text has
 /// errors.
 pub fn formatted(alloc: Global, text: &str) -> Result<Formatting, AllocError>
     ensures { IfOk result (IsOutcome text.now) }
 {
     let read = Root::parse(alloc, text)?;
     if !read.errors().is_empty() {
-        return Ok(Formatting::Faulty);
+        return Ok(Formatting::HasErrors);
     }
     let made = styled(alloc, text, &read.syntax())?;
-    match settled(alloc, made)? {
+    match stabilized(alloc, made)? {
         Some(made) => compared(alloc, text, &read, made),
         None => Ok(Formatting::Refused),
     }

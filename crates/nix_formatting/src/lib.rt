@@ -4,7 +4,7 @@
 mod alike;
 mod formatting;
 mod parts;
-mod settling;
+mod stabilizing;
 mod values;
 mod walks;
 

@@ -133,7 +133,7 @@ fn are_same_normalized<'t>(alloc: Global, old: &Str<'t>, new: &Str<'t>) -> Resul
 }
 
 // Returns whether two strings have the same value in Nix.
-fn are_made_alike<'t>(alloc: Global, old: &Str<'t>, new: &Str<'t>) -> Result<bool, AllocError>
+fn have_same_nix_value<'t>(alloc: Global, old: &Str<'t>, new: &Str<'t>) -> Result<bool, AllocError>
     ensures { IfOk result (λ same. same ≡ bytes_eq (nix_value_of old.now) (nix_value_of new.now)) }
 {
     let olds = old.value_parts(alloc)?;
@@ -143,7 +143,7 @@ fn are_made_alike<'t>(alloc: Global, old: &Str<'t>, new: &Str<'t>) -> Result<boo
 
 // Returns whether two strings have the same parts as they are written, and quotes of the same kind.
 #[tactic(auto, using(crate::proofs::ValueLemmas::written_same, crate::proofs::ValueLemmas::nix_written_same))]
-fn are_written_alike<'t>(old: &Str<'t>, new: &Str<'t>) -> bool
+fn have_same_source<'t>(old: &Str<'t>, new: &Str<'t>) -> bool
     ensures value { result ≡ true → value_of old.now ≡ value_of new.now }
     ensures nix_value { result ≡ true → nix_value_of old.now ≡ nix_value_of new.now }
 {
@@ -168,11 +168,11 @@ fn have_same_value<'t>(alloc: Global, old: &Str<'t>, new: &Str<'t>) -> Result<bo
 pub fn are_same_values<'t>(alloc: Global, old: &Str<'t>, new: &Str<'t>) -> Result<bool, AllocError>
     ensures { IfOk result (λ same. same ≡ same_shown (both_values old.now) (both_values new.now)) }
 {
-    if are_written_alike(old, new) {
+    if have_same_source(old, new) {
         return Ok(true);
     }
     if have_same_value(alloc, old, new)? {
-        return are_made_alike(alloc, old, new);
+        return have_same_nix_value(alloc, old, new);
     }
     Ok(false)
 }

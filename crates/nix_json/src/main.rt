@@ -5,7 +5,7 @@ mod report;
 
 use nix_cli::{
     Arguments, FAILED, FOUND, Program, Start, end, location_of, read_arguments, read_text, refuse,
-    shown_name,
+    display_name,
 };
 use nix_data::{data_in, nix_of};
 use nix_values::{Data, data_of_json, json_of};
@@ -64,7 +64,7 @@ fn write_part(rt: &HostRuntime, name: &str, data: Data, path: Option<&str>) -> i
         None => {
             eprintln!(rt;
                 "nix-json: {}: nothing has the path {path}",
-                shown_name(name)
+                display_name(name)
             )?;
             Ok(FOUND)
         }
@@ -99,7 +99,7 @@ fn to_nix(rt: &HostRuntime, name: &str, text: &str) -> io::Result<u8> {
         Ok(data) => return write_converted(rt, nix_of(rt.alloc(), &data)?),
         Err(error) => error,
     };
-    let name = shown_name(name);
+    let name = display_name(name);
     let (line, column) = location_of(text, error.offset);
     let reason = error.reason.text();
     eprintln!(rt; "nix-json: {name}:{line}:{column}: {reason}")?;

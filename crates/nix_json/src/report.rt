@@ -2,7 +2,7 @@
 
 ghost use Rattle.nix_cli.specs.MessageLocations.{IsIndexed};
 
-use nix_cli::{Source, shown_name, write_excerpt, write_source_location};
+use nix_cli::{Source, display_name, write_excerpt, write_source_location};
 use nix_data::NoData;
 use nix_diagnostics::{Diagnostic, first_diagnostics};
 use rnix::{Parse, TextRange};
@@ -55,7 +55,7 @@ fn write_diagnostic<W: Write>(
 pub fn report_errors(rt: &HostRuntime, name: &str, text: &str, parse: &Parse) -> io::Result<()> {
     let index = LineIndex::new(rt.alloc(), text, ColumnUnit::Chars)?;
     let source = Source {
-        name: shown_name(name),
+        name: display_name(name),
         text,
         index: &index,
     };
@@ -70,7 +70,7 @@ pub fn report_errors(rt: &HostRuntime, name: &str, text: &str, parse: &Parse) ->
 pub fn report_no_data(rt: &HostRuntime, name: &str, text: &str, reason: NoData) -> io::Result<()> {
     let index = LineIndex::new(rt.alloc(), text, ColumnUnit::Chars)?;
     let source = Source {
-        name: shown_name(name),
+        name: display_name(name),
         text,
         index: &index,
     };

@@ -28,7 +28,7 @@ struct Collector {
     // The number of line feeds after the last piece.
     line_feeds: usize,
     // The number of the first piece whose gap is not set yet.
-    unset: usize,
+    first_unset: usize,
     // The spacing and the group of the next piece.
     spacing: Spacing,
     group: usize,
@@ -49,7 +49,7 @@ impl Collector {
             passed: 0,
             atom_end: 0,
             line_feeds: 0,
-            unset: 0,
+            first_unset: 0,
             spacing: around_text(),
             group: 0,
             last: SyntaxKind::NODE_ROOT,
@@ -91,9 +91,9 @@ impl Collector {
     }
 
     // Sets the gaps up to the last piece.
-    fn settle(&mut self, spacing: Spacing, group: usize) {
-        set_gaps(&mut self.layout.pieces, self.unset, spacing, group);
-        self.unset = self.layout.pieces.len();
+    fn finish_gaps(&mut self, spacing: Spacing, group: usize) {
+        set_gaps(&mut self.layout.pieces, self.first_unset, spacing, group);
+        self.first_unset = self.layout.pieces.len();
     }
 
     // Returns whether the last piece always begins its line.
@@ -160,8 +160,8 @@ impl Collector {
     }
 
     // Sets the gaps up to the last piece as around the text.
-    fn settle_first(&mut self) {
-        self.settle(around_text(), 0);
+    fn finish_first_gaps(&mut self) {
+        self.finish_gaps(around_text(), 0);
     }
 
     // Returns the spacing before an item of a kind.
@@ -176,7 +176,7 @@ impl Collector {
     // Adds a piece that is not a comment, and sets the gaps up to it.
     fn add_item(&mut self, piece: Piece, kind: SyntaxKind) -> Result<(), AllocError> {
         self.add_piece(piece)?;
-        self.settle(self.spacing_before(kind), self.group);
+        self.finish_gaps(self.spacing_before(kind), self.group);
         self.last = kind;
         Ok(())
     }
@@ -184,7 +184,7 @@ impl Collector {
     // Adds a token or a name: a piece that gets its gap at once, if no comment precedes it.
     fn add_word(&mut self, range: TextRange, kind: SyntaxKind) -> Result<(), AllocError> {
         let word = Piece::of_word(range.start(), range.end());
-        if self.unset < self.layout.pieces.len() {
+        if self.first_unset < self.layout.pieces.len() {
             return self.add_item(word, kind);
         }
         let line_feeds = self.line_feeds;
@@ -195,7 +195,7 @@ impl Collector {
             ..word
         })?;
         self.line_feeds = 0;
-        self.unset = self.layout.pieces.len();
+        self.first_unset = self.layout.pieces.len();
         self.last = kind;
         Ok(())
     }
@@ -380,7 +380,7 @@ impl Collector {
     // Returns the layout at the end of the walk. Comments at the end of the text stay on the line of the last piece or have lines of their own.
     fn finish(mut self) -> Layout {
         self.leave_nodes(usize::MAX);
-        self.settle_first();
+        self.finish_first_gaps();
         self.layout
     }
 }

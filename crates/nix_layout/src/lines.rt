@@ -2,7 +2,7 @@
 
 use crate::indentation::indentation_of;
 use crate::layout::STEP;
-use crate::piece::{Moves, Piece};
+use crate::piece::{MovedLines, Piece};
 use rnix::{NodeOrToken, SyntaxElement, SyntaxKind, SyntaxNode, SyntaxToken, WalkEvent};
 use std::alloc::{AllocError, Global};
 
@@ -46,7 +46,7 @@ impl Line {
 
 // A string that is moved, as all strings around it are.
 #[derive(Clone, Copy)]
-struct Moved {
+struct MovedString {
     // The smallest indentation of its lines, and of those of the outermost string.
     least: usize,
     outermost: usize,
@@ -54,12 +54,12 @@ struct Moved {
     offset: usize,
 }
 
-impl Moved {
+impl MovedString {
     // Returns the state for a string inside this one, given the smallest indentation of its lines. After the move it is never to the left of this one, so
     // another move leaves it where it is.
-    fn around(self, least: usize) -> Moved {
+    fn around(self, least: usize) -> MovedString {
         let inner = least.saturating_sub(self.least);
-        Moved {
+        MovedString {
             least,
             outermost: self.outermost,
             offset: self.offset.saturating_add(inner),
@@ -81,7 +81,7 @@ impl Moved {
 struct LineWalk {
     lines: Vec<Line>,
     // Each string around the current place, if it is moved.
-    strings: Vec<Option<Moved>>,
+    strings: Vec<Option<MovedString>>,
     // The current line, while it has nothing but spaces.
     current: Option<Line>,
 }
@@ -97,7 +97,7 @@ fn line_at(start: usize) -> Line {
 
 impl LineWalk {
     // Returns the innermost string, if it is moved.
-    fn innermost(&self) -> Option<Moved> {
+    fn innermost(&self) -> Option<MovedString> {
         match self.strings.last() {
             Some(string) => *string,
             None => None,
@@ -106,7 +106,7 @@ impl LineWalk {
 
     // Returns the state for a string inside the outermost one, given the smallest indentation of its lines if it can be moved alone. It is moved if all strings
     // around it are.
-    fn inside(&self, least: Option<usize>) -> Option<Moved> {
+    fn inside(&self, least: Option<usize>) -> Option<MovedString> {
         let outer = self.innermost()?;
         Some(outer.around(least?))
     }
@@ -119,7 +119,7 @@ impl LineWalk {
     }
 
     // Adds the current line before text or code, if it has nothing but spaces so far.
-    fn end_blanks(&mut self, string: Moved) -> Result<(), AllocError> {
+    fn end_blanks(&mut self, string: MovedString) -> Result<(), AllocError> {
         match self.current {
             Some(line) => self.add_line(line, Role::Text(string.offset_of(line.blanks))),
             None => Ok(()),
@@ -127,7 +127,7 @@ impl LineWalk {
     }
 
     // Ends the current line at a line feed, and begins the next one.
-    fn end_line(&mut self, string: Moved, next: usize) -> Result<(), AllocError> {
+    fn end_line(&mut self, string: MovedString, next: usize) -> Result<(), AllocError> {
         match self.current {
             Some(line) if line.blanks <= string.least => self.add_line(line, Role::Empty)?,
             _ => self.end_blanks(string)?,
@@ -137,7 +137,7 @@ impl LineWalk {
     }
 
     // Adds a part of a line: its spaces to the current line, if that has nothing else, which ends before anything but a space.
-    fn add_part(&mut self, part: &str, string: Moved) -> Result<(), AllocError> {
+    fn add_part(&mut self, part: &str, string: MovedString) -> Result<(), AllocError> {
         let Some(line) = self.current else {
             return Ok(());
         };
@@ -153,7 +153,11 @@ impl LineWalk {
     }
 
     // Adds the lines of a string's contents.
-    fn add_content(&mut self, token: &SyntaxToken<'_>, string: Moved) -> Result<(), AllocError> {
+    fn add_content(
+        &mut self,
+        token: &SyntaxToken<'_>,
+        string: MovedString,
+    ) -> Result<(), AllocError> {
         let mut start = token.text_range().start();
         for (number, part) in token.text().split('\n').enumerate() {
             if number > 0 {
@@ -169,7 +173,7 @@ impl LineWalk {
     fn add_white_space(
         &mut self,
         token: &SyntaxToken<'_>,
-        string: Moved,
+        string: MovedString,
     ) -> Result<(), AllocError> {
         if let Some((_, rest)) = token.text().rsplit_once('\n') {
             let blanks = rest.bytes().take_while(|byte| *byte == b' ').count();
@@ -183,7 +187,7 @@ impl LineWalk {
     }
 
     // Adds the line with the closing quotes of a string, if it has nothing but spaces before them.
-    fn end_string(&mut self, string: Moved) -> Result<(), AllocError> {
+    fn end_string(&mut self, string: MovedString) -> Result<(), AllocError> {
         match self.current {
             Some(line) if self.strings.len() == 1 => self.add_line(line, Role::Closing),
             _ => self.end_blanks(string),
@@ -238,7 +242,7 @@ fn lines_of(alloc: Global, string: &SyntaxNode<'_>, least: usize) -> Result<Vec<
         strings: Vec::new(alloc),
         current: None,
     };
-    walk.strings.push(Some(Moved {
+    walk.strings.push(Some(MovedString {
         least,
         outermost: least,
         offset: 0,
@@ -279,7 +283,7 @@ pub fn with_lines(
     };
     Ok(Piece {
         last_width: last.or(piece.last_width),
-        moves: Some(Moves {
+        moved_lines: Some(MovedLines {
             first,
             end: lines.len(),
             has_last: last.is_some(),

@@ -117,7 +117,7 @@ impl Modes {
     }
 
     // Returns the mode of a group that does not fit on the line.
-    fn unfit_mode(&self, layout: &Layout, group: &Group, room: Room, is_shared: bool) -> Mode {
+    fn overflow_mode(&self, layout: &Layout, group: &Group, room: Room, is_shared: bool) -> Mode {
         let Some(target) = group.target else {
             return Mode::Broken;
         };
@@ -157,7 +157,7 @@ impl Modes {
             Mode::Flat
         } else {
             let is_shared = outer.is_some() && outer == group.target;
-            self.unfit_mode(layout, group, room, is_shared)
+            self.overflow_mode(layout, group, room, is_shared)
         }
     }
 

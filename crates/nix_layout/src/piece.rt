@@ -32,7 +32,7 @@ pub enum Level {
 
 /// The lines of a string that are moved with the code around it.
 #[derive(Clone, Copy, PartialEq, Eq)]
-pub struct Moves {
+pub struct MovedLines {
     /// The number of the first of these lines.
     pub first: usize,
     /// The number of the line after the last one.
@@ -53,7 +53,7 @@ pub struct Piece {
     /// The number of characters of its last line, if it has several lines. If that line is moved, it counts from the indentation of the code.
     pub last_width: Option<usize>,
     /// The lines that are moved, if it is a string of which some are.
-    pub moves: Option<Moves>,
+    pub moved_lines: Option<MovedLines>,
     /// Whether it is a comment.
     pub is_comment: bool,
     /// Whether the line has to end after it: whether it is a comment with `#`.
@@ -93,7 +93,7 @@ impl Piece {
             end,
             width: end.saturating_sub(start),
             last_width: None,
-            moves: None,
+            moved_lines: None,
             is_comment: false,
             ends_line: false,
             line_feeds: 0,

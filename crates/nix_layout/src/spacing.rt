@@ -97,7 +97,7 @@ fn hard(spacing: Spacing) -> Spacing {
 }
 
 // Returns the same, keeping a line feed of the old text.
-fn kept(spacing: Spacing) -> Spacing {
+fn keeping_break(spacing: Spacing) -> Spacing {
     Spacing {
         keeps_break: true,
         ..spacing
@@ -105,7 +105,7 @@ fn kept(spacing: Spacing) -> Spacing {
 }
 
 // Returns the same, keeping an empty line of the old text.
-fn airy(spacing: Spacing) -> Spacing {
+fn keeping_empty(spacing: Spacing) -> Spacing {
     Spacing {
         keeps_empty: true,
         ..spacing
@@ -126,9 +126,9 @@ fn bracketed(before: SyntaxKind, next: SyntaxKind) -> Spacing {
         (SyntaxKind::TOKEN_REC | SyntaxKind::TOKEN_LET, _) => SPACED,
         (SyntaxKind::TOKEN_L_BRACE, SyntaxKind::TOKEN_R_BRACE) => closing(SPACED),
         (SyntaxKind::TOKEN_L_BRACK, SyntaxKind::TOKEN_R_BRACK) => closing(SPACED),
-        (SyntaxKind::TOKEN_L_BRACE | SyntaxKind::TOKEN_L_BRACK, _) => opening(kept(LINE)),
-        (_, SyntaxKind::TOKEN_R_BRACE | SyntaxKind::TOKEN_R_BRACK) => closing(kept(LINE)),
-        _ => airy(kept(LINE)),
+        (SyntaxKind::TOKEN_L_BRACE | SyntaxKind::TOKEN_L_BRACK, _) => opening(keeping_break(LINE)),
+        (_, SyntaxKind::TOKEN_R_BRACE | SyntaxKind::TOKEN_R_BRACK) => closing(keeping_break(LINE)),
+        _ => keeping_empty(keeping_break(LINE)),
     }
 }
 
@@ -138,7 +138,7 @@ fn in_let(before: SyntaxKind, next: SyntaxKind) -> Spacing {
         (_, SyntaxKind::TOKEN_IN) => closing(hard(LINE)),
         (SyntaxKind::TOKEN_LET, _) => opening(hard(LINE)),
         (SyntaxKind::TOKEN_IN, _) => level(opening(hard(LINE))),
-        _ => airy(hard(LINE)),
+        _ => keeping_empty(hard(LINE)),
     }
 }
 
@@ -146,7 +146,7 @@ fn in_let(before: SyntaxKind, next: SyntaxKind) -> Spacing {
 fn in_prefix(before: SyntaxKind, next: SyntaxKind) -> Spacing {
     match (before, next) {
         (_, SyntaxKind::TOKEN_SEMICOLON) => GLUED,
-        (SyntaxKind::TOKEN_SEMICOLON, _) => airy(level(LINE)),
+        (SyntaxKind::TOKEN_SEMICOLON, _) => keeping_empty(level(LINE)),
         _ => SPACED,
     }
 }
@@ -169,7 +169,7 @@ fn in_lambda(next: Child) -> Spacing {
     } else if next.is_named_lambda {
         SPACED
     } else {
-        airy(level(LINE))
+        keeping_empty(level(LINE))
     }
 }
 
@@ -179,9 +179,9 @@ fn in_pattern(before: SyntaxKind, next: SyntaxKind) -> Spacing {
         (SyntaxKind::TOKEN_L_BRACE, SyntaxKind::TOKEN_R_BRACE) => closing(SPACED),
         (_, SyntaxKind::TOKEN_COMMA | SyntaxKind::NODE_PAT_BIND) => GLUED,
         (SyntaxKind::NODE_PAT_BIND, _) => GLUED,
-        (SyntaxKind::TOKEN_L_BRACE, _) => opening(kept(LINE)),
-        (_, SyntaxKind::TOKEN_R_BRACE) => closing(kept(LINE)),
-        _ => kept(LINE),
+        (SyntaxKind::TOKEN_L_BRACE, _) => opening(keeping_break(LINE)),
+        (_, SyntaxKind::TOKEN_R_BRACE) => closing(keeping_break(LINE)),
+        _ => keeping_break(LINE),
     }
 }
 
@@ -191,8 +191,8 @@ fn in_inherit(before: SyntaxKind, next: SyntaxKind) -> Spacing {
         (SyntaxKind::TOKEN_INHERIT, SyntaxKind::TOKEN_SEMICOLON) => GLUED,
         (SyntaxKind::NODE_INHERIT_FROM, SyntaxKind::TOKEN_SEMICOLON) => GLUED,
         (_, SyntaxKind::NODE_INHERIT_FROM) => SPACED,
-        (_, SyntaxKind::TOKEN_SEMICOLON) => kept(SOFT),
-        _ => kept(LINE),
+        (_, SyntaxKind::TOKEN_SEMICOLON) => keeping_break(SOFT),
+        _ => keeping_break(LINE),
     }
 }
 
@@ -289,7 +289,7 @@ pub fn behind_first_comma() -> Spacing {
 
 /// Returns the white space before the first item of a text, and behind the last one.
 pub fn around_text() -> Spacing {
-    airy(level(GLUED))
+    keeping_empty(level(GLUED))
 }
 
 /// Returns the white space between a child of a node and the next one.

@@ -3,7 +3,7 @@
 use crate::layout::Layout;
 use crate::line_ends::line_end_of;
 use crate::modes::{LineState, MOST_BLANKS, Modes};
-use crate::piece::{Gap, Moves, Piece};
+use crate::piece::{Gap, MovedLines, Piece};
 use std::alloc::{AllocError, Global};
 
 // The spaces at the start of a line.
@@ -88,9 +88,9 @@ impl<'a> Writer<'a> {
     }
 
     // Copies a string with other spaces at the start of its lines.
-    fn write_lines(&mut self, piece: &Piece, moves: Moves) -> Result<(), AllocError> {
+    fn write_lines(&mut self, piece: &Piece, moved_lines: MovedLines) -> Result<(), AllocError> {
         let mut start = piece.start;
-        for number in moves.first..moves.end {
+        for number in moved_lines.first..moved_lines.end {
             if let Some(line) = self.layout.lines.get(number).copied() {
                 self.copy(start, line.start)?;
                 self.write_blanks(line.indent(self.line_state.indent))?;
@@ -102,8 +102,8 @@ impl<'a> Writer<'a> {
 
     // Returns the column after a piece.
     fn column_after(&self, piece: &Piece) -> usize {
-        match (piece.last_width, piece.moves) {
-            (Some(width), Some(moves)) if moves.has_last => {
+        match (piece.last_width, piece.moved_lines) {
+            (Some(width), Some(moved_lines)) if moved_lines.has_last => {
                 self.line_state.indent.saturating_add(width)
             }
             (Some(width), _) => width,
@@ -113,8 +113,8 @@ impl<'a> Writer<'a> {
 
     // Copies a piece.
     fn write_piece(&mut self, piece: &Piece) -> Result<(), AllocError> {
-        match piece.moves {
-            Some(moves) => self.write_lines(piece, moves)?,
+        match piece.moved_lines {
+            Some(moved_lines) => self.write_lines(piece, moved_lines)?,
             None => self.copy(piece.start, piece.end)?,
         }
         self.line_state.column = self.column_after(piece);

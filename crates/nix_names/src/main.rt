@@ -6,7 +6,7 @@ mod lines;
 use lines::write_names;
 use nix_cli::{
     Arguments, FAILED, Program, Start, end, find_inputs, location_of, read_arguments,
-    refuse_after_output, shown_name,
+    refuse_after_output, display_name,
 };
 use nix_scopes::resolve;
 use rnix::{Parse, Root};
@@ -75,7 +75,7 @@ fn report_files(rt: &HostRuntime, arguments: &Arguments) -> io::Result<u8> {
         let own = match inputs.read_text(rt, &PROGRAM, file.as_str(), &mut out)? {
             Some(text) => report(
                 rt,
-                shown_name(file.as_str()),
+                display_name(file.as_str()),
                 text.as_str(),
                 is_json,
                 &mut out,

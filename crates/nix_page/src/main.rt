@@ -9,7 +9,7 @@ mod tree;
 
 use html::write_text;
 use nix_cli::{
-    Arguments, FAILED, Program, Start, end, read_arguments, read_text, refuse, shown_name,
+    Arguments, FAILED, Program, Start, end, read_arguments, read_text, refuse, display_name,
 };
 use rnix::Root;
 use script::SCRIPT;
@@ -64,7 +64,7 @@ fn show(rt: &HostRuntime, arguments: &Arguments) -> io::Result<u8> {
             Ok(FAILED)
         }
         Some(text) => {
-            write_page(rt, shown_name(name), text.as_str())?;
+            write_page(rt, display_name(name), text.as_str())?;
             Ok(0)
         }
         None => Ok(FAILED),

@@ -2,7 +2,7 @@
 use Rattle.std.proofs.{Common.{◌≡◌, ℕ, ◌≤◌, ◌<◌, suc, List, [], ◌∷◌, ◌++◌, length, get_or, take, map, Some, inl, inr, refl, ap, sym, subst, ◌∙◌, arith}, lemmas.{List.{map-append, get_or-map, get_or-take, length-map, length-take-le, Elements.{All-push, Contains-append_right}}, Option.slice_get-get_or}}
 use Rattle.std.{proofs.lemmas.List.Sorted.{IsPermutation-sym, IsPermutation-middle, IsPermutation-push_more, Contains-permutation}, specs.{Prelude.◌⊎◌, List.{All, Contains}}}
 use Rattle.{std.specs.List.Sorted.IsPermutation, rnix_green.specs.Range.Extent, rnix_text.specs.Changes.{Change, Draft, AreAscending, IsAdded, IsMet}}
-use Rattle.nix_rename.specs.Changed.{ContainsAt, change_at, IsElsewhere, DoOverlap, IsUnchangeable}
+use Rattle.nix_rename.specs.Changed.{ContainsAt, change_at, LacksAt, DoOverlap, IsUnchangeable}
 
 -- the rest of a list of which something holds
 rest_all : (P : Change → Type 0) (c : Change) (cs : List Change) → All P (c ∷ cs) → All P cs
@@ -93,8 +93,8 @@ met_before occurrences so_far occurrence new i cs so_far_is there occurrence_is 
 pub unfit_found : (text : List ℕ) (occurrences so_far : List Extent) (occurrence : Extent) (old new : List ℕ) (i : ℕ) (draft : Draft)
     → so_far ≡ take i occurrences →
     i < length occurrences → get_or occurrences i occurrence ≡ occurrence → IsDrafted text so_far old new draft →
-    (IsElsewhere draft.text old occurrence ⊎ IsMet occurrence.start occurrence.end draft.changes) → IsUnchangeable text occurrences old
-unfit_found text occurrences so_far occurrence old new i draft so_far_is there occurrence_is is (inl elsewhere) =
-    inl (record { occurrence = occurrence; is_one = (i, there, occurrence_is); elsewhere = subst (λ t. IsElsewhere t old occurrence) is.text_is elsewhere })
+    (LacksAt draft.text old occurrence ⊎ IsMet occurrence.start occurrence.end draft.changes) → IsUnchangeable text occurrences old
+unfit_found text occurrences so_far occurrence old new i draft so_far_is there occurrence_is is (inl lacking) =
+    inl (record { occurrence = occurrence; is_one = (i, there, occurrence_is); lacking = subst (λ t. LacksAt t old occurrence) is.text_is lacking })
 unfit_found text occurrences so_far occurrence old new i draft so_far_is there occurrence_is is (inr met) =
     inr (met_before occurrences so_far occurrence new i draft.changes so_far_is there occurrence_is is.exactly met)

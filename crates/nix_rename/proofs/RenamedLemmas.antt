@@ -3,9 +3,9 @@ use Rattle.std.proofs.Common.{◌≡◌, List, ℕ, [], ◌∷◌, length, map, 
 use Rattle.std.{proofs.lemmas.{List.length-map, Bool.{false≢true, Decides.nat_tests}}, specs.{Prelude.{◌&&◌, IfOk}, Bool.MatchBool}}
 use Rattle.{std.specs.declared.alloc.AllocError.AllocError, rnix_green.specs.Tree.{Located, extent_of}, nix_scopes.specs.declared.resolution.Binding.Binding}
 use Rattle.nix_scopes.specs.{declared.resolution.Resolution.Resolution, Alike.IsResolution, Occurrences.{IsNameAt, binding_at}}
-use Rattle.nix_rename.specs.{declared.{refusal.Refusal.Refusal, rename.Renaming.Renaming}, Renamed.{IsRead, IsNameIn, IsNoName, AreThese, ResolvesLike}}
-use Rattle.nix_rename.specs.Refused.{is_hidden_name}
-use Rattle.nix_rename.specs.Renamed.{ResolvesUnlike, IsName, IsNamed, IsReason, IsMeant, IsRenamed, IsHindered, IsCause, IfRenamed, IfRefused}
+use Rattle.nix_rename.specs.{declared.{refusal.Refusal.Refusal, rename.Renaming.Renaming}, Renamed.{IsRead, IsNameIn, IsNoName, AreThese, ResolvesTheSame}}
+use Rattle.nix_rename.specs.Refused.{is_special_name}
+use Rattle.nix_rename.specs.Renamed.{ResolvesDifferently, IsName, IsNamed, IsReason, IsReferent, IsRenamed, IsNotRenamed, IsCause, IfRenamed, IfRefused}
 use Rattle.rnix.specs.ParseResult.{Reading, root_of}
 use Rattle.nix_rename.specs.declared.refusal.Refusal.TheVariants as refusal
 use Rattle.nix_rename.specs.declared.rename.Renaming.TheVariants as renaming
@@ -42,43 +42,43 @@ module _ (text : List ℕ) (read : Reading) (is_read : IsRead text read) where
   pub resolved_tested : (names : Resolution) (binding : Binding) (new : List ℕ) (others : Resolution) → IsResolution (root_of read) others →
       (passes : Bool) →
       MatchBool passes ((read.faults ≡ []) × AreThese names binding new others) (¬ ((read.faults ≡ []) × AreThese names binding new others)) →
-      MatchBool passes (ResolvesLike names binding new text) (ResolvesUnlike names binding new text)
+      MatchBool passes (ResolvesTheSame names binding new text) (ResolvesDifferently names binding new text)
   resolved_tested names binding new others found true both =
       record { read = read; is_read = is_read; errors = both.0; others = others; found = found; alike = both.1 }
-  resolved_tested names binding new others found false unlike =
-      record { read = read; is_read = is_read; others = others; found = found; unlike = unlike }
+  resolved_tested names binding new others found false different =
+      record { read = read; is_read = is_read; others = others; found = found; different = different }
 
 -- the name at an offset, and the binding to which it refers, if there is one
-pub meant : (root name : Located) (offset : ℕ) (names : Resolution) (binding : Option Binding) → IsResolution root names →
-    IsNameAt root offset (Some name) → binding_at names (extent_of name) ≡ binding → IsMeant root offset names binding
-meant root name offset names binding found at_offset is_binding =
+pub referent : (root name : Located) (offset : ℕ) (names : Resolution) (binding : Option Binding) → IsResolution root names →
+    IsNameAt root offset (Some name) → binding_at names (extent_of name) ≡ binding → IsReferent root offset names binding
+referent root name offset names binding found at_offset is_binding =
     record { found = found; name = name; at_offset = at_offset; is_binding = is_binding }
 
 -- what comes of giving the binding of a name another name is what comes of renaming the name
 module _ (text : List ℕ) (root : Located) (offset : ℕ) (new : List ℕ) (names : Resolution) (binding : Binding) where
-  pub renamed_from : (result : Result Renaming AllocError) → IsName new → is_hidden_name new ≡ false → IsMeant root offset names (Some binding) →
+  pub renamed_from : (result : Result Renaming AllocError) → IsName new → is_special_name new ≡ false → IsReferent root offset names (Some binding) →
       IfOk result (IfRenamed (IsNamed text names binding new)) → IfOk result (IfRenamed (IsRenamed text root offset new))
-  renamed_from (Ok (renaming.Renamed made)) is_name is_written meant named =
-      record { is_name = is_name; is_written = is_written; names = names; binding = binding; meant = meant; named = named }
-  renamed_from (Ok (renaming.Refused refusal)) is_name is_written meant named = tt
-  renamed_from (Err error) is_name is_written meant named = tt
+  renamed_from (Ok (renaming.Renamed made)) is_name is_written referent named =
+      record { is_name = is_name; is_written = is_written; names = names; binding = binding; referent = referent; named = named }
+  renamed_from (Ok (renaming.Refused refusal)) is_name is_written referent named = tt
+  renamed_from (Err error) is_name is_written referent named = tt
 
-  hindered : (refusal : Refusal) → IsMeant root offset names (Some binding) → IsReason refusal text names binding new →
-      IsHindered refusal text root offset new
-  hindered refusal meant reason = record { names = names; binding = binding; meant = meant; reason = reason }
+  hindered : (refusal : Refusal) → IsReferent root offset names (Some binding) → IsReason refusal text names binding new →
+      IsNotRenamed refusal text root offset new
+  hindered refusal referent reason = record { names = names; binding = binding; referent = referent; reason = reason }
 
-  caused : (refusal : Refusal) → IsMeant root offset names (Some binding) → IsReason refusal text names binding new → IsCause refusal text root offset new
-  caused refusal.NotAName meant reason = absurd reason
-  caused refusal.HiddenName meant reason = absurd reason
-  caused refusal.NoName meant reason = absurd reason
-  caused refusal.Unbound meant reason = absurd reason
-  caused (refusal.Kept kept) meant reason = hindered (refusal.Kept kept) meant reason
-  caused refusal.OtherSpelling meant reason = hindered refusal.OtherSpelling meant reason
-  caused refusal.OtherMeaning meant reason = hindered refusal.OtherMeaning meant reason
+  caused : (refusal : Refusal) → IsReferent root offset names (Some binding) → IsReason refusal text names binding new → IsCause refusal text root offset new
+  caused refusal.NotAName referent reason = absurd reason
+  caused refusal.SpecialName referent reason = absurd reason
+  caused refusal.NoName referent reason = absurd reason
+  caused refusal.Unbound referent reason = absurd reason
+  caused (refusal.Obstacle obstacle) referent reason = hindered (refusal.Obstacle obstacle) referent reason
+  caused refusal.OtherSpelling referent reason = hindered refusal.OtherSpelling referent reason
+  caused refusal.ChangedMeaning referent reason = hindered refusal.ChangedMeaning referent reason
 
-  pub refused_from : (result : Result Renaming AllocError) → IsMeant root offset names (Some binding) →
+  pub refused_from : (result : Result Renaming AllocError) → IsReferent root offset names (Some binding) →
       IfOk result (IfRefused (λ refusal. IsReason refusal text names binding new)) →
       IfOk result (IfRefused (λ refusal. IsCause refusal text root offset new))
-  refused_from (Ok (renaming.Renamed made)) meant reason = tt
-  refused_from (Ok (renaming.Refused refusal)) meant reason = caused refusal meant reason
-  refused_from (Err error) meant reason = tt
+  refused_from (Ok (renaming.Renamed made)) referent reason = tt
+  refused_from (Ok (renaming.Refused refusal)) referent reason = caused refusal referent reason
+  refused_from (Err error) referent reason = tt

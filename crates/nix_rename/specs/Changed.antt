@@ -22,14 +22,14 @@ pub record IsChanged (text : List ℕ) (occurrences : List Extent) (old new made
   pub made_is : made ≡ changed_from 0 changes text
 
 -- the text does not contain the name at the place, between characters
-abbrev pub IsElsewhere : List ℕ → List ℕ → Extent → Type 0
-IsElsewhere text name occurrence = ¬ (IsBetween text occurrence.start occurrence.end × ContainsAt text name occurrence)
+abbrev pub LacksAt : List ℕ → List ℕ → Extent → Type 0
+LacksAt text name occurrence = ¬ (IsBetween text occurrence.start occurrence.end × ContainsAt text name occurrence)
 
 -- the text does not contain the name at one of these places
 pub record IsMissing (text : List ℕ) (occurrences : List Extent) (name : List ℕ) : Type 0 where
   pub occurrence : Extent
   pub is_one : Contains occurrences occurrence
-  pub elsewhere : IsElsewhere text name occurrence
+  pub lacking : LacksAt text name occurrence
 
 -- two of these places overlap
 pub record DoOverlap (occurrences : List Extent) : Type 0 where
@@ -50,4 +50,4 @@ IsUnchangeable text occurrences old = IsMissing text occurrences old ⊎ DoOverl
 abbrev pub IsOccurrenceTested : Extent → List ℕ → List ℕ → Draft → Draft → Bool → Type 0
 IsOccurrenceTested occurrence old new before after true = ContainsAt before.text old occurrence
     × IsAdded (change_at new occurrence) before.changes after.changes
-IsOccurrenceTested occurrence old new before after false = IsElsewhere before.text old occurrence ⊎ IsMet occurrence.start occurrence.end before.changes
+IsOccurrenceTested occurrence old new before after false = LacksAt before.text old occurrence ⊎ IsMet occurrence.start occurrence.end before.changes

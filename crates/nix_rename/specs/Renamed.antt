@@ -18,7 +18,7 @@ use Rattle.nix_rename.specs.declared.refusal.Refusal.{Refusal}
 use Rattle.nix_rename.specs.declared.refusal.Refusal.TheVariants as refusal
 use Rattle.nix_rename.specs.declared.rename.Renaming.{Renaming}
 use Rattle.nix_rename.specs.declared.rename.Renaming.TheVariants as renaming
-use Rattle.nix_rename.specs.Refused.{is_hidden_name, kept_name}
+use Rattle.nix_rename.specs.Refused.{is_special_name, obstacle_of_binding}
 use Rattle.nix_rename.specs.Changed.{IsChanged, IsUnchangeable}
 
 -- the reading of a text
@@ -55,7 +55,7 @@ abbrev pub AreThese : Resolution → Binding → List ℕ → Resolution → Typ
 AreThese names binding new others = AreAlike (rename_in names binding.first (length (cow_str_bytes binding.text)) new) names others
 
 -- a text is read without errors, and has the same bindings and references as these names
-pub record ResolvesLike (names : Resolution) (binding : Binding) (new text : List ℕ) : Type 0 where
+pub record ResolvesTheSame (names : Resolution) (binding : Binding) (new text : List ℕ) : Type 0 where
   pub read : Reading
   pub is_read : IsRead text read
   pub errors : read.faults ≡ []
@@ -64,34 +64,34 @@ pub record ResolvesLike (names : Resolution) (binding : Binding) (new text : Lis
   pub alike : AreThese names binding new others
 
 -- a text is read with errors, or has other bindings or references than these names
-pub record ResolvesUnlike (names : Resolution) (binding : Binding) (new text : List ℕ) : Type 0 where
+pub record ResolvesDifferently (names : Resolution) (binding : Binding) (new text : List ℕ) : Type 0 where
   pub read : Reading
   pub is_read : IsRead text read
   pub others : Resolution
   pub found : IsResolution (root_of read) others
-  pub unlike : ¬ ((read.faults ≡ []) × AreThese names binding new others)
+  pub different : ¬ ((read.faults ≡ []) × AreThese names binding new others)
 
 -- the text in which a binding that may be renamed has a new name at exactly its occurrences, and which, read again, resolves as before
 pub record IsNamed (text : List ℕ) (names : Resolution) (binding : Binding) (new made : List ℕ) : Type 0 where
-  pub free : kept_name binding.first names ≡ None
+  pub free : obstacle_of_binding binding.first names ≡ None
   pub changed : IsChanged text (occurrences_of binding.first names) (cow_str_bytes binding.text) new made
-  pub alike : ResolvesLike names binding new made
+  pub alike : ResolvesTheSame names binding new made
 
 -- the text in which a binding has a new name has errors, or does not resolve as before
-pub record IsUnlike (text : List ℕ) (names : Resolution) (binding : Binding) (new : List ℕ) : Type 0 where
+pub record IsDifferent (text : List ℕ) (names : Resolution) (binding : Binding) (new : List ℕ) : Type 0 where
   pub made : List ℕ
   pub changed : IsChanged text (occurrences_of binding.first names) (cow_str_bytes binding.text) new made
-  pub unlike : ResolvesUnlike names binding new made
+  pub different : ResolvesDifferently names binding new made
 
 -- why a binding gets no new name
 abbrev pub IsReason : Refusal → List ℕ → Resolution → Binding → List ℕ → Type 0
-IsReason (refusal.Kept kept) text names binding new = kept_name binding.first names ≡ Some kept
+IsReason (refusal.Obstacle obstacle) text names binding new = obstacle_of_binding binding.first names ≡ Some obstacle
 IsReason refusal.OtherSpelling text names binding new = IsUnchangeable text (occurrences_of binding.first names) (cow_str_bytes binding.text)
-IsReason refusal.OtherMeaning text names binding new = IsUnlike text names binding new
+IsReason refusal.ChangedMeaning text names binding new = IsDifferent text names binding new
 IsReason _ text names binding new = ⊥
 
 -- what the name at an offset refers to is this binding, if there is one
-pub record IsMeant (root : Located) (offset : ℕ) (names : Resolution) (binding : Option Binding) : Type 0 where
+pub record IsReferent (root : Located) (offset : ℕ) (names : Resolution) (binding : Option Binding) : Type 0 where
   pub found : IsResolution root names
   pub name : Located
   pub at_offset : IsNameAt root offset (Some name)
@@ -100,28 +100,28 @@ pub record IsMeant (root : Located) (offset : ℕ) (names : Resolution) (binding
 -- the text in which the binding of the name at an offset has a new name
 pub record IsRenamed (text : List ℕ) (root : Located) (offset : ℕ) (new made : List ℕ) : Type 0 where
   pub is_name : IsName new
-  pub is_written : is_hidden_name new ≡ false
+  pub is_written : is_special_name new ≡ false
   pub names : Resolution
   pub binding : Binding
-  pub meant : IsMeant root offset names (Some binding)
+  pub referent : IsReferent root offset names (Some binding)
   pub named : IsNamed text names binding new made
 
 -- why the binding of the name at an offset gets no new name
-pub record IsHindered (refusal : Refusal) (text : List ℕ) (root : Located) (offset : ℕ) (new : List ℕ) : Type 0 where
+pub record IsNotRenamed (refusal : Refusal) (text : List ℕ) (root : Located) (offset : ℕ) (new : List ℕ) : Type 0 where
   pub names : Resolution
   pub binding : Binding
-  pub meant : IsMeant root offset names (Some binding)
+  pub referent : IsReferent root offset names (Some binding)
   pub reason : IsReason refusal text names binding new
 
 -- why the name at an offset is not renamed
 abbrev pub IsCause : Refusal → List ℕ → Located → ℕ → List ℕ → Type 0
 IsCause refusal.NotAName text root offset new = IsNoName new
-IsCause refusal.HiddenName text root offset new = is_hidden_name new ≡ true
+IsCause refusal.SpecialName text root offset new = is_special_name new ≡ true
 IsCause refusal.NoName text root offset new = IsNameAt root offset None
-IsCause refusal.Unbound text root offset new = (names : Resolution) × IsMeant root offset names None
-IsCause (refusal.Kept kept) text root offset new = IsHindered (refusal.Kept kept) text root offset new
-IsCause refusal.OtherSpelling text root offset new = IsHindered refusal.OtherSpelling text root offset new
-IsCause refusal.OtherMeaning text root offset new = IsHindered refusal.OtherMeaning text root offset new
+IsCause refusal.Unbound text root offset new = (names : Resolution) × IsReferent root offset names None
+IsCause (refusal.Obstacle obstacle) text root offset new = IsNotRenamed (refusal.Obstacle obstacle) text root offset new
+IsCause refusal.OtherSpelling text root offset new = IsNotRenamed refusal.OtherSpelling text root offset new
+IsCause refusal.ChangedMeaning text root offset new = IsNotRenamed refusal.ChangedMeaning text root offset new
 
 -- P holds of the new text, if there is one
 abbrev pub IfRenamed : (List ℕ → Type 0) → Renaming → Type 0

@@ -6,8 +6,8 @@ mod refusal;
 mod rename;
 
 use nix_cli::{
-    Arguments, FAILED, FOUND, Program, Start, end, location_of, read_arguments, read_text, refuse,
-    shown_name, write_text,
+    Arguments, FAILED, FOUND, Program, Start, display_name, end, location_of, read_arguments,
+    read_text, refuse, write_text,
 };
 use rename::{Renaming, rename};
 use rnix::{Parse, Root};
@@ -59,7 +59,7 @@ fn refuse_text(rt: &HostRuntime, name: &str, text: &str, read: &Parse) -> io::Re
     let (line, column) = location_of(text, range.map_or(text.len(), |range| range.start()));
     eprintln!(rt;
         "nix-rename: {}:{line}:{column}: this is not Nix",
-        shown_name(name)
+        display_name(name)
     )?;
     Ok(FAILED)
 }
@@ -80,7 +80,7 @@ fn rename_at(
     let Some(offset) = offset_of(rt, text, location)? else {
         eprintln!(rt;
             "nix-rename: {}: there is no place {location}",
-            shown_name(name)
+            display_name(name)
         )?;
         return Ok(FAILED);
     };
@@ -90,7 +90,7 @@ fn rename_at(
             Ok(0)
         }
         Ok(Renaming::Refused(reason)) => {
-            eprintln!(rt; "nix-rename: {}:{location}: {reason}", shown_name(name))?;
+            eprintln!(rt; "nix-rename: {}:{location}: {reason}", display_name(name))?;
             Ok(FOUND)
         }
         Err(_) => {

@@ -6,10 +6,10 @@ ghost use Rattle.rnix_green.specs.Range.{bounds_of};
 ghost use Rattle.rnix_base.specs.Select.{child_of};
 ghost use Rattle.rnix.specs.NodeKinds.{is_expr};
 ghost use Rattle.nix_rename.specs.Changed.{IsChanged, IsUnchangeable, IsOccurrenceTested};
-ghost use Rattle.nix_rename.specs.Renamed.{is_whole_name, is_name_whole, IsName, IsNoName, ResolvesLike, ResolvesUnlike};
+ghost use Rattle.nix_rename.specs.Renamed.{is_whole_name, is_name_whole, IsName, IsNoName, ResolvesTheSame, ResolvesDifferently};
 ghost use Rattle.nix_rename.specs.Renamed.{IsNamed, IsReason, IsRenamed, IsCause, IfRenamed, IfRefused};
 
-use crate::refusal::{Refusal, is_hidden_name, kept_name};
+use crate::refusal::{Refusal, is_special_name, obstacle_of_binding};
 use nix_scopes::{Binding, Resolution, name_at, resolve};
 use rnix::ast::AstNode;
 use rnix::{Root, SyntaxKind, SyntaxNode, TextRange};
@@ -94,15 +94,15 @@ fn changed(
 }
 
 // Returns whether a text has no errors, and has the same bindings and references as `names` but for the new name of one binding.
-fn resolves_like(
+fn resolves_the_same(
     alloc: Global,
     names: &Resolution<'_>,
     binding: &Binding<'_>,
     new: &str,
     text: &str,
 ) -> Result<bool, AllocError>
-    ensures { IfOk result (λ passes. MatchBool passes (ResolvesLike names.now binding.now new.now text.now)
-        (ResolvesUnlike names.now binding.now new.now text.now)) }
+    ensures { IfOk result (λ passes. MatchBool passes (ResolvesTheSame names.now binding.now new.now text.now)
+        (ResolvesDifferently names.now binding.now new.now text.now)) }
 {
     let read = Root::parse(alloc, text)?;
     let others = resolve(alloc, &read.syntax())?;
@@ -121,17 +121,17 @@ fn named(
     ensures named { IfOk result (IfRenamed (IsNamed text.now names.now binding.now new.now)) }
     ensures refused { IfOk result (IfRefused (λ refusal. IsReason refusal text.now names.now binding.now new.now)) }
 {
-    if let Some(kept) = kept_name(names, binding.first) {
-        return Ok(Renaming::Refused(Refusal::Kept(kept)));
+    if let Some(obstacle) = obstacle_of_binding(names, binding.first) {
+        return Ok(Renaming::Refused(Refusal::Obstacle(obstacle)));
     }
     let occurrences = names.occurrences(alloc, binding.first)?;
     let Some(made) = changed(alloc, text, &occurrences, binding.text.as_str(), new)? else {
         return Ok(Renaming::Refused(Refusal::OtherSpelling));
     };
-    if resolves_like(alloc, names, binding, new, made.as_str())? {
+    if resolves_the_same(alloc, names, binding, new, made.as_str())? {
         Ok(Renaming::Renamed(made))
     } else {
-        Ok(Renaming::Refused(Refusal::OtherMeaning))
+        Ok(Renaming::Refused(Refusal::ChangedMeaning))
     }
 }
 
@@ -150,8 +150,8 @@ pub fn rename(
     if !is_name(alloc, new)? {
         return Ok(Renaming::Refused(Refusal::NotAName));
     }
-    if is_hidden_name(new) {
-        return Ok(Renaming::Refused(Refusal::HiddenName));
+    if is_special_name(new) {
+        return Ok(Renaming::Refused(Refusal::SpecialName));
     }
     let Some(node) = name_at(root, offset) else {
         return Ok(Renaming::Refused(Refusal::NoName));

@@ -2,7 +2,7 @@ pub mod WalkLemmas
 pub mod OpenLemmas
 pub mod NumberLemmas
 pub mod EndLemmas
-pub mod SightLemmas
+pub mod SymbolTableLemmas
 pub mod ScopeLemmas
 pub mod ResolvedLemmas
 pub mod ResolvingLemmas

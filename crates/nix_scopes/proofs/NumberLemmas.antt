@@ -6,10 +6,10 @@ use Rattle.std.specs.{Prelude.{cond, ◌&&◌, ◌⊎◌, if◌then◌else◌, s
 use Rattle.std.{proofs.{Math.Bool.and-false, lemmas.Map.Text.is_eq-slice_cmp}, specs.{Str.bytes_eq, Ordering.{is_eq, nat_cmp, ordering_then}}}
 use Rattle.std.specs.{Cmp.{tied_then, unsigned_tied}, Cmp.Lexicographic.slice_cmp, declared.cmp.Ordering.Ordering}
 use Rattle.{rnix_green.{specs.Tree.Located, proofs.NumberTests.{is_same, is_above}}, nix_scopes.specs.Scopes.{Bound, binds, number_in}}
-use Rattle.nix_scopes.specs.Resolving.{Key, IsKeyOf, Numbers, compare_key, mark_of, number_by}
+use Rattle.nix_scopes.specs.Resolving.{Key, IsKeyOf, Numbers, compare_key, fingerprint_of, number_by}
 use Rattle.std.specs.BTreeMap.{get_by}
 use Rattle.nix_scopes.specs.NameTexts.{name_bytes}
-use Rattle.nix_scopes.specs.declared.name_text.NameText.TheVariants.{Part}
+use Rattle.nix_scopes.specs.declared.name_text.NameText.TheVariants.{Borrowed}
 
 -- nothing after a number
 pub or_none : (o : Option ℕ) → option_or o None ≡ o
@@ -28,19 +28,19 @@ given_twice false first second old new once is was = is ∙ was
 
 -- a key of a name
 abbrev pub key_with : List ℕ → Key
-key_with text = (mark_of text, Part record { ref_ptr = (0, 0); now = text })
+key_with text = (fingerprint_of text, Borrowed record { ref_ptr = (0, 0); now = text })
 
 -- keys are the same where their names are
 same_key : (a b : List ℕ) → is_eq (compare_key a (key_with b)) ≡ bytes_eq a b
 same_key a b =
-    sym (tied_then (nat_cmp (mark_of a) (mark_of b)) (slice_cmp nat_cmp a b))
-    ∙ ap (λ e. is_eq (nat_cmp (mark_of a) (mark_of b)) && e) (is_eq-slice_cmp a b) ∙ chosen (bytes_eq a b) refl
+    sym (tied_then (nat_cmp (fingerprint_of a) (fingerprint_of b)) (slice_cmp nat_cmp a b))
+    ∙ ap (λ e. is_eq (nat_cmp (fingerprint_of a) (fingerprint_of b)) && e) (is_eq-slice_cmp a b) ∙ chosen (bytes_eq a b) refl
   where
-    chosen : (e : Bool) → bytes_eq a b ≡ e → (is_eq (nat_cmp (mark_of a) (mark_of b)) && e) ≡ e
-    chosen false is = and-false (is_eq (nat_cmp (mark_of a) (mark_of b)))
+    chosen : (e : Bool) → bytes_eq a b ≡ e → (is_eq (nat_cmp (fingerprint_of a) (fingerprint_of b)) && e) ≡ e
+    chosen false is = and-false (is_eq (nat_cmp (fingerprint_of a) (fingerprint_of b)))
     chosen true is =
-        let marks : mark_of a ≡ mark_of b = ap mark_of ((bytes_eq-Decides a b).0 is) in
-        ap (λ e. e && true) (unsigned_tied (mark_of a) (mark_of b) ∙ is_same (mark_of a) (mark_of b) marks)
+        let marks : fingerprint_of a ≡ fingerprint_of b = ap fingerprint_of ((bytes_eq-Decides a b).0 is) in
+        ap (λ e. e && true) (unsigned_tied (fingerprint_of a) (fingerprint_of b) ∙ is_same (fingerprint_of a) (fingerprint_of b) marks)
 
 -- how two keys are ordered
 abbrev compare_keys : Key → Key → Ordering
@@ -53,15 +53,15 @@ pub key_updated : (key : Key) (text : List ℕ) (number : Option ℕ) (old new :
 key_updated key text number old new is updates other =
     let was : Option ℕ = old (key_with other) in
     updates (key_with other)
-    ∙ ap (λ mark. cond (is_eq (ordering_then (nat_cmp mark (mark_of other)) (slice_cmp nat_cmp (name_bytes key.1) other))) number was) is.0
-    ∙ ap (λ bytes. cond (is_eq (ordering_then (nat_cmp (mark_of text) (mark_of other)) (slice_cmp nat_cmp bytes other))) number was) is.1
+    ∙ ap (λ fingerprint. cond (is_eq (ordering_then (nat_cmp fingerprint (fingerprint_of other)) (slice_cmp nat_cmp (name_bytes key.1) other))) number was) is.0
+    ∙ ap (λ bytes. cond (is_eq (ordering_then (nat_cmp (fingerprint_of text) (fingerprint_of other)) (slice_cmp nat_cmp bytes other))) number was) is.1
     ∙ ap (λ e. cond e number was) (same_key text other)
 
 -- the number at such a key is that of the name
 pub number_at : (numbers : Numbers) (key : Key) (text : List ℕ) → IsKeyOf text key → get_by (compare_keys key) numbers ≡ number_by numbers text
 number_at numbers key text is =
-    ap (λ mark. get_by (λ (k : Key). ordering_then (nat_cmp mark k.0) (slice_cmp nat_cmp (name_bytes key.1) (name_bytes k.1))) numbers) is.0
-    ∙ ap (λ bytes. get_by (λ (k : Key). ordering_then (nat_cmp (mark_of text) k.0) (slice_cmp nat_cmp bytes (name_bytes k.1))) numbers) is.1
+    ap (λ fingerprint. get_by (λ (k : Key). ordering_then (nat_cmp fingerprint k.0) (slice_cmp nat_cmp (name_bytes key.1) (name_bytes k.1))) numbers) is.0
+    ∙ ap (λ bytes. get_by (λ (k : Key). ordering_then (nat_cmp (fingerprint_of text) k.0) (slice_cmp nat_cmp bytes (name_bytes k.1))) numbers) is.1
 
 -- the first place in one list and then in another
 position-append : {X : Type 0} (p : X → Bool) (i j : ℕ) (xs ys : List X) → j ≡ i + length xs →

@@ -4,10 +4,10 @@ use Rattle.std.{proofs.lemmas.{List.{length_push, Elements.{All-append, All-map,
 use Rattle.{std.specs.{Prelude.if◌then◌else◌, List.{All, list_any}}, rnix_green.{proofs.NumberTests.is_above, specs.Tree.{Tree, Located, item, item_of}}}
 use Rattle.{rnix_green.specs.Walk.{spot_at, counted, nodes_in}, rnix_base.specs.Select.token_of}
 use Rattle.{rnix_green.specs.{Equality.same_kind, Relatives.parent_of}, nix_scopes.specs.{Names.Named, Binders.{is_scope, is_binder, names_bound}, Bound.bound_of}}
-use Rattle.nix_scopes.specs.{declared.{resolution.Binding.Binding, sight.Sight.Sight, environment.Environment.Environment}}
-use Rattle.nix_scopes.specs.Resolving.{IsSeen, Sees, number_by, is_in_scope, first_of, outer_by, number_in_sight, is_from_outside, resolve_at, is_set, which_are_scopes, is_scope_around}
+use Rattle.nix_scopes.specs.{declared.{resolution.Binding.Binding, symbols.SymbolTable.SymbolTable, environment.Environment.Environment}}
+use Rattle.nix_scopes.specs.Resolving.{IsSymbolTable, IsEnvironment, number_by, is_in_scope, first_of, outer_by, number_in_scope, is_from_outside, resolve_at, is_set, which_are_scopes, is_scope_around}
 use Rattle.nix_scopes.specs.Scopes.{Bound, is_with_body, resolved, bound_in, bindings_at, innermost, resolved_among}
-use Rattle.nix_scopes.proofs.{OpenLemmas.{IsBelow, counts_length}, SightLemmas.innermost_kept, ScopeLemmas.outer_found}
+use Rattle.nix_scopes.proofs.{OpenLemmas.{IsBelow, counts_length}, SymbolTableLemmas.innermost_kept, ScopeLemmas.outer_found}
 use Rattle.rnix_kinds.specs.declared.kinds.SyntaxKind.TheVariants as k
 
 -- whether there are some among those that are counted
@@ -75,7 +75,7 @@ parent_is_scope are_scopes parent outer are = ap (λ bs. is_scope_around bs pare
         sym (ap (λ b. is_binder (item_of parent).kind || (b && is_some (token_of (same_kind k.TOKEN_REC) parent))) is
         ∙ or_false (is_binder (item_of parent).kind))
 
-module _ (bindings : List Binding) (more all : List Bound) (sight : Sight) (n : ℕ) (e : Located) (text : List ℕ)
+module _ (bindings : List Binding) (more all : List Bound) (symbols : SymbolTable) (n : ℕ) (e : Located) (text : List ℕ)
     (is : all ≡ map bound_of bindings ++ more) (later : All (λ (b : Bound). n ≤ b.scope.number) more) where
   -- the innermost binding is that among all bindings
   in_all : (scopes : List Located) → All (λ (scope : Located). scope.number < n) scopes →
@@ -83,54 +83,54 @@ module _ (bindings : List Binding) (more all : List Bound) (sight : Sight) (n : 
   in_all scopes below = sym (ap (λ bs. innermost bs text scopes) is ∙ innermost_kept (map bound_of bindings) more text n scopes below later)
 
   -- a name is looked for in all scopes
-  found_in_scopes : (scopes : List Located) → IsSeen bindings sight n scopes → number_by sight.numbers text ≡ innermost all text scopes
-  found_in_scopes scopes h = h.in_sight text ∙ in_all scopes h.around
+  found_in_scopes : (scopes : List Located) → IsSymbolTable bindings symbols n scopes → number_by symbols.numbers text ≡ innermost all text scopes
+  found_in_scopes scopes h = h.names_in_scope text ∙ in_all scopes h.around
 
   -- or in those outside of the parent, if that is a scope
-  found_outside : (b : Bool) (parent : Located) (outer : List Located) → IsSeen bindings sight n (cond b (parent ∷ outer) outer) →
-      number_in_sight sight b text ≡ innermost all text outer
+  found_outside : (b : Bool) (parent : Located) (outer : List Located) → IsSymbolTable bindings symbols n (cond b (parent ∷ outer) outer) →
+      number_in_scope symbols b text ≡ innermost all text outer
   found_outside true parent outer h =
-      outer_found bindings sight n parent outer text h ∙ in_all outer (All-tail (λ (scope : Located). scope.number < n) parent outer h.around)
+      outer_found bindings symbols n parent outer text h ∙ in_all outer (All-tail (λ (scope : Located). scope.number < n) parent outer h.around)
   found_outside false parent outer h = found_in_scopes outer h
 
   -- where there is no scope, nothing is found
-  found_none : (b : Bool) → IsSeen bindings sight n [] → number_in_sight sight b text ≡ None
-  found_none true h = ap (λ owns. outer_by (first_of owns) (number_by sight.numbers text) sight.hidden.items) h.are_open ∙ h.in_sight text
-  found_none false h = h.in_sight text
+  found_none : (b : Bool) → IsSymbolTable bindings symbols n [] → number_in_scope symbols b text ≡ None
+  found_none true h = ap (λ owns. outer_by (first_of owns) (number_by symbols.numbers text) symbols.shadowed.items) h.are_open ∙ h.names_in_scope text
+  found_none false h = h.names_in_scope text
 
   -- an `inherit` looks outside of its set
   found_inherited : (env : Environment) (around : List Located) → IsBelow e around →
-      env.set_scopes.items ≡ which_are_scopes (filter is_set around) → IsSeen bindings sight n (filter is_scope around) →
-      number_in_sight sight (is_in_scope env (parent_of e)) text ≡ innermost all text (filter is_scope (drop 1 around))
+      env.set_scopes.items ≡ which_are_scopes (filter is_set around) → IsSymbolTable bindings symbols n (filter is_scope around) →
+      number_in_scope symbols (is_in_scope env (parent_of e)) text ≡ innermost all text (filter is_scope (drop 1 around))
   found_inherited env [] below sets h = found_none (is_in_scope env (parent_of e)) h
   found_inherited env (parent ∷ outer) below sets h =
-      ap (λ o. number_in_sight sight (is_in_scope env o) text) below
-      ∙ ap (λ b. number_in_sight sight b text) (parent_is_scope env.set_scopes.items parent outer sets)
+      ap (λ o. number_in_scope symbols (is_in_scope env o) text) below
+      ∙ ap (λ b. number_in_scope symbols b text) (parent_is_scope env.set_scopes.items parent outer sets)
       ∙ found_outside (is_scope parent) parent (filter is_scope outer) h
 
   -- so it is of each node that is a name or an `inherit`
   found_at_node : (env : Environment) (nodes : List Located) (b : Bool) → (b ≡ true → (is_scope e ≡ false) × (is_set e ≡ false)) →
-      IsBelow e nodes → env.set_scopes.items ≡ which_are_scopes (filter is_set (e ∷ nodes)) → IsSeen bindings sight n (filter is_scope (e ∷ nodes)) →
-      number_in_sight sight (if b then is_in_scope env (parent_of e) else false) text
+      IsBelow e nodes → env.set_scopes.items ≡ which_are_scopes (filter is_set (e ∷ nodes)) → IsSymbolTable bindings symbols n (filter is_scope (e ∷ nodes)) →
+      number_in_scope symbols (if b then is_in_scope env (parent_of e) else false) text
       ≡ innermost all text (filter is_scope (drop (if b then 2 else 0) (e ∷ nodes)))
   found_at_node env nodes true none below sets h =
       found_inherited env nodes below
       (sets ∙ ap which_are_scopes (cond-false (is_set e) (e ∷ filter is_set nodes) (filter is_set nodes) (none refl).1))
-      (subst (IsSeen bindings sight n) (cond-false (is_scope e) (e ∷ filter is_scope nodes) (filter is_scope nodes) (none refl).0) h)
+      (subst (IsSymbolTable bindings symbols n) (cond-false (is_scope e) (e ∷ filter is_scope nodes) (filter is_scope nodes) (none refl).0) h)
   found_at_node env nodes false none below sets h = found_in_scopes (filter is_scope (e ∷ nodes)) h
 
 -- what a name refers to that a node is, or has as an `inherit`
 pub seen_resolved : (root : Located) (bindings : List Binding) (more all : List Bound) (around : Environment) (n : ℕ) (e : Located)
     (nodes : List Located) (name : Named) → all ≡ map bound_of bindings ++ more → All (λ (b : Bound). n ≤ b.scope.number) more →
     (same_kind k.NODE_INHERIT (item_of e).kind ≡ true → (is_scope e ≡ false) × (is_set e ≡ false)) → IsBelow e nodes →
-    Sees root bindings around n (filter is_scope (e ∷ nodes)) (filter is_with_body (e ∷ nodes)) (filter is_set (e ∷ nodes)) →
+    IsEnvironment root bindings around n (filter is_scope (e ∷ nodes)) (filter is_with_body (e ∷ nodes)) (filter is_set (e ∷ nodes)) →
     resolve_at around e name ≡ resolved_among all (e ∷ nodes) e name
 seen_resolved root bindings more all around n e nodes name is later none below h =
     let count : length around.body_ends.items ≡ length (filter is_with_body (e ∷ nodes)) =
-    ap length h.sees_bodies ∙ counts_length root (filter is_with_body (e ∷ nodes)) in
+    ap length h.has_bodies ∙ counts_length root (filter is_with_body (e ∷ nodes)) in
     ap (λ below_with. resolved (same_kind k.NODE_INHERIT (item_of e).kind) below_with
-    (number_in_sight around.sight (is_from_outside around e) name.text) name)
+    (number_in_scope around.symbols (is_from_outside around e) name.text) name)
     (ap (λ k. not (k == 0)) count ∙ any_counted is_with_body (e ∷ nodes))
     ∙ ap (λ binding. resolved (same_kind k.NODE_INHERIT (item_of e).kind) (list_any is_with_body (e ∷ nodes)) binding name)
-    (found_at_node bindings more all around.sight n e name.text is later around nodes (same_kind k.NODE_INHERIT (item_of e).kind) none below
-    h.sees_sets.0 h.sees_scopes.0)
+    (found_at_node bindings more all around.symbols n e name.text is later around nodes (same_kind k.NODE_INHERIT (item_of e).kind) none below
+    h.has_sets.0 h.has_scopes.0)

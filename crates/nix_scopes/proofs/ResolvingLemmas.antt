@@ -5,7 +5,7 @@ use Rattle.rnix_green.specs.{Tree.{Located, item_of}, Walk.{Spot, spot_at, count
 use Rattle.{rnix_base.specs.Select.token_of, nix_scopes.specs.declared.{resolution.{Binding.Binding, Reference.Reference}, environment.Environment.Environment}}
 use Rattle.nix_scopes.specs.{Names.Named, Binders.{is_binder, is_scope}, References.{references_at, references_in}, Bound.{bound_of, resolved_of, name_of}}
 use Rattle.nix_scopes.specs.Scopes.{Bound, Resolved, bindings_at, bindings_in, around, is_with_body, resolved_among, resolved_at, resolved_in}
-use Rattle.nix_scopes.specs.Resolving.{Sees, number_by, resolve_at, last_in, still_open, is_set}
+use Rattle.nix_scopes.specs.Resolving.{IsEnvironment, number_by, resolve_at, last_in, still_open, is_set}
 use Rattle.nix_scopes.proofs.{WalkLemmas.{node_there, token_alone, taken}, OpenLemmas.{IsBelow, HoldLater, reaches, begun, past_token, past_node}}
 use Rattle.nix_scopes.proofs.{OpenLemmas.{around_is, still_open_is, parent_around}, ScopeLemmas.{seen_begun, still_seen}, ResolvedLemmas.{bound_later, seen_resolved}}
 use Rattle.rnix_tree.specs.InsideCounts.{inside_count}
@@ -20,7 +20,7 @@ pub record IsFound (root : Located) (bindings : List Binding) (references : List
   pub walk : spots ≡ map (spot_at root.tree) (counted number (suc (last_in root) - number))
   pub nodes : List Located
   pub are_open : HoldLater root number nodes
-  pub sees : Sees root bindings env number (filter is_scope nodes) (filter is_with_body nodes) (filter is_set nodes)
+  pub sees : IsEnvironment root bindings env number (filter is_scope nodes) (filter is_with_body nodes) (filter is_set nodes)
   pub bound : map bound_of bindings ++ flat_map bindings_at (nodes_in spots) ≡ bindings_in root
   pub listing : map resolved_of references ++ flat_map (resolved_at root) (nodes_in spots) ≡ resolved_in root
 
@@ -54,7 +54,7 @@ map_alike f g same (x ∷ xs) = ap (λ y. y ∷ map f xs) (same x) ∙ ap (λ ys
 -- nothing is found before the walk
 pub found_begun : (root : Located) (bindings : List Binding) (references : List Reference) (env : Environment) (remaining : ℕ) (spots : List Spot) →
     remaining ≡ inside_count root → spots ≡ elements_of root → bindings ≡ [] → references ≡ [] →
-    ((text : List ℕ) → number_by env.sight.numbers text ≡ None) → env.sight.hidden.items ≡ [] → env.sight.scopes.items ≡ [] →
+    ((text : List ℕ) → number_by env.symbols.numbers text ≡ None) → env.symbols.shadowed.items ≡ [] → env.symbols.scopes.items ≡ [] →
     env.scope_ends.items ≡ [] → env.body_ends.items ≡ [] → env.set_ends.items ≡ [] → env.set_scopes.items ≡ [] →
     IsFound root bindings references env remaining spots
 found_begun root bindings references env remaining spots count is none no_references no_numbers no_hidden no_scopes no_ends no_bodies no_sets no_set_scopes =
@@ -67,9 +67,9 @@ found_begun root bindings references env remaining spots count is none no_refere
       nodes = [];
       are_open = begun root;
       sees = record {
-        sees_scopes = (seen_begun bindings env.sight root.number none no_numbers no_hidden no_scopes, no_ends);
-        sees_bodies = no_bodies;
-        sees_sets = (no_set_scopes, no_sets);
+        has_scopes = (seen_begun bindings env.symbols root.number none no_numbers no_hidden no_scopes, no_ends);
+        has_bodies = no_bodies;
+        has_sets = (no_set_scopes, no_sets);
       };
       bound = ap (λ bs. map bound_of bs ++ flat_map bindings_at (nodes_in spots)) none ∙ ap (λ es. flat_map bindings_at (nodes_in es)) is;
       listing =
@@ -98,12 +98,12 @@ found_token root bindings references env remaining less spots later e h is one =
       nodes = h.nodes;
       are_open = past_token root h.number h.nodes none h.are_open;
       sees = record {
-        sees_scopes = (
-          still_seen bindings env.sight h.number (h.number + 1) (filter is_scope h.nodes) (omega arith) h.sees.sees_scopes.0,
-          h.sees.sees_scopes.1,
+        has_scopes = (
+          still_seen bindings env.symbols h.number (h.number + 1) (filter is_scope h.nodes) (omega arith) h.sees.has_scopes.0,
+          h.sees.has_scopes.1,
         );
-        sees_bodies = h.sees.sees_bodies;
-        sees_sets = h.sees.sees_sets;
+        has_bodies = h.sees.has_bodies;
+        has_sets = h.sees.has_sets;
       };
       bound = ap (λ es. map bound_of bindings ++ flat_map bindings_at es) (sym nodes_are) ∙ h.bound;
       listing = ap (λ es. map resolved_of references ++ flat_map (resolved_at root) es) (sym nodes_are) ∙ h.listing;
@@ -112,7 +112,7 @@ found_token root bindings references env remaining less spots later e h is one =
 -- what the names of a node are found to refer to
 here_resolved : (root : Located) (bindings : List Binding) (later : List Bound) (env : Environment) (n : ℕ) (e : Located) (nodes : List Located) →
     map bound_of bindings ++ later ≡ bindings_in root → All (λ (b : Bound). n ≤ b.scope.number) later → IsBelow e nodes → around root e ≡ e ∷ nodes →
-    Sees root bindings env n (filter is_scope (e ∷ nodes)) (filter is_with_body (e ∷ nodes)) (filter is_set (e ∷ nodes)) →
+    IsEnvironment root bindings env n (filter is_scope (e ∷ nodes)) (filter is_with_body (e ∷ nodes)) (filter is_set (e ∷ nodes)) →
     map (resolve_at env e) (references_at e) ≡ resolved_at root e
 here_resolved root bindings later env n e nodes bound high below around_is sees =
     map_alike (resolve_at env e) (resolved_among (bindings_in root) (around root e) e)
@@ -126,7 +126,7 @@ found_entered : (root : Located) (bindings more : List Binding) (references othe
     (later : List Spot) (e : Located) (nodes : List Located) → root.number ≤ n → remaining ≡ last_in root - n →
     later ≡ map (spot_at root.tree) (counted n (suc (last_in root) - n)) →
     HoldLater root n (e ∷ nodes) → IsBelow e nodes → around root e ≡ e ∷ nodes →
-    Sees root more env n (filter is_scope (e ∷ nodes)) (filter is_with_body (e ∷ nodes)) (filter is_set (e ∷ nodes)) →
+    IsEnvironment root more env n (filter is_scope (e ∷ nodes)) (filter is_with_body (e ∷ nodes)) (filter is_set (e ∷ nodes)) →
     map bound_of bindings ++ flat_map bindings_at (e ∷ nodes_in later) ≡ bindings_in root →
     map resolved_of references ++ flat_map (resolved_at root) (e ∷ nodes_in later) ≡ resolved_in root →
     map bound_of more ≡ map bound_of bindings ++ bindings_at e →
@@ -157,11 +157,12 @@ found_entered root bindings more references others env remaining n later e nodes
 -- those that have ended are left, and a node is entered
 pub found_node : (root : Located) (bindings same more : List Binding) (references others : List Reference) (env outer inner : Environment)
     (remaining less : ℕ) (spots later : List Spot) (e : Located) → IsFound root bindings references env remaining spots → spots ≡ (true, e) ∷ later →
-    less ≡ remaining - 1 → same ≡ bindings → ((root : Located) → (n : ℕ) → (scopes bodies sets : List Located) → Sees root same env n scopes bodies sets →
-    Sees root same outer n (still_open root remaining scopes) (still_open root remaining bodies) (still_open root remaining sets)) →
+    less ≡ remaining - 1 → same ≡ bindings → ((root : Located) → (n : ℕ) → (scopes bodies sets : List Located) →
+    IsEnvironment root same env n scopes bodies sets →
+    IsEnvironment root same outer n (still_open root remaining scopes) (still_open root remaining bodies) (still_open root remaining sets)) →
     ((root : Located) → (n : ℕ) → (scopes bodies sets : List Located) → n ≤ e.number → remaining ≡ last_in root - e.number →
-    Sees root bindings outer n scopes bodies sets →
-    Sees root more inner (e.number + 1) (if is_scope e then e ∷ scopes else scopes) (if is_with_body e then e ∷ bodies else bodies)
+    IsEnvironment root bindings outer n scopes bodies sets →
+    IsEnvironment root more inner (e.number + 1) (if is_scope e then e ∷ scopes else scopes) (if is_with_body e then e ∷ bodies else bodies)
     (if is_set e then e ∷ sets else sets)) →
     map bound_of more ≡ map bound_of bindings ++ bindings_at e →
     map resolved_of others ≡ map resolved_of references ++ map (resolve_at inner e) (references_at e) →
@@ -177,17 +178,19 @@ found_node root bindings same more references others env outer inner remaining l
     let around_here = around_is root h.number h.nodes h.inside h.are_open in
     let still : (p : Located → Bool) → still_open root remaining (filter p h.nodes) ≡ filter p nodes =
     λ p. still_open_is root remaining h.number h.count high p h.nodes h.are_open.nested in
-    let remaining_open : Sees root bindings outer h.number (filter is_scope nodes) (filter is_with_body nodes) (filter is_set nodes) =
-    subst (λ scopes. Sees root bindings outer h.number scopes (filter is_with_body nodes) (filter is_set nodes)) (still is_scope)
-    (subst (λ bodies. Sees root bindings outer h.number (still_open root remaining (filter is_scope h.nodes)) bodies (filter is_set nodes)) (still is_with_body)
+    let remaining_open : IsEnvironment root bindings outer h.number (filter is_scope nodes) (filter is_with_body nodes) (filter is_set nodes) =
+    subst (λ scopes. IsEnvironment root bindings outer h.number scopes (filter is_with_body nodes) (filter is_set nodes)) (still is_scope)
+    (subst (λ bodies. IsEnvironment root bindings outer h.number (still_open root remaining (filter is_scope h.nodes)) bodies (filter is_set nodes))
+    (still is_with_body)
     (subst (λ sets.
-    Sees root bindings outer h.number (still_open root remaining (filter is_scope h.nodes)) (still_open root remaining (filter is_with_body h.nodes)) sets)
+    IsEnvironment root bindings outer h.number (still_open root remaining (filter is_scope h.nodes))
+    (still_open root remaining (filter is_with_body h.nodes)) sets)
     (still is_set)
-    (subst (λ bs. Sees root bs env h.number (filter is_scope h.nodes) (filter is_with_body h.nodes) (filter is_set h.nodes) →
-    Sees root bs outer h.number (still_open root remaining (filter is_scope h.nodes)) (still_open root remaining (filter is_with_body h.nodes))
+    (subst (λ bs. IsEnvironment root bs env h.number (filter is_scope h.nodes) (filter is_with_body h.nodes) (filter is_set h.nodes) →
+    IsEnvironment root bs outer h.number (still_open root remaining (filter is_scope h.nodes)) (still_open root remaining (filter is_with_body h.nodes))
     (still_open root remaining (filter is_set h.nodes))) same_is
     (leaves root h.number (filter is_scope h.nodes) (filter is_with_body h.nodes) (filter is_set h.nodes)) h.sees))) in
-    let entered : Sees root more inner (e.number + 1) (filter is_scope (e ∷ nodes)) (filter is_with_body (e ∷ nodes)) (filter is_set (e ∷ nodes)) =
+    let entered : IsEnvironment root more inner (e.number + 1) (filter is_scope (e ∷ nodes)) (filter is_with_body (e ∷ nodes)) (filter is_set (e ∷ nodes)) =
     enters root h.number (filter is_scope nodes) (filter is_with_body nodes) (filter is_set nodes) (omega (arith, number))
     (omega (arith, number, h.count)) remaining_open in
     let listed : nodes_in spots ≡ e ∷ nodes_in later = ap nodes_in is in
@@ -198,7 +201,7 @@ found_node root bindings same more references others env outer inner remaining l
     (subst (λ xs. IsBelow (record { tree = root.tree; number = h.number }) (drop 1 xs)) around_here
     (parent_around root root.tree h.number there h.inside)))
     (subst (λ x. around root x ≡ x ∷ nodes) (sym here) around_here)
-    (subst (λ n. Sees root more inner n (filter is_scope (e ∷ nodes)) (filter is_with_body (e ∷ nodes)) (filter is_set (e ∷ nodes))) next entered)
+    (subst (λ n. IsEnvironment root more inner n (filter is_scope (e ∷ nodes)) (filter is_with_body (e ∷ nodes)) (filter is_set (e ∷ nodes))) next entered)
     (ap (λ es. map bound_of bindings ++ flat_map bindings_at es) (sym listed) ∙ h.bound)
     (ap (λ es. map resolved_of references ++ flat_map (resolved_at root) es) (sym listed) ∙ h.listing) bound referred
 

@@ -84,6 +84,6 @@ is_binder k.NODE_LEGACY_LET = true
 is_binder k.NODE_LAMBDA = true
 is_binder _ = false
 
--- whether the names that a node binds are in sight inside it
+-- whether the names that a node binds are in scope inside it
 abbrev pub is_scope : Located → Bool
 is_scope e = is_binder (item_of e).kind || is_recursive e

@@ -18,8 +18,8 @@ has_two (a ∷ b ∷ others) = true
 has_two others = false
 
 -- whether another node comes before this one among the children of its parent
-abbrev pub is_behind_node : Located → Bool
-is_behind_node e = has_two (nodes_in (siblings_of Prev e))
+abbrev pub is_after_node : Located → Bool
+is_after_node e = has_two (nodes_in (siblings_of Prev e))
 
 -- whether an identifier whose parent has the kind is an expression: names are selected, inherited and bound too; after the name of an entry
 -- of a pattern comes its default
@@ -28,7 +28,7 @@ is_value_below k.NODE_ATTRPATH e = false
 is_value_below k.NODE_INHERIT e = false
 is_value_below k.NODE_IDENT_PARAM e = false
 is_value_below k.NODE_PAT_BIND e = false
-is_value_below k.NODE_PAT_ENTRY e = is_behind_node e
+is_value_below k.NODE_PAT_ENTRY e = is_after_node e
 is_value_below _ e = true
 
 -- the same, where there is a parent

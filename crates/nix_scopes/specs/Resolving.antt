@@ -1,4 +1,4 @@
--- What is kept while a text is resolved: the numbers of the names in sight, and what the open scopes hide.
+-- What is kept while a text is resolved: the numbers of the names in scope, and what the open scopes shadow.
 use Rattle.std.specs.Prelude.{◌≡◌, ℕ, ◌+◌, ◌<◌, ◌≤◌, ◌==◌, ◌⊎◌, nat_le, nat_lt, Bool, false, not, List, [], ◌∷◌, ◌++◌, map, length, get_or, slice_get}
 use Rattle.std.specs.Prelude.{Option, Some, None, IsSome, option_map, ◌-◌, ◌*◌, if◌then◌else◌}
 use Rattle.std.specs.List.{All}
@@ -16,8 +16,8 @@ use Rattle.rnix_kinds.specs.declared.kinds.SyntaxKind.TheVariants as k
 use Rattle.rnix_green.specs.Equality.{same_kind}
 use Rattle.nix_scopes.specs.declared.name_text.NameText.{NameText}
 use Rattle.nix_scopes.specs.NameTexts.{name_bytes}
-use Rattle.nix_scopes.specs.declared.sight.Scope.{Scope}
-use Rattle.nix_scopes.specs.declared.sight.Sight.{Sight}
+use Rattle.nix_scopes.specs.declared.symbols.Scope.{Scope}
+use Rattle.nix_scopes.specs.declared.symbols.SymbolTable.{SymbolTable}
 use Rattle.nix_scopes.specs.declared.environment.Environment.{Environment}
 use Rattle.nix_scopes.specs.declared.resolution.Binding.{Binding}
 use Rattle.nix_scopes.specs.Names.{Named}
@@ -36,8 +36,8 @@ last_four text =
     from_be_bytes w32 (get_or text (end - 4) 0 ∷ get_or text (end - 3) 0 ∷ get_or text (end - 2) 0 ∷ get_or text (end - 1) 0 ∷ [])
 
 -- the number that the last and the first four bytes of a name make
-abbrev pub mark_of : List ℕ → ℕ
-mark_of text = last_four text * 4294967296 + first_four text
+abbrev pub fingerprint_of : List ℕ → ℕ
+fingerprint_of text = last_four text * 4294967296 + first_four text
 
 -- a name after its number
 abbrev pub Key : Type 0
@@ -45,11 +45,11 @@ Key = ℕ × NameText
 
 -- a key is that of a name
 abbrev pub IsKeyOf : List ℕ → Key → Type 0
-IsKeyOf text key = (key.0 ≡ mark_of text) × (name_bytes key.1 ≡ text)
+IsKeyOf text key = (key.0 ≡ fingerprint_of text) × (name_bytes key.1 ≡ text)
 
 -- the order of a name and a key
 abbrev pub compare_key : List ℕ → Key → Ordering
-compare_key text key = ordering_then (nat_cmp (mark_of text) key.0) (slice_cmp nat_cmp text (name_bytes key.1))
+compare_key text key = ordering_then (nat_cmp (fingerprint_of text) key.0) (slice_cmp nat_cmp text (name_bytes key.1))
 
 -- numbers of names
 abbrev pub Numbers : Type 0
@@ -60,69 +60,69 @@ abbrev pub number_by : Numbers → List ℕ → Option ℕ
 number_by numbers text = get_by (compare_key text) numbers
 
 -- the number that the name of a binding has outside of its scope
-abbrev pub hidden_by : List (Option ℕ) → ℕ → Option ℕ
-hidden_by hidden number = get_or hidden number None
+abbrev pub shadowed_by : List (Option ℕ) → ℕ → Option ℕ
+shadowed_by shadowed number = get_or shadowed number None
 
 -- the number of a name outside of a scope of these numbers, where it has this one inside
 abbrev pub outside_of : Option ℕ → ℕ → List (Option ℕ) → Option ℕ
-outside_of None first hidden = None
-outside_of (Some own) first hidden = if nat_le first own then hidden_by hidden own else Some own
+outside_of None first shadowed = None
+outside_of (Some own) first shadowed = if nat_le first own then shadowed_by shadowed own else Some own
 
 -- the number that a name has in a scope whose numbers begin with the first, or else this one
 abbrev pub own_of : Option ℕ → ℕ → ℕ → ℕ
 own_of None first number = number
 own_of (Some own) first number = if nat_le first own then own else number
 
--- what is hidden grows, and what it was it stays
-pub record IsLonger (hidden more : List (Option ℕ)) : Type 0 where
-  pub longer : length hidden ≤ length more
-  pub same : (number : ℕ) → number < length hidden → hidden_by more number ≡ hidden_by hidden number
+-- what is shadowed grows, and what it was it stays
+pub record IsLonger (shadowed more : List (Option ℕ)) : Type 0 where
+  pub longer : length shadowed ≤ length more
+  pub same : (number : ℕ) → number < length shadowed → shadowed_by more number ≡ shadowed_by shadowed number
 
 -- the bindings from the first to the end, exclusive, are those of a scope, and their names have these numbers outside of it
-pub record IsOpen (outer : List ℕ → Option ℕ) (bindings : List Bound) (hidden : List (Option ℕ)) (first end : ℕ) (scope : Located) : Type 0 where
-  pub bounds : (first ≤ end) × (end ≤ length bindings) × (end ≤ length hidden)
+pub record IsOpen (outer : List ℕ → Option ℕ) (bindings : List Bound) (shadowed : List (Option ℕ)) (first end : ℕ) (scope : Located) : Type 0 where
+  pub bounds : (first ≤ end) × (end ≤ length bindings) × (end ≤ length shadowed)
   pub before : (text : List ℕ) → (number : ℕ) → outer text ≡ Some number → number < first
   pub inside : (text : List ℕ) → (number : ℕ) → number_in bindings text scope ≡ Some number → (first ≤ number) × (number < end)
   pub own : (number : ℕ) → (b : Bound) → first ≤ number → number < end → slice_get bindings number ≡ Some b → b.scope.number ≡ scope.number
-  pub hides : (number : ℕ) → (b : Bound) → first ≤ number → number < end → slice_get bindings number ≡ Some b → hidden_by hidden number ≡ outer b.text
+  pub shadows : (number : ℕ) → (b : Bound) → first ≤ number → number < end → slice_get bindings number ≡ Some b → shadowed_by shadowed number ≡ outer b.text
 
--- a scope binds its names: those that it has bound are in sight, and after them the names outside of it
-pub record IsBinding (outer : List ℕ → Option ℕ) (bindings : List Bound) (numbers : Numbers) (hidden : List (Option ℕ)) (first : ℕ)
+-- a scope binds its names: those that it has bound are in scope, and after them the names outside of it
+pub record IsBinding (outer : List ℕ → Option ℕ) (bindings : List Bound) (numbers : Numbers) (shadowed : List (Option ℕ)) (first : ℕ)
     (scope : Located) : Type 0 where
-  pub in_sight : (text : List ℕ) → number_by numbers text ≡ option_or (number_in bindings text scope) (outer text)
-  pub count : length hidden ≡ length bindings
-  pub is_open : IsOpen outer bindings hidden first (length bindings) scope
+  pub names_in_scope : (text : List ℕ) → number_by numbers text ≡ option_or (number_in bindings text scope) (outer text)
+  pub count : length shadowed ≡ length bindings
+  pub is_open : IsOpen outer bindings shadowed first (length bindings) scope
 
--- the names of a scope are in sight, and hide their numbers outside of it
-pub record IsHidden (outer : List ℕ → Option ℕ) (bindings : List Bound) (numbers : Numbers) (hidden : List (Option ℕ)) (own : Scope)
+-- the names of a scope are in scope, and shadow their numbers outside of it
+pub record IsShadowed (outer : List ℕ → Option ℕ) (bindings : List Bound) (numbers : Numbers) (shadowed : List (Option ℕ)) (own : Scope)
     : Type 0 where
-  pub hides : (number : ℕ) → (b : Bound) → own.first ≤ number → number < own.end → slice_get bindings number ≡ Some b →
-      hidden_by hidden number ≡ outer b.text
-  pub in_sight : (number : ℕ) → (b : Bound) → own.first ≤ number → number < own.end → slice_get bindings number ≡ Some b →
+  pub shadows : (number : ℕ) → (b : Bound) → own.first ≤ number → number < own.end → slice_get bindings number ≡ Some b →
+      shadowed_by shadowed number ≡ outer b.text
+  pub names_in_scope : (number : ℕ) → (b : Bound) → own.first ≤ number → number < own.end → slice_get bindings number ≡ Some b →
       IsSome (number_by numbers b.text)
 
--- a name has its number outside of a scope again, or no binding from the first to the end, exclusive, hides it, and it keeps its number
-abbrev pub IsShownAgain : (List ℕ → Option ℕ) → List Bound → ℕ → ℕ → Numbers → Numbers → List ℕ → Type 0
-IsShownAgain outer bindings first end old new text =
+-- a name has its number outside of a scope again, or no binding from the first to the end, exclusive, shadows it, and it keeps its number
+abbrev pub IsRestored : (List ℕ → Option ℕ) → List Bound → ℕ → ℕ → Numbers → Numbers → List ℕ → Type 0
+IsRestored outer bindings first end old new text =
     (number_by new text ≡ outer text)
     ⊎ ((number_by new text ≡ number_by old text)
     × ((number : ℕ) → (b : Bound) → first ≤ number → number < end → slice_get bindings number ≡ Some b → bytes_eq b.text text ≡ false))
 
--- these are the bindings of the scopes, the innermost last, and each of them hides what its names are outside of it
+-- these are the bindings of the scopes, the innermost last, and each of them shadows what its names are outside of it
 abbrev pub AreOpen : List Bound → List (Option ℕ) → List Scope → List Located → Type 0
-AreOpen bindings hidden owns [] = owns ≡ []
-AreOpen bindings hidden owns (scope ∷ outer) =
+AreOpen bindings shadowed owns [] = owns ≡ []
+AreOpen bindings shadowed owns (scope ∷ outer) =
     (own : Scope) × (below : List Scope) × (owns ≡ below ++ own ∷ [])
-    × IsOpen (λ text. innermost bindings text outer) bindings hidden own.first own.end scope × AreOpen bindings hidden below outer
+    × IsOpen (λ text. innermost bindings text outer) bindings shadowed own.first own.end scope × AreOpen bindings shadowed below outer
 
--- what these scopes bind is in sight, all of which are below the number n, as are the scopes of all bindings that were found; each of these names
+-- what these scopes bind is in scope, all of which are below the number n, as are the scopes of all bindings that were found; each of these names
 -- the first of its name
-pub record IsSeen (bindings : List Binding) (sight : Sight) (n : ℕ) (scopes : List Located) : Type 0 where
+pub record IsSymbolTable (bindings : List Binding) (symbols : SymbolTable) (n : ℕ) (scopes : List Located) : Type 0 where
   pub behind : All (λ (b : Bound). b.scope.number < n) (map bound_of bindings)
   pub around : All (λ (scope : Located). scope.number < n) scopes
-  pub count : length sight.hidden.items ≡ length bindings
-  pub in_sight : (text : List ℕ) → number_by sight.numbers text ≡ innermost (map bound_of bindings) text scopes
-  pub are_open : AreOpen (map bound_of bindings) sight.hidden.items sight.scopes.items scopes
+  pub count : length symbols.shadowed.items ≡ length bindings
+  pub names_in_scope : (text : List ℕ) → number_by symbols.numbers text ≡ innermost (map bound_of bindings) text scopes
+  pub are_open : AreOpen (map bound_of bindings) symbols.shadowed.items symbols.scopes.items scopes
   pub firsts : AreFirst bindings
 
 -- the number of the last element inside an element, or its own
@@ -152,9 +152,9 @@ abbrev pub still_open : Located → ℕ → List Located → List Located
 still_open root remaining [] = []
 still_open root remaining (e ∷ es) = if nat_lt remaining (count_behind root e) then still_open root remaining es else e ∷ es
 
--- what these scopes bind is in sight, and these are their ends
-abbrev pub SeesScopes : Located → List Binding → Sight → List ℕ → ℕ → List Located → Type 0
-SeesScopes root bindings sight ends n scopes = IsSeen bindings sight n scopes × (ends ≡ counts_behind root scopes)
+-- what these scopes bind is in scope, and these are their ends
+abbrev pub HasScopes : Located → List Binding → SymbolTable → List ℕ → ℕ → List Located → Type 0
+HasScopes root bindings symbols ends n scopes = IsSymbolTable bindings symbols n scopes × (ends ≡ counts_behind root scopes)
 
 -- whether a node is an attribute set
 abbrev pub is_set : Located → Bool
@@ -166,21 +166,21 @@ which_are_scopes [] = []
 which_are_scopes (e ∷ es) = which_are_scopes es ++ is_scope e ∷ []
 
 -- these are the ends of these attribute sets, and which of them are scopes
-abbrev pub SeesSets : Located → List ℕ → List Bool → List Located → Type 0
-SeesSets root ends are_scopes sets = (are_scopes ≡ which_are_scopes sets) × (ends ≡ counts_behind root sets)
+abbrev pub HasSets : Located → List ℕ → List Bool → List Located → Type 0
+HasSets root ends are_scopes sets = (are_scopes ≡ which_are_scopes sets) × (ends ≡ counts_behind root sets)
 
 -- what is known of what is around the place where these scopes, these bodies of `with` and these attribute sets are open
-pub record Sees (root : Located) (bindings : List Binding) (around : Environment) (n : ℕ) (scopes bodies sets : List Located) : Type 0 where
-  pub sees_scopes : SeesScopes root bindings around.sight around.scope_ends.items n scopes
-  pub sees_bodies : around.body_ends.items ≡ counts_behind root bodies
-  pub sees_sets : SeesSets root around.set_ends.items around.set_scopes.items sets
+pub record IsEnvironment (root : Located) (bindings : List Binding) (around : Environment) (n : ℕ) (scopes bodies sets : List Located) : Type 0 where
+  pub has_scopes : HasScopes root bindings around.symbols around.scope_ends.items n scopes
+  pub has_bodies : around.body_ends.items ≡ counts_behind root bodies
+  pub has_sets : HasSets root around.set_ends.items around.set_scopes.items sets
 
 -- after the scopes, bodies of `with` and attribute sets are left that end before an element, after which come so many more, what is known is of those
 -- that are still open
 abbrev pub LeavesEnded : ℕ → List Binding → Environment → Environment → Type 0
 LeavesEnded remaining bindings old new =
-    (root : Located) → (n : ℕ) → (scopes bodies sets : List Located) → Sees root bindings old n scopes bodies sets →
-    Sees root bindings new n (still_open root remaining scopes) (still_open root remaining bodies) (still_open root remaining sets)
+    (root : Located) → (n : ℕ) → (scopes bodies sets : List Located) → IsEnvironment root bindings old n scopes bodies sets →
+    IsEnvironment root bindings new n (still_open root remaining scopes) (still_open root remaining bodies) (still_open root remaining sets)
 
 -- the number of the first binding of the last of these scopes
 abbrev pub first_of : List Scope → Option ℕ
@@ -188,12 +188,12 @@ first_of owns = option_map (λ own. own.first) (slice_get owns (length owns - 1)
 
 -- the number of a name outside of the innermost scope, if there is one
 abbrev pub outer_by : Option ℕ → Option ℕ → List (Option ℕ) → Option ℕ
-outer_by None number hidden = number
-outer_by (Some first) number hidden = outside_of number first hidden
+outer_by None number shadowed = number
+outer_by (Some first) number shadowed = outside_of number first shadowed
 
 -- the number of a name outside of the innermost scope
-abbrev pub outer_number : Sight → List ℕ → Option ℕ
-outer_number sight text = outer_by (first_of sight.scopes.items) (number_by sight.numbers text) sight.hidden.items
+abbrev pub outer_number : SymbolTable → List ℕ → Option ℕ
+outer_number symbols text = outer_by (first_of symbols.scopes.items) (number_by symbols.numbers text) symbols.shadowed.items
 
 -- whether a node is a scope, where the last of these says whether the innermost attribute set is one
 abbrev pub is_scope_around : List Bool → Located → Bool
@@ -205,8 +205,8 @@ is_in_scope around None = false
 is_in_scope around (Some parent) = is_scope_around around.set_scopes.items parent
 
 -- the number of a name, outside of the innermost scope or in all scopes
-abbrev pub number_in_sight : Sight → Bool → List ℕ → Option ℕ
-number_in_sight sight is_outer text = if is_outer then outer_number sight text else number_by sight.numbers text
+abbrev pub number_in_scope : SymbolTable → Bool → List ℕ → Option ℕ
+number_in_scope symbols is_outer text = if is_outer then outer_number symbols text else number_by symbols.numbers text
 
 -- a name that refers to the binding of a number, or has none
 abbrev pub referring : Environment → Option ℕ → Bool → Named → Resolved
@@ -214,7 +214,7 @@ referring around binding is_inherited name = resolved is_inherited (not (length 
 
 -- what a name refers to, outside of the innermost scope or in all scopes
 abbrev pub resolve_name : Environment → Bool → Bool → Named → Resolved
-resolve_name around is_outer is_inherited name = referring around (number_in_sight around.sight is_outer name.text) is_inherited name
+resolve_name around is_outer is_inherited name = referring around (number_in_scope around.symbols is_outer name.text) is_inherited name
 
 -- whether names of a node are looked for outside of the innermost scope: an `inherit` takes them from around its set or `let`
 abbrev pub is_from_outside : Environment → Located → Bool

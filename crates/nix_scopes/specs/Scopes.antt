@@ -10,7 +10,7 @@ use Rattle.rnix_green.specs.Walk.{nodes_in, elements_of, ancestors_of}
 use Rattle.rnix_green.specs.Relatives.{parent_of}
 use Rattle.nix_scopes.specs.Names.{Named}
 use Rattle.nix_scopes.specs.Binders.{names_bound, is_scope}
-use Rattle.nix_scopes.specs.References.{is_behind_node, references_at}
+use Rattle.nix_scopes.specs.References.{is_after_node, references_at}
 
 -- a name that a scope binds, and the node that writes it
 pub record Bound : Type 0 where
@@ -54,7 +54,7 @@ innermost bindings text (scope ∷ outer) = option_or (number_in bindings text s
 -- whether a node is the body of a `with`, if this is its parent
 abbrev pub is_body_below : Option Located → Located → Bool
 is_body_below None e = false
-is_body_below (Some parent) e = same_kind k.NODE_WITH (item_of parent).kind && is_behind_node e
+is_body_below (Some parent) e = same_kind k.NODE_WITH (item_of parent).kind && is_after_node e
 
 -- whether a node is the body of a `with`
 abbrev pub is_with_body : Located → Bool

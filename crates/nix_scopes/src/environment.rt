@@ -5,12 +5,12 @@ ghost use Rattle.rnix_green.specs.Tree.{Located};
 ghost use Rattle.nix_scopes.specs.Binders.{is_scope};
 ghost use Rattle.nix_scopes.specs.Scopes.{is_with_body, bindings_at};
 ghost use Rattle.nix_scopes.specs.Bound.{bound_of};
-ghost use Rattle.nix_scopes.specs.Resolving.{number_by, last_in, counts_behind, has_ended, still_open, is_set, is_scope_around, SeesScopes, SeesSets, Sees, LeavesEnded};
+ghost use Rattle.nix_scopes.specs.Resolving.{number_by, last_in, counts_behind, has_ended, still_open, is_set, is_scope_around, HasScopes, HasSets, IsEnvironment, LeavesEnded};
 
 use crate::name_roles::is_with_body;
 use crate::resolution::Binding;
 use crate::scopes::{is_binder, is_scope};
-use crate::sight::Sight;
+use crate::symbols::SymbolTable;
 use rnix::{SyntaxKind, SyntaxNode};
 use std::alloc::{AllocError, Global};
 
@@ -18,7 +18,7 @@ use std::alloc::{AllocError, Global};
 /// is given as the number of elements that the walk has after it.
 #[derive(Drop)]
 pub struct Environment<'t> {
-    pub sight: Sight<'t>,
+    pub symbols: SymbolTable<'t>,
     pub scope_ends: Vec<usize>,
     pub body_ends: Vec<usize>,
     pub set_ends: Vec<usize>,
@@ -42,19 +42,19 @@ fn enter_scope<'t>(
     node: &SyntaxNode<'t>,
     binds: bool,
     remaining: usize,
-    sight: &mut Sight<'t>,
+    symbols: &mut SymbolTable<'t>,
     ends: &mut Vec<usize>,
     bindings: &mut Vec<Binding<'t>>,
 ) -> Result<(), AllocError>
     requires { binds ≡ is_scope node.now }
     ensures sees { OnOk result ((root : Located) → (n : ℕ) → (scopes : List Located) → n ≤ node.now.number → remaining ≡ last_in root - node.now.number →
-        SeesScopes root bindings.old.items sight.old ends.old.items n scopes →
-        SeesScopes root bindings.new.items sight.new ends.new.items (node.now.number + 1)
+        HasScopes root bindings.old.items symbols.old ends.old.items n scopes →
+        HasScopes root bindings.new.items symbols.new ends.new.items (node.now.number + 1)
         (if is_scope node.now then node.now ∷ scopes else scopes)) }
     ensures bindings { OnOk result (map bound_of bindings.new.items ≡ map bound_of bindings.old.items ++ bindings_at node.now) }
 {
     if binds {
-        sight.enter(alloc, node, bindings)?;
+        symbols.enter(alloc, node, bindings)?;
         ends.push(remaining.saturating_sub(node.inside_count()))?;
     }
     Ok(())
@@ -86,8 +86,8 @@ fn enter_set(
 ) -> Result<(), AllocError>
     requires { binds ≡ is_scope node.now }
     ensures { OnOk result ((root : Located) → (sets : List Located) → remaining ≡ last_in root - node.now.number →
-        SeesSets root ends.old.items scopes.old.items sets →
-        SeesSets root ends.new.items scopes.new.items (if is_set node.now then node.now ∷ sets else sets)) }
+        HasSets root ends.old.items scopes.old.items sets →
+        HasSets root ends.new.items scopes.new.items (if is_set node.now then node.now ∷ sets else sets)) }
 {
     if node.kind() == SyntaxKind::NODE_ATTR_SET {
         ends.push(remaining.saturating_sub(node.inside_count()))?;
@@ -99,17 +99,17 @@ fn enter_set(
 // Leaves the scopes that end before an element, after which the walk has `remaining` more.
 fn leave_scopes<'t>(
     remaining: usize,
-    sight: &mut Sight<'t>,
+    symbols: &mut SymbolTable<'t>,
     ends: &mut Vec<usize>,
     bindings: &[Binding<'t>],
 ) -> Result<(), AllocError>
     ensures { OnOk result ((root : Located) → (n : ℕ) → (scopes : List Located) →
-        SeesScopes root bindings.now sight.old ends.old.items n scopes →
-        SeesScopes root bindings.now sight.new ends.new.items n (still_open root remaining scopes)) }
+        HasScopes root bindings.now symbols.old ends.old.items n scopes →
+        HasScopes root bindings.now symbols.new ends.new.items n (still_open root remaining scopes)) }
 {
     while has_ended(ends, remaining) {
         let _end = ends.pop();
-        sight.leave(bindings)?;
+        symbols.leave(bindings)?;
     }
     Ok(())
 }
@@ -126,8 +126,8 @@ fn leave_bodies(remaining: usize, ends: &mut Vec<usize>)
 
 // Leaves the attribute sets that end before an element, after which the walk has `remaining` more.
 fn leave_sets(remaining: usize, ends: &mut Vec<usize>, scopes: &mut Vec<bool>)
-    ensures { (root : Located) → (sets : List Located) → SeesSets root ends.old.items scopes.old.items sets →
-        SeesSets root ends.new.items scopes.new.items (still_open root remaining sets) }
+    ensures { (root : Located) → (sets : List Located) → HasSets root ends.old.items scopes.old.items sets →
+        HasSets root ends.new.items scopes.new.items (still_open root remaining sets) }
 {
     while has_ended(ends, remaining) {
         let _end = ends.pop();
@@ -138,16 +138,16 @@ fn leave_sets(remaining: usize, ends: &mut Vec<usize>, scopes: &mut Vec<bool>)
 impl<'t> Environment<'t> {
     /// Returns the surroundings of a root.
     pub fn new(alloc: Global) -> Self
-        ensures numbers { (text : List ℕ) → number_by result.sight.numbers text ≡ None }
-        ensures hidden { result.sight.hidden.items ≡ [] }
-        ensures scopes { result.sight.scopes.items ≡ [] }
+        ensures numbers { (text : List ℕ) → number_by result.symbols.numbers text ≡ None }
+        ensures shadowed { result.symbols.shadowed.items ≡ [] }
+        ensures scopes { result.symbols.scopes.items ≡ [] }
         ensures scope_ends { result.scope_ends.items ≡ [] }
         ensures body_ends { result.body_ends.items ≡ [] }
         ensures set_ends { result.set_ends.items ≡ [] }
         ensures set_scopes { result.set_scopes.items ≡ [] }
     {
         Environment {
-            sight: Sight::new(alloc),
+            symbols: SymbolTable::new(alloc),
             scope_ends: Vec::new(alloc),
             body_ends: Vec::new(alloc),
             set_ends: Vec::new(alloc),
@@ -164,8 +164,8 @@ impl<'t> Environment<'t> {
         bindings: &mut Vec<Binding<'t>>,
     ) -> Result<(), AllocError>
         ensures sees { OnOk result ((root : Located) → (n : ℕ) → (scopes bodies sets : List Located) → n ≤ node.now.number →
-            remaining ≡ last_in root - node.now.number → Sees root bindings.old.items self.old n scopes bodies sets →
-            Sees root bindings.new.items self.new (node.now.number + 1) (if is_scope node.now then node.now ∷ scopes else scopes)
+            remaining ≡ last_in root - node.now.number → IsEnvironment root bindings.old.items self.old n scopes bodies sets →
+            IsEnvironment root bindings.new.items self.new (node.now.number + 1) (if is_scope node.now then node.now ∷ scopes else scopes)
             (if is_with_body node.now then node.now ∷ bodies else bodies) (if is_set node.now then node.now ∷ sets else sets)) }
         ensures bindings { OnOk result (map bound_of bindings.new.items ≡ map bound_of bindings.old.items ++ bindings_at node.now) }
     {
@@ -175,7 +175,7 @@ impl<'t> Environment<'t> {
             node,
             binds,
             remaining,
-            &mut self.sight,
+            &mut self.symbols,
             &mut self.scope_ends,
             bindings,
         )?;
@@ -198,7 +198,7 @@ impl<'t> Environment<'t> {
     ) -> Result<(), AllocError>
         ensures { OnOk result (LeavesEnded remaining bindings.now self.old self.new) }
     {
-        leave_scopes(remaining, &mut self.sight, &mut self.scope_ends, bindings)?;
+        leave_scopes(remaining, &mut self.symbols, &mut self.scope_ends, bindings)?;
         leave_bodies(remaining, &mut self.body_ends);
         leave_sets(remaining, &mut self.set_ends, &mut self.set_scopes);
         Ok(())

@@ -10,7 +10,7 @@ mod renaming;
 mod resolution;
 mod resolving;
 mod scopes;
-mod sight;
+mod symbols;
 
 pub use occurrences::name_at;
 pub use resolution::{Binding, Reference, Resolution};

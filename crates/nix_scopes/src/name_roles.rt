@@ -1,14 +1,14 @@
 //! Names that are expressions, and nodes that are bodies of `with`.
 
 ghost use Rattle.std.specs.Prelude.{◌≡◌};
-ghost use Rattle.nix_scopes.specs.References.{is_behind_node, is_value_below, is_expression};
+ghost use Rattle.nix_scopes.specs.References.{is_after_node, is_value_below, is_expression};
 ghost use Rattle.nix_scopes.specs.Scopes.{is_with_body};
 
 use rnix::{Direction, SyntaxKind, SyntaxNode};
 
 // Returns whether another node comes before this one in its parent.
-fn is_behind_node(node: &SyntaxNode<'_>) -> bool
-    ensures { result ≡ is_behind_node node.now }
+fn is_after_node(node: &SyntaxNode<'_>) -> bool
+    ensures { result ≡ is_after_node node.now }
 {
     let mut nodes = node.siblings(Direction::Prev);
     let _itself = nodes.next();
@@ -24,7 +24,7 @@ fn is_value_below(parent: SyntaxKind, node: &SyntaxNode<'_>) -> bool
         | SyntaxKind::NODE_INHERIT
         | SyntaxKind::NODE_IDENT_PARAM
         | SyntaxKind::NODE_PAT_BIND => false,
-        SyntaxKind::NODE_PAT_ENTRY => is_behind_node(node),
+        SyntaxKind::NODE_PAT_ENTRY => is_after_node(node),
         _ => true,
     }
 }
@@ -46,5 +46,5 @@ pub fn is_with_body(node: &SyntaxNode<'_>) -> bool
     let Some(parent) = node.parent() else {
         return false;
     };
-    parent.kind() == SyntaxKind::NODE_WITH && is_behind_node(node)
+    parent.kind() == SyntaxKind::NODE_WITH && is_after_node(node)
 }

@@ -15,8 +15,8 @@ use std::cmp::Ordering;
 /// The text of a name, smaller than a `CowStr`: a part of the resolved text, or, for few names, a text that was allocated.
 #[derive(Drop)]
 pub enum NameText<'t> {
-    Part(&'t str),
-    Made(Box<String>),
+    Borrowed(&'t str),
+    Owned(Box<String>),
 }
 
 // Returns an allocated text.
@@ -24,7 +24,7 @@ pub enum NameText<'t> {
 fn made<'t>(text: &String) -> Result<NameText<'t>, AllocError>
     ensures { IfOk result (λ copy. name_bytes copy ≡ string_bytes text.now) }
 {
-    Ok(NameText::Made(Box::new(*text.allocator(), text.clone()?)?))
+    Ok(NameText::Owned(Box::new(*text.allocator(), text.clone()?)?))
 }
 
 impl<'t> NameText<'t> {
@@ -34,7 +34,7 @@ impl<'t> NameText<'t> {
         ensures { IfOk result (λ copy. name_bytes copy ≡ cow_str_bytes text.now) }
     {
         match text {
-            CowStr::Borrowed(part) => Ok(NameText::Part(*part)),
+            CowStr::Borrowed(part) => Ok(NameText::Borrowed(*part)),
             CowStr::Owned(text) => made(text),
         }
     }
@@ -44,8 +44,8 @@ impl<'t> NameText<'t> {
         ensures { result.now ≡ name_bytes self.now }
     {
         match self {
-            NameText::Part(part) => *part,
-            NameText::Made(text) => text.as_str(),
+            NameText::Borrowed(part) => *part,
+            NameText::Owned(text) => text.as_str(),
         }
     }
 }

@@ -10,13 +10,13 @@ ghost use Rattle.nix_scopes.specs.Names.{named_if};
 ghost use Rattle.nix_scopes.specs.Binders.{named};
 ghost use Rattle.nix_scopes.specs.References.{inherited_at, references_at, references_in};
 ghost use Rattle.nix_scopes.specs.Scopes.{bindings_in, resolved_in};
-ghost use Rattle.nix_scopes.specs.Resolving.{is_in_scope, number_in_sight, referring, resolve_name, resolve_at};
+ghost use Rattle.nix_scopes.specs.Resolving.{is_in_scope, number_in_scope, referring, resolve_name, resolve_at};
 
 use crate::environment::Environment;
 use crate::name_roles::is_expression;
 use crate::names::{Name, attr_name};
 use crate::resolution::{Reference, Resolution};
-use crate::sight::Sight;
+use crate::symbols::SymbolTable;
 use rnix::ast::{AstNode, Attr, Inherit};
 use rnix::{NodeOrToken, SyntaxNode};
 use std::alloc::{AllocError, Global};
@@ -57,7 +57,7 @@ fn add_inherited<'t>(
 {
     match attr_name(alloc, attr)? {
         Some(text) => {
-            let binding = number_of(&around.sight, in_scope, &text)?;
+            let binding = number_of(&around.symbols, in_scope, &text)?;
             let node = attr.syntax().clone();
             add_reference(around, binding, true, Name { text, node }, references)
         }
@@ -67,15 +67,15 @@ fn add_inherited<'t>(
 
 // Returns the number of a name's binding, in all scopes or outside the innermost one.
 fn number_of<'t>(
-    sight: &Sight<'t>,
+    symbols: &SymbolTable<'t>,
     is_outer: bool,
     text: &CowStr<'t>,
 ) -> Result<Option<usize>, AllocError>
-    ensures { IfOk result (λ number. number ≡ number_in_sight sight.now is_outer (cow_str_bytes text.now)) }
+    ensures { IfOk result (λ number. number ≡ number_in_scope symbols.now is_outer (cow_str_bytes text.now)) }
 {
-    let number = sight.number_of(text)?;
+    let number = symbols.number_of(text)?;
     if is_outer {
-        Ok(sight.outer_number(number))
+        Ok(symbols.outer_number(number))
     } else {
         Ok(number)
     }
@@ -123,7 +123,7 @@ fn add_references<'t>(
 {
     if is_expression(&node) {
         let text = node.text();
-        let binding = around.sight.number(text);
+        let binding = around.symbols.number(text);
         let text = CowStr::Borrowed(text);
         return add_reference(around, binding, false, Name { text, node }, references);
     }

@@ -5,7 +5,8 @@ mod json;
 
 use json::write_json;
 use nix_cli::{
-    Arguments, FAILED, FOUND, Inputs, Program, Start, end, find_inputs, read_arguments, shown_name,
+    Arguments, FAILED, FOUND, Inputs, Program, Start, display_name, end, find_inputs,
+    read_arguments,
 };
 use rnix_print::{RunError, run, status};
 use std::alloc::Global;
@@ -55,11 +56,11 @@ fn print_file<W: Write>(
         return Ok(FAILED);
     };
     if is_json {
-        let is_good = write_json(rt.alloc(), shown_name(name), text.as_str(), out)?;
+        let is_good = write_json(rt.alloc(), display_name(name), text.as_str(), out)?;
         return Ok(if is_good { 0 } else { FOUND });
     }
     if let Some(before) = heading {
-        writeln!(out, "{before}==> {} <==", shown_name(name))?;
+        writeln!(out, "{before}==> {} <==", display_name(name))?;
     }
     print_text(rt.alloc(), text.as_str(), out)
 }

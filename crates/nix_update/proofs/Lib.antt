@@ -1,7 +1,7 @@
 pub mod WordLemmas
 pub mod CollectedLists
-pub mod WayLemmas
+pub mod PathStepLemmas
 pub mod SameNamesLemmas
 pub mod PathLemmas
-pub mod UnmadeLemmas
+pub mod UndefinedLemmas
 pub mod UpdatedLemmas

@@ -4,7 +4,7 @@ use Rattle.std.proofs.lemmas.{Bool.{cond-true, cond-false}, List.drop_more, Opti
 use Rattle.std.specs.{Prelude.{filter, slice_get}, List.AllZip}
 
 -- what is left of both from these numbers on is alike just if all is
-pub record GoOnAlike {A B : Type 0} (R : A → B → Type 0) (p : A → Bool) (xs : List A) (ys : List B) (n m : ℕ) : Type 0 where
+pub record RestDecides {A B : Type 0} (R : A → B → Type 0) (p : A → Bool) (xs : List A) (ys : List B) (n m : ℕ) : Type 0 where
   pub there : AllZip R (filter p (drop n xs)) (drop m ys) → AllZip R (filter p xs) ys
   pub back : AllZip R (filter p xs) ys → AllZip R (filter p (drop n xs)) (drop m ys)
 
@@ -24,12 +24,12 @@ none_remaining (y ∷ xs) zero is = absurd (none-some y (sym is))
 none_remaining (y ∷ xs) (suc n) is = none_remaining xs n is
 
 module _ {A B : Type 0} (R : A → B → Type 0) (p : A → Bool) (xs : List A) (ys : List B) (n m : ℕ) (x : A) (there : n < length xs)
-    (is : x ≡ get_or xs n x) (h : GoOnAlike R p xs ys n m) where
+    (is : x ≡ get_or xs n x) (h : RestDecides R p xs ys n m) where
   remaining : drop n xs ≡ x ∷ drop (n + 1) xs
   remaining = remaining_from xs n x there is
 
   -- the element is left out
-  pub one_left_out : p x ≡ false → GoOnAlike R p xs ys (n + 1) m
+  pub one_left_out : p x ≡ false → RestDecides R p xs ys (n + 1) m
   one_left_out fails =
       let same : filter p (drop n xs) ≡ filter p (drop (n + 1) xs) =
       ap (filter p) remaining ∙ cond-false (p x) (x ∷ filter p (drop (n + 1) xs)) (filter p (drop (n + 1) xs)) fails in
@@ -42,7 +42,7 @@ module _ {A B : Type 0} (R : A → B → Type 0) (p : A → Bool) (xs : List A) 
   kept passes = ap (filter p) remaining ∙ cond-true (p x) (x ∷ filter p (drop (n + 1) xs)) (filter p (drop (n + 1) xs)) passes
 
   -- the element is alike
-  pub one_alike : (y : B) → p x ≡ true → slice_get ys m ≡ Some y → R x y → GoOnAlike R p xs ys (n + 1) (m + 1)
+  pub one_alike : (y : B) → p x ≡ true → slice_get ys m ≡ Some y → R x y → RestDecides R p xs ys (n + 1) (m + 1)
   one_alike y passes at alike = record {
     there = λ all. h.there (subst (λ zs. AllZip R zs (drop m ys)) (sym (kept passes))
         (subst (λ zs. AllZip R (x ∷ filter p (drop (n + 1) xs)) zs) (sym (remaining_from_some ys m y at)) (alike, all)));
@@ -52,8 +52,8 @@ module _ {A B : Type 0} (R : A → B → Type 0) (p : A → Bool) (xs : List A) 
 
   -- the element is not alike
   pub one_unlike : (y : B) → p x ≡ true → slice_get ys m ≡ Some y → ¬ R x y → ¬ AllZip R (filter p xs) ys
-  one_unlike y passes at unlike = λ all.
-      unlike (subst (λ zs. AllZip R (x ∷ filter p (drop (n + 1) xs)) zs) (remaining_from_some ys m y at)
+  one_unlike y passes at difference = λ all.
+      difference (subst (λ zs. AllZip R (x ∷ filter p (drop (n + 1) xs)) zs) (remaining_from_some ys m y at)
       (subst (λ zs. AllZip R zs (drop m ys)) (kept passes) (h.back all))).0
 
   -- nothing is left of the other list
@@ -64,7 +64,7 @@ module _ {A B : Type 0} (R : A → B → Type 0) (p : A → Bool) (xs : List A) 
 
 -- nothing is left of the first list
 module _ {A B : Type 0} (R : A → B → Type 0) (p : A → Bool) (xs : List A) (ys : List B) (n m : ℕ) (past : length xs ≤ n)
-    (h : GoOnAlike R p xs ys n m) where
+    (h : RestDecides R p xs ys n m) where
   ended : {X : Type 0} (xs : List X) (n : ℕ) → length xs ≤ n → drop n xs ≡ []
   ended [] zero l = refl
   ended [] (suc n) l = refl

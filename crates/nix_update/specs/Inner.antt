@@ -12,25 +12,25 @@ use Rattle.rnix_base.specs.Select.{child_of, tokens_in}
 use Rattle.rnix.specs.NodeKinds.{is_expr}
 
 -- whether an operand of `//` of this kind may be the one that is meant: a set, or another operation
-abbrev pub is_meant : SyntaxKind → Bool
-is_meant k.NODE_ATTR_SET = true
-is_meant k.NODE_BIN_OP = true
-is_meant _ = false
+abbrev pub is_candidate : SyntaxKind → Bool
+is_candidate k.NODE_ATTR_SET = true
+is_candidate k.NODE_BIN_OP = true
+is_candidate _ = false
 
 -- the one of two operands that may be meant, if the other one may not
-abbrev pub one_of : Located → Located → Option Located
-one_of left right =
-    if is_meant (item_of left).kind then (if is_meant (item_of right).kind then None else Some left)
-    else (if is_meant (item_of right).kind then Some right else None)
+abbrev pub only_candidate : Located → Located → Option Located
+only_candidate left right =
+    if is_candidate (item_of left).kind then (if is_candidate (item_of right).kind then None else Some left)
+    else (if is_candidate (item_of right).kind then Some right else None)
 
 -- the same, where both are there
-abbrev pub one_if : Option Located → Option Located → Option Located
-one_if (Some left) (Some right) = one_of left right
-one_if _ _ = None
+abbrev pub only_candidate_if : Option Located → Option Located → Option Located
+only_candidate_if (Some left) (Some right) = only_candidate left right
+only_candidate_if _ _ = None
 
 -- the operand that is meant of a node with an operator: `//` alone has one
 abbrev pub operand_by : Option BinOpKind → Located → Option Located
-operand_by (Some op.Update) e = one_if (child_of is_expr 0 e) (child_of is_expr 1 e)
+operand_by (Some op.Update) e = only_candidate_if (child_of is_expr 0 e) (child_of is_expr 1 e)
 operand_by _ e = None
 
 -- the operand that is meant of a node, if it is an operation

@@ -2,7 +2,7 @@ pub mod Words
 pub mod NewValue
 pub mod Path
 pub mod Inner
-pub mod Meetings
-pub mod Ways
+pub mod PathMatches
+pub mod PathSteps
 pub mod SameNames
 pub mod Updated

@@ -10,8 +10,8 @@ use Rattle.nix_scopes.specs.Bound.{bindings_of, references_of}
 use Rattle.nix_update.specs.declared.meaning.Change.{Change}
 
 -- where an offset of the longer text is in the shorter one, if it is not in the entry
-abbrev pub moved : Change → ℕ → Option ℕ
-moved change offset =
+abbrev pub shifted : Change → ℕ → Option ℕ
+shifted change offset =
     if nat_lt offset change.start then Some offset
     else (if nat_lt offset change.end then None
     else (if nat_le change.by offset then Some (offset - change.by) else None))
@@ -30,18 +30,19 @@ binding_at names None = None
 binding_at names (Some number) = slice_get (bindings_of names) number
 
 -- two bindings, one of each text, are in the same scope; or there are none
-abbrev pub AreInOneScope : Change → Option Binding → Option Binding → Type 0
-AreInOneScope change (Some longer) (Some shorter) = moved change (start_of longer.scope) ≡ Some (start_of shorter.scope)
-AreInOneScope change None None = Unit {0}
-AreInOneScope change _ _ = ⊥
+abbrev pub AreInSameScope : Change → Option Binding → Option Binding → Type 0
+AreInSameScope change (Some longer) (Some shorter) = shifted change (start_of longer.scope) ≡ Some (start_of shorter.scope)
+AreInSameScope change None None = Unit {0}
+AreInSameScope change _ _ = ⊥
 
 -- a reference is the same one in the shorter text: its name is bound in the same scope, or by nothing in the text
-pub record RefersAlike (change : Change) (longer shorter : Resolution) (reference other : Reference) : Type 0 where
+pub record IsSameReference (change : Change) (longer shorter : Resolution) (reference other : Reference) : Type 0 where
   pub text : cow_str_bytes reference.text ≡ cow_str_bytes other.text
   pub is_inherited : reference.is_inherited ≡ other.is_inherited
   pub is_open : reference.is_open ≡ other.is_open
-  pub scope : AreInOneScope change (binding_at longer reference.binding) (binding_at shorter other.binding)
+  pub scope : AreInSameScope change (binding_at longer reference.binding) (binding_at shorter other.binding)
 
 -- the references outside of the entry are those of the shorter text, one for one, and each means the same
-abbrev pub MeanAlike : Change → Resolution → Resolution → Type 0
-MeanAlike change longer shorter = AllZip (RefersAlike change longer shorter) (filter (is_outside change) (references_of longer)) (references_of shorter)
+abbrev pub HaveSameMeaning : Change → Resolution → Resolution → Type 0
+HaveSameMeaning change longer shorter =
+    AllZip (IsSameReference change longer shorter) (filter (is_outside change) (references_of longer)) (references_of shorter)

@@ -14,9 +14,9 @@ use Rattle.rnix_edit.specs.Edited.{root_in, IsRemoved, IsInsertedAfter, IsInsert
 use Rattle.nix_scopes.specs.declared.resolution.Resolution.{Resolution}
 use Rattle.nix_scopes.specs.Alike.{IsResolution}
 use Rattle.nix_update.specs.declared.meaning.Change.{Change}
-use Rattle.nix_update.specs.declared.meeting.Meeting.TheVariants as meets
-use Rattle.nix_update.specs.declared.makers.Maker.{Maker}
-use Rattle.nix_update.specs.declared.ways.Way.{Way}
+use Rattle.nix_update.specs.declared.path_match.PathMatch.TheVariants as matches
+use Rattle.nix_update.specs.declared.definitions.Definition.{Definition}
+use Rattle.nix_update.specs.declared.steps.PathStep.{PathStep}
 use Rattle.nix_update.specs.declared.value.Form.{Form}
 use Rattle.nix_update.specs.declared.outcome.Attempt.{Attempt}
 use Rattle.nix_update.specs.declared.outcome.Attempt.TheVariants as attempt
@@ -26,10 +26,10 @@ use Rattle.nix_update.specs.declared.request.Action.{Action}
 use Rattle.nix_update.specs.declared.request.Action.TheVariants as action
 use Rattle.nix_update.specs.declared.request.Update.{Update}
 use Rattle.nix_update.specs.NewValue.{IsValueOf, IsSetTo}
-use Rattle.nix_update.specs.Meetings.{is_removable}
+use Rattle.nix_update.specs.PathMatches.{is_removable}
 use Rattle.nix_update.specs.Path.{IsPath}
-use Rattle.nix_update.specs.Ways.{AreWays, makers_in}
-use Rattle.nix_update.specs.SameNames.{MeanAlike}
+use Rattle.nix_update.specs.PathSteps.{ArePathSteps, definitions_in}
+use Rattle.nix_update.specs.SameNames.{HaveSameMeaning}
 
 -- the value of an entry is set
 pub record IsValueSet (form : Form) (value text : List ℕ) (root entry : Located) (made : List ℕ) : Type 0 where
@@ -37,10 +37,10 @@ pub record IsValueSet (form : Form) (value text : List ℕ) (root entry : Locate
   pub node_is : child_of is_expr 0 entry ≡ Some node
   pub set_to : IsSetTo form value text root node made
 
--- an entry makes the whole attribute, and its value is set
-pub record IsEntrySet (form : Form) (value text : List ℕ) (root : Located) (maker : Maker) (made : List ℕ) : Type 0 where
-  pub whole : maker.meeting ≡ meets.Whole
-  pub is_set : IsValueSet form value text root maker.entry made
+-- an entry defines the whole attribute, and its value is set
+pub record IsEntrySet (form : Form) (value text : List ℕ) (root : Located) (definition : Definition) (made : List ℕ) : Type 0 where
+  pub exact : definition.path_match ≡ matches.Exact
+  pub is_set : IsValueSet form value text root definition.entry made
 
 -- the entry that a longer text has in addition to a shorter one
 abbrev pub change_of : Located → List ℕ → List ℕ → Change
@@ -54,13 +54,13 @@ pub record IsMeaningKeptWithout (text : List ℕ) (root entry : Located) (made :
   pub found : IsResolution root names
   pub others : Resolution
   pub others_found : IsResolution (root_of read) others
-  pub alike : MeanAlike (change_of entry text made) names others
+  pub alike : HaveSameMeaning (change_of entry text made) names others
 
--- an entry that makes the attribute, or a part of it, is removed; unless it is forced, names mean the same without it
-pub record IsEntryRemoved (is_forced : Bool) (text : List ℕ) (root : Located) (maker : Maker) (made : List ℕ) : Type 0 where
-  pub removable : is_removable maker.meeting ≡ true
-  pub removed : IsRemoved text root maker.entry made
-  pub kept : is_forced ≡ false → IsMeaningKeptWithout text root maker.entry made
+-- an entry that defines the attribute, or a part of it, is removed; unless it is forced, names mean the same without it
+pub record IsEntryRemoved (is_forced : Bool) (text : List ℕ) (root : Located) (definition : Definition) (made : List ℕ) : Type 0 where
+  pub removable : is_removable definition.path_match ≡ true
+  pub removed : IsRemoved text root definition.entry made
+  pub kept : is_forced ≡ false → IsMeaningKeptWithout text root definition.entry made
 
 -- the last entry among these nodes, or else another node
 abbrev pub last_among : Option Located → List Located → Option Located
@@ -94,7 +94,7 @@ pub record IsMeaningKeptWith (text : List ℕ) (root set : Located) (made : List
   pub found : IsResolution root names
   pub others : Resolution
   pub others_found : IsResolution (root_of read) others
-  pub alike : MeanAlike (change_of entry made text) others names
+  pub alike : HaveSameMeaning (change_of entry made text) others names
 
 -- the text of an entry
 abbrev pub entry_text : List ℕ → List ℕ → List ℕ
@@ -113,21 +113,21 @@ pub record IsEntryAdded (form : Form) (value names text : List ℕ) (root set : 
   pub inserted : IsEntryInserted (last_entry set) text root set (entry_text names new) made
 
 -- the most names of a path that lead to attributes, or this number if it is more
-abbrev pub most_names : ℕ → List Way → ℕ
-most_names most [] = most
-most_names most (w ∷ ways) = most_names (if not w.in_let && nat_lt most w.at then w.at else most) ways
+abbrev pub longest_prefix : ℕ → List PathStep → ℕ
+longest_prefix most [] = most
+longest_prefix most (w ∷ steps) = longest_prefix (if not w.in_let && nat_lt most w.at then w.at else most) steps
 
--- whether an expression on the way is a set to which so many names lead, none of them of a `let`
-abbrev pub is_home : ℕ → Way → Bool
-is_home most w = not w.in_let && (nat_eq w.at most && same_kind (item_of w.node).kind k.NODE_ATTR_SET)
+-- whether an expression along the path is a set to which so many names lead, none of them of a `let`
+abbrev pub is_insertion_set : ℕ → PathStep → Bool
+is_insertion_set most w = not w.in_let && (nat_eq w.at most && same_kind (item_of w.node).kind k.NODE_ATTR_SET)
 
 -- such an expression
-abbrev pub home_if : ℕ → Way → List Way
-home_if most w = if is_home most w then w ∷ [] else []
+abbrev pub insertion_set_if : ℕ → PathStep → List PathStep
+insertion_set_if most w = if is_insertion_set most w then w ∷ [] else []
 
--- the sets on the way to which the most names lead
-abbrev pub homes_in : List Way → List Way
-homes_in ways = flat_map (home_if (most_names 0 ways)) ways
+-- the sets along the path to which the most names lead
+abbrev pub insertion_sets_in : List PathStep → List PathStep
+insertion_sets_in steps = flat_map (insertion_set_if (longest_prefix 0 steps)) steps
 
 -- these are the names of a path from a number on, as they are written
 pub record IsRest (starts path : List ℕ) (at : ℕ) (rest : List ℕ) : Type 0 where
@@ -136,32 +136,32 @@ pub record IsRest (starts path : List ℕ) (at : ℕ) (rest : List ℕ) : Type 0
   pub rest_is : rest ≡ drop start path
 
 -- a set gets an entry with the other names of the path; unless it is forced, names mean the same with it
-pub record IsAddedTo (is_forced : Bool) (form : Form) (value path starts : List ℕ) (home : Way) (text : List ℕ) (root : Located) (made : List ℕ)
+pub record IsAddedTo (is_forced : Bool) (form : Form) (value path starts : List ℕ) (target : PathStep) (text : List ℕ) (root : Located) (made : List ℕ)
     : Type 0 where
   pub names : List ℕ
-  pub are_rest : IsRest starts path home.at names
-  pub added : IsEntryAdded form value names text root home.node made
-  pub kept : is_forced ≡ false → IsMeaningKeptWith text root home.node made
+  pub are_rest : IsRest starts path target.at names
+  pub added : IsEntryAdded form value names text root target.node made
+  pub kept : is_forced ≡ false → IsMeaningKeptWith text root target.node made
 
 -- so it is with the only set to which the most names lead
-pub record IsAdded (is_forced : Bool) (form : Form) (value path starts : List ℕ) (ways : List Way) (text : List ℕ) (root : Located) (made : List ℕ)
+pub record IsAdded (is_forced : Bool) (form : Form) (value path starts : List ℕ) (steps : List PathStep) (text : List ℕ) (root : Located) (made : List ℕ)
     : Type 0 where
-  pub home : Way
-  pub only : homes_in ways ≡ home ∷ []
-  pub added : IsAddedTo is_forced form value path starts home text root made
+  pub target : PathStep
+  pub only : insertion_sets_in steps ≡ target ∷ []
+  pub added : IsAddedTo is_forced form value path starts target text root made
 
--- the only entry that makes the attribute, of sets or of a `let`, makes all of it, and its value is set
-pub record IsOnlySet (of_let : Bool) (update : Update) (names : List (List ℕ)) (ways : List Way) (text : List ℕ) (root : Located) (made : List ℕ)
+-- the only entry that defines the attribute, of sets or of a `let`, defines all of it, and its value is set
+pub record IsOnlySet (of_let : Bool) (update : Update) (names : List (List ℕ)) (steps : List PathStep) (text : List ℕ) (root : Located) (made : List ℕ)
     : Type 0 where
-  pub maker : Maker
-  pub only : makers_in names of_let ways ≡ maker ∷ []
-  pub is_set : IsEntrySet update.form update.value.now text root maker made
+  pub definition : Definition
+  pub only : definitions_in names of_let steps ≡ definition ∷ []
+  pub is_set : IsEntrySet update.form update.value.now text root definition made
 
--- what an action makes of the attribute that a single entry makes
-abbrev pub IsMakerUpdated : Action → Update → List ℕ → Located → Maker → List ℕ → Type 0
-IsMakerUpdated action.Remove update text root maker made = IsEntryRemoved update.is_forced text root maker made
-IsMakerUpdated action.Set update text root maker made = IsEntrySet update.form update.value.now text root maker made
-IsMakerUpdated action.Add update text root maker made = IsEntrySet update.form update.value.now text root maker made
+-- what an action makes of the attribute that a single entry defines
+abbrev pub IsDefinitionUpdated : Action → Update → List ℕ → Located → Definition → List ℕ → Type 0
+IsDefinitionUpdated action.Remove update text root definition made = IsEntryRemoved update.is_forced text root definition made
+IsDefinitionUpdated action.Set update text root definition made = IsEntrySet update.form update.value.now text root definition made
+IsDefinitionUpdated action.Add update text root definition made = IsEntrySet update.form update.value.now text root definition made
 
 -- P holds of the new text, if there is one
 abbrev pub IfMade : (List ℕ → Type 0) → Attempt → Type 0
@@ -185,33 +185,33 @@ abbrev pub outcome_of : Attempt → Outcome
 outcome_of (attempt.Made made) = outcome.Updated made
 outcome_of (attempt.Refused refused) = outcome.Refused refused
 
--- what an update makes of an attribute that no entry makes: it is added, or the value of a name of a `let` is set
-abbrev pub IsUnmadeUpdated : Update → List (List ℕ) → List ℕ → List ℕ → List Way → List ℕ → Located → Outcome → Type 0
-IsUnmadeUpdated update names path starts ways text root (outcome.Updated made) =
+-- what an update makes of an attribute that no entry defines: it is added, or the value of a name of a `let` is set
+abbrev pub IsUndefinedUpdated : Update → List (List ℕ) → List ℕ → List ℕ → List PathStep → List ℕ → Located → Outcome → Type 0
+IsUndefinedUpdated update names path starts steps text root (outcome.Updated made) =
     (update.action ≡ action.Add)
-    × IsAdded update.is_forced update.form update.value.now path starts ways text root (string_bytes made)
-IsUnmadeUpdated update names path starts ways text root (outcome.SetInLet made offset) =
-    (update.action ≡ action.Set) × IsOnlySet true update names ways text root (string_bytes made)
-IsUnmadeUpdated update names path starts ways text root (outcome.Refused refused) = Unit {0}
+    × IsAdded update.is_forced update.form update.value.now path starts steps text root (string_bytes made)
+IsUndefinedUpdated update names path starts steps text root (outcome.SetInLet made offset) =
+    (update.action ≡ action.Set) × IsOnlySet true update names steps text root (string_bytes made)
+IsUndefinedUpdated update names path starts steps text root (outcome.Refused refused) = Unit {0}
 
--- a single entry of sets makes the attribute, or a part of it, and it is updated
-pub record IsOneUpdated (update : Update) (names : List (List ℕ)) (ways : List Way) (text : List ℕ) (root : Located) (made : List ℕ) : Type 0 where
-  pub maker : Maker
-  pub only : makers_in names false ways ≡ maker ∷ []
-  pub is_updated : IsMakerUpdated update.action update text root maker made
+-- a single entry of sets defines the attribute, or a part of it, and it is updated
+pub record IsOneUpdated (update : Update) (names : List (List ℕ)) (steps : List PathStep) (text : List ℕ) (root : Located) (made : List ℕ) : Type 0 where
+  pub definition : Definition
+  pub only : definitions_in names false steps ≡ definition ∷ []
+  pub is_updated : IsDefinitionUpdated update.action update text root definition made
 
--- no entry of sets makes it
-abbrev pub IsNoneUpdated : Update → List (List ℕ) → List ℕ → List ℕ → List Way → List ℕ → Located → Outcome → Type 0
-IsNoneUpdated update names path starts ways text root made =
-    (makers_in names false ways ≡ []) × IsUnmadeUpdated update names path starts ways text root made
+-- no entry of sets defines it
+abbrev pub IsNoneUpdated : Update → List (List ℕ) → List ℕ → List ℕ → List PathStep → List ℕ → Located → Outcome → Type 0
+IsNoneUpdated update names path starts steps text root made =
+    (definitions_in names false steps ≡ []) × IsUndefinedUpdated update names path starts steps text root made
 
--- what an update makes of a text, given the names of its path and the expressions on its way
-abbrev pub IsOutcome : Update → List (List ℕ) → List ℕ → List ℕ → List Way → List ℕ → Located → Outcome → Type 0
-IsOutcome update names path starts ways text root (outcome.Updated made) =
-    IsOneUpdated update names ways text root (string_bytes made) ⊎ IsNoneUpdated update names path starts ways text root (outcome.Updated made)
-IsOutcome update names path starts ways text root (outcome.SetInLet made offset) =
-    IsNoneUpdated update names path starts ways text root (outcome.SetInLet made offset)
-IsOutcome update names path starts ways text root (outcome.Refused refused) = Unit {0}
+-- what an update makes of a text, given the names of its path and the expressions along it
+abbrev pub IsOutcome : Update → List (List ℕ) → List ℕ → List ℕ → List PathStep → List ℕ → Located → Outcome → Type 0
+IsOutcome update names path starts steps text root (outcome.Updated made) =
+    IsOneUpdated update names steps text root (string_bytes made) ⊎ IsNoneUpdated update names path starts steps text root (outcome.Updated made)
+IsOutcome update names path starts steps text root (outcome.SetInLet made offset) =
+    IsNoneUpdated update names path starts steps text root (outcome.SetInLet made offset)
+IsOutcome update names path starts steps text root (outcome.Refused refused) = Unit {0}
 
 -- an outcome is that of an update of a text, which is read without errors
 pub record IsOutcomeOf (update : Update) (text : List ℕ) (made : Outcome) : Type 0 where
@@ -220,9 +220,9 @@ pub record IsOutcomeOf (update : Update) (text : List ℕ) (made : Outcome) : Ty
   pub is_path : IsPath update.path.now names starts
   pub tree : Tree
   pub is_read : IsParsed (tokens_of text) tree []
-  pub ways : List Way
-  pub are_ways : AreWays names (root_in tree) ways
-  pub is_outcome : IsOutcome update names update.path.now starts ways text (root_in tree) made
+  pub steps : List PathStep
+  pub are_steps : ArePathSteps names (root_in tree) steps
+  pub is_outcome : IsOutcome update names update.path.now starts steps text (root_in tree) made
 
 -- a new text is that of an update
 abbrev pub IsUpdated : Update → List ℕ → Outcome → Type 0

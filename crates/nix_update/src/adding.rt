@@ -4,13 +4,13 @@ ghost use Rattle.std.specs.Prelude.{◌≡◌, false, string_bytes, IfOk, IfSome
 ghost use Rattle.nix_update.specs.Updated.{IfMade, IsRest, IsEntryAdded, IsAddedTo, IsAdded, IsMeaningKeptWith};
 
 use crate::change::add_value;
-use crate::guard::{Site, hinders_adding};
-use crate::home::{end_of_way, homes_of};
+use crate::guard::{Site, addition_refusal};
+use crate::insertion_sets::{deepest_node, insertion_sets};
 use crate::node_start::start_of;
-use crate::outcome::{Attempt, Reason, refuse, refuse_at, refuse_twice};
+use crate::outcome::{Attempt, Reason, refuse, refuse_at, refuse_with_first};
 use crate::path::Path;
 use crate::request::Update;
-use crate::ways::Way;
+use crate::steps::PathStep;
 use rnix::SyntaxNode;
 use rnix_edit::Edited;
 use std::alloc::{AllocError, Global};
@@ -46,7 +46,7 @@ fn add_entry(
 }
 
 // Returns the text `made`, to which an attribute was added, or refuses it if a name would then refer to something else, unless forced.
-fn keep_added(
+fn accept_added(
     alloc: Global,
     site: Site<'_, '_>,
     is_forced: bool,
@@ -58,41 +58,41 @@ fn keep_added(
     if is_forced {
         return Ok(Attempt::Made(made));
     }
-    match hinders_adding(alloc, site, made.as_str())? {
+    match addition_refusal(alloc, site, made.as_str())? {
         Some(refused) => Ok(Attempt::Refused(refused)),
         None => Ok(Attempt::Made(made)),
     }
 }
 
-// Adds the attribute to the set `home`, the only one to which the most names of its path lead.
+// Adds the attribute to the set `target`, the only one to which the most names of its path lead.
 fn add_to(
     alloc: Global,
     text: &str,
     root: &SyntaxNode<'_>,
     path: &Path<'_>,
-    ways: &[Way<'_>],
+    steps: &[PathStep<'_>],
     update: Update<'_>,
-    home: &Way<'_>,
+    target: &PathStep<'_>,
 ) -> Result<Attempt, AllocError>
     ensures { IfOk result (IfMade (IsAddedTo update.entry.is_forced update.entry.form update.entry.value.now path.now.text.now path.now.starts.items
-        home.now text.now root.now)) }
+        target.now text.now root.now)) }
 {
-    let Some(names) = rest_at(path, home.at) else {
+    let Some(names) = rest_at(path, target.at) else {
         return Ok(Attempt::Refused(refuse(Reason::NotAPath)));
     };
-    let made = match add_entry(alloc, text, root, names, update, &home.node)? {
+    let made = match add_entry(alloc, text, root, names, update, &target.node)? {
         Attempt::Made(made) => made,
         Attempt::Refused(refused) => return Ok(Attempt::Refused(refused)),
     };
     let site = Site {
         text,
         root,
-        set: &home.node,
+        set: &target.node,
         names: &path.names,
-        ways,
-        at: home.at,
+        steps,
+        at: target.at,
     };
-    keep_added(alloc, site, update.is_forced, made)
+    accept_added(alloc, site, update.is_forced, made)
 }
 
 /// Adds the attribute to the set to which the most names of its path lead, if there is just one.
@@ -101,23 +101,23 @@ pub fn add(
     text: &str,
     root: &SyntaxNode<'_>,
     path: &Path<'_>,
-    ways: &[Way<'_>],
+    steps: &[PathStep<'_>],
     update: Update<'_>,
 ) -> Result<Attempt, AllocError>
     ensures { IfOk result (IfMade (IsAdded update.entry.is_forced update.entry.form update.entry.value.now path.now.text.now path.now.starts.items
-        ways.now text.now root.now)) }
+        steps.now text.now root.now)) }
 {
-    let homes = homes_of(alloc, ways)?;
-    let Some(home) = homes.first() else {
-        let end = end_of_way(ways, root);
+    let sets = insertion_sets(alloc, steps)?;
+    let Some(target) = sets.first() else {
+        let end = deepest_node(steps, root);
         return Ok(Attempt::Refused(refuse_at(Reason::NoSet, start_of(&end))));
     };
-    match homes.get(1) {
-        Some(second) => Ok(Attempt::Refused(refuse_twice(
+    match sets.get(1) {
+        Some(second) => Ok(Attempt::Refused(refuse_with_first(
             Reason::SeveralSets,
-            start_of(&home.node),
+            start_of(&target.node),
             start_of(&second.node),
         ))),
-        None => add_to(alloc, text, root, path, ways, update, home),
+        None => add_to(alloc, text, root, path, steps, update, target),
     }
 }

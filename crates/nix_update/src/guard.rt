@@ -4,10 +4,10 @@ ghost use Rattle.std.specs.Prelude.{◌≡◌, None, IfOk, IfNone};
 ghost use Rattle.nix_update.specs.Updated.{set_at, entry_at, change_of, IsMeaningKeptWith, IsMeaningKeptWithout};
 
 use crate::change::last_entry;
-use crate::meaning::{Change, first_unlike};
-use crate::meeting::meet;
+use crate::meaning::{Change, first_difference};
 use crate::outcome::{Reason, Refused, refuse_at};
-use crate::ways::Way;
+use crate::path_match::match_entry;
+use crate::steps::PathStep;
 use nix_scopes::resolve;
 use rnix::ast::{AstNode, AttrSet};
 use rnix::{Root, SyntaxKind, SyntaxNode};
@@ -19,9 +19,9 @@ pub struct Site<'s, 't> {
     pub text: &'s str,
     pub root: &'s SyntaxNode<'t>,
     pub set: &'s SyntaxNode<'t>,
-    /// The names of the path of the attribute, and the expressions on its way.
+    /// The names of the path of the attribute, and the expressions along it.
     pub names: &'s [String],
-    pub ways: &'s [Way<'t>],
+    pub steps: &'s [PathStep<'t>],
     /// The number of names that lead to the set.
     pub at: usize,
 }
@@ -50,22 +50,22 @@ fn is_recursive(node: &SyntaxNode<'_>) -> bool {
     }
 }
 
-// Returns whether an expression on the way is a set, and no name of a `let` leads to it.
-fn is_set(way: &Way<'_>) -> bool {
-    way.node.kind() == SyntaxKind::NODE_ATTR_SET && !way.in_let
+// Returns whether an expression along the path is a set, and no name of a `let` leads to it.
+fn is_set(step: &PathStep<'_>) -> bool {
+    step.node.kind() == SyntaxKind::NODE_ATTR_SET && !step.in_let
 }
 
-// Returns the first `rec` set on the way that is the value of an attribute.
-fn inner_recursive<'w, 't>(ways: &'w [Way<'t>]) -> Option<&'w SyntaxNode<'t>> {
-    for way in ways {
-        if is_set(way) && way.at > 0 && is_recursive(&way.node) {
-            return Some(&way.node);
+// Returns the first `rec` set along the path that is the value of an attribute.
+fn inner_recursive<'w, 't>(steps: &'w [PathStep<'t>]) -> Option<&'w SyntaxNode<'t>> {
+    for step in steps {
+        if is_set(step) && step.at > 0 && is_recursive(&step.node) {
+            return Some(&step.node);
         }
     }
     None
 }
 
-// Returns whether more than one entry of a node makes the attribute that the path has up to the name with index `at`, or a part of it.
+// Returns whether more than one entry of a node defines the attribute that the path has up to the name with index `at`, or a part of it.
 fn is_shared(
     alloc: Global,
     names: &[String],
@@ -75,7 +75,7 @@ fn is_shared(
     let names = names.get(..at.saturating_add(1)).unwrap_or(names);
     let mut has_one = false;
     for entry in node.children() {
-        if meet(alloc, names, at, &entry)?.is_making() {
+        if match_entry(alloc, names, at, &entry)?.is_defining() {
             if has_one {
                 return Ok(true);
             }
@@ -85,19 +85,19 @@ fn is_shared(
     Ok(false)
 }
 
-// Returns whether more than one entry makes an attribute on the way, or a part of it.
+// Returns whether more than one entry defines an attribute along the path, or a part of it.
 fn has_shared(alloc: Global, site: Site<'_, '_>) -> Result<bool, AllocError> {
-    for way in site.ways {
-        if is_set(way) && is_shared(alloc, site.names, way.at, &way.node)? {
+    for step in site.steps {
+        if is_set(step) && is_shared(alloc, site.names, step.at, &step.node)? {
             return Ok(true);
         }
     }
     Ok(false)
 }
 
-// Returns the start of a `rec` set on the way to which other entries may add.
+// Returns the start of a `rec` set along the path to which other entries may add.
 fn split_set(alloc: Global, site: Site<'_, '_>) -> Result<Option<usize>, AllocError> {
-    let Some(set) = inner_recursive(site.ways) else {
+    let Some(set) = inner_recursive(site.steps) else {
         return Ok(None);
     };
     if has_shared(alloc, site)? {
@@ -108,7 +108,7 @@ fn split_set(alloc: Global, site: Site<'_, '_>) -> Result<Option<usize>, AllocEr
 }
 
 // Returns the reason, if there is one, why no attribute can be added to a set or removed from it, whatever names refer to.
-fn barred(alloc: Global, site: Site<'_, '_>) -> Result<Option<Refused>, AllocError> {
+fn set_refusal(alloc: Global, site: Site<'_, '_>) -> Result<Option<Refused>, AllocError> {
     if let Some(start) = split_set(alloc, site)? {
         return Ok(Some(refuse_at(Reason::SplitSet, start)));
     }
@@ -154,7 +154,7 @@ fn change_of(entry: &SyntaxNode<'_>, longer: &str, shorter: &str) -> Change
 }
 
 // Returns the offset of the first name that means something else in the text with a new last entry of a set, or `None` if all names mean the same.
-fn unlike_with(
+fn difference_with(
     alloc: Global,
     text: &str,
     root: &SyntaxNode<'_>,
@@ -171,14 +171,14 @@ fn unlike_with(
     };
     let names = resolve(alloc, root)?;
     let others = resolve(alloc, &new)?;
-    match first_unlike(change_of(&entry, made, text), &others, &names) {
-        Some(unlike) => Ok(Some(unlike.shorter.unwrap_or(start))),
+    match first_difference(change_of(&entry, made, text), &others, &names) {
+        Some(difference) => Ok(Some(difference.shorter.unwrap_or(start))),
         None => Ok(None),
     }
 }
 
 // Returns the offset of the first name that means something else in the text without an entry, or `None` if all names mean the same.
-fn unlike_without(
+fn difference_without(
     alloc: Global,
     text: &str,
     root: &SyntaxNode<'_>,
@@ -191,39 +191,39 @@ fn unlike_without(
     let read = Root::parse(alloc, made)?;
     let names = resolve(alloc, root)?;
     let others = resolve(alloc, &read.syntax())?;
-    match first_unlike(change_of(entry, text, made), &names, &others) {
-        Some(unlike) => Ok(Some(unlike.longer.unwrap_or(start))),
+    match first_difference(change_of(entry, text, made), &names, &others) {
+        Some(difference) => Ok(Some(difference.longer.unwrap_or(start))),
         None => Ok(None),
     }
 }
 
 // Returns the refusal for a name that would mean something else, if there is one.
-fn other_meaning(offset: Option<usize>) -> Option<Refused>
+fn meaning_refusal(offset: Option<usize>) -> Option<Refused>
     ensures { IfNone result (offset ≡ None) }
 {
     match offset {
-        Some(offset) => Some(refuse_at(Reason::OtherMeaning, offset)),
+        Some(offset) => Some(refuse_at(Reason::ChangedMeaning, offset)),
         None => None,
     }
 }
 
 /// Returns the refusal of a text with a new last entry of a set, if a name refers to something else in it.
-pub fn hinders_adding(
+pub fn addition_refusal(
     alloc: Global,
     site: Site<'_, '_>,
     made: &str,
 ) -> Result<Option<Refused>, AllocError>
     ensures { IfOk result (λ refused. IfNone refused (IsMeaningKeptWith site.entry.text.now site.entry.root.now site.entry.set.now made.now)) }
 {
-    if let Some(refused) = barred(alloc, site)? {
+    if let Some(refused) = set_refusal(alloc, site)? {
         return Ok(Some(refused));
     }
-    let offset = unlike_with(alloc, site.text, site.root, site.set, made)?;
-    Ok(other_meaning(offset))
+    let offset = difference_with(alloc, site.text, site.root, site.set, made)?;
+    Ok(meaning_refusal(offset))
 }
 
 /// Returns the refusal of a text without an entry, if a name refers to something else in it.
-pub fn hinders_removing(
+pub fn removal_refusal(
     alloc: Global,
     site: Site<'_, '_>,
     entry: &SyntaxNode<'_>,
@@ -231,9 +231,9 @@ pub fn hinders_removing(
 ) -> Result<Option<Refused>, AllocError>
     ensures { IfOk result (λ refused. IfNone refused (IsMeaningKeptWithout site.entry.text.now site.entry.root.now entry.now made.now)) }
 {
-    if let Some(refused) = barred(alloc, site)? {
+    if let Some(refused) = set_refusal(alloc, site)? {
         return Ok(Some(refused));
     }
-    let offset = unlike_without(alloc, site.text, site.root, entry, made)?;
-    Ok(other_meaning(offset))
+    let offset = difference_without(alloc, site.text, site.root, entry, made)?;
+    Ok(meaning_refusal(offset))
 }

@@ -6,7 +6,7 @@ ghost use Rattle.rnix_base.specs.Select.{child_of, tokens_in};
 ghost use Rattle.rnix_base.specs.TokenOperators.{first_operator, binary_operator};
 ghost use Rattle.rnix_green.specs.Walk.{children_of};
 ghost use Rattle.rnix.specs.NodeKinds.{is_expr};
-ghost use Rattle.nix_update.specs.Inner.{is_meant, one_of, operand, inner};
+ghost use Rattle.nix_update.specs.Inner.{is_candidate, only_candidate, operand, inner};
 
 use rnix::ast::{AstNode, BinOp, BinOpKind, Expr};
 use rnix::{SyntaxKind, SyntaxNode};
@@ -21,8 +21,8 @@ pub fn expr_at<'t>(node: &SyntaxNode<'t>, number: usize) -> Option<SyntaxNode<'t
 }
 
 // Returns whether PATH may mean an operand of `//`: it is a set or another operation.
-fn is_meant(operand: &SyntaxNode<'_>) -> bool
-    ensures { result ≡ is_meant (item_of operand.now).kind }
+fn is_candidate(operand: &SyntaxNode<'_>) -> bool
+    ensures { result ≡ is_candidate (item_of operand.now).kind }
 {
     matches!(
         operand.kind(),
@@ -31,12 +31,16 @@ fn is_meant(operand: &SyntaxNode<'_>) -> bool
 }
 
 // Returns the operand that is a set or another operation, if just one of the two is.
-fn one_of<'t>(left: SyntaxNode<'t>, right: SyntaxNode<'t>) -> Option<SyntaxNode<'t>>
-    ensures { result ≡ one_of left.entry right.entry }
+fn only_candidate<'t>(left: SyntaxNode<'t>, right: SyntaxNode<'t>) -> Option<SyntaxNode<'t>>
+    ensures { result ≡ only_candidate left.entry right.entry }
 {
-    if is_meant(&left) {
-        if is_meant(&right) { None } else { Some(left) }
-    } else if is_meant(&right) {
+    if is_candidate(&left) {
+        if is_candidate(&right) {
+            None
+        } else {
+            Some(left)
+        }
+    } else if is_candidate(&right) {
         Some(right)
     } else {
         None
@@ -49,7 +53,7 @@ fn operand<'t>(node: &SyntaxNode<'t>) -> Option<SyntaxNode<'t>>
 {
     let operation = BinOp::cast(node.clone())?;
     match operation.operator() {
-        Some(BinOpKind::Update) => one_of(expr_at(node, 0)?, expr_at(node, 1)?),
+        Some(BinOpKind::Update) => only_candidate(expr_at(node, 0)?, expr_at(node, 1)?),
         _ => None,
     }
 }

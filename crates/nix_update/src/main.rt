@@ -5,26 +5,26 @@
 
 mod adding;
 mod change;
+mod definitions;
 mod guard;
-mod home;
 mod inner;
-mod makers;
+mod insertion_sets;
 mod meaning;
-mod meeting;
 mod node_start;
 mod outcome;
 mod path;
+mod path_match;
 mod plain;
 mod removing;
 mod request;
 mod setting;
+mod steps;
 mod update;
 mod value;
-mod ways;
 
 use nix_cli::{
-    Arguments, FAILED, FOUND, Program, Start, end, location_of, read_arguments, read_text, refuse,
-    shown_name, write_text,
+    Arguments, FAILED, FOUND, Program, Start, display_name, end, location_of, read_arguments,
+    read_text, refuse, write_text,
 };
 use outcome::{Outcome, Refused};
 use request::{Action, Update};
@@ -43,7 +43,7 @@ Prints a Nix text in which the attribute of the dotted PATH is the string VALUE 
 PATH, names are written as in the text, quotes included: a and \"a\" are one name. - or no FILE means standard input.
 
 PATH begins at the set that the text is, or that is in brackets, in the body of a function, `let`, `with` or `assert`, in the argument of a
-call, or beside names and calls of `//`; each value on the way is looked through likewise. If the set has no such attribute, the value of a
+call, or beside names and calls of `//`; each value on the step is looked through likewise. If the set has no such attribute, the value of a
 name of a `let` around it is set, with a line on standard error that says so.
 
     --raw      VALUE is a Nix expression, as 1, true, null or [ a ], and replaces any value
@@ -113,7 +113,7 @@ fn report(
     offset: Option<usize>,
     message: &str,
 ) -> io::Result<()> {
-    let shown = shown_name(name);
+    let shown = display_name(name);
     match offset {
         Some(offset) => {
             let (line, column) = location_of(text, offset);

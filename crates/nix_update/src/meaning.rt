@@ -2,7 +2,7 @@
 
 ghost use Rattle.std.specs.Prelude.{◌≡◌, option_map, IfSome, IfNone};
 ghost use Rattle.std.specs.Bool.{Decides};
-ghost use Rattle.nix_update.specs.SameNames.{moved, start_of, is_outside, binding_at, AreInOneScope, RefersAlike, MeanAlike};
+ghost use Rattle.nix_update.specs.SameNames.{shifted, start_of, is_outside, binding_at, AreInSameScope, IsSameReference, HaveSameMeaning};
 
 use nix_scopes::{Binding, Reference, Resolution};
 use rnix::SyntaxNode;
@@ -19,14 +19,14 @@ pub struct Change {
 
 /// Two names that do not mean the same, or one that is missing: their offsets in the longer and in the shorter text.
 #[derive(Clone, Copy, PartialEq, Eq, Debug)]
-pub struct Unlike {
+pub struct Difference {
     pub longer: Option<usize>,
     pub shorter: Option<usize>,
 }
 
 // Returns the offset in the shorter text for an offset in the longer one that is not in the entry.
-fn moved(change: Change, offset: usize) -> Option<usize>
-    ensures { result ≡ moved change offset }
+fn shifted(change: Change, offset: usize) -> Option<usize>
+    ensures { result ≡ shifted change offset }
 {
     if offset < change.start {
         Some(offset)
@@ -55,17 +55,17 @@ fn is_outside(change: Change, reference: &Reference<'_>) -> bool
 }
 
 // Returns whether two bindings are in the same scope, or both are missing.
-fn are_in_one_scope(
+fn are_in_same_scope(
     change: Change,
     longer: Option<&Binding<'_>>,
     shorter: Option<&Binding<'_>>,
 ) -> bool
-    ensures { Decides result (AreInOneScope change (option_map (λ binding. binding.now) longer.entry)
+    ensures { Decides result (AreInSameScope change (option_map (λ binding. binding.now) longer.entry)
         (option_map (λ binding. binding.now) shorter.entry)) }
 {
     match (longer, shorter) {
         (Some(longer), Some(shorter)) => {
-            moved(change, start_of(&longer.scope)) == Some(start_of(&shorter.scope))
+            shifted(change, start_of(&longer.scope)) == Some(start_of(&shorter.scope))
         }
         (None, None) => true,
         _ => false,
@@ -80,19 +80,19 @@ fn binding_at<'r, 't>(names: &'r Resolution<'t>, number: Option<usize>) -> Optio
 }
 
 // Returns whether two references of the texts correspond: they have the same name, which is bound in the same scope, or by nothing in the text.
-fn refers_alike(
+fn is_same_reference(
     change: Change,
     longer: &Resolution<'_>,
     shorter: &Resolution<'_>,
     reference: &Reference<'_>,
     other: &Reference<'_>,
 ) -> bool
-    ensures { Decides result (RefersAlike change longer.now shorter.now reference.now other.now) }
+    ensures { Decides result (IsSameReference change longer.now shorter.now reference.now other.now) }
 {
     reference.text.as_str() == other.text.as_str()
         && reference.is_inherited == other.is_inherited
         && reference.is_open == other.is_open
-        && are_in_one_scope(
+        && are_in_same_scope(
             change,
             binding_at(longer, reference.binding),
             binding_at(shorter, other.binding),
@@ -108,35 +108,35 @@ fn offset_of(reference: Option<&Reference<'_>>) -> Option<usize> {
 }
 
 // Returns two names that do not mean the same, of which one may be missing.
-fn names_at(longer: Option<&Reference<'_>>, shorter: Option<&Reference<'_>>) -> Unlike {
-    Unlike {
+fn difference_at(longer: Option<&Reference<'_>>, shorter: Option<&Reference<'_>>) -> Difference {
+    Difference {
         longer: offset_of(longer),
         shorter: offset_of(shorter),
     }
 }
 
 /// Returns the first names outside the entry that do not mean the same in the two texts.
-pub fn first_unlike(
+pub fn first_difference(
     change: Change,
     longer: &Resolution<'_>,
     shorter: &Resolution<'_>,
-) -> Option<Unlike>
-    ensures none { IfNone result (MeanAlike change longer.now shorter.now) }
-    ensures some { IfSome result (λ names. ¬ MeanAlike change longer.now shorter.now) }
+) -> Option<Difference>
+    ensures none { IfNone result (HaveSameMeaning change longer.now shorter.now) }
+    ensures some { IfSome result (λ names. ¬ HaveSameMeaning change longer.now shorter.now) }
 {
     let others = shorter.references();
     let mut next = 0;
     for reference in longer.references() {
         if is_outside(change, reference) {
             let Some(other) = others.get(next) else {
-                return Some(names_at(Some(reference), None));
+                return Some(difference_at(Some(reference), None));
             };
-            if !refers_alike(change, longer, shorter, reference, other) {
-                return Some(names_at(Some(reference), Some(other)));
+            if !is_same_reference(change, longer, shorter, reference, other) {
+                return Some(difference_at(Some(reference), Some(other)));
             }
             next += 1;
         }
     }
     let other = others.get(next)?;
-    Some(names_at(None, Some(other)))
+    Some(difference_at(None, Some(other)))
 }

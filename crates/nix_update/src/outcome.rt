@@ -14,11 +14,11 @@ pub enum Reason {
     NotAnExpression,
     /// No attribute has the path.
     NoAttribute,
-    /// Several entries make the attribute.
+    /// Several entries define the attribute.
     SeveralEntries,
-    /// An entry makes only a part of the attribute.
-    OnlyAPart,
-    /// An `inherit` makes the attribute.
+    /// An entry defines only a part of the attribute.
+    PartialDefinition,
+    /// An `inherit` defines the attribute.
     Inherited,
     /// The value is not a string without interpolations.
     NotAString,
@@ -27,7 +27,7 @@ pub enum Reason {
     /// There are several sets for the new attribute.
     SeveralSets,
     /// With the change, a name would refer to something else.
-    OtherMeaning,
+    ChangedMeaning,
     /// An operator refers to the name, or the set treats it specially.
     SpecialName,
     /// Other entries add to the `rec` set in which the attribute would be added or removed.
@@ -72,7 +72,7 @@ pub fn refuse_at(reason: Reason, offset: usize) -> Refused {
 }
 
 /// Returns the refusal for a reason that has two offsets.
-pub fn refuse_twice(reason: Reason, first: usize, second: usize) -> Refused {
+pub fn refuse_with_first(reason: Reason, first: usize, second: usize) -> Refused {
     Refused {
         reason,
         offset: Some(second),
@@ -98,14 +98,14 @@ impl Reason {
             Reason::NotAnExpression => "VALUE is not one Nix expression",
             Reason::NoAttribute => "no attribute has this path",
             Reason::SeveralEntries => "more than one entry makes the attribute: this is the second",
-            Reason::OnlyAPart => "this entry makes only a part of the attribute",
+            Reason::PartialDefinition => "this entry makes only a part of the attribute",
             Reason::Inherited => "an `inherit` makes the attribute",
             Reason::NotAString => {
                 "its value is not a plain string: --raw or --list replaces any value"
             }
             Reason::NoSet => "there is no set for the attribute: this is not one",
             Reason::SeveralSets => "there are several sets for the attribute: this is the second",
-            Reason::OtherMeaning => {
+            Reason::ChangedMeaning => {
                 "with the change, this name would refer to something else: --force changes the text all the same"
             }
             Reason::SpecialName => {

@@ -3,18 +3,18 @@
 ghost use Rattle.std.specs.Prelude.{◌≡◌, false, string_bytes, IfOk};
 ghost use Rattle.nix_update.specs.Updated.{IfMade, IsEntryRemoved, IsMeaningKeptWithout};
 
-use crate::guard::{Site, hinders_removing};
-use crate::makers::Maker;
+use crate::definitions::Definition;
+use crate::guard::{Site, removal_refusal};
 use crate::node_start::start_of;
 use crate::outcome::{Attempt, Reason, refuse_at};
 use crate::request::Update;
-use crate::ways::Way;
+use crate::steps::PathStep;
 use rnix::SyntaxNode;
 use rnix_edit::{Edited, remove};
 use std::alloc::{AllocError, Global};
 
 // Returns the text `made`, from which an entry was removed, or refuses it if a name would then refer to something else, unless forced.
-fn keep_removed(
+fn accept_removed(
     alloc: Global,
     site: Site<'_, '_>,
     is_forced: bool,
@@ -27,26 +27,26 @@ fn keep_removed(
     if is_forced {
         return Ok(Attempt::Made(made));
     }
-    match hinders_removing(alloc, site, entry, made.as_str())? {
+    match removal_refusal(alloc, site, entry, made.as_str())? {
         Some(refused) => Ok(Attempt::Refused(refused)),
         None => Ok(Attempt::Made(made)),
     }
 }
 
-/// Removes an entry that makes the attribute.
+/// Removes an entry that defines the attribute.
 pub fn remove_entry(
     alloc: Global,
     text: &str,
     root: &SyntaxNode<'_>,
     names: &[String],
-    ways: &[Way<'_>],
+    steps: &[PathStep<'_>],
     update: Update<'_>,
-    maker: &Maker<'_>,
+    definition: &Definition<'_>,
 ) -> Result<Attempt, AllocError>
-    ensures { IfOk result (IfMade (IsEntryRemoved update.entry.is_forced text.now root.now maker.now)) }
+    ensures { IfOk result (IfMade (IsEntryRemoved update.entry.is_forced text.now root.now definition.now)) }
 {
-    let entry = &maker.entry;
-    if !maker.meeting.is_removable() {
+    let entry = &definition.entry;
+    if !definition.path_match.is_removable() {
         return Ok(Attempt::Refused(refuse_at(Reason::Inherited, start_of(entry))));
     }
     let made = match remove(alloc, text, root, entry)? {
@@ -59,10 +59,10 @@ pub fn remove_entry(
     let site = Site {
         text,
         root,
-        set: &maker.home,
+        set: &definition.parent,
         names,
-        ways,
-        at: maker.at,
+        steps,
+        at: definition.at,
     };
-    keep_removed(alloc, site, update.is_forced, entry, made)
+    accept_removed(alloc, site, update.is_forced, entry, made)
 }

@@ -4,10 +4,10 @@ ghost use Rattle.std.specs.Prelude.{IfOk};
 ghost use Rattle.nix_update.specs.Updated.{IfMade, IsValueSet, IsEntrySet};
 
 use crate::change::set_value;
-use crate::makers::Maker;
-use crate::meeting::Meeting;
+use crate::definitions::Definition;
 use crate::node_start::start_of;
 use crate::outcome::{Attempt, Reason, refuse, refuse_at};
+use crate::path_match::PathMatch;
 use crate::plain::is_plain_string;
 use crate::request::Update;
 use crate::value::Form;
@@ -18,7 +18,7 @@ use rnix_edit::Edited;
 use std::alloc::{AllocError, Global};
 
 // Sets the value of an entry.
-fn set_whole(
+fn set_entry_value(
     alloc: Global,
     text: &str,
     root: &SyntaxNode<'_>,
@@ -44,26 +44,29 @@ fn set_whole(
     }
 }
 
-/// Sets the value of an entry that makes the attribute, if it makes all of it.
+/// Sets the value of an entry that defines the attribute, if it defines all of it.
 pub fn set_entry(
     alloc: Global,
     text: &str,
     root: &SyntaxNode<'_>,
     update: Update<'_>,
-    maker: &Maker<'_>,
+    definition: &Definition<'_>,
 ) -> Result<Attempt, AllocError>
-    ensures { IfOk result (IfMade (IsEntrySet update.entry.form update.entry.value.now text.now root.now maker.now)) }
+    ensures { IfOk result (IfMade (IsEntrySet update.entry.form update.entry.value.now text.now root.now definition.now)) }
 {
-    match maker.meeting {
-        Meeting::Whole => set_whole(alloc, text, root, update, &maker.entry),
-        other => Ok(Attempt::Refused(refuse_at(not_whole(other), start_of(&maker.entry)))),
+    match definition.path_match {
+        PathMatch::Exact => set_entry_value(alloc, text, root, update, &definition.entry),
+        other => Ok(Attempt::Refused(refuse_at(
+            inexact_reason(other),
+            start_of(&definition.entry),
+        ))),
     }
 }
 
-// Returns the refusal to change an entry that does not make all of an attribute.
-fn not_whole(meeting: Meeting) -> Reason {
-    match meeting {
-        Meeting::Inherited => Reason::Inherited,
-        _ => Reason::OnlyAPart,
+// Returns the refusal to change an entry that does not define all of an attribute.
+fn inexact_reason(path_match: PathMatch) -> Reason {
+    match path_match {
+        PathMatch::Inherited => Reason::Inherited,
+        _ => Reason::PartialDefinition,
     }
 }

@@ -1,33 +1,33 @@
 //! Texts in which an attribute is set, added or removed.
 
 ghost use Rattle.std.specs.Prelude.{◌≡◌, true, map, string_bytes, IfOk};
-ghost use Rattle.nix_update.specs.Updated.{IfMade, IfUpdated, IfSetInLet, outcome_of, IsOnlySet, IsMakerUpdated, IsUnmadeUpdated, IsOutcome, IsUpdated};
+ghost use Rattle.nix_update.specs.Updated.{IfMade, IfUpdated, IfSetInLet, outcome_of, IsOnlySet, IsDefinitionUpdated, IsUndefinedUpdated, IsOutcome, IsUpdated};
 
 use crate::adding::add;
-use crate::home::end_of_way;
-use crate::makers::{Maker, makers_of};
+use crate::definitions::{Definition, definitions_of};
+use crate::insertion_sets::deepest_node;
 use crate::node_start::start_of;
-use crate::outcome::{Attempt, Outcome, Reason, Refused, refuse, refuse_at, refuse_twice};
+use crate::outcome::{Attempt, Outcome, Reason, Refused, refuse, refuse_at, refuse_with_first};
 use crate::path::{Path, path_of};
 use crate::removing::remove_entry;
 use crate::request::{Action, Update};
 use crate::setting::set_entry;
-use crate::ways::{Way, ways_of};
+use crate::steps::{PathStep, path_steps};
 use rnix::{Root, SyntaxNode};
 use std::alloc::{AllocError, Global};
 
-// Returns the refusal if several entries make the attribute.
-fn refuse_several(first: &Maker<'_>, second: &Maker<'_>) -> Refused {
-    refuse_twice(
+// Returns the refusal if several entries define the attribute.
+fn refuse_several(first: &Definition<'_>, second: &Definition<'_>) -> Refused {
+    refuse_with_first(
         Reason::SeveralEntries,
         start_of(&first.entry),
         start_of(&second.entry),
     )
 }
 
-// Returns the refusal if no entry makes the attribute.
-fn refuse_none(ways: &[Way<'_>], root: &SyntaxNode<'_>) -> Refused {
-    let end = end_of_way(ways, root);
+// Returns the refusal if no entry defines the attribute.
+fn refuse_none(steps: &[PathStep<'_>], root: &SyntaxNode<'_>) -> Refused {
+    let end = deepest_node(steps, root);
     refuse_at(Reason::NoAttribute, start_of(&end))
 }
 
@@ -37,62 +37,62 @@ fn set_in_let(
     text: &str,
     root: &SyntaxNode<'_>,
     path: &Path<'_>,
-    ways: &[Way<'_>],
+    steps: &[PathStep<'_>],
     update: Update<'_>,
 ) -> Result<Outcome, AllocError>
-    ensures set { IfOk result (IfSetInLet (IsOnlySet true update.entry (map string_bytes path.now.names.items) ways.now text.now root.now)) }
+    ensures set { IfOk result (IfSetInLet (IsOnlySet true update.entry (map string_bytes path.now.names.items) steps.now text.now root.now)) }
     ensures no_other { IfOk result (IfUpdated (λ made. ⊥)) }
 {
-    let makers = makers_of(alloc, &path.names, ways, true)?;
-    let Some(maker) = makers.first() else {
-        return Ok(Outcome::Refused(refuse_none(ways, root)));
+    let definitions = definitions_of(alloc, &path.names, steps, true)?;
+    let Some(definition) = definitions.first() else {
+        return Ok(Outcome::Refused(refuse_none(steps, root)));
     };
-    match makers.get(1) {
-        Some(second) => Ok(Outcome::Refused(refuse_several(maker, second))),
-        None => match set_entry(alloc, text, root, update, maker)? {
-            Attempt::Made(made) => Ok(Outcome::SetInLet(made, start_of(&maker.entry))),
+    match definitions.get(1) {
+        Some(second) => Ok(Outcome::Refused(refuse_several(definition, second))),
+        None => match set_entry(alloc, text, root, update, definition)? {
+            Attempt::Made(made) => Ok(Outcome::SetInLet(made, start_of(&definition.entry))),
             Attempt::Refused(refused) => Ok(Outcome::Refused(refused)),
         },
     }
 }
 
-// Updates the attribute that a single entry makes.
-fn update_made(
+// Updates the attribute that a single entry defines.
+fn update_defined(
     alloc: Global,
     text: &str,
     root: &SyntaxNode<'_>,
     names: &[String],
-    ways: &[Way<'_>],
+    steps: &[PathStep<'_>],
     update: Update<'_>,
-    maker: &Maker<'_>,
+    definition: &Definition<'_>,
 ) -> Result<Attempt, AllocError>
-    ensures { IfOk result (IfMade (IsMakerUpdated update.entry.action update.entry text.now root.now maker.now)) }
+    ensures { IfOk result (IfMade (IsDefinitionUpdated update.entry.action update.entry text.now root.now definition.now)) }
 {
     match update.action {
-        Action::Remove => remove_entry(alloc, text, root, names, ways, update, maker),
-        Action::Set | Action::Add => set_entry(alloc, text, root, update, maker),
+        Action::Remove => remove_entry(alloc, text, root, names, steps, update, definition),
+        Action::Set | Action::Add => set_entry(alloc, text, root, update, definition),
     }
 }
 
-// Updates an attribute that no entry makes.
-fn update_unmade(
+// Updates an attribute that no entry defines.
+fn update_undefined(
     alloc: Global,
     text: &str,
     root: &SyntaxNode<'_>,
     path: &Path<'_>,
-    ways: &[Way<'_>],
+    steps: &[PathStep<'_>],
     update: Update<'_>,
 ) -> Result<Outcome, AllocError>
-    ensures { IfOk result (IsUnmadeUpdated update.entry (map string_bytes path.now.names.items) path.now.text.now path.now.starts.items
-        ways.now text.now root.now) }
+    ensures { IfOk result (IsUndefinedUpdated update.entry (map string_bytes path.now.names.items) path.now.text.now path.now.starts.items
+        steps.now text.now root.now) }
 {
     match update.action {
-        Action::Remove => Ok(Outcome::Refused(refuse_none(ways, root))),
+        Action::Remove => Ok(Outcome::Refused(refuse_none(steps, root))),
         Action::Add => {
-            let attempt = add(alloc, text, root, path, ways, update)?;
+            let attempt = add(alloc, text, root, path, steps, update)?;
             Ok(outcome_of(attempt))
         }
-        Action::Set => set_in_let(alloc, text, root, path, ways, update),
+        Action::Set => set_in_let(alloc, text, root, path, steps, update),
     }
 }
 
@@ -106,26 +106,34 @@ fn outcome_of(attempt: Attempt) -> Outcome
     }
 }
 
-// Updates a text, given the expressions on the way of the path.
+// Updates a text, given the expressions along the path.
 fn update_in(
     alloc: Global,
     text: &str,
     root: &SyntaxNode<'_>,
     path: &Path<'_>,
-    ways: &[Way<'_>],
+    steps: &[PathStep<'_>],
     update: Update<'_>,
 ) -> Result<Outcome, AllocError>
     ensures { IfOk result (IsOutcome update.entry (map string_bytes path.now.names.items) path.now.text.now path.now.starts.items
-        ways.now text.now root.now) }
+        steps.now text.now root.now) }
 {
-    let makers = makers_of(alloc, &path.names, ways, false)?;
-    let Some(maker) = makers.first() else {
-        return update_unmade(alloc, text, root, path, ways, update);
+    let definitions = definitions_of(alloc, &path.names, steps, false)?;
+    let Some(definition) = definitions.first() else {
+        return update_undefined(alloc, text, root, path, steps, update);
     };
-    match makers.get(1) {
-        Some(second) => Ok(Outcome::Refused(refuse_several(maker, second))),
+    match definitions.get(1) {
+        Some(second) => Ok(Outcome::Refused(refuse_several(definition, second))),
         None => {
-            let attempt = update_made(alloc, text, root, &path.names, ways, update, maker)?;
+            let attempt = update_defined(
+                alloc,
+                text,
+                root,
+                &path.names,
+                steps,
+                update,
+                definition,
+            )?;
             Ok(outcome_of(attempt))
         }
     }
@@ -144,6 +152,6 @@ pub fn updated(alloc: Global, text: &str, update: Update<'_>) -> Result<Outcome,
         return Ok(Outcome::Refused(refuse_at(Reason::NotNix, offset)));
     }
     let root = read.syntax();
-    let ways = ways_of(alloc, &root, &path.names)?;
-    update_in(alloc, text, &root, &path, &ways, update)
+    let steps = path_steps(alloc, &root, &path.names)?;
+    update_in(alloc, text, &root, &path, &steps, update)
 }

@@ -49,14 +49,14 @@ const ROWS: [([&str; 3], usize); 9] = [
 ];
 
 // How many functions are in one another at most: less than the 512 levels that the parser reads.
-const MOST_FUNCTIONS: usize = 480;
+const MAX_FUNCTIONS: usize = 480;
 
 // Names of the outermost of functions in functions and of none of them, all used in the innermost one.
 fn scopes(alloc: Global, words: &Words, seed: u64, uses: usize) -> Result<String, AllocError> {
     let mut draft = Draft::new(alloc, words, seed);
     let (function, names) = ("%a%%: ", "  outer\n  %a\n");
     draft.push("outer: ")?;
-    let inner = uses.min(MOST_FUNCTIONS - 1);
+    let inner = uses.min(MAX_FUNCTIONS - 1);
     draft.repeat(&Template::new(alloc, function)?, inner)?;
     draft.push("[\n")?;
     draft.repeat(&Template::new(alloc, names)?, uses)?;

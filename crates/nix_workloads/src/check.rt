@@ -75,7 +75,7 @@ pub fn add_formatted(alloc: Global, text: &str, digest: &mut Digest) -> Result<(
             digest.add_text(made.as_str());
             digest.add_number(usize::from(made.as_str() == text));
         }
-        Formatting::Faulty => digest.add_number(2),
+        Formatting::HasErrors => digest.add_number(2),
         Formatting::Refused => digest.add_number(3),
     }
     Ok(())

@@ -1,12 +1,12 @@
 -- What calls write of a formatted text.
 use Rattle.std.specs.Prelude.{◌≡◌, ◌⊎◌, ℕ, ℤ, List, IsUtf8}
 use Rattle.nix_formatting.specs.Reindented.{IsReformatted}
-use Rattle.nix_formatting.specs.Formatted.{IsFaulty, IsFaultless}
+use Rattle.nix_formatting.specs.Formatted.{IsWithErrors, IsWithoutErrors}
 use Rattle.rnix_c.specs.Answers.{no_memory, has_errors, different, IsRefused, IsWritten}
 
 -- why no new text is written: memory is refused, or the text has errors, or it has none, but the new text would not be one that may be written
 abbrev pub IsUnformatted : List ℕ → ℤ → Type 0
-IsUnformatted text answer = (answer ≡ no_memory) ⊎ (((answer ≡ has_errors) × IsFaulty text) ⊎ ((answer ≡ different) × IsFaultless text))
+IsUnformatted text answer = (answer ≡ no_memory) ⊎ (((answer ≡ has_errors) × IsWithErrors text) ⊎ ((answer ≡ different) × IsWithoutErrors text))
 
 -- a text that differs from this one only in white space and in the indentation of strings is written, or nothing
 abbrev pub WritesFormat : List ℕ → ℤ → List ℕ → List ℕ → Type 0

@@ -12,7 +12,7 @@ fn write_format(alloc: Global, text: &str, room: &mut [u8]) -> i64
 {
     match formatted(alloc, text) {
         Ok(Formatting::Formatted(made)) => answers::written(&made, room),
-        Ok(Formatting::Faulty) => HAS_ERRORS,
+        Ok(Formatting::HasErrors) => HAS_ERRORS,
         Ok(Formatting::Refused) => DIFFERENT,
         Err(_) => NO_MEMORY,
     }

@@ -10,15 +10,15 @@ use Rattle.rnix_text.specs.declared.edit_error.EditError.{EditError}
 use Rattle.rnix_text.specs.declared.edit_error.EditError.TheVariants as cause
 use Rattle.rnix_edit.specs.declared.edited.Refusal.{Refusal}
 use Rattle.rnix_edit.specs.declared.edited.Refusal.TheVariants as refusal
-use Rattle.rnix_edit.specs.Edited.{spliced, IsMade, IsHindered}
-use Rattle.rnix_edit.specs.Tried.{is_memory, IsReadAs, IsUnread}
+use Rattle.rnix_edit.specs.Edited.{spliced, IsMade, IsNotMade}
+use Rattle.rnix_edit.specs.Tried.{is_memory, IsReadAs, IsNotParsed}
 
 module _ (text : List ℕ) (start end : ℕ) (new : List ℕ) (so : Located → Type 0) where
   -- a text that is not read without errors is not the one that is wanted
-  pub hindered : (reason : Refusal) → IsUnread reason text start end new → IsHindered reason text start end new so
-  hindered refusal.NotInText unread = unread
-  hindered refusal.HasErrors unread = unread
-  hindered refusal.ReadOtherwise unread = absurd unread
+  pub not_made : (reason : Refusal) → IsNotParsed reason text start end new → IsNotMade reason text start end new so
+  not_made refusal.NotInText unread = unread
+  not_made refusal.HasErrors unread = unread
+  not_made refusal.ReadOtherwise unread = absurd unread
 
   -- a text that is read so is the one that is wanted
   pub made_so : (made : List ℕ) (read : Reading) → made ≡ spliced text start end new → IsReadAs (spliced text start end new) read →
@@ -35,7 +35,7 @@ module _ (text : List ℕ) (start end : ℕ) (new : List ℕ) (so : Located → 
 
   -- and if it is not read so, it is not
   pub otherwise : (read : Reading) → IsReadAs (spliced text start end new) read → ¬ so (root_of read) →
-      IsHindered refusal.ReadOtherwise text start end new so
+      IsNotMade refusal.ReadOtherwise text start end new so
   otherwise read h fails = record {
     tree = read.tree;
     is_read = subst (λ faults. IsParsed (tokens_of (spliced text start end new)) read.tree faults) h.none h.is_read;

@@ -33,22 +33,22 @@ same_steps : (passed twins : List Event) → map shown_of passed ≡ map shown_o
 same_steps passed twins e = all_shown passed ∙ ap (flat_map steps_shown) e ∙ sym (all_shown twins)
 
 -- the same steps come first in two walks, and these are left
-pub record GoOnAlike (a b a_remaining b_remaining : List Step) : Type 0 where
+pub record RestDecides (a b a_remaining b_remaining : List Step) : Type 0 where
   pub front : List Step
   pub first : a ≡ front ++ a_remaining
   pub second : b ≡ front ++ b_remaining
 
 -- what is left of them is the same just if all was, and no more is left of each
-pub alike_there : (a b a_remaining b_remaining : List Step) → GoOnAlike a b a_remaining b_remaining → a_remaining ≡ b_remaining → a ≡ b
+pub alike_there : (a b a_remaining b_remaining : List Step) → RestDecides a b a_remaining b_remaining → a_remaining ≡ b_remaining → a ≡ b
 alike_there a b a_remaining b_remaining h rests = h.first ∙ ap (λ steps. h.front ++ steps) rests ∙ sym h.second
 
-pub alike_back : (a b a_remaining b_remaining : List Step) → GoOnAlike a b a_remaining b_remaining → a ≡ b → a_remaining ≡ b_remaining
+pub alike_back : (a b a_remaining b_remaining : List Step) → RestDecides a b a_remaining b_remaining → a ≡ b → a_remaining ≡ b_remaining
 alike_back a b a_remaining b_remaining h whole = append_cancel_left h.front a_remaining b_remaining (sym h.first ∙ whole ∙ h.second)
 
-pub alike_shorter : (a b a_remaining b_remaining : List Step) → GoOnAlike a b a_remaining b_remaining → length a_remaining ≤ length a
+pub alike_shorter : (a b a_remaining b_remaining : List Step) → RestDecides a b a_remaining b_remaining → length a_remaining ≤ length a
 alike_shorter a b a_remaining b_remaining h = omega (arith, ap length h.first, length-append h.front a_remaining)
 
-pub other_shorter : (a b a_remaining b_remaining : List Step) → GoOnAlike a b a_remaining b_remaining → length b_remaining ≤ length b
+pub other_shorter : (a b a_remaining b_remaining : List Step) → RestDecides a b a_remaining b_remaining → length b_remaining ≤ length b
 other_shorter a b a_remaining b_remaining h = omega (arith, ap length h.second, length-append h.front b_remaining)
 
 -- one more step was taken before
@@ -68,7 +68,7 @@ step_taken first all x y a b all_a all_b so_far one two same = record {
 }
 
 -- the second one continues with what is left of the first one just if all of it begins with all of that
-pub alike_goes_on : (a b a_remaining b_remaining first all : List Step) → GoOnAlike a b a_remaining b_remaining → GoesOn first all a b
+pub alike_goes_on : (a b a_remaining b_remaining first all : List Step) → RestDecides a b a_remaining b_remaining → GoesOn first all a b
     → GoesOn first all a_remaining b_remaining
 alike_goes_on a b a_remaining b_remaining first all h so_far = record {
   there = λ rest e.
@@ -79,10 +79,10 @@ alike_goes_on a b a_remaining b_remaining first all h so_far = record {
 }
 
 -- walks that pass events that show the same continue by the same steps
-go_on_alike : (passed twins a b a_remaining b_remaining : List Event) → map shown_of passed ≡ map shown_of twins → a ≡ passed ++ a_remaining
+rest_decides : (passed twins a b a_remaining b_remaining : List Event) → map shown_of passed ≡ map shown_of twins → a ≡ passed ++ a_remaining
     → b ≡ twins ++ b_remaining
-    → GoOnAlike (steps_of a) (steps_of b) (steps_of a_remaining) (steps_of b_remaining)
-go_on_alike passed twins a b a_remaining b_remaining e first second = record {
+    → RestDecides (steps_of a) (steps_of b) (steps_of a_remaining) (steps_of b_remaining)
+rest_decides passed twins a b a_remaining b_remaining e first second = record {
   front = steps_of passed;
   first = ap steps_of first ∙ flat_map-append step_at passed a_remaining;
   second =
@@ -165,8 +165,8 @@ as_passed before other_before (Some true) a b a_remaining b_remaining h = record
 -- what is left of two walks that passed alike events
 module _ (before other_before : ℕ) (a b a_remaining b_remaining : List Event) (h : ArePassed before other_before a b a_remaining b_remaining) where
   -- continues alike
-  pub passed_alike : GoOnAlike (steps_of a) (steps_of b) (steps_of a_remaining) (steps_of b_remaining)
-  passed_alike = go_on_alike h.passed h.twins a b a_remaining b_remaining h.alike h.first h.second
+  pub passed_alike : RestDecides (steps_of a) (steps_of b) (steps_of a_remaining) (steps_of b_remaining)
+  passed_alike = rest_decides h.passed h.twins a b a_remaining b_remaining h.alike h.first h.second
 
   -- up to nodes at the offsets
   before_first : (target : NodeRange) → before ≡ target.start
@@ -188,15 +188,15 @@ module _ (before other_before : ℕ) (a b a_remaining b_remaining : List Event) 
 
   -- in the first walk up to the node, in the second one to its end
   pub alike_before : (target : NodeRange) → before ≡ target.start
-      → GoOnAlike (steps_of (events_before target a)) (steps_of b) (steps_of (events_before target a_remaining)) (steps_of b_remaining)
+      → RestDecides (steps_of (events_before target a)) (steps_of b) (steps_of (events_before target a_remaining)) (steps_of b_remaining)
   alike_before target e =
-      go_on_alike h.passed h.twins (events_before target a) b (events_before target a_remaining) b_remaining h.alike
+      rest_decides h.passed h.twins (events_before target a) b (events_before target a_remaining) b_remaining h.alike
       (ap (events_before target) h.first ∙ (before_first target e).0) h.second
 
   -- in both up to nodes
   pub both_before : (target other : NodeRange) → before ≡ target.start → other_before ≡ other.start
-      → GoOnAlike (steps_of (events_before target a)) (steps_of (events_before other b)) (steps_of (events_before target a_remaining))
+      → RestDecides (steps_of (events_before target a)) (steps_of (events_before other b)) (steps_of (events_before target a_remaining))
       (steps_of (events_before other b_remaining))
   both_before target other e f =
-      go_on_alike h.passed h.twins (events_before target a) (events_before other b) (events_before target a_remaining) (events_before other b_remaining) h.alike
-      (ap (events_before target) h.first ∙ (before_first target e).0) (ap (events_before other) h.second ∙ (before_second other f).0)
+      rest_decides h.passed h.twins (events_before target a) (events_before other b) (events_before target a_remaining) (events_before other b_remaining)
+      h.alike (ap (events_before target) h.first ∙ (before_first target e).0) (ap (events_before other) h.second ∙ (before_second other f).0)

@@ -84,10 +84,10 @@ pub record IsMade (text : List ℕ) (start end : ℕ) (new : List ℕ) (so : Loc
   pub read : IsReadSo made so
 
 -- why there is no such text
-abbrev pub IsHindered : Refusal → List ℕ → ℕ → ℕ → List ℕ → (Located → Type 0) → Type 0
-IsHindered refusal.NotInText text start end new so = ¬ (IsInside text start end × IsBetween text start end)
-IsHindered refusal.HasErrors text start end new so = IsReadWithErrors (spliced text start end new)
-IsHindered refusal.ReadOtherwise text start end new so = IsReadOtherwise (spliced text start end new) so
+abbrev pub IsNotMade : Refusal → List ℕ → ℕ → ℕ → List ℕ → (Located → Type 0) → Type 0
+IsNotMade refusal.NotInText text start end new so = ¬ (IsInside text start end × IsBetween text start end)
+IsNotMade refusal.HasErrors text start end new so = IsReadWithErrors (spliced text start end new)
+IsNotMade refusal.ReadOtherwise text start end new so = IsReadOtherwise (spliced text start end new) so
 
 -- the root is that of the tree with a new node of the kind in place of another one
 abbrev pub IsTreeReplaced : Located → Located → SyntaxKind → List ℕ → Located → Type 0
@@ -101,7 +101,7 @@ IsReplaced text root node kind new made =
 -- why there is no such text
 abbrev pub IsNotReplaced : Refusal → List ℕ → Located → Located → SyntaxKind → List ℕ → Type 0
 IsNotReplaced refusal text root node kind new =
-    IsHindered refusal text (item_of node).start (item_of node).end new (IsTreeReplaced root node kind new)
+    IsNotMade refusal text (item_of node).start (item_of node).end new (IsTreeReplaced root node kind new)
 
 -- the text without the bytes of a cut: its tree is the old one without the node and the comments in the cut
 abbrev pub IsCutOut : List ℕ → Located → Located → Cut → List ℕ → Type 0
@@ -109,7 +109,7 @@ IsCutOut text root node cut made = IsMade text cut.start cut.end [] (IsWithout r
 
 -- why there is no such text
 abbrev pub IsNotCutOut : Refusal → List ℕ → Located → Located → Cut → Type 0
-IsNotCutOut refusal text root node cut = IsHindered refusal text cut.start cut.end [] (IsWithout root (node_range_of node) cut.comments)
+IsNotCutOut refusal text root node cut = IsNotMade refusal text cut.start cut.end [] (IsWithout root (node_range_of node) cut.comments)
 
 -- the text without a node: without the bytes that go with it
 abbrev pub IsRemoved : List ℕ → Located → Located → List ℕ → Type 0
@@ -129,7 +129,7 @@ IsFilled so text new gap made = IsMade text gap.start gap.end (put_in gap new) (
 
 -- why there is no such text
 abbrev pub IsNotFilled : (Gap → Located → Type 0) → Refusal → List ℕ → List ℕ → Gap → Type 0
-IsNotFilled so refusal text new gap = IsHindered refusal text gap.start gap.end (put_in gap new) (so gap)
+IsNotFilled so refusal text new gap = IsNotMade refusal text gap.start gap.end (put_in gap new) (so gap)
 
 -- the root is that of the tree with what is put into a gap: one node of a kind, right after the other one and the comments up to the gap
 abbrev pub IsTreeAfter : Located → Located → SyntaxKind → List ℕ → Gap → Located → Type 0

@@ -25,10 +25,10 @@ pub record IsReadAs (text : List ℕ) (read : Reading) : Type 0 where
   pub none : read.faults ≡ []
 
 -- why the changed text has errors
-abbrev pub IsUnread : Refusal → List ℕ → ℕ → ℕ → List ℕ → Type 0
-IsUnread refusal.NotInText text start end new = ¬ (IsInside text start end × IsBetween text start end)
-IsUnread refusal.HasErrors text start end new = IsReadWithErrors (spliced text start end new)
-IsUnread refusal.ReadOtherwise text start end new = ⊥
+abbrev pub IsNotParsed : Refusal → List ℕ → ℕ → ℕ → List ℕ → Type 0
+IsNotParsed refusal.NotInText text start end new = ¬ (IsInside text start end × IsBetween text start end)
+IsNotParsed refusal.HasErrors text start end new = IsReadWithErrors (spliced text start end new)
+IsNotParsed refusal.ReadOtherwise text start end new = ⊥
 
 -- the new text, if there is one, is this text, with its reading
 abbrev pub IfRead : List ℕ → Tried → Type 0

@@ -3,7 +3,7 @@
 ghost use Rattle.std.specs.Prelude.{◌≡◌, ◌++◌, string_bytes, IfOk};
 ghost use Rattle.rnix_edit.specs.EditRanges.{put_in};
 ghost use Rattle.rnix_edit.specs.Edited.{IfDone, IfRefused, spliced, node_range_in, IsInsertedAfter, IsNotInsertedAfter, IsInsertedInside, IsNotInsertedInside};
-ghost use Rattle.rnix_edit.specs.Tried.{IsUnread, IfRead, IfNotRead, gap_of};
+ghost use Rattle.rnix_edit.specs.Tried.{IsNotParsed, IfRead, IfNotRead, gap_of};
 
 use crate::check::{is_after, is_inside};
 use crate::edited::{Edited, Refusal};
@@ -26,7 +26,7 @@ fn joined(alloc: Global, before: &str, new: &str, after: &str) -> Result<String,
 // Returns the text with a new text in a gap, which must parse without errors.
 fn read_filled(alloc: Global, text: &str, gap: &Gap, new: &str) -> Result<Tried, AllocError>
     ensures read { IfOk result (IfRead (spliced text.now gap.now.start gap.now.end (put_in (gap_of gap.now) new.now))) }
-    ensures refused { IfOk result (IfNotRead (λ refusal. IsUnread refusal text.now gap.now.start gap.now.end (put_in (gap_of gap.now) new.now))) }
+    ensures refused { IfOk result (IfNotRead (λ refusal. IsNotParsed refusal text.now gap.now.start gap.now.end (put_in (gap_of gap.now) new.now))) }
 {
     let put = joined(alloc, gap.before.as_str(), new, gap.after)?;
     read_spliced(alloc, text, gap.start, gap.end, put.as_str())

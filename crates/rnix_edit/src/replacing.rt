@@ -4,7 +4,7 @@ ghost use Rattle.std.specs.Prelude.{◌≡◌, IfOk};
 ghost use Rattle.std.specs.Bool.{Decides};
 ghost use Rattle.rnix_green.specs.Tree.{item_of};
 ghost use Rattle.rnix_edit.specs.Edited.{IfDone, IfRefused, spliced, node_range_at, IsTreeReplaced, IsReplaced, IsNotReplaced};
-ghost use Rattle.rnix_edit.specs.Tried.{IsUnread, IfRead, IfNotRead};
+ghost use Rattle.rnix_edit.specs.Tried.{IsNotParsed, IfRead, IfNotRead};
 
 use crate::check::is_around;
 use crate::edited::{Edited, Refusal};
@@ -21,7 +21,7 @@ fn read_replaced(
     new: &str,
 ) -> Result<Tried, AllocError>
     ensures read { IfOk result (IfRead (spliced text.now (item_of node.now).start (item_of node.now).end new.now)) }
-    ensures refused { IfOk result (IfNotRead (λ refusal. IsUnread refusal text.now (item_of node.now).start (item_of node.now).end new.now)) }
+    ensures refused { IfOk result (IfNotRead (λ refusal. IsNotParsed refusal text.now (item_of node.now).start (item_of node.now).end new.now)) }
 {
     let range = node.text_range();
     read_spliced(alloc, text, range.start(), range.end(), new)

@@ -13,7 +13,7 @@ use rnix::{
 };
 
 // The number of failed attempts after which walks are compared step by step, so that the time stays linear.
-const MOST_MISSES: u8 = 2;
+const MAX_MISSES: u8 = 2;
 
 /// A step of a walk: entering or leaving a node, which has no text, or passing a token.
 #[derive(Clone, Copy)]
@@ -172,11 +172,11 @@ fn try_pass(
     misses: u8,
 ) -> u8
     ensures passed { ArePassed before other_before a.old b.old a.new b.new }
-    ensures all { misses < MOST_MISSES → result ≡ misses → siblings_before before 0 a.new ≡ [] }
+    ensures all { misses < MAX_MISSES → result ≡ misses → siblings_before before 0 a.new ≡ [] }
     ensures kept { misses ≤ result }
     ensures counted { result ≤ misses + 1 }
 {
-    if misses >= MOST_MISSES {
+    if misses >= MAX_MISSES {
         return misses;
     }
     match a.pass_alike(before, b, other_before) {

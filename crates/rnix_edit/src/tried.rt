@@ -3,7 +3,7 @@
 ghost use Rattle.std.specs.Prelude.{◌≡◌, false, string_bytes, IfOk, IfSome, IfNone};
 ghost use Rattle.rnix_text.specs.Changes.{IsInside, IsBetween};
 ghost use Rattle.rnix_edit.specs.Edited.{spliced};
-ghost use Rattle.rnix_edit.specs.Tried.{is_memory, IsUnread, IfRead, IfNotRead};
+ghost use Rattle.rnix_edit.specs.Tried.{is_memory, IsNotParsed, IfRead, IfNotRead};
 
 use crate::edited::Refusal;
 use rnix::{Parse, Root};
@@ -57,7 +57,7 @@ pub fn read_spliced(
     new: &str,
 ) -> Result<Tried, AllocError>
     ensures read { IfOk result (IfRead (spliced text.now start end new.now)) }
-    ensures refused { IfOk result (IfNotRead (λ refusal. IsUnread refusal text.now start end new.now)) }
+    ensures refused { IfOk result (IfNotRead (λ refusal. IsNotParsed refusal text.now start end new.now)) }
 {
     let Some(made) = spliced(alloc, text, start, end, new)? else {
         return Ok(Tried::Refused(Refusal::NotInText));

@@ -10,8 +10,8 @@ status_of (Ok false) = 1
 status_of (Err error) = 2
 
 -- what is said of a run that was refused
-abbrev pub complaint_of : RunError → List ℕ
-complaint_of Read = codes "nix-tree: cannot read input"
-complaint_of NotUtf8 = codes "nix-tree: input is not UTF-8"
-complaint_of Write = codes "nix-tree: cannot write output"
-complaint_of Memory = codes "nix-tree: out of memory"
+abbrev pub message_of : RunError → List ℕ
+message_of Read = codes "nix-tree: cannot read input"
+message_of NotUtf8 = codes "nix-tree: input is not UTF-8"
+message_of Write = codes "nix-tree: cannot write output"
+message_of Memory = codes "nix-tree: out of memory"

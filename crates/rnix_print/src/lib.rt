@@ -7,6 +7,6 @@ mod outcome;
 mod running;
 mod tree_lines;
 
-pub use outcome::{RunError, complaint, status};
+pub use outcome::{RunError, message, status};
 pub use rnix_tree::dump;
 pub use running::run;

@@ -1,7 +1,7 @@
 //! How a run ends.
 
 ghost use Rattle.std.specs.Prelude.{◌≡◌};
-ghost use Rattle.rnix_print.specs.Outcome.{status_of, complaint_of};
+ghost use Rattle.rnix_print.specs.Outcome.{status_of, message_of};
 
 /// The reason why a run failed.
 #[derive(Debug, Clone, Copy, PartialEq, Eq)]
@@ -28,8 +28,8 @@ pub fn status(outcome: &Result<bool, RunError>) -> u8
 }
 
 /// Returns the line that the program prints for a run that failed.
-pub fn complaint(error: &RunError) -> &'static str
-    ensures { result.now ≡ complaint_of error.now }
+pub fn message(error: &RunError) -> &'static str
+    ensures { result.now ≡ message_of error.now }
 {
     match error {
         RunError::Read => "nix-tree: cannot read input",

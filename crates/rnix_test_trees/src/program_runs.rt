@@ -1,7 +1,7 @@
 //! Whole runs over readers that move one byte at a time, and refusals.
 
 use crate::ends::{Input, NEVER, Output};
-use rnix_print::{RunError, complaint, run, status};
+use rnix_print::{RunError, message, run, status};
 use std::alloc::Global;
 use std::io::ErrorKind;
 
@@ -18,13 +18,13 @@ fn a_text_that_is_not_utf8_prints_nothing(rt: HostRuntime) {
     assert!(rt; is_no_text(rt.alloc(), b"a\xff"));
 }
 
-// Whether a refusal has this complaint, and the status 2.
+// Whether a refusal has this message, and the status 2.
 fn is_reported(error: RunError, wanted: &str) -> bool {
-    complaint(&error) == wanted && status(&Err(error)) == 2
+    message(&error) == wanted && status(&Err(error)) == 2
 }
 
 #[test]
-fn each_refusal_has_its_complaint(rt: HostRuntime) {
+fn each_refusal_has_its_message(rt: HostRuntime) {
     assert!(rt; status(&Ok(true)) == 0 && status(&Ok(false)) == 1);
     let cases = [
         (RunError::Read, "nix-tree: cannot read input"),

@@ -7,11 +7,11 @@ returns-in-Some g c =
     let start = g.W.Write.contents c.args.out.now in
     let mid = g.W.Write.contents c.read_text.new.out in
     let new = g.W.Write.contents c.count_text.new.out in
-    let shown = c.shown_name.result.now in
+    let shown = c.display_name.result.now in
     let text = c.as_str.result.now in
     IfOk-weaker c.count_text.result (IsTextCounted c.args.style shown text c.args.tally mid new)
     (IsFileCounted c.args.style c.args.name.now c.args.tally start new)
-    (λ tally own. file_checked c.args.style c.args.name.now shown text c.args.tally tally start mid new c.read_text.ensures c.shown_name.ensures own)
+    (λ tally own. file_checked c.args.style c.args.name.now shown text c.args.tally tally start mid new c.read_text.ensures c.display_name.ensures own)
     c.count_text.ensures
 
 pub returns-in-None : goal.returns-in-None

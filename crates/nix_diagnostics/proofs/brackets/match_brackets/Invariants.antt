@@ -2,7 +2,7 @@ use Rattle.std.proofs.Common.{◌≡◌, ◌++◌}
 use Rattle.nix_diagnostics.specs.Locations.{last_end, end_of_items}
 use Rattle.nix_diagnostics.specs.Ends.{last_kind, last_kind_in}
 use Rattle.nix_diagnostics.specs.Unmatched.{unmatched, unmatched_after}
-use Rattle.nix_diagnostics.specs.Apart.{semicolons_in, semicolons_of}
+use Rattle.nix_diagnostics.specs.Independence.{semicolons_in, semicolons_of}
 use Rattle.nix_diagnostics.proofs.brackets.match_brackets.Given as goal
 
 abbrev pub invariant-loop-element : goal.invariant-loop-element

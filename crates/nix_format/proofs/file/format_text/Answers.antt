@@ -16,9 +16,9 @@ returns-in-Formatted g c =
     (subst (λ (bytes : List ℕ). IsFinished c.args.task name text bytes start new outcome) c.as_str.ensures.value own))
     c.finish.ensures
 
-pub returns-in_ok-write_errors-in-Faulty : goal.returns-in_ok-write_errors-in-Faulty
-returns-in_ok-write_errors-in-Faulty g c =
-    faulty (subst (λ (f : Formatting). IsOutcome c.args.text.now f) c.in-Faulty.is c.in_ok-made.ensures)
+pub returns-in_ok-write_errors-in-HasErrors : goal.returns-in_ok-write_errors-in-HasErrors
+returns-in_ok-write_errors-in-HasErrors g c =
+    faulty (subst (λ (f : Formatting). IsOutcome c.args.text.now f) c.in-HasErrors.is c.in_ok-made.ensures)
     (Keeps-refl (g.W.Write.contents c.args.out.now))
 
 pub returns-in_ok-write_refusal-in-Refused : goal.returns-in_ok-write_refusal-in-Refused

@@ -10,7 +10,7 @@ loop-element-init c = record {
   found = found_begun c.args.root.now c.new-bindings.result.items c.new-references.result.items c.new-around.result c.inside_count-remaining.result
       c.into_iter-element-iterator.result c.inside_count-remaining.ensures
       (c.into_iter-element-iterator.ensures.into_iter_gives ∙ c.descendants_with_tokens-element-items.ensures.elements) c.new-bindings.ensures.items
-      c.new-references.ensures.items c.new-around.ensures.numbers c.new-around.ensures.hidden c.new-around.ensures.scopes
+      c.new-references.ensures.items c.new-around.ensures.numbers c.new-around.ensures.shadowed c.new-around.ensures.scopes
       c.new-around.ensures.scope_ends c.new-around.ensures.body_ends c.new-around.ensures.set_ends c.new-around.ensures.set_scopes;
 }
 

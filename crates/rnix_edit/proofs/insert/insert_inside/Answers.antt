@@ -2,8 +2,8 @@ use Rattle.std.proofs.{Common.{rules, ◌≡◌, ◌∙◌, sym, subst, string_b
 use Rattle.rnix.specs.ParseResult.{root_of}
 use Rattle.rnix_edit.specs.declared.edited.Refusal.TheVariants as refusal
 use Rattle.rnix_edit.specs.{Steps.node_range_of, EditRanges.put_in, Edited.{spliced, IsLastIn, IsTreeInside, IsFilled, IsNotFilled}}
-use Rattle.rnix_edit.specs.Tried.{IsUnread, IfRead, IfNotRead, gap_of}
-use Rattle.rnix_edit.proofs.EditLemmas.{hindered, made_so, otherwise}
+use Rattle.rnix_edit.specs.Tried.{IsNotParsed, IfRead, IfNotRead, gap_of}
+use Rattle.rnix_edit.proofs.EditLemmas.{not_made, made_so, otherwise}
 use Rattle.rnix_edit.proofs.insert.insert_inside.Goals as goal
 
 pub returns-in-Refused-clause-refused : goal.returns-in-Refused-clause-refused
@@ -13,8 +13,8 @@ returns-in-Refused-clause-refused c =
     let put = put_in gap c.args.new.now in
     let so = IsTreeInside c.args.root.now c.args.node.now c.args.kind c.args.new.now in
     subst (IsNotFilled so c.in-Refused.refusal text c.args.new.now) c.in_ok-gap.ensures
-    (hindered text gap.start gap.end put (so gap) c.in-Refused.refusal
-    (subst (IfNotRead (λ refusal. IsUnread refusal text gap.start gap.end put)) c.in-Refused.is c.in_ok-made.ensures.refused))
+    (not_made text gap.start gap.end put (so gap) c.in-Refused.refusal
+    (subst (IfNotRead (λ refusal. IsNotParsed refusal text gap.start gap.end put)) c.in-Refused.is c.in_ok-made.ensures.refused))
 
 pub returns-then-is_inside-clause-done : goal.returns-then-is_inside-clause-done
 returns-then-is_inside-clause-done c =

@@ -1,8 +1,8 @@
 use Rattle.std.proofs.{Common.{rules, ◌≡◌, ◌∙◌, [], sym, subst, string_bytes}, lemmas.Bool.false≢true}
 use Rattle.rnix.specs.ParseResult.{root_of}
-use Rattle.rnix_edit.specs.{Steps.node_range_of, Edited.{spliced, IsWithout, IsCutOut, IsNotCutOut}, Tried.{IsUnread, IfRead, IfNotRead}}
+use Rattle.rnix_edit.specs.{Steps.node_range_of, Edited.{spliced, IsWithout, IsCutOut, IsNotCutOut}, Tried.{IsNotParsed, IfRead, IfNotRead}}
 use Rattle.rnix_edit.specs.declared.edited.Refusal.TheVariants as refusal
-use Rattle.rnix_edit.proofs.EditLemmas.{hindered, made_so, otherwise}
+use Rattle.rnix_edit.proofs.EditLemmas.{not_made, made_so, otherwise}
 use Rattle.rnix_edit.proofs.removing.remove.Goals as goal
 
 pub returns-in-Refused-clause-refused : goal.returns-in-Refused-clause-refused
@@ -11,8 +11,8 @@ returns-in-Refused-clause-refused c =
     let text = c.args.text.now in
     let so = IsWithout c.args.root.now (node_range_of c.args.node.now) cut.comments in
     subst (IsNotCutOut c.in-Refused.refusal text c.args.root.now c.args.node.now) c.cut_of-cut.ensures
-    (hindered text cut.start cut.end [] so c.in-Refused.refusal
-    (subst (IfNotRead (λ refusal. IsUnread refusal text cut.start cut.end [])) c.in-Refused.is c.in_ok-made.ensures.refused))
+    (not_made text cut.start cut.end [] so c.in-Refused.refusal
+    (subst (IfNotRead (λ refusal. IsNotParsed refusal text cut.start cut.end [])) c.in-Refused.is c.in_ok-made.ensures.refused))
 
 pub returns-then-is_without-clause-done : goal.returns-then-is_without-clause-done
 returns-then-is_without-clause-done c =
