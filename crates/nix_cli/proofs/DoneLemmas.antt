@@ -2,7 +2,7 @@
 use Rattle.std.proofs.Common.{◌≡◌, ℕ, ◌+◌, ◌<◌, List, [], ◌∷◌, ◌++◌, length, take, map, get_or, Option, ap, sym, ◌∙◌, subst}
 use Rattle.std.proofs.lemmas.List.{take_more, map-append}
 use Rattle.std.specs.{Prelude.{string_bytes, max, String}, declared.alloc.Global.Global}
-use Rattle.nix_cli.specs.Statuses.{FileRun, AreDone, one_done}
+use Rattle.nix_cli.specs.Statuses.{FileEffect, AreDone, one_done}
 
 -- the names of some files and the next one
 pub names_more : (files : List (String Global)) (i : ℕ) (file : String Global) → i < length files → file ≡ get_or files i file →
@@ -12,8 +12,8 @@ names_more files i file within is =
     ∙ map-append string_bytes (take i files) (get_or files i file ∷ [])
     ∙ ap (λ f. map string_bytes (take i files) ++ string_bytes f ∷ []) (sym is)
 
--- a deed is done with some files and with the next one
-pub done_more : (Does : FileRun) (first : ℕ) (old mid new : Option (List ℕ)) (files : List (String Global)) (i : ℕ) (file : String Global)
+-- the same is done with some files and with the next one
+pub done_more : (Does : FileEffect) (first : ℕ) (old mid new : Option (List ℕ)) (files : List (String Global)) (i : ℕ) (file : String Global)
     (status own : ℕ) → i < length files → file ≡ get_or files i file → AreDone Does first old (map string_bytes (take i files)) mid status →
     Does (string_bytes file) mid new own → AreDone Does first old (map string_bytes (take (i + 1) files)) new (max status own)
 done_more Does first old mid new files i file status own within is before does =

@@ -6,11 +6,11 @@ abbrev pub first_status : ℕ → ℕ
 first_status failed = if failed == 0 then 0 else 2
 
 -- what is done with a file: its name, the bytes that the output has before and after it, and its status
-abbrev pub FileRun : Type 1
-FileRun = List ℕ → Option (List ℕ) → Option (List ℕ) → ℕ → Type 0
+abbrev pub FileEffect : Type 1
+FileEffect = List ℕ → Option (List ℕ) → Option (List ℕ) → ℕ → Type 0
 
--- the deed is done with each of some files, one after the other; the status is the highest of theirs and the first one
-pub data AreDone (Does : FileRun) (first : ℕ) (old : Option (List ℕ)) : List (List ℕ) → Option (List ℕ) → ℕ → Type 0 where
+-- this is done with each of some files, one after the other; the status is the highest of theirs and the first one
+pub data AreDone (Does : FileEffect) (first : ℕ) (old : Option (List ℕ)) : List (List ℕ) → Option (List ℕ) → ℕ → Type 0 where
   none_done : AreDone Does first old [] old first
   one_done : (files : List (List ℕ)) (mid new : Option (List ℕ)) (status own : ℕ) (file : List ℕ) → AreDone Does first old files mid status →
       Does file mid new own → AreDone Does first old (files ++ file ∷ []) new (max status own)

@@ -62,10 +62,10 @@ has_last (d ∷ e ∷ ds) some =
     record { before = d ∷ rest.before; d = rest.d; is = ap (λ ds. d ∷ ds) rest.is }
 
 -- one error more is covered by the last diagnostic, which is not among the first
-folded_behind : (root : Located) (all faults more : List Fault) (most number : ℕ) (old new : FirstDiagnostics) (fault : Fault)
+folded_after : (root : Located) (all faults more : List Fault) (most number : ℕ) (old new : FirstDiagnostics) (fault : Fault)
     (are : AreFirstOf root all faults most old) → most < length are.ds → new.first.items ≡ old.first.items → new.count ≡ old.count →
     follows root all faults fault ≡ true → number ≡ length faults → more ≡ faults ++ fault ∷ [] → AreFirstOf root all more most new
-folded_behind root all faults more most number old new fault are less kept same_count does counts is =
+folded_after root all faults more most number old new fault are less kept same_count does counts is =
     let last = has_last are.ds (omega (arith, less)) in
     let d = last.d in
     let next : Diagnostic =
@@ -102,7 +102,7 @@ pub folded_one : (root : Located) (all faults more : List Fault) (most number : 
 folded_one root all faults more most number old new fault are folded does counts is =
     elim (cases_lt most (length are.ds)) [
       | inl less ↦
-          folded_behind root all faults more most number old new fault are less
+          folded_after root all faults more most number old new fault are less
           (folded.kept (λ same. omega (arith, less, ap length are.first, length-take-le most are.ds (omega (arith, less)), are.count, same)))
           folded.count does counts is
       | inr few ↦ (
@@ -141,10 +141,10 @@ enough most first ds is full =
     ]
 
 -- one error more has a diagnostic, which is only counted: some diagnostic with a message is one
-pub added_behind : (root : Located) (all faults more : List Fault) (most : ℕ) (old new : FirstDiagnostics) (fault : Fault) (range : TextRange) →
+pub added_after : (root : Located) (all faults more : List Fault) (most : ℕ) (old new : FirstDiagnostics) (fault : Fault) (range : TextRange) →
     AreFirstOf root all faults most old → IsCountAdded None old new → 0 < most → most ≤ length old.first.items → follows root all faults fault ≡ false →
     bounds_of range ≡ location_of root fault → more ≡ faults ++ fault ∷ [] → AreFirstOf root all more most new
-added_behind root all faults more most old new fault range are added some full does_not at is =
+added_after root all faults more most old new fault range are added some full does_not at is =
     let inside : most ≤ length are.ds = enough most old.first.items are.ds are.first full in
     let last = has_last are.ds (omega (arith, some, inside)) in
     let has_message : HasMessage last.d = (last_run root all faults are.ds last.before last.d are.are last.is).has_message in

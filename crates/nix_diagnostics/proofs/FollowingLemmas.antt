@@ -10,7 +10,7 @@ use Rattle.nix_diagnostics.specs.Locations.{location_of}
 use Rattle.nix_diagnostics.specs.TokenErrors.{is_token_error}
 use Rattle.nix_diagnostics.specs.Independence.{is_independent, since, larger, reach, ends_between, semicolons_of}
 use Rattle.nix_diagnostics.specs.Ends.{is_from, ends_in_string}
-use Rattle.nix_diagnostics.specs.FaultNodes.{error_node, group_of, are_one}
+use Rattle.nix_diagnostics.specs.FaultNodes.{error_node, group_of, are_same_range}
 use Rattle.nix_diagnostics.specs.Following.{is_extra, last_from, last_token_error, are_close, is_near, group_if, skips_if, skips, is_lost, has_skipped, is_closing, is_joined, follows}
 use Rattle.nix_diagnostics.specs.Known.{is_close_after, loses_in, is_independent_in, follows_in, Knows, HasReached}
 use Rattle.nix_diagnostics.specs.declared.folding.Folding.{Folding}
@@ -77,7 +77,7 @@ judged_token_error root all before fault f independent group location b known at
     let near = near_known root before fault f.last location known.last at in
     result ∙ (λ k. some k && (other k || (known.in_string k || (sym token_error k
     && (if apart_is k then known.unbalanced k && (known.closed k && nat_le (known.end k) (at k).end)
-    else known.lost k || (are_one (own k) (known.group k) || near k))))))
+    else known.lost k || (are_same_range (own k) (known.group k) || near k))))))
 
 -- an error node skips brackets as the state knows
 pub skips_known : (root : Located) (all before : List Fault) (fault : Fault) (f : Folding) (found : Option Located) (b : Bool) → Knows root all before f →

@@ -12,7 +12,7 @@ use Rattle.rnix_grammar.specs.Ranges.{range_in}
 use Rattle.std.specs.Global.{Vec}
 use Rattle.nix_diagnostics.specs.declared.diagnostic.{Diagnostic.{Diagnostic}, FirstDiagnostics.{FirstDiagnostics}}
 use Rattle.nix_diagnostics.specs.{Locations.{range_or, location_of}, TokenErrors.{is_token_error, is_repeated_name}, Following.{follows, last_from, last_token_error}}
-use Rattle.nix_diagnostics.proofs.FirstShownLemmas.{AreFirstOf, added_behind, all_first}
+use Rattle.nix_diagnostics.proofs.FirstShownLemmas.{AreFirstOf, added_after, all_first}
 use Rattle.nix_diagnostics.specs.FirstShown.{AreFirst}
 
 -- an error about a repeated name is not one about an unexpected or a missing token
@@ -73,7 +73,7 @@ rest_counted root all before (e ∷ rest) most found are first some full =
     let range = has_range root e (and_parts (named e) (list_all named rest) both.1).0 in
     let moved : (before ++ e ∷ []) ++ rest ≡ before ++ e ∷ rest = append_assoc before (e ∷ []) rest in
     let one : AreFirstOf root all (map fault_of (before ++ e ∷ [])) most (counted found 1) =
-    added_behind root all (map fault_of before) (map fault_of (before ++ e ∷ [])) most found (counted found 1) (fault_of e) range.0 first
+    added_after root all (map fault_of before) (map fault_of (before ++ e ∷ [])) most found (counted found 1) (fault_of e) range.0 first
     record { count = refl; first = sym (append-nil found.first.items) } some full (none_follows root all before (fault_of e) both.0) range.1
     (map-append fault_of before (e ∷ [])) in
     let more : counted (counted found 1) (length rest) ≡ counted found (length (e ∷ rest)) =

@@ -75,6 +75,6 @@ abbrev pub group_of : Located → Fault → Option Extent
 group_of root fault = group_around (error_node root fault)
 
 -- there are two ranges, and they are equal
-abbrev pub are_one : Option Extent → Option Extent → Bool
-are_one (Some a) (Some b) = same_extent a b
-are_one a b = false
+abbrev pub are_same_range : Option Extent → Option Extent → Bool
+are_same_range (Some a) (Some b) = same_extent a b
+are_same_range a b = false

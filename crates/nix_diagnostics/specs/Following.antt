@@ -12,7 +12,7 @@ use Rattle.nix_diagnostics.specs.Unmatched.{unmatched}
 use Rattle.nix_diagnostics.specs.TokenErrors.{is_token_error}
 use Rattle.nix_diagnostics.specs.Independence.{is_independent}
 use Rattle.nix_diagnostics.specs.Ends.{ends_in_string, ends_closed, lost_from, is_from}
-use Rattle.nix_diagnostics.specs.FaultNodes.{error_node, group_of, are_one}
+use Rattle.nix_diagnostics.specs.FaultNodes.{error_node, group_of, are_same_range}
 
 -- the error is about tokens after the expression
 abbrev pub is_extra : Fault → Bool
@@ -105,7 +105,7 @@ is_closing root before fault = has_skipped root before && (ends_closed root && n
 -- node of the last token error, or near that token error
 abbrev pub is_joined : Located → List Fault → List Fault → Fault → Bool
 is_joined root all before fault =
-    is_lost root all before || (are_one (group_of root fault) (group_if root (last_token_error before)) || is_near root (last_token_error before) fault)
+    is_lost root all before || (are_same_range (group_of root fault) (group_if root (last_token_error before)) || is_near root (last_token_error before) fault)
 
 -- an error follows from earlier ones, one of which is a token error: it is about tokens after the expression; or the text ends inside a string; or the error is
 -- a token error itself, and shares their diagnostic

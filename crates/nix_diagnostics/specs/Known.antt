@@ -8,7 +8,7 @@ use Rattle.rnix_grammar.specs.Ranges.{range_in}
 use Rattle.nix_diagnostics.specs.Locations.{end_of_items, location_of}
 use Rattle.nix_diagnostics.specs.Unmatched.{unmatched}
 use Rattle.nix_diagnostics.specs.Ends.{last_kind, ends_in_string, ends_closed, lost_from, is_from}
-use Rattle.nix_diagnostics.specs.FaultNodes.{are_one}
+use Rattle.nix_diagnostics.specs.FaultNodes.{are_same_range}
 use Rattle.nix_diagnostics.specs.Following.{last_token_error, are_close, group_if, is_lost, has_skipped, follows}
 use Rattle.nix_diagnostics.specs.Independence.{since, larger, ends_between, reach, semicolons_of}
 use Rattle.nix_diagnostics.specs.declared.folding.Folding.{Folding}
@@ -38,7 +38,7 @@ is_independent_in f location = ends_between f.reach location.start (drop f.passe
 -- not independent: the parser has lost its way, or the last token error has the same node around it, or is close before it
 abbrev pub is_joined_in : Located → Folding → Option TextRange → TextRange → Bool
 is_joined_in root f group location =
-    f.is_lost || (are_one (option_map bounds_of group) (option_map bounds_of f.group) || is_close_after (text_at root) f.last location.start)
+    f.is_lost || (are_same_range (option_map bounds_of group) (option_map bounds_of f.group) || is_close_after (text_at root) f.last location.start)
 
 -- such a token error follows from earlier ones: there are some, and the text ends inside a string; or it is independent of them, brackets were skipped, and
 -- it is at the end of a text whose last item closes something; or it is not independent, and shares their diagnostic

@@ -10,7 +10,7 @@ ghost use Rattle.nix_diagnostics.specs.Locations.{location_of};
 ghost use Rattle.nix_diagnostics.specs.Brackets.{has_range, closes_around, depth_after, skips_brackets};
 ghost use Rattle.nix_diagnostics.specs.TokenErrors.{is_token_error};
 ghost use Rattle.nix_diagnostics.specs.Independence.{larger, semicolons_of};
-ghost use Rattle.nix_diagnostics.specs.FaultNodes.{error_node, is_group, range_if_group, group_around, are_one};
+ghost use Rattle.nix_diagnostics.specs.FaultNodes.{error_node, is_group, range_if_group, group_around, are_same_range};
 ghost use Rattle.nix_diagnostics.specs.Following.{is_extra, skips_if};
 ghost use Rattle.nix_diagnostics.specs.Known.{loses_in, is_independent_in, is_joined_in, follows_in, IsMatching, Knows, HasReached, JudgesNext};
 
@@ -83,8 +83,8 @@ fn group_of(node: &Option<SyntaxNode<'_>>) -> Option<TextRange>
 }
 
 // Returns whether both ranges are given and equal.
-fn are_one(own: Option<TextRange>, last: Option<TextRange>) -> bool
-    ensures { result ≡ are_one (option_map bounds_of own) (option_map bounds_of last) }
+fn are_same_range(own: Option<TextRange>, last: Option<TextRange>) -> bool
+    ensures { result ≡ are_same_range (option_map bounds_of own) (option_map bounds_of last) }
 {
     match (own, last) {
         (Some(own), Some(last)) => own.start() == last.start() && own.end() == last.end(),
@@ -256,7 +256,7 @@ impl Folding {
         requires { self.now.last ≡ Some last }
         ensures { result ≡ is_joined_in root.now self.now group location }
     {
-        if self.is_lost || are_one(group, self.group) {
+        if self.is_lost || are_same_range(group, self.group) {
             return true;
         }
         are_close(root.text().as_bytes(), last, location.start())

@@ -7,16 +7,16 @@ use Rattle.nix_format.specs.Diff.{line_feed, lines_with, lines_of, old_lines, ne
 use Rattle.nix_format.specs.Applied.{after_line, applied_to, applied, reversed}
 
 -- lines that begin with a line
-pub behind_itself : (line : List ℕ) (rest : List (List ℕ)) → after_line line (line ∷ rest) ≡ Some rest
-behind_itself line rest = ap (λ t. if t then Some rest else None) ((bytes_eq-Decides line line).1 refl)
+pub after_itself : (line : List ℕ) (rest : List (List ℕ)) → after_line line (line ∷ rest) ≡ Some rest
+after_itself line rest = ap (λ t. if t then Some rest else None) ((bytes_eq-Decides line line).1 refl)
 
 -- a diff makes the lines of the new text of those of the old one
 makes_new : (diff : List DiffLine) → applied_to diff (old_lines diff) ≡ Some (new_lines diff)
 makes_new [] = refl
 makes_new (Common line ∷ diff) =
-    ap (λ o. option_map (λ made. line.now ∷ made) (option_and_then (applied_to diff) o)) (behind_itself line.now (old_lines diff))
+    ap (λ o. option_map (λ made. line.now ∷ made) (option_and_then (applied_to diff) o)) (after_itself line.now (old_lines diff))
     ∙ ap (option_map (λ made. line.now ∷ made)) (makes_new diff)
-makes_new (Removed line ∷ diff) = ap (option_and_then (applied_to diff)) (behind_itself line.now (old_lines diff)) ∙ makes_new diff
+makes_new (Removed line ∷ diff) = ap (option_and_then (applied_to diff)) (after_itself line.now (old_lines diff)) ∙ makes_new diff
 makes_new (Added line ∷ diff) = ap (option_map (λ made. line.now ∷ made)) (makes_new diff)
 
 -- the lines of a text, joined, are the text

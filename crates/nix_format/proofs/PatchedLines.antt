@@ -8,7 +8,7 @@ use Rattle.nix_format.specs.declared.unified.{Hunk.Hunk}
 use Rattle.nix_format.specs.Diff.{old_line, new_line, old_lines, new_lines}
 use Rattle.nix_format.specs.Applied.{applied_first}
 use Rattle.nix_format.specs.Hunks.{AreCommon, lines_between, AreCounts, AreHunks, hunk_lines, patched_from}
-use Rattle.nix_format.proofs.AppliedDiffs.{behind_itself}
+use Rattle.nix_format.proofs.AppliedDiffs.{after_itself}
 use Rattle.nix_format.proofs.HunkLemmas.{olds_counted, lines_split}
 
 -- the old lines of common lines are the new ones
@@ -22,10 +22,10 @@ common_alike (Added line ∷ lines) h = cc
 makes_first : (diff : List DiffLine) (rest : List (List ℕ)) → applied_first diff (old_lines diff ++ rest) ≡ Some (new_lines diff, rest)
 makes_first [] rest = refl
 makes_first (Common line ∷ diff) rest =
-    ap (λ o. option_map (λ made. (line.now ∷ made.0, made.1)) (option_and_then (applied_first diff) o)) (behind_itself line.now (old_lines diff ++ rest))
+    ap (λ o. option_map (λ made. (line.now ∷ made.0, made.1)) (option_and_then (applied_first diff) o)) (after_itself line.now (old_lines diff ++ rest))
     ∙ ap (option_map (λ made. (line.now ∷ made.0, made.1))) (makes_first diff rest)
 makes_first (Removed line ∷ diff) rest =
-    ap (option_and_then (applied_first diff)) (behind_itself line.now (old_lines diff ++ rest)) ∙ makes_first diff rest
+    ap (option_and_then (applied_first diff)) (after_itself line.now (old_lines diff ++ rest)) ∙ makes_first diff rest
 makes_first (Added line ∷ diff) rest = ap (option_map (λ made. (line.now ∷ made.0, made.1))) (makes_first diff rest)
 
 -- the lines of a diff from a number on: those up to another number, and the rest

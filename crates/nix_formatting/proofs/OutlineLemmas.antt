@@ -51,8 +51,8 @@ module _ (t : Tree) (n : ℕ) (k : SyntaxKind) (s m : ℕ) (p : Option ℕ) (b :
   entered e = ap (λ i. rebuilt (before true (shown_in t n true) i (steps_of remaining))) e
 
   -- a node is left
-  remaining_behind : item t n ≡ item_with true k s m p b → rebuilt (steps_of (event_at t (false, n) ∷ remaining)) ≡ empty ∷ rebuilt (steps_of remaining)
-  remaining_behind e = ap (λ i. rebuilt (before false (shown_in t n false) i (steps_of remaining))) e
+  remaining_after : item t n ≡ item_with true k s m p b → rebuilt (steps_of (event_at t (false, n) ∷ remaining)) ≡ empty ∷ rebuilt (steps_of remaining)
+  remaining_after e = ap (λ i. rebuilt (before false (shown_in t n false) i (steps_of remaining))) e
 
   -- a token is passed
   token_passed : item t n ≡ item_with false k s m p b → steps_of (event_at t (true, n) ∷ (event_at t (false, n) ∷ remaining))
@@ -86,8 +86,8 @@ module _ (whole u behind : List ℕ) (s : ℕ) (at : drop s whole ≡ u ++ behin
       let len : s + length u - s ≡ length u = omega arith in
       ap (λ m. take m (drop s whole)) len ∙ ap (take (length u)) at ∙ take_at u behind (length u) refl
 
-  text_behind : drop (s + length u) whole ≡ behind
-  text_behind = sym (drop-drop (length u) s whole) ∙ ap (drop (length u)) at ∙ drop_at u behind (length u) refl
+  text_after : drop (s + length u) whole ≡ behind
+  text_after = sym (drop-drop (length u) s whole) ∙ ap (drop (length u)) at ∙ drop_at u behind (length u) refl
 
 -- the steps of a walk over a forest rebuild its outline in front of the rest of its forest
 rebuilds : (t : Tree) (n s : ℕ) (p : Option ℕ) (f : Forest) (more : List Event) (rest : List ℕ) (g : Forest) (fs : List Forest)
@@ -106,7 +106,7 @@ rebuilds t n s p (leaf k u f) more rest g fs here text h =
     ∙ ap (λ x. step_if (not (same_kind k TOKEN_WHITESPACE)) (step_with true false k x) (steps_of remaining)) shows)
     ∙ token_row (same_kind k TOKEN_WHITESPACE) k (text_unless (same_kind k TOKEN_STRING_CONTENT) u) (steps_of remaining) (outline f) g fs
     (rebuilds t (n + 1) (s + length u) p f more rest g fs
-    (back_items t n (n + 1) (item_with false k s (s + length u) p 0 ∷ []) items refl here) (text_behind whole u (text_of f ++ rest) s at) h)
+    (back_items t n (n + 1) (item_with false k s (s + length u) p 0 ∷ []) items refl here) (text_after whole u (text_of f ++ rest) s at) h)
 rebuilds t n s p (node k c f) more rest g fs here text h =
     let whole : List ℕ = text_of (forest_of t) in
     let m : ℕ = s + length (text_of c) in
@@ -121,9 +121,9 @@ rebuilds t n s p (node k c f) more rest g fs here text h =
     let after : rebuilt (steps_of behind) ≡ join (outline f) g ∷ fs =
     rebuilds t j m p f more rest g fs
     (back_items t (n + 1) j xs ys (ap (λ x. n + 1 + x) (length-items_from (n + 1) s (Some n) c)) below)
-    (text_behind whole (text_of c) (text_of f ++ rest) s at) h in
+    (text_after whole (text_of c) (text_of f ++ rest) s at) h in
     let closed : rebuilt (steps_of (event_at t (false, n) ∷ behind)) ≡ empty ∷ (join (outline f) g ∷ fs) =
-    remaining_behind t n k s m p (element_count c) behind is ∙ ap (λ r. empty ∷ r) after in
+    remaining_after t n k s m p (element_count c) behind is ∙ ap (λ r. empty ∷ r) after in
     let inside : rebuilt (steps_of (steps ++ event_at t (false, n) ∷ behind)) ≡ join (outline c) empty ∷ (join (outline f) g ∷ fs) =
     rebuilds t (n + 1) s (Some n) c (event_at t (false, n) ∷ behind) (text_of f ++ rest) empty (join (outline f) g ∷ fs)
     (front_items t (n + 1) xs ys below) at closed in

@@ -85,20 +85,20 @@ items_at n in_path (l ∷ ls) =
     (items_at m false ls) (items_at m (ends_piece l.0) ls)
 
 -- the kind and the end of the last item, after one more token
-abbrev kind_behind : Bool → Option SyntaxKind → SyntaxKind → Option SyntaxKind
-kind_behind true prev k = prev
-kind_behind false prev k = Some k
+abbrev kind_after : Bool → Option SyntaxKind → SyntaxKind → Option SyntaxKind
+kind_after true prev k = prev
+kind_after false prev k = Some k
 
-abbrev end_behind : Bool → ℕ → ℕ → ℕ
-end_behind true p end = p
-end_behind false p end = end
+abbrev end_after : Bool → ℕ → ℕ → ℕ
+end_after true p end = p
+end_after false p end = end
 
 -- the flags of tokens are right, given the kind and the end of the item before them
 abbrev AreTrue : Option SyntaxKind → ℕ → List PlacedToken → Type 0
 AreTrue prev p [] = Unit {0}
 AreTrue prev p (s ∷ ss) =
     (s.joins ≡ (is_in_path prev && nat_eq s.token.start p) && is_piece_start s.token.kind)
-    × AreTrue (kind_behind (is_trivia s.token.kind) prev s.token.kind) (end_behind (is_trivia s.token.kind) p s.token.end) ss
+    × AreTrue (kind_after (is_trivia s.token.kind) prev s.token.kind) (end_after (is_trivia s.token.kind) p s.token.end) ss
 
 -- nothing that begins further right touches
 apart : (b : Bool) (p n : ℕ) → p < n → false ≡ b && nat_eq n p
@@ -130,7 +130,7 @@ all_true prev p n in_path (l ∷ ls) is order some =
       | true ↦ all_true prev p m false ls spaced (omega (arith, further)) rest
       | false ↦ (
         ap (λ b. b && is_piece_start k) is,
-        elim (is_trivia k) as (λ b. is_trivia k ≡ b → AreTrue (kind_behind b prev k) (end_behind b p m) (placed_tokens_from m (ends_piece k) ls)) [
+        elim (is_trivia k) as (λ b. is_trivia k ≡ b → AreTrue (kind_after b prev k) (end_after b p m) (placed_tokens_from m (ends_piece k) ls)) [
           | true ↦ λ e. all_true prev p m (ends_piece k) ls (comment_ends k e ∙ spaced) (omega (arith, further)) rest
           | false ↦ λ e. all_true (Some k) m m (ends_piece k) ls (touching (ends_piece k) m) (omega arith) rest
         ] refl,
@@ -151,8 +151,8 @@ alike_step : (b c : Bool) → b ≡ c → (prev : Option SyntaxKind) (p q : ℕ)
     → x.token.kind ≡ y.token.kind → x.token.text ≡ y.token.text
     → (may_join prev x.token.kind ≡ true → nat_eq x.token.start p ≡ nat_eq y.token.start q)
     → ((other : Option SyntaxKind) (n m : ℕ) → AreTrue other n xs → AreTrue other m ys → AreAlike other n m (items_in xs) (items_in ys))
-    → AreTrue (kind_behind b prev x.token.kind) (end_behind b p x.token.end) xs
-    → AreTrue (kind_behind c prev y.token.kind) (end_behind c q y.token.end) ys
+    → AreTrue (kind_after b prev x.token.kind) (end_after b p x.token.end) xs
+    → AreTrue (kind_after c prev y.token.kind) (end_after c q y.token.end) ys
     → AreAlike prev p q (item_if b x.token (items_in xs)) (item_if c y.token (items_in ys))
 alike_step true true same prev p q x y xs ys kinds texts joins rest hx hy = rest prev p q hx hy
 alike_step true false same prev p q x y xs ys kinds texts joins rest hx hy = absurd (false≢true (sym same))

@@ -8,7 +8,7 @@ use crate::layout::{Group, Layout, Target};
 use crate::lines::with_lines;
 use crate::piece::{Piece, line_feeds_in};
 use crate::spacing::{
-    Child, Spacing, around_text, behind_first_comma, broken, distant, keeps_distance, spacing_in,
+    Child, Spacing, after_first_comma, around_text, broken, distant, keeps_distance, spacing_in,
 };
 use rnix::ast::BinOpKind;
 use rnix::{NodeOrToken, SyntaxElement, SyntaxKind, SyntaxNode, SyntaxToken, TextRange};
@@ -107,7 +107,7 @@ impl Collector {
     // Returns the gap between a child of a node and the next one. A conditional whose `else` is followed by another one is broken.
     fn wanted(&self, frame: &Frame, before: SyntaxKind, child: Child) -> Spacing {
         if before == SyntaxKind::TOKEN_COMMA && self.begins_line() {
-            return behind_first_comma();
+            return after_first_comma();
         }
         let wanted = spacing_in(frame.kind, before, child);
         if frame.kind == SyntaxKind::NODE_IF_ELSE && !frame.is_own && !wanted.is_inner {

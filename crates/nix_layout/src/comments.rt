@@ -71,7 +71,7 @@ fn comment_gap(
 }
 
 // Returns the gap before the piece that follows comments.
-fn gap_behind(piece: &Piece, spacing: Spacing, group: usize, is_ended: bool) -> Gap {
+fn gap_after(piece: &Piece, spacing: Spacing, group: usize, is_ended: bool) -> Gap {
     let gap = plain_gap(spacing, group, piece.line_feeds);
     if is_ended {
         ended(gap, piece.line_feeds, !spacing.closes)
@@ -105,7 +105,7 @@ pub fn set_gaps(pieces: &mut Vec<Piece>, from: usize, spacing: Spacing, group: u
         } else if is_first {
             plain_gap(spacing, group, piece.line_feeds)
         } else {
-            gap_behind(&piece, spacing, group, is_ended)
+            gap_after(&piece, spacing, group, is_ended)
         };
         pieces[number].gap = gap;
         is_ended = piece.is_comment && ends;

@@ -155,7 +155,7 @@ impl Measures {
     }
 
     // Returns whether the pieces from the one that closes the target on fit on the last line.
-    fn fits_behind(&self, pieces: &[Piece], group: &Group, target: Target, room: Room) -> bool {
+    fn fits_after(&self, pieces: &[Piece], group: &Group, target: Target, room: Room) -> bool {
         let close = pieces.get(target.close).map_or(0, last_width);
         let last = self.end(group.end.saturating_sub(1));
         let behind = last.saturating_sub(self.end(target.close));
@@ -181,7 +181,7 @@ impl Measures {
     /// Returns whether a group fits if its target is broken: the part before the target on the first line, and the part after it on the last one.
     pub fn fits_around(&self, pieces: &[Piece], group: &Group, target: Target, room: Room) -> bool {
         self.fits_before(pieces, group, target, room)
-            && self.fits_behind(pieces, group, target, room)
+            && self.fits_after(pieces, group, target, room)
             && self.has_to_break(pieces, group, target, room)
     }
 }

@@ -283,7 +283,7 @@ pub fn broken(spacing: Spacing) -> Spacing {
 }
 
 /// Returns the white space after a comma that a comment has moved to the start of its line.
-pub fn behind_first_comma() -> Spacing {
+pub fn after_first_comma() -> Spacing {
     SPACED
 }
 

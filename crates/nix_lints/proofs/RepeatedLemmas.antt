@@ -14,11 +14,11 @@ with_names_after known [] more = refl
 with_names_after known (own ∷ names) more = with_names_after (with_name known own) names more
 
 -- the repetitions among names after others
-repetitions_behind : (known : Known) (names more : List Name) →
+repetitions_among_later : (known : Known) (names more : List Name) →
     repetitions_after known (names ++ more) ≡ repetitions_after known names ++ repetitions_after (with_names known names) more
-repetitions_behind known [] more = refl
-repetitions_behind known (own ∷ names) more =
-    ap (λ found. repetition (earlier known own) own.site ++ found) (repetitions_behind (with_name known own) names more)
+repetitions_among_later known [] more = refl
+repetitions_among_later known (own ∷ names) more =
+    ap (λ found. repetition (earlier known own) own.site ++ found) (repetitions_among_later (with_name known own) names more)
     ∙ sym (append_assoc (repetition (earlier known own) own.site) (repetitions_after (with_name known own) names) _)
 
 -- no names are added
@@ -36,7 +36,7 @@ adds_both old mid new names more one two = record {
   repeated = λ known table. two.repeated (with_names known names) (one.table known table)
       ∙ ap (λ found. found ++ repetitions_after (with_names known names) more) (one.repeated known table)
       ∙ append_assoc (map repetition_of old.repeated.items) (repetitions_after known names) _
-      ∙ ap (λ found. map repetition_of old.repeated.items ++ found) (sym (repetitions_behind known names more));
+      ∙ ap (λ found. map repetition_of old.repeated.items ++ found) (sym (repetitions_among_later known names more));
 }
 
 -- the repetition that one more name is, if it is one

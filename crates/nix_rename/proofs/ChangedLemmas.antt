@@ -1,7 +1,7 @@
 -- Changes of places of a text, one after the other.
 use Rattle.std.proofs.{Common.{◌≡◌, ℕ, ◌≤◌, ◌<◌, suc, List, [], ◌∷◌, ◌++◌, length, get_or, take, map, Some, inl, inr, refl, ap, sym, subst, ◌∙◌, arith}, lemmas.{List.{map-append, get_or-map, get_or-take, length-map, length-take-le, Elements.{All-push, Contains-append_right}}, Option.slice_get-get_or}}
 use Rattle.std.{proofs.lemmas.List.Sorted.{IsPermutation-sym, IsPermutation-middle, IsPermutation-push_more, Contains-permutation}, specs.{Prelude.◌⊎◌, List.{All, Contains}}}
-use Rattle.{std.specs.List.Sorted.IsPermutation, rnix_green.specs.Range.Extent, rnix_text.specs.Changes.{Change, Draft, AreAscending, IsAdded, IsMet}}
+use Rattle.{std.specs.List.Sorted.IsPermutation, rnix_green.specs.Range.Extent, rnix_text.specs.Changes.{Change, Draft, AreAscending, IsAdded, HasOverlap}}
 use Rattle.nix_rename.specs.Changed.{ContainsAt, change_at, LacksAt, DoOverlap, IsUnchangeable}
 
 -- the rest of a list of which something holds
@@ -24,7 +24,7 @@ put_among n c (f ∷ front) back h low order before behind =
 added_ascend : (c : Change) (old new : List Change) → AreAscending 0 old → c.start ≤ c.end → IsAdded c old new → AreAscending 0 new
 added_ascend c old new h order added =
     subst (AreAscending 0) (sym added.new_is)
-    (put_among 0 c added.front added.back (subst (AreAscending 0) added.old_is h) (omega arith) order added.before added.behind)
+    (put_among 0 c added.front added.back (subst (AreAscending 0) added.old_is h) (omega arith) order added.before added.after)
 
 -- a change that is added is one more of those that are there
 added_more : (c : Change) (xs old new : List Change) → IsPermutation xs old → IsAdded c old new → IsPermutation (xs ++ c ∷ []) new
@@ -63,7 +63,7 @@ met_contained cs front back c is =
 -- a place overlaps one of those before it
 met_before : (occurrences so_far : List Extent) (occurrence : Extent) (new : List ℕ) (i : ℕ) (cs : List Change) → so_far ≡ take i occurrences →
     i < length occurrences → get_or occurrences i occurrence ≡ occurrence → IsPermutation (map (change_at new) so_far) cs
-    → IsMet occurrence.start occurrence.end cs → DoOverlap occurrences
+    → HasOverlap occurrence.start occurrence.end cs → DoOverlap occurrences
 met_before occurrences so_far occurrence new i cs so_far_is there occurrence_is same met =
     let found : Contains (map (change_at new) so_far) met.change =
     Contains-permutation cs (map (change_at new) so_far) met.change (IsPermutation-sym _ _ same) (met_contained cs met.front met.back met.change met.is) in
@@ -93,7 +93,7 @@ met_before occurrences so_far occurrence new i cs so_far_is there occurrence_is 
 pub unfit_found : (text : List ℕ) (occurrences so_far : List Extent) (occurrence : Extent) (old new : List ℕ) (i : ℕ) (draft : Draft)
     → so_far ≡ take i occurrences →
     i < length occurrences → get_or occurrences i occurrence ≡ occurrence → IsDrafted text so_far old new draft →
-    (LacksAt draft.text old occurrence ⊎ IsMet occurrence.start occurrence.end draft.changes) → IsUnchangeable text occurrences old
+    (LacksAt draft.text old occurrence ⊎ HasOverlap occurrence.start occurrence.end draft.changes) → IsUnchangeable text occurrences old
 unfit_found text occurrences so_far occurrence old new i draft so_far_is there occurrence_is is (inl lacking) =
     inl (record { occurrence = occurrence; is_one = (i, there, occurrence_is); lacking = subst (λ t. LacksAt t old occurrence) is.text_is lacking })
 unfit_found text occurrences so_far occurrence old new i draft so_far_is there occurrence_is is (inr met) =

@@ -3,7 +3,7 @@ use Rattle.std.specs.Prelude.{◌≡◌, ◌⊎◌, ℕ, ◌<◌, ◌≤◌, Boo
 use Rattle.std.specs.List.{All, Contains}
 use Rattle.std.specs.List.Sorted.{IsPermutation}
 use Rattle.rnix_green.specs.Range.{Extent}
-use Rattle.rnix_text.specs.Changes.{Change, Draft, AreAscending, IsAdded, IsBetween, IsMet, changed_from, replacing}
+use Rattle.rnix_text.specs.Changes.{Change, Draft, AreAscending, IsAdded, IsBetween, HasOverlap, changed_from, replacing}
 
 -- the text contains a name at a place
 abbrev pub ContainsAt : List ℕ → List ℕ → Extent → Type 0
@@ -50,4 +50,4 @@ IsUnchangeable text occurrences old = IsMissing text occurrences old ⊎ DoOverl
 abbrev pub IsOccurrenceTested : Extent → List ℕ → List ℕ → Draft → Draft → Bool → Type 0
 IsOccurrenceTested occurrence old new before after true = ContainsAt before.text old occurrence
     × IsAdded (change_at new occurrence) before.changes after.changes
-IsOccurrenceTested occurrence old new before after false = LacksAt before.text old occurrence ⊎ IsMet occurrence.start occurrence.end before.changes
+IsOccurrenceTested occurrence old new before after false = LacksAt before.text old occurrence ⊎ HasOverlap occurrence.start occurrence.end before.changes

@@ -3,20 +3,20 @@ use Rattle.std.proofs.Common.{◌≡◌, ℕ, ◌-◌, ◌<◌, List, [], ◌∷
 use Rattle.std.{proofs.{lemmas.{List.length_push, Bool.false≢true}, Math.Seq.take-append_seam}, specs.Prelude.{nat_lt, slice_get, if◌then◌else◌}}
 use Rattle.{rnix_green.specs.Tree.Located, rnix_tree.specs.InsideCounts.inside_count}
 use Rattle.nix_scopes.specs.Binders.{is_scope}
-use Rattle.nix_scopes.{specs.Resolving.{last_in, count_behind, counts_behind, is_more, has_ended, still_open, which_are_scopes}, proofs.NumberLemmas.get_last}
+use Rattle.nix_scopes.{specs.Resolving.{last_in, count_after, counts_after, is_more, has_ended, still_open, which_are_scopes}, proofs.NumberLemmas.get_last}
 
 -- the end of a node that is entered is added
 pub end_added : (root : Located) (remaining behind : ℕ) (ends more : List ℕ) (e : Located) (es : List Located) → remaining ≡ last_in root - e.number →
-    behind ≡ remaining - inside_count e → more ≡ ends ++ behind ∷ [] → ends ≡ counts_behind root es → more ≡ counts_behind root (e ∷ es)
+    behind ≡ remaining - inside_count e → more ≡ ends ++ behind ∷ [] → ends ≡ counts_after root es → more ≡ counts_after root (e ∷ es)
 end_added root remaining behind ends more e es count is added are =
-    let same : behind ≡ count_behind root e = omega (arith, count, is) in
-    added ∙ ap (λ end. ends ++ end ∷ []) same ∙ ap (λ ends. ends ++ count_behind root e ∷ []) are
+    let same : behind ≡ count_after root e = omega (arith, count, is) in
+    added ∙ ap (λ end. ends ++ end ∷ []) same ∙ ap (λ ends. ends ++ count_after root e ∷ []) are
 
 -- some of the nodes are not left yet: P holds of them, and these are their ends
 pub record AreRemaining (root : Located) (remaining : ℕ) (P : List Located → Type 0) (ends : List ℕ) (nodes : List Located) : Type 0 where
   pub rest : List Located
   pub known : P rest
-  pub ends_are : ends ≡ counts_behind root rest
+  pub ends_are : ends ≡ counts_after root rest
   pub same : still_open root remaining rest ≡ still_open root remaining nodes
 
 -- there is one that has ended
@@ -48,30 +48,30 @@ pub one_remaining : (root : Located) (remaining : ℕ) (P Q : List Located → T
     AreRemaining root remaining Q popped nodes
 one_remaining root remaining P Q ends popped nodes ended pops leaves h = go h.rest h.known h.ends_are h.same
   where
-    go : (rest : List Located) → P rest → ends ≡ counts_behind root rest → still_open root remaining rest ≡ still_open root remaining nodes →
+    go : (rest : List Located) → P rest → ends ≡ counts_after root rest → still_open root remaining rest ≡ still_open root remaining nodes →
         AreRemaining root remaining Q popped nodes
     go [] known are same = absurd (false≢true (sym (ap (has_ended remaining) are) ∙ ended))
     go (e ∷ es) known are same =
-        let over : nat_lt remaining (count_behind root e) ≡ true =
-        sym (last_ended remaining (counts_behind root es) (count_behind root e)) ∙ sym (ap (has_ended remaining) are) ∙ ended in
+        let over : nat_lt remaining (count_after root e) ≡ true =
+        sym (last_ended remaining (counts_after root es) (count_after root e)) ∙ sym (ap (has_ended remaining) are) ∙ ended in
         record {
           rest = es;
           known = leaves e es known;
-          ends_are = pops ∙ ap (λ xs. take (length xs - 1) xs) are ∙ but_last (counts_behind root es) (count_behind root e);
+          ends_are = pops ∙ ap (λ xs. take (length xs - 1) xs) are ∙ but_last (counts_after root es) (count_after root e);
           same = sym (ap (λ b. if b then still_open root remaining es else e ∷ es) over) ∙ same;
         }
 
 -- none of those that are not left has ended
-none_ended : (root : Located) (remaining : ℕ) (rest : List Located) → has_ended remaining (counts_behind root rest) ≡ false
+none_ended : (root : Located) (remaining : ℕ) (rest : List Located) → has_ended remaining (counts_after root rest) ≡ false
     → still_open root remaining rest ≡ rest
 none_ended root remaining [] lasts = refl
 none_ended root remaining (e ∷ es) lasts =
-    ap (λ b. if b then still_open root remaining es else e ∷ es) (sym (last_ended remaining (counts_behind root es) (count_behind root e)) ∙ lasts)
+    ap (λ b. if b then still_open root remaining es else e ∷ es) (sym (last_ended remaining (counts_after root es) (count_after root e)) ∙ lasts)
 
 -- all that have ended are left
 pub all_remaining : (root : Located) (remaining : ℕ) (P : List Located → Type 0) (ends : List ℕ) (nodes : List Located) → has_ended remaining ends ≡ false →
-    AreRemaining root remaining P ends nodes → P (still_open root remaining nodes) × (ends ≡ counts_behind root (still_open root remaining nodes))
+    AreRemaining root remaining P ends nodes → P (still_open root remaining nodes) × (ends ≡ counts_after root (still_open root remaining nodes))
 all_remaining root remaining P ends nodes lasts h =
     let are : h.rest ≡ still_open root remaining nodes =
     sym (none_ended root remaining h.rest (sym (ap (has_ended remaining) h.ends_are) ∙ lasts)) ∙ h.same in
-    (subst P are h.known, h.ends_are ∙ ap (counts_behind root) are)
+    (subst P are h.known, h.ends_are ∙ ap (counts_after root) are)

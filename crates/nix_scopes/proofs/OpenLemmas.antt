@@ -5,7 +5,7 @@ use Rattle.std.{proofs.lemmas.List.{Elements.{All-cons, All-filter, All-head, Al
 use Rattle.std.specs.Prelude.{cond, filter, nat_le, nat_lt, if◌then◌else◌}
 use Rattle.rnix_green.specs.{Tree.{Tree, Located, items_of, item}, Walk.{holders, ancestors_of}, Relatives.{parent_of, located}}
 use Rattle.rnix_green.proofs.{ParentLemmas.parent_is_before, InsideLemmas.ends_inside, NumberTests.{is_below, is_not_below}}
-use Rattle.{nix_scopes.specs.{Scopes.around, Resolving.{last_in, count_behind, counts_behind, still_open}}, rnix_tree.specs.Around.ancestors_if}
+use Rattle.{nix_scopes.specs.{Scopes.around, Resolving.{last_in, count_after, counts_after, still_open}}, rnix_tree.specs.Around.ancestors_if}
 use Rattle.rnix_tree.proofs.AncestorLemmas.{holds, passes, ancestors_step}
 
 -- the innermost of these nodes, if there is one, is the parent of a node
@@ -165,7 +165,7 @@ module _ (root : Located) (remaining n : ℕ) (count : remaining ≡ last_in roo
   all_open [] all = refl
   all_open (e ∷ es) all =
       ap (λ b. if b then still_open root remaining es else e ∷ es)
-      (is_not_below remaining (count_behind root e) (omega (arith, count, All-head (λ (a : Located). n ≤ last_in a) e es all)))
+      (is_not_below remaining (count_after root e) (omega (arith, count, All-head (λ (a : Located). n ≤ last_in a) e es all)))
 
   -- those are still open that do not end before it, where an outer one ends no sooner
   pub still_open_is : (p : Located → Bool) (es : List Located) → AllPairs (λ (a b : Located). last_in a ≤ last_in b) es →
@@ -173,7 +173,7 @@ module _ (root : Located) (remaining n : ℕ) (count : remaining ≡ last_in roo
   still_open_is p [] nested = refl
   still_open_is p (e ∷ es) nested = elim (cases_lt (last_in e) n) [
     | inl short ↦
-        passed (p e) (is_below remaining (count_behind root e) (omega (arith, count, short, inside)))
+        passed (p e) (is_below remaining (count_after root e) (omega (arith, count, short, inside)))
         ∙ still_open_is p es (λ i j d l m. nested (suc i) (suc j) d (omega (arith, l)) (omega (arith, m)))
         ∙ ap (filter p) (sym (cond-false (reaches n e) (e ∷ filter (reaches n) es) (filter (reaches n) es) (lt-leb n (last_in e) short)))
     | inr long ↦
@@ -183,12 +183,12 @@ module _ (root : Located) (remaining n : ℕ) (count : remaining ≡ last_in roo
         ∙ ap (filter p) (sym (test_all (reaches n) (e ∷ es) (λ k d l. le-leb n _ (all k d l))))
   ]
     where
-      passed : (b : Bool) → nat_lt remaining (count_behind root e) ≡ true →
+      passed : (b : Bool) → nat_lt remaining (count_after root e) ≡ true →
           still_open root remaining (cond b (e ∷ filter p es) (filter p es)) ≡ still_open root remaining (filter p es)
       passed true ends = ap (λ b. if b then still_open root remaining (filter p es) else e ∷ filter p es) ends
       passed false ends = refl
 
 -- as many ends as elements
-pub counts_length : (root : Located) (es : List Located) → length (counts_behind root es) ≡ length es
+pub counts_length : (root : Located) (es : List Located) → length (counts_after root es) ≡ length es
 counts_length root [] = refl
-counts_length root (e ∷ es) = (let more = counts_length root es in omega (arith, length_push (counts_behind root es) (count_behind root e), more))
+counts_length root (e ∷ es) = (let more = counts_length root es in omega (arith, length_push (counts_after root es) (count_after root e), more))

@@ -130,13 +130,13 @@ abbrev pub last_in : Located → ℕ
 last_in e = e.number + inside_count e
 
 -- how many elements inside the root come after an element and what is inside it
-abbrev pub count_behind : Located → Located → ℕ
-count_behind root e = last_in root - last_in e
+abbrev pub count_after : Located → Located → ℕ
+count_after root e = last_in root - last_in e
 
 -- so many come after each of these elements; the count of the first is the last
-abbrev pub counts_behind : Located → List Located → List ℕ
-counts_behind root [] = []
-counts_behind root (e ∷ es) = counts_behind root es ++ count_behind root e ∷ []
+abbrev pub counts_after : Located → List Located → List ℕ
+counts_after root [] = []
+counts_after root (e ∷ es) = counts_after root es ++ count_after root e ∷ []
 
 -- whether this count, if there is one, is more than what is left
 abbrev pub is_more : ℕ → Option ℕ → Bool
@@ -150,11 +150,11 @@ has_ended remaining ends = is_more remaining (slice_get ends (length ends - 1))
 -- these elements without the first ones that have ended, after which come more elements than are left
 abbrev pub still_open : Located → ℕ → List Located → List Located
 still_open root remaining [] = []
-still_open root remaining (e ∷ es) = if nat_lt remaining (count_behind root e) then still_open root remaining es else e ∷ es
+still_open root remaining (e ∷ es) = if nat_lt remaining (count_after root e) then still_open root remaining es else e ∷ es
 
 -- what these scopes bind is in scope, and these are their ends
 abbrev pub HasScopes : Located → List Binding → SymbolTable → List ℕ → ℕ → List Located → Type 0
-HasScopes root bindings symbols ends n scopes = IsSymbolTable bindings symbols n scopes × (ends ≡ counts_behind root scopes)
+HasScopes root bindings symbols ends n scopes = IsSymbolTable bindings symbols n scopes × (ends ≡ counts_after root scopes)
 
 -- whether a node is an attribute set
 abbrev pub is_set : Located → Bool
@@ -167,12 +167,12 @@ which_are_scopes (e ∷ es) = which_are_scopes es ++ is_scope e ∷ []
 
 -- these are the ends of these attribute sets, and which of them are scopes
 abbrev pub HasSets : Located → List ℕ → List Bool → List Located → Type 0
-HasSets root ends are_scopes sets = (are_scopes ≡ which_are_scopes sets) × (ends ≡ counts_behind root sets)
+HasSets root ends are_scopes sets = (are_scopes ≡ which_are_scopes sets) × (ends ≡ counts_after root sets)
 
 -- what is known of what is around the place where these scopes, these bodies of `with` and these attribute sets are open
 pub record IsEnvironment (root : Located) (bindings : List Binding) (around : Environment) (n : ℕ) (scopes bodies sets : List Located) : Type 0 where
   pub has_scopes : HasScopes root bindings around.symbols around.scope_ends.items n scopes
-  pub has_bodies : around.body_ends.items ≡ counts_behind root bodies
+  pub has_bodies : around.body_ends.items ≡ counts_after root bodies
   pub has_sets : HasSets root around.set_ends.items around.set_scopes.items sets
 
 -- after the scopes, bodies of `with` and attribute sets are left that end before an element, after which come so many more, what is known is of those

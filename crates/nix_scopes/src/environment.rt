@@ -5,7 +5,7 @@ ghost use Rattle.rnix_green.specs.Tree.{Located};
 ghost use Rattle.nix_scopes.specs.Binders.{is_scope};
 ghost use Rattle.nix_scopes.specs.Scopes.{is_with_body, bindings_at};
 ghost use Rattle.nix_scopes.specs.Bound.{bound_of};
-ghost use Rattle.nix_scopes.specs.Resolving.{number_by, last_in, counts_behind, has_ended, still_open, is_set, is_scope_around, HasScopes, HasSets, IsEnvironment, LeavesEnded};
+ghost use Rattle.nix_scopes.specs.Resolving.{number_by, last_in, counts_after, has_ended, still_open, is_set, is_scope_around, HasScopes, HasSets, IsEnvironment, LeavesEnded};
 
 use crate::name_roles::is_with_body;
 use crate::resolution::Binding;
@@ -67,8 +67,8 @@ fn enter_body(
     ends: &mut Vec<usize>,
 ) -> Result<(), AllocError>
     ensures { OnOk result ((root : Located) → (bodies : List Located) → remaining ≡ last_in root - node.now.number →
-        ends.old.items ≡ counts_behind root bodies →
-        ends.new.items ≡ counts_behind root (if is_with_body node.now then node.now ∷ bodies else bodies)) }
+        ends.old.items ≡ counts_after root bodies →
+        ends.new.items ≡ counts_after root (if is_with_body node.now then node.now ∷ bodies else bodies)) }
 {
     if is_with_body(node) {
         ends.push(remaining.saturating_sub(node.inside_count()))?;
@@ -116,8 +116,8 @@ fn leave_scopes<'t>(
 
 // Leaves the bodies of `with` that end before an element, after which the walk has `remaining` more.
 fn leave_bodies(remaining: usize, ends: &mut Vec<usize>)
-    ensures { (root : Located) → (bodies : List Located) → ends.old.items ≡ counts_behind root bodies →
-        ends.new.items ≡ counts_behind root (still_open root remaining bodies) }
+    ensures { (root : Located) → (bodies : List Located) → ends.old.items ≡ counts_after root bodies →
+        ends.new.items ≡ counts_after root (still_open root remaining bodies) }
 {
     while has_ended(ends, remaining) {
         let _end = ends.pop();

@@ -107,7 +107,7 @@ in
 "#;
 
 // A package that the formatter would change: other white space, and strings that move.
-const LOOSE: &str = r#"{ lib, stdenv, fetchurl, %a, %b ? null,
+const UNFORMATTED: &str = r#"{ lib, stdenv, fetchurl, %a, %b ? null,
   %c }:
 stdenv.mkDerivation rec {
     pname = "%p"; version = "%0.%1";
@@ -138,7 +138,7 @@ const ENTRIES: [&str; 4] = [
 pub struct Files {
     package: Template,
     module: Template,
-    loose: Template,
+    unformatted: Template,
 }
 
 impl Files {
@@ -147,14 +147,14 @@ impl Files {
         Ok(Files {
             package: Template::new(alloc, PACKAGE)?,
             module: Template::new(alloc, MODULE)?,
-            loose: Template::new(alloc, LOOSE)?,
+            unformatted: Template::new(alloc, UNFORMATTED)?,
         })
     }
 
     // One of the templates: of eight, one is such as the formatter would change; of the others, one of three is a module.
     fn template(&self, numbers: &mut Numbers) -> &Template {
         if numbers.below(8) == 0 {
-            &self.loose
+            &self.unformatted
         } else if numbers.below(3) == 0 {
             &self.module
         } else {

@@ -63,7 +63,7 @@ fn is_letter(byte: u8) -> bool {
 }
 
 // Returns where the first run of small letters behind an offset begins and ends.
-fn word_behind(text: &str, offset: usize) -> (usize, usize) {
+fn word_after(text: &str, offset: usize) -> (usize, usize) {
     let behind = text.get(offset..).unwrap_or("").as_bytes();
     let before = behind.iter().take_while(|byte| !is_letter(**byte)).count();
     let start = offset.saturating_add(before);
@@ -78,7 +78,7 @@ pub fn small_edit<'w>(words: &'w Words, text: &str, numbers: &mut Numbers) -> Sm
     let (way, number) = (numbers.below(8), numbers.next());
     match way {
         0..=3 => {
-            let (start, end) = word_behind(text, offset);
+            let (start, end) = word_after(text, offset);
             let new = words.word(number);
             SmallEdit { start, end, new }
         }

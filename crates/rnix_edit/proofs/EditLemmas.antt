@@ -11,7 +11,7 @@ use Rattle.rnix_text.specs.declared.edit_error.EditError.TheVariants as cause
 use Rattle.rnix_edit.specs.declared.edited.Refusal.{Refusal}
 use Rattle.rnix_edit.specs.declared.edited.Refusal.TheVariants as refusal
 use Rattle.rnix_edit.specs.Edited.{spliced, IsMade, IsNotMade}
-use Rattle.rnix_edit.specs.Tried.{is_memory, IsReadAs, IsNotParsed}
+use Rattle.rnix_edit.specs.ParsedEdit.{is_memory, IsReadAs, IsNotParsed}
 
 module _ (text : List ℕ) (start end : ℕ) (new : List ℕ) (so : Located → Type 0) where
   -- a text that is not read without errors is not the one that is wanted

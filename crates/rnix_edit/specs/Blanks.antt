@@ -32,5 +32,5 @@ abbrev pub line_break_before : List ℕ → ℕ → List ℕ
 line_break_before text offset = if begins_line text offset && byte_before text (offset - 1) == 13 then 13 ∷ 10 ∷ [] else 10 ∷ []
 
 -- whether an opening bracket precedes an offset: `{`, `[` or `(`
-abbrev pub is_opened : List ℕ → ℕ → Bool
-is_opened text offset = byte_before text offset == 123 || (byte_before text offset == 91 || byte_before text offset == 40)
+abbrev pub follows_opening : List ℕ → ℕ → Bool
+follows_opening text offset = byte_before text offset == 123 || (byte_before text offset == 91 || byte_before text offset == 40)

@@ -1,7 +1,7 @@
 -- Which bytes an edit removes, and where it inserts a new text.
 use Rattle.std.specs.Prelude.{ℕ, ◌==◌, nat_lt, ◌&&◌, ◌||◌, List, [], ◌++◌, codes, Option, Some, None, if◌then◌else◌}
 use Rattle.rnix_green.specs.Tree.{Located, item_of}
-use Rattle.rnix_edit.specs.Blanks.{begins_line, blanks_start, blanks_before, blanks_end, line_break_before, is_opened}
+use Rattle.rnix_edit.specs.Blanks.{begins_line, blanks_start, blanks_before, blanks_end, line_break_before, follows_opening}
 use Rattle.rnix_edit.specs.Line.{rest_of_line, closing_start}
 use Rattle.rnix_edit.specs.declared.cut.Cut.{Cut}
 use Rattle.rnix_edit.specs.declared.line.RestOfLine.{RestOfLine}
@@ -15,7 +15,7 @@ cut start end comments = record { start = start; end = end; comments = comments 
 abbrev pub cut_in_line : List ℕ → ℕ → ℕ → Cut
 cut_in_line text start end =
     if blanks_end text end == end then cut (blanks_start text start) end 0
-    else (if nat_lt (blanks_start text start) start || is_opened text start then cut start (blanks_end text end) 0
+    else (if nat_lt (blanks_start text start) start || follows_opening text start then cut start (blanks_end text end) 0
     else cut start end 0)
 
 -- what goes with a node that is followed only by comments on its line: the whole line, with its line break, if the node is the first in it;

@@ -4,4 +4,4 @@ pub mod EditRanges
 pub mod Steps
 pub mod SameSteps
 pub mod Edited
-pub mod Tried
+pub mod ParsedEdit

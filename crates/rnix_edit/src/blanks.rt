@@ -2,7 +2,7 @@
 
 ghost use Rattle.std.specs.Prelude.{◌≡◌, ◌≤◌, length, slice_index};
 ghost use Rattle.std.specs.List.{prefix_len};
-ghost use Rattle.rnix_edit.specs.Blanks.{is_blank, byte_before, begins_line, blanks_start, blanks_before, blanks_end, line_break_before, is_opened};
+ghost use Rattle.rnix_edit.specs.Blanks.{is_blank, byte_before, begins_line, blanks_start, blanks_before, blanks_end, line_break_before, follows_opening};
 
 // Returns whether a byte is white space within a line.
 fn is_blank(byte: u8) -> bool
@@ -43,8 +43,8 @@ pub fn begins_line(text: &str, offset: usize) -> bool
 }
 
 /// Returns whether an opening bracket precedes an offset.
-pub fn is_opened(text: &str, offset: usize) -> bool
-    ensures { result ≡ is_opened text.now offset }
+pub fn follows_opening(text: &str, offset: usize) -> bool
+    ensures { result ≡ follows_opening text.now offset }
 {
     let byte = byte_before(text, offset);
     byte == b'{' || byte == b'[' || byte == b'('

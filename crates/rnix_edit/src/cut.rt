@@ -3,7 +3,7 @@
 ghost use Rattle.std.specs.Prelude.{◌≡◌};
 ghost use Rattle.rnix_edit.specs.EditRanges.{cut_in_line, cut_with_rest, cut_of};
 
-use crate::blanks::{begins_line, blanks_end, blanks_start, is_opened};
+use crate::blanks::{begins_line, blanks_end, blanks_start, follows_opening};
 use crate::line::{RestOfLine, rest_of_line};
 use rnix::SyntaxNode;
 
@@ -27,7 +27,7 @@ fn cut_in_line(text: &str, start: usize, end: usize) -> Cut
             end,
             comments: 0,
         }
-    } else if before < start || is_opened(text, start) {
+    } else if before < start || follows_opening(text, start) {
         Cut {
             start,
             end: after,

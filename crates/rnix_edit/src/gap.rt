@@ -2,7 +2,7 @@
 
 ghost use Rattle.std.specs.Prelude.{◌≡◌, IfOk};
 ghost use Rattle.rnix_edit.specs.EditRanges.{gap_in_line, gap_on_next_line, gap_after_range, gap_after, gap_above, gap_before, gap_at_closing, gap_inside};
-ghost use Rattle.rnix_edit.specs.Tried.{gap_of};
+ghost use Rattle.rnix_edit.specs.ParsedEdit.{gap_of};
 
 use crate::blanks::{begins_line, blanks_before, blanks_start, line_break_before};
 use crate::line::{RestOfLine, closing_start, rest_of_line};

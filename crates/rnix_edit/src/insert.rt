@@ -3,13 +3,13 @@
 ghost use Rattle.std.specs.Prelude.{◌≡◌, ◌++◌, string_bytes, IfOk};
 ghost use Rattle.rnix_edit.specs.EditRanges.{put_in};
 ghost use Rattle.rnix_edit.specs.Edited.{IfDone, IfRefused, spliced, node_range_in, IsInsertedAfter, IsNotInsertedAfter, IsInsertedInside, IsNotInsertedInside};
-ghost use Rattle.rnix_edit.specs.Tried.{IsNotParsed, IfRead, IfNotRead, gap_of};
+ghost use Rattle.rnix_edit.specs.ParsedEdit.{IsNotParsed, IfRead, IfNotRead, gap_of};
 
 use crate::check::{is_after, is_inside};
 use crate::edited::{Edited, Refusal};
 use crate::gap::{Gap, gap_after, gap_inside};
 use crate::node_range::{NodeRange, node_range_of};
-use crate::tried::{Tried, read_spliced};
+use crate::parsed_edit::{ParsedEdit, read_spliced};
 use rnix::{SyntaxKind, SyntaxNode};
 use std::alloc::{AllocError, Global};
 
@@ -24,7 +24,7 @@ fn joined(alloc: Global, before: &str, new: &str, after: &str) -> Result<String,
 }
 
 // Returns the text with a new text in a gap, which must parse without errors.
-fn read_filled(alloc: Global, text: &str, gap: &Gap, new: &str) -> Result<Tried, AllocError>
+fn read_filled(alloc: Global, text: &str, gap: &Gap, new: &str) -> Result<ParsedEdit, AllocError>
     ensures read { IfOk result (IfRead (spliced text.now gap.now.start gap.now.end (put_in (gap_of gap.now) new.now))) }
     ensures refused { IfOk result (IfNotRead (λ refusal. IsNotParsed refusal text.now gap.now.start gap.now.end (put_in (gap_of gap.now) new.now))) }
 {
@@ -62,8 +62,8 @@ pub fn insert_after(
 {
     let gap = gap_after(alloc, text, node)?;
     let (made, read) = match read_filled(alloc, text, &gap, new)? {
-        Tried::Read(made, read) => (made, read),
-        Tried::Refused(refusal) => return Ok(Edited::Refused(refusal)),
+        ParsedEdit::Read(made, read) => (made, read),
+        ParsedEdit::Refused(refusal) => return Ok(Edited::Refused(refusal)),
     };
     let target = node_range_in(&gap, kind, new)?;
     let old = node_range_of(node);
@@ -89,8 +89,8 @@ pub fn insert_inside(
 {
     let gap = gap_inside(alloc, text, node)?;
     let (made, read) = match read_filled(alloc, text, &gap, new)? {
-        Tried::Read(made, read) => (made, read),
-        Tried::Refused(refusal) => return Ok(Edited::Refused(refusal)),
+        ParsedEdit::Read(made, read) => (made, read),
+        ParsedEdit::Refused(refusal) => return Ok(Edited::Refused(refusal)),
     };
     let target = node_range_in(&gap, kind, new)?;
     let old = node_range_of(node);

@@ -9,10 +9,10 @@ mod gap;
 mod insert;
 mod line;
 mod node_range;
+mod parsed_edit;
 mod removing;
 mod replacing;
 mod steps;
-mod tried;
 
 pub use edited::{Edited, Refusal};
 pub use insert::{insert_after, insert_inside};

@@ -7,7 +7,7 @@ use crate::check::is_without;
 use crate::cut::cut_of;
 use crate::edited::{Edited, Refusal};
 use crate::node_range::node_range_of;
-use crate::tried::{Tried, read_spliced};
+use crate::parsed_edit::{ParsedEdit, read_spliced};
 use rnix::SyntaxNode;
 use std::alloc::{AllocError, Global};
 
@@ -24,8 +24,8 @@ pub fn remove(
 {
     let cut = cut_of(text, node);
     let (made, read) = match read_spliced(alloc, text, cut.start, cut.end, "")? {
-        Tried::Read(made, read) => (made, read),
-        Tried::Refused(refusal) => return Ok(Edited::Refused(refusal)),
+        ParsedEdit::Read(made, read) => (made, read),
+        ParsedEdit::Refused(refusal) => return Ok(Edited::Refused(refusal)),
     };
     let old = node_range_of(node);
     if is_without(root, old, cut.comments, &read.syntax()) {

@@ -4,12 +4,12 @@ ghost use Rattle.std.specs.Prelude.{◌≡◌, IfOk};
 ghost use Rattle.std.specs.Bool.{Decides};
 ghost use Rattle.rnix_green.specs.Tree.{item_of};
 ghost use Rattle.rnix_edit.specs.Edited.{IfDone, IfRefused, spliced, node_range_at, IsTreeReplaced, IsReplaced, IsNotReplaced};
-ghost use Rattle.rnix_edit.specs.Tried.{IsNotParsed, IfRead, IfNotRead};
+ghost use Rattle.rnix_edit.specs.ParsedEdit.{IsNotParsed, IfRead, IfNotRead};
 
 use crate::check::is_around;
 use crate::edited::{Edited, Refusal};
 use crate::node_range::{NodeRange, node_range_of};
-use crate::tried::{Tried, read_spliced};
+use crate::parsed_edit::{ParsedEdit, read_spliced};
 use rnix::{SyntaxKind, SyntaxNode};
 use std::alloc::{AllocError, Global};
 
@@ -19,7 +19,7 @@ fn read_replaced(
     text: &str,
     node: &SyntaxNode<'_>,
     new: &str,
-) -> Result<Tried, AllocError>
+) -> Result<ParsedEdit, AllocError>
     ensures read { IfOk result (IfRead (spliced text.now (item_of node.now).start (item_of node.now).end new.now)) }
     ensures refused { IfOk result (IfNotRead (λ refusal. IsNotParsed refusal text.now (item_of node.now).start (item_of node.now).end new.now)) }
 {
@@ -66,8 +66,8 @@ pub fn replace(
     ensures refused { IfOk result (IfRefused (λ refusal. IsNotReplaced refusal text.now root.now node.now kind new.now)) }
 {
     let (made, read) = match read_replaced(alloc, text, node, new)? {
-        Tried::Read(made, read) => (made, read),
-        Tried::Refused(refusal) => return Ok(Edited::Refused(refusal)),
+        ParsedEdit::Read(made, read) => (made, read),
+        ParsedEdit::Refused(refusal) => return Ok(Edited::Refused(refusal)),
     };
     if is_replaced(root, node, kind, new, &read.syntax()) {
         Ok(Edited::Done(made))

@@ -48,7 +48,7 @@ pub fn add_formatted(
     };
     let again = styled_text(rt.alloc(), made.text.as_str())?;
     assert!(rt;
-        made.is_settled && again.is_some_and(|again| again.text.as_str() == made.text.as_str()),
+        made.is_stable && again.is_some_and(|again| again.text.as_str() == made.text.as_str()),
         "{text}"
     );
     Ok(with_text(digest, made.text.as_str()))

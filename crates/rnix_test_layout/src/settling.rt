@@ -33,7 +33,7 @@ fn check(rt: &(impl Abort + AllocGlobal), text: &str) -> Result<(), AllocError> 
     let Some(styled) = styled_text(rt.alloc(), text)? else {
         return Ok(());
     };
-    assert!(rt; !styled.is_settled, "{text}");
+    assert!(rt; !styled.is_stable, "{text}");
     assert!(rt; styled.text.as_str() != made.as_str(), "{text}");
     Ok(())
 }

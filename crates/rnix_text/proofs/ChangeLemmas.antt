@@ -1,7 +1,7 @@
 -- Changes in order: what is around a place among them, and another one that is put there.
 use Rattle.std.proofs.Common.{◌≡◌, ℕ, zero, suc, ◌≤◌, ◌<◌, List, [], ◌∷◌, ◌++◌, length, map, get_or, true, false, refl, ap, sym, subst, arith}
 use Rattle.std.{proofs.lemmas.{Bool.Decides.nat_tests, List.map-append}, specs.List.{All, insert, Sorted.IsPartitionedBy}}
-use Rattle.rnix_text.specs.{Runs.{ends_by, end_of}, declared.edits.Edit.Edit, Edit.change_of, Changes.{Change, AreAscending, AreInOrder, IsBetween, Overlaps, IsAdded, IsMet, changed_from}}
+use Rattle.rnix_text.specs.{Runs.{ends_by, end_of}, declared.edits.Edit.Edit, Edit.change_of, Changes.{Change, AreAscending, AreInOrder, IsBetween, Overlaps, IsAdded, HasOverlap, changed_from}}
 
 pub none : {X : Type 0} (P : X → Type 0) → All P []
 none P k d l = absurd (omega (arith, l))
@@ -25,13 +25,13 @@ ends_from n [] h j d l = absurd (omega (arith, l))
 ends_from n (e ∷ es) h zero d l = omega (arith, h.0, h.1)
 ends_from n (e ∷ es) h (suc j) d l = let s = ends_from e.end es h.2 j d (omega (arith, l)) in omega (arith, h.0, h.1, s)
 
-ends_rise : (n : ℕ) (es : List Edit) → AreAscending n (map change_of es) → (i j : ℕ) (d : Edit) → i ≤ j → j < length es
+ends_ascend : (n : ℕ) (es : List Edit) → AreAscending n (map change_of es) → (i j : ℕ) (d : Edit) → i ≤ j → j < length es
     → (get_or es i d).end ≤ (get_or es j d).end
-ends_rise n [] h i j d le l = absurd (omega (arith, l))
-ends_rise n (e ∷ es) h zero zero d le l = omega arith
-ends_rise n (e ∷ es) h zero (suc j) d le l = ends_from e.end es h.2 j d (omega (arith, l))
-ends_rise n (e ∷ es) h (suc i) zero d le l = absurd (omega (arith, le))
-ends_rise n (e ∷ es) h (suc i) (suc j) d le l = ends_rise e.end es h.2 i j d (omega (arith, le)) (omega (arith, l))
+ends_ascend n [] h i j d le l = absurd (omega (arith, l))
+ends_ascend n (e ∷ es) h zero zero d le l = omega arith
+ends_ascend n (e ∷ es) h zero (suc j) d le l = ends_from e.end es h.2 j d (omega (arith, l))
+ends_ascend n (e ∷ es) h (suc i) zero d le l = absurd (omega (arith, le))
+ends_ascend n (e ∷ es) h (suc i) (suc j) d le l = ends_ascend e.end es h.2 i j d (omega (arith, le)) (omega (arith, l))
 
 pub ends_by_true : (start : ℕ) (e : Edit) → ends_by start e ≡ true → e.end ≤ start
 ends_by_true start e h = grind (arith, nat_tests)
@@ -45,21 +45,21 @@ does_end_by start e h = grind (arith, nat_tests)
 -- edits are parted by where they end
 pub parted : (start : ℕ) (es : List Edit) → AreAscending 0 (map change_of es) → IsPartitionedBy (ends_by start) es
 parted start es h i j d le l up =
-    does_end_by start (get_or es i d) (omega (arith, ends_rise 0 es h i j d le l, ends_by_true start (get_or es j d) up))
+    does_end_by start (get_or es i d) (omega (arith, ends_ascend 0 es h i j d le l, ends_by_true start (get_or es j d) up))
 
 -- an edit that overlaps the range is met
-pub met : (start end : ℕ) (es : List Edit) (at : ℕ) (d : Edit) → at < length es → Overlaps start end (change_of (get_or es at d))
-    → IsMet start end (map change_of es)
-met start end [] at d l o = absurd (omega (arith, l))
-met start end (e ∷ es) zero d l o = record { front = []; change = change_of e; back = map change_of es; is = refl; overlaps = o }
-met start end (e ∷ es) (suc at) d l o =
-    let m = met start end es at d (omega (arith, l)) o in
+pub overlap : (start end : ℕ) (es : List Edit) (at : ℕ) (d : Edit) → at < length es → Overlaps start end (change_of (get_or es at d))
+    → HasOverlap start end (map change_of es)
+overlap start end [] at d l o = absurd (omega (arith, l))
+overlap start end (e ∷ es) zero d l o = record { front = []; change = change_of e; back = map change_of es; is = refl; overlaps = o }
+overlap start end (e ∷ es) (suc at) d l o =
+    let m = overlap start end es at d (omega (arith, l)) o in
     record { front = change_of e ∷ m.front; change = m.change; back = m.back; is = ap (λ cs. change_of e ∷ cs) m.is; overlaps = m.overlaps }
 
-behind_first : (n : ℕ) (c : Change) (cs : List Change) → AreAscending n cs → c.start ≤ c.end
+after_first : (n : ℕ) (c : Change) (cs : List Change) → AreAscending n cs → c.start ≤ c.end
     → ((x : Change) (xs : List Change) → cs ≡ x ∷ xs → (c.start < x.end) × (c.end ≤ x.start)) → All (λ x. (c.start < x.end) × (c.end ≤ x.start)) cs
-behind_first n c [] h o first = none _
-behind_first n c (x ∷ xs) h o first =
+after_first n c [] h o first = none _
+after_first n c (x ∷ xs) h o first =
     let f = first x xs refl in
     cons_all (λ x. (c.start < x.end) × (c.end ≤ x.start)) x xs f (λ k d l. let s =
     starts x.end xs h.2 k d l in (omega (arith, f.0, s.0, s.1), omega (arith, f.1, h.1, s.0)))
@@ -69,13 +69,13 @@ pub added_at : (n : ℕ) (es : List Edit) (at : ℕ) (e : Edit) → AreAscending
     → ((k : ℕ) (d : Edit) → k < at → (get_or es k d).end ≤ e.start)
     → ((d : Edit) → at < length es → (e.start < (get_or es at d).end) × (e.end ≤ (get_or es at d).start))
     → IsAdded (change_of e) (map change_of es) (map change_of (insert es at e))
-added_at n es zero e h l o before behind = record {
+added_at n es zero e h l o before after = record {
   front = [];
   back = map change_of es;
   old_is = refl;
   new_is = refl;
   before = none _;
-  behind = behind_first n (change_of e) (map change_of es) h o (first es behind);
+  after = after_first n (change_of e) (map change_of es) h o (first es after);
 }
   where
     head_or : Change → List Change → Change
@@ -89,32 +89,32 @@ added_at n es zero e h l o before behind = record {
         let f = b e (omega arith) in
         let head = ap (head_or (change_of y)) s in
         (omega (arith, f.0, ap (λ (c : Change). c.end) head), omega (arith, f.1, ap (λ (c : Change). c.start) head))
-added_at n [] (suc at) e h l o before behind = absurd (omega (arith, l))
-added_at n (x ∷ es) (suc at) e h l o before behind =
-    let r = added_at x.end es at e h.2 (omega (arith, l)) o (λ k d l. before (suc k) d (omega (arith, l))) (λ d l. behind d (omega (arith, l))) in
+added_at n [] (suc at) e h l o before after = absurd (omega (arith, l))
+added_at n (x ∷ es) (suc at) e h l o before after =
+    let r = added_at x.end es at e h.2 (omega (arith, l)) o (λ k d l. before (suc k) d (omega (arith, l))) (λ d l. after d (omega (arith, l))) in
     record {
       front = change_of x ∷ r.front;
       back = r.back;
       old_is = ap (λ cs. change_of x ∷ cs) r.old_is;
       new_is = ap (λ cs. change_of x ∷ cs) r.new_is;
       before = cons_all (λ y. y.end ≤ e.start) (change_of x) r.front (before 0 x (omega arith)) r.before;
-      behind = r.behind;
+      after = r.after;
     }
 
 kept : (text : List ℕ) (n : ℕ) (c : Change) (front back : List Change) → AreInOrder text n (front ++ back) → n ≤ c.start → c.start ≤ c.end → c.end ≤ length text
     → IsBetween text c.start c.end → All (λ x. x.end ≤ c.start) front → All (λ x. (c.start < x.end) × (c.end ≤ x.start)) back
     → AreInOrder text n (front ++ c ∷ back)
-kept text n c [] [] h low o high b before behind = (low, o, b, high)
-kept text n c [] (x ∷ xs) h low o high b before behind = (low, o, b, ((behind 0 x (omega arith)).1, h.1, h.2, h.3))
-kept text n c (f ∷ fs) back h low o high b before behind =
-    (h.0, h.1, h.2, kept text f.end c fs back h.3 (before 0 f (omega arith)) o high b (λ k d l. before (suc k) d (omega (arith, l))) behind)
+kept text n c [] [] h low o high b before after = (low, o, b, high)
+kept text n c [] (x ∷ xs) h low o high b before after = (low, o, b, ((after 0 x (omega arith)).1, h.1, h.2, h.3))
+kept text n c (f ∷ fs) back h low o high b before after =
+    (h.0, h.1, h.2, kept text f.end c fs back h.3 (before 0 f (omega arith)) o high b (λ k d l. before (suc k) d (omega (arith, l))) after)
 
 -- and then they are in order
 pub added_in_order : (text : List ℕ) (c : Change) (old new : List Change) → AreInOrder text 0 old → c.start ≤ c.end → c.end ≤ length text
     → IsBetween text c.start c.end
     → IsAdded c old new → AreInOrder text 0 new
 added_in_order text c old new h o high b a =
-    subst (AreInOrder text 0) (sym a.new_is) (kept text 0 c a.front a.back (subst (AreInOrder text 0) a.old_is h) (omega arith) o high b a.before a.behind)
+    subst (AreInOrder text 0) (sym a.new_is) (kept text 0 c a.front a.back (subst (AreInOrder text 0) a.old_is h) (omega arith) o high b a.before a.after)
 
 in_order_low : (text : List ℕ) (n : ℕ) (cs : List Change) → AreInOrder text n cs → n ≤ length text
 in_order_low text n [] h = h

@@ -2,9 +2,9 @@
 use Rattle.std.proofs.Common.{◌≡◌, ℕ, ◌+◌, ◌≤◌, ◌<◌, List, length, map, take, get_or, Vec, Global, true, false, ◌⊎◌, inl, inr, ap, sym, ◌∙◌, subst, arith}
 use Rattle.std.{proofs.lemmas.{Bool.{cases_lt, Decides.nat_tests}, List.{get_or_read, take_all}}, specs.List.{All, Sorted.{IsPartitionedBy, IsPartitionPoint}}}
 use Rattle.rnix_text.specs.declared.runs.InsertionPoint.TheVariants as insertion
-use Rattle.rnix_text.specs.{declared.edits.Edit.Edit, Edit.change_of, Changes.{AreAscending, IsMet}}
+use Rattle.rnix_text.specs.{declared.edits.Edit.Edit, Edit.change_of, Changes.{AreAscending, HasOverlap}}
 use Rattle.rnix_text.specs.Runs.{edits_of, ends_by, run_ends_by, AreFilled, end_of, IsInsertionPoint}
-use Rattle.rnix_text.proofs.{RunLemmas.{run_ends_rise, front_ends, end_within, ends_before, edit_there, is_within}, ChangeLemmas.{ends_by_true, ends_by_false, added_at, met}}
+use Rattle.rnix_text.proofs.{RunLemmas.{run_ends_ascend, front_ends, end_within, ends_before, edit_there, is_within}, ChangeLemmas.{ends_by_true, ends_by_false, added_at, overlap}}
 
 run_by_true : (start : ℕ) (run : Vec Edit Global) → run_ends_by start run ≡ true → end_of 0 run.items ≤ start
 run_by_true start run h = grind (arith, nat_tests)
@@ -19,7 +19,7 @@ does_run_by start run h = grind (arith, nat_tests)
 pub runs_parted : (start : ℕ) (runs : List (Vec Edit Global)) → AreAscending 0 (map change_of (edits_of runs)) → AreFilled runs
     → IsPartitionedBy (run_ends_by start) runs
 runs_parted start runs h f i j d le l up =
-    does_run_by start (get_or runs i d) (omega (arith, run_ends_rise 0 runs h f i j d le l, run_by_true start (get_or runs j d) up))
+    does_run_by start (get_or runs i d) (omega (arith, run_ends_ascend 0 runs h f i j d le l, run_by_true start (get_or runs j d) up))
 
 module _ (start end : ℕ) (runs : List (Vec Edit Global)) (i : ℕ) (h : AreAscending 0 (map change_of (edits_of runs))) (f : AreFilled runs)
     (order : start ≤ end) (point : IsPartitionPoint (λ y. run_ends_by start y ≡ true) (λ y. run_ends_by start y ≡ false) runs i) where
@@ -76,7 +76,7 @@ module _ (start end : ℕ) (runs : List (Vec Edit Global)) (i : ℕ) (h : AreAsc
           (λ d l. (omega (arith, ap (λ (e : Edit). e.end) (there d), late d, s), omega (arith, ap (λ (e : Edit). e.start) (there d), free d, t)));
     }
 
-    pub run_met : (x : Edit) → (get_or xs at x).start < end → IsMet start end (map change_of (edits_of runs))
+    pub run_met : (x : Edit) → (get_or xs at x).start < end → HasOverlap start end (map change_of (edits_of runs))
     run_met x l =
-        met start end (edits_of runs) (length (edits_of (take i runs)) + at) x (is_within start runs i at r inside is here)
+        overlap start end (edits_of runs) (length (edits_of (take i runs)) + at) x (is_within start runs i at r inside is here)
         (omega (arith, ap (λ (e : Edit). e.end) (there x), late x), omega (arith, ap (λ (e : Edit). e.start) (there x), l))

@@ -2,7 +2,7 @@
 use Rattle.std.proofs.Common.{◌≡◌, ℕ, zero, suc, ◌-◌, ◌≤◌, ◌<◌, ◌⊎◌, inl, inr, List, [], ◌∷◌, length, get_or, Bool, true, false, refl, ap, sym, ◌∙◌, subst}
 use Rattle.std.{proofs.{Common.arith, lemmas.Bool.{false_from_ne_true, both_ways}}, specs.{Prelude.if◌then◌else◌, List.Sorted.IsPartitionedBy}}
 use Rattle.{std.specs.List.Sorted.IsPartitionPoint, rnix_text.specs.{declared.line_column.{ColumnUnit.ColumnUnit, Mark.Mark}, Marks.{is_plain, first_mark}}}
-use Rattle.rnix_text.specs.Marks.{mark_behind, marks_behind, marks_of, last_of}
+use Rattle.rnix_text.specs.Marks.{mark_after, marks_after, marks_of, last_of}
 
 found : (test : Mark → Bool) (xs : List Mark) (m : Mark) (r : ℕ) (d : Mark) → test m ≡ true → r ≤ length (m ∷ xs)
     → IsPartitionPoint (λ y. test y ≡ true) (λ y. test y ≡ false) (m ∷ xs) r → (0 < r) × (get_or (m ∷ xs) (r - 1) d ≡ last_of test m xs)
@@ -28,41 +28,41 @@ last_alike test m n (x ∷ xs) =
       | false ↦ inl (refl, refl)
     ]
 
-module _ (unit : ColumnUnit) (test : Mark → Bool) (back : (m : Mark) (b : ℕ) → test (mark_behind unit m b) ≡ true → test m ≡ true) where
-  next_fails : (m : Mark) (b : ℕ) → test m ≡ false → test (mark_behind unit m b) ≡ false
-  next_fails m b f = false_from_ne_true (test (mark_behind unit m b)) (λ t. both_ways (test m) f (back m b t))
+module _ (unit : ColumnUnit) (test : Mark → Bool) (back : (m : Mark) (b : ℕ) → test (mark_after unit m b) ≡ true → test m ≡ true) where
+  next_fails : (m : Mark) (b : ℕ) → test m ≡ false → test (mark_after unit m b) ≡ false
+  next_fails m b f = false_from_ne_true (test (mark_after unit m b)) (λ t. both_ways (test m) f (back m b t))
 
   -- no mark passes after one that fails
-  pub none_behind : (bs : List ℕ) (m x : Mark) → test m ≡ false → last_of test x (marks_behind unit m bs) ≡ x
-  none_behind [] m x f = refl
-  none_behind (b ∷ bs) m x f =
-      let next = mark_behind unit m b in
+  pub none_after : (bs : List ℕ) (m x : Mark) → test m ≡ false → last_of test x (marks_after unit m bs) ≡ x
+  none_after [] m x f = refl
+  none_after (b ∷ bs) m x f =
+      let next = mark_after unit m b in
       let fails = next_fails m b f in
-      elim (is_plain unit b) as (λ w. last_of test x (if w then marks_behind unit next bs else next ∷ marks_behind unit next bs) ≡ x) [
-        | true ↦ none_behind bs next x fails
-        | false ↦ ap (λ w. if w then last_of test next (marks_behind unit next bs) else x) fails
+      elim (is_plain unit b) as (λ w. last_of test x (if w then marks_after unit next bs else next ∷ marks_after unit next bs) ≡ x) [
+        | true ↦ none_after bs next x fails
+        | false ↦ ap (λ w. if w then last_of test next (marks_after unit next bs) else x) fails
       ]
 
   -- where the next place fails, a mark is the last
-  pub last_here : (bs : List ℕ) (b : ℕ) (m : Mark) → test (mark_behind unit m b) ≡ false → last_of test m (marks_behind unit m (b ∷ bs)) ≡ m
+  pub last_here : (bs : List ℕ) (b : ℕ) (m : Mark) → test (mark_after unit m b) ≡ false → last_of test m (marks_after unit m (b ∷ bs)) ≡ m
   last_here bs b m fails =
-      let next = mark_behind unit m b in
-      elim (is_plain unit b) as (λ w. last_of test m (if w then marks_behind unit next bs else next ∷ marks_behind unit next bs) ≡ m) [
-        | true ↦ none_behind bs next m fails
-        | false ↦ ap (λ w. if w then last_of test next (marks_behind unit next bs) else m) fails
+      let next = mark_after unit m b in
+      elim (is_plain unit b) as (λ w. last_of test m (if w then marks_after unit next bs else next ∷ marks_after unit next bs) ≡ m) [
+        | true ↦ none_after bs next m fails
+        | false ↦ ap (λ w. if w then last_of test next (marks_after unit next bs) else m) fails
       ]
 
-  at_first : (bs : List ℕ) (m : Mark) (j : ℕ) (d : Mark) → j < length (m ∷ marks_behind unit m bs) → test (get_or (m ∷ marks_behind unit m bs) j d) ≡ true
+  at_first : (bs : List ℕ) (m : Mark) (j : ℕ) (d : Mark) → j < length (m ∷ marks_after unit m bs) → test (get_or (m ∷ marks_after unit m bs) j d) ≡ true
       → test m ≡ true
   at_first bs m zero d l h = h
   at_first [] m (suc j) d l h = absurd (omega (arith, l))
-  at_first (b ∷ bs) m (suc j) d l h = plain_cases (is_plain unit b) (at_first bs (mark_behind unit m b)) l h
+  at_first (b ∷ bs) m (suc j) d l h = plain_cases (is_plain unit b) (at_first bs (mark_after unit m b)) l h
     where
       next : Mark
-      next = mark_behind unit m b
+      next = mark_after unit m b
 
       rest : List Mark
-      rest = marks_behind unit next bs
+      rest = marks_after unit next bs
 
       plain_cases : (w : Bool) → ((i : ℕ) (d : Mark) → i < length (next ∷ rest) → test (get_or (next ∷ rest) i d) ≡ true → test next ≡ true)
           → suc j < length (m ∷ (if w then rest else next ∷ rest)) → test (get_or (m ∷ (if w then rest else next ∷ rest)) (suc j) d) ≡ true → test m ≡ true
@@ -70,17 +70,17 @@ module _ (unit : ColumnUnit) (test : Mark → Bool) (back : (m : Mark) (b : ℕ)
       plain_cases false more l h = back m b (more j d (omega (arith, l)) h)
 
   -- the marks are parted by the test
-  pub parted : (bs : List ℕ) (m : Mark) → IsPartitionedBy test (m ∷ marks_behind unit m bs)
+  pub parted : (bs : List ℕ) (m : Mark) → IsPartitionedBy test (m ∷ marks_after unit m bs)
   parted bs m zero j d le l h = at_first bs m j d l h
   parted bs m (suc i) zero d le l h = absurd (omega (arith, le))
   parted [] m (suc i) (suc j) d le l h = absurd (omega (arith, l))
-  parted (b ∷ bs) m (suc i) (suc j) d le l h = plain_cases (is_plain unit b) (parted bs (mark_behind unit m b)) l h
+  parted (b ∷ bs) m (suc i) (suc j) d le l h = plain_cases (is_plain unit b) (parted bs (mark_after unit m b)) l h
     where
       next : Mark
-      next = mark_behind unit m b
+      next = mark_after unit m b
 
       rest : List Mark
-      rest = marks_behind unit next bs
+      rest = marks_after unit next bs
 
       plain_cases : (w : Bool) → IsPartitionedBy test (next ∷ rest)
           → suc j < length (m ∷ (if w then rest else next ∷ rest)) → test (get_or (m ∷ (if w then rest else next ∷ rest)) (suc j) d) ≡ true
@@ -91,9 +91,9 @@ module _ (unit : ColumnUnit) (test : Mark → Bool) (back : (m : Mark) (b : ℕ)
   -- the last of a text's marks that pass is found where they are parted
   pub last_in : (text : List ℕ) (items : List Mark) (r : ℕ) → items ≡ marks_of unit text → test first_mark ≡ true → r ≤ length items
       → (IsPartitionedBy test items → IsPartitionPoint (λ y. test y ≡ true) (λ y. test y ≡ false) items r) → (d : Mark)
-      → (0 < r) × (get_or items (r - 1) d ≡ last_of test first_mark (marks_behind unit first_mark text))
+      → (0 < r) × (get_or items (r - 1) d ≡ last_of test first_mark (marks_after unit first_mark text))
   last_in text items r e h bound point d =
-      let rest = marks_behind unit first_mark text in
+      let rest = marks_after unit first_mark text in
       let parting = point (subst (IsPartitionedBy test) (sym e) (parted text first_mark)) in
       let rest_found = found test rest first_mark r d h (subst (λ xs. r ≤ length xs) e bound)
       (subst (λ xs. IsPartitionPoint (λ y. test y ≡ true) (λ y. test y ≡ false) xs r) e parting) in

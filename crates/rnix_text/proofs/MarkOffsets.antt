@@ -2,12 +2,12 @@
 use Rattle.std.proofs.Common.{◌≡◌, ℕ, zero, suc, ◌+◌, ◌-◌, ◌≤◌, ◌<◌, inl, inr, List, [], ◌∷◌, length, take, fold, get_or, Bool, true, false, refl, ap, sym, ◌∙◌}
 use Rattle.std.{proofs.{Common.{subst, arith}, lemmas.Bool.false_from_ne_true}, specs.Prelude.if◌then◌else◌}
 use Rattle.rnix_text.specs.{declared.line_column.{ColumnUnit.ColumnUnit, Position.Position, Mark.Mark}, Positions.{step, IsAt}, TextColumns.{Counted, last_mark}}
-use Rattle.rnix_text.{specs.Marks.{is_plain, is_up_to, first_mark, mark_behind, marks_behind, last_of}, proofs.ByteSteps.{IsUpTo, up_to_true, is_up_to_from}}
+use Rattle.rnix_text.{specs.Marks.{is_plain, is_up_to, first_mark, mark_after, marks_after, last_of}, proofs.ByteSteps.{IsUpTo, up_to_true, is_up_to_from}}
 use Rattle.rnix_text.proofs.{ByteSteps.{up_trans, step_up, fold_up, first_passes, plain_step}, MarkLemmas.{last_here, last_alike}}
 
-pub up_to_back : (unit : ColumnUnit) (p : Position) (m : Mark) (b : ℕ) → is_up_to p (mark_behind unit m b) ≡ true → is_up_to p m ≡ true
+pub up_to_back : (unit : ColumnUnit) (p : Position) (m : Mark) (b : ℕ) → is_up_to p (mark_after unit m b) ≡ true → is_up_to p m ≡ true
 up_to_back unit p m b h =
-    is_up_to_from p m (up_trans m.position (step unit m.position b) p (step_up unit m.position b) (up_to_true p (mark_behind unit m b) h))
+    is_up_to_from p m (up_trans m.position (step unit m.position b) p (step_up unit m.position b) (up_to_true p (mark_after unit m b) h))
 
 -- the offset of a position is as far after the mark as its column
 pub record Leads (o : ℕ) (p : Position) (m : Mark) : Type 0 where
@@ -25,23 +25,23 @@ at_mark o p m e f = record {
 -- so it is with the last mark that is up to the position of an offset between characters
 pub led : (unit : ColumnUnit) (o : ℕ) (p : Position) (bs : List ℕ) (m : Mark) (n : ℕ) → n ≤ length bs
     → (n < length bs → 128 ≤ get_or bs n 0 → 192 ≤ get_or bs n 0)
-    → m.offset + n ≡ o → fold (step unit) m.position (take n bs) ≡ p → Leads o p (last_of (is_up_to p) m (marks_behind unit m bs))
+    → m.offset + n ≡ o → fold (step unit) m.position (take n bs) ≡ p → Leads o p (last_of (is_up_to p) m (marks_after unit m bs))
 led unit o p [] m zero l first e f = at_mark o p m (omega (arith, e)) f
 led unit o p (b ∷ bs) m zero l first e f =
-    let next = mark_behind unit m b in
+    let next = mark_after unit m b in
     let past : is_up_to p next ≡ true → ⊥ =
     λ t. first_passes unit m.position b (first (omega arith)) (subst (IsUpTo next.position) (sym f) (up_to_true p next t)) in
     subst (Leads o p) (sym (last_here unit (is_up_to p) (up_to_back unit p) bs b m (false_from_ne_true (is_up_to p next) past)))
     (at_mark o p m (omega (arith, e)) f)
 led unit o p [] m (suc n) l first e f = absurd (omega (arith, l))
 led unit o p (b ∷ bs) m (suc n) l first e f =
-    plain_cases (is_plain unit b) refl (led unit o p bs (mark_behind unit m b) n (omega (arith, l)) (λ x. first (omega (arith, x))) (omega (arith, e)) f)
+    plain_cases (is_plain unit b) refl (led unit o p bs (mark_after unit m b) n (omega (arith, l)) (λ x. first (omega (arith, x))) (omega (arith, e)) f)
   where
     next : Mark
-    next = mark_behind unit m b
+    next = mark_after unit m b
 
     rest : List Mark
-    rest = marks_behind unit next bs
+    rest = marks_after unit next bs
 
     reached : is_up_to p next ≡ true
     reached = is_up_to_from p next (subst (IsUpTo next.position) f (fold_up unit (take n bs) next.position))

@@ -2,11 +2,11 @@
 use Rattle.std.proofs.Common.{◌≡◌, ℕ, zero, suc, ◌+◌, ◌-◌, ◌≤◌, ◌<◌, ◌^◌, inl, inr, length-take-le, List, [], ◌∷◌, length, take, fold, Bool, true, false, refl}
 use Rattle.std.{proofs.{Common.{ap, sym, ◌∙◌, subst, arith}, lemmas.Bool.Decides.nat_tests}, specs.{Prelude.if◌then◌else◌, Str.IsCharBoundary}}
 use Rattle.rnix_text.specs.{declared.line_column.{ColumnUnit.ColumnUnit, Position.Position, Mark.Mark}, Positions.{origin, step, position_at}, TextColumns.Counted}
-use Rattle.rnix_text.specs.{TextColumns.last_mark, Marks.{is_plain, is_before, first_mark, mark_behind, marks_behind, last_of, position_behind}}
+use Rattle.rnix_text.specs.{TextColumns.last_mark, Marks.{is_plain, is_before, first_mark, mark_after, marks_after, last_of, position_after}}
 use Rattle.rnix_text.proofs.{ByteSteps.{plain_step, column_bound}, MarkLemmas.{last_here, last_alike}}
 
 -- a mark in front of an offset comes after others in front of it
-pub before_back : (unit : ColumnUnit) (o : ℕ) (m : Mark) (b : ℕ) → is_before o (mark_behind unit m b) ≡ true → is_before o m ≡ true
+pub before_back : (unit : ColumnUnit) (o : ℕ) (m : Mark) (b : ℕ) → is_before o (mark_after unit m b) ≡ true → is_before o m ≡ true
 before_back unit o m b h = grind (arith, nat_tests)
 
 -- the start of a text is in front of each offset
@@ -22,7 +22,7 @@ before_false o m h = grind (arith, nat_tests)
 -- the mark is in front of the offset, whose position is counted from it
 pub record Counts (o : ℕ) (p : Position) (m : Mark) : Type 0 where
   pub order : m.offset ≤ o
-  pub position : position_behind m o ≡ p
+  pub position : position_after m o ≡ p
 
 at_mark : (o : ℕ) (m : Mark) → m.offset ≡ o → Counts o m.position m
 at_mark o m e = record {
@@ -32,24 +32,24 @@ at_mark o m e = record {
 
 -- so it is with the last mark in front of it
 pub counted : (unit : ColumnUnit) (o : ℕ) (bs : List ℕ) (m : Mark) (n : ℕ) → n ≤ length bs → m.offset + n ≡ o
-    → Counts o (fold (step unit) m.position (take n bs)) (last_of (is_before o) m (marks_behind unit m bs))
+    → Counts o (fold (step unit) m.position (take n bs)) (last_of (is_before o) m (marks_after unit m bs))
 counted unit o [] m zero l e = at_mark o m (omega (arith, e))
 counted unit o (b ∷ bs) m zero l e =
-    subst (Counts o m.position) (sym (last_here unit (is_before o) (before_back unit o) bs b m (before_false o (mark_behind unit m b) (omega (arith, e)))))
+    subst (Counts o m.position) (sym (last_here unit (is_before o) (before_back unit o) bs b m (before_false o (mark_after unit m b) (omega (arith, e)))))
     (at_mark o m (omega (arith, e)))
 counted unit o [] m (suc n) l e = absurd (omega (arith, l))
-counted unit o (b ∷ bs) m (suc n) l e = plain_cases (is_plain unit b) refl (counted unit o bs (mark_behind unit m b) n (omega (arith, l)) (omega (arith, e)))
+counted unit o (b ∷ bs) m (suc n) l e = plain_cases (is_plain unit b) refl (counted unit o bs (mark_after unit m b) n (omega (arith, l)) (omega (arith, e)))
   where
     next : Mark
-    next = mark_behind unit m b
+    next = mark_after unit m b
 
     rest : List Mark
-    rest = marks_behind unit next bs
+    rest = marks_after unit next bs
 
     p : Position
     p = fold (step unit) next.position (take n bs)
 
-    same : is_plain unit b ≡ true → next.offset ≤ o → position_behind next o ≡ position_behind m o
+    same : is_plain unit b ≡ true → next.offset ≤ o → position_after next o ≡ position_after m o
     same h l =
         ap (λ q. let r : Position = record { line = q.line; column = q.column + (o - (m.offset + 1)) } in r) (plain_step unit m.position b h)
         ∙ ap (λ c. let r : Position = record { line = m.position.line; column = c } in r) (omega (arith, l))

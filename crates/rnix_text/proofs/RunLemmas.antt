@@ -149,16 +149,16 @@ run_ends_from n (r ∷ rs) (suc j) d h f l =
     omega (arith, end_from n r.items p.0, run_ends_from (end_of n r.items) rs j d p.1 f.1 (omega (arith, l)))
 
 -- and so do the ends of runs
-pub run_ends_rise : (n : ℕ) (runs : List (Vec Edit Global)) → AreAscending n (map change_of (edits_of runs)) → AreFilled runs
+pub run_ends_ascend : (n : ℕ) (runs : List (Vec Edit Global)) → AreAscending n (map change_of (edits_of runs)) → AreFilled runs
     → (i j : ℕ) (d : Vec Edit Global) → i ≤ j → j < length runs → end_of 0 (get_or runs i d).items ≤ end_of 0 (get_or runs j d).items
-run_ends_rise n [] h f i j d le l = absurd (omega (arith, l))
-run_ends_rise n (r ∷ rs) h f zero zero d le l = omega arith
-run_ends_rise n (r ∷ rs) h f zero (suc j) d le l =
+run_ends_ascend n [] h f i j d le l = absurd (omega (arith, l))
+run_ends_ascend n (r ∷ rs) h f zero zero d le l = omega arith
+run_ends_ascend n (r ∷ rs) h f zero (suc j) d le l =
     let p = ascending_parts n r.items (edits_of rs) h in
     omega (arith, end_anywhere 0 n r.items f.0, run_ends_from (end_of n r.items) rs j d p.1 f.1 (omega (arith, l)))
-run_ends_rise n (r ∷ rs) h f (suc i) zero d le l = absurd (omega (arith, le))
-run_ends_rise n (r ∷ rs) h f (suc i) (suc j) d le l =
-    run_ends_rise (end_of n r.items) rs (ascending_parts n r.items (edits_of rs) h).1 f.1 i j d (omega (arith, le)) (omega (arith, l))
+run_ends_ascend n (r ∷ rs) h f (suc i) zero d le l = absurd (omega (arith, le))
+run_ends_ascend n (r ∷ rs) h f (suc i) (suc j) d le l =
+    run_ends_ascend (end_of n r.items) rs (ascending_parts n r.items (edits_of rs) h).1 f.1 i j d (omega (arith, le)) (omega (arith, l))
 
 -- the edits in front of a run end by an offset if their runs do
 pub front_ends : (n start : ℕ) (runs : List (Vec Edit Global)) (i : ℕ) → AreAscending n (map change_of (edits_of runs)) → AreFilled runs

@@ -17,18 +17,18 @@ units_before_newline : position_at Utf16 text 2 ≡ record { line = 0; column = 
 units_before_newline = refl
 
 -- a line begins after its newline
-behind_newline : position_at Utf16 text 3 ≡ record { line = 1; column = 0 }
-behind_newline = refl
+after_newline : position_at Utf16 text 3 ≡ record { line = 1; column = 0 }
+after_newline = refl
 
 -- a character of four bytes is one column of characters and two of UTF-16
-bytes_behind_pair : position_at Bytes text 7 ≡ record { line = 1; column = 4 }
-bytes_behind_pair = refl
+bytes_after_pair : position_at Bytes text 7 ≡ record { line = 1; column = 4 }
+bytes_after_pair = refl
 
-chars_behind_pair : position_at Chars text 7 ≡ record { line = 1; column = 1 }
-chars_behind_pair = refl
+chars_after_pair : position_at Chars text 7 ≡ record { line = 1; column = 1 }
+chars_after_pair = refl
 
-units_behind_pair : position_at Utf16 text 8 ≡ record { line = 1; column = 3 }
-units_behind_pair = refl
+units_after_pair : position_at Utf16 text 8 ≡ record { line = 1; column = 3 }
+units_after_pair = refl
 
 -- columns of bytes have a mark at each line
 marks_of_lines : marks_of Bytes (codes "a\nbc") ≡ first_mark ∷ record { offset = 2; position = record { line = 1; column = 0 } } ∷ []

@@ -54,10 +54,10 @@ pub record IsAdded (c : Change) (old new : List Change) : Type 0 where
   pub old_is : old ≡ front ++ back
   pub new_is : new ≡ front ++ c ∷ back
   pub before : All (λ x. x.end ≤ c.start) front
-  pub behind : All (λ x. (c.start < x.end) × (c.end ≤ x.start)) back
+  pub after : All (λ x. (c.start < x.end) × (c.end ≤ x.start)) back
 
 -- one of the changes overlaps the range
-pub record IsMet (start end : ℕ) (cs : List Change) : Type 0 where
+pub record HasOverlap (start end : ℕ) (cs : List Change) : Type 0 where
   pub front : List Change
   pub change : Change
   pub back : List Change
@@ -68,5 +68,5 @@ pub record IsMet (start end : ℕ) (cs : List Change) : Type 0 where
 abbrev pub IsCause : EditError → Draft → ℕ → ℕ → Type 0
 IsCause OutOfText d start end = ¬ IsInside d.text start end
 IsCause InsideCharacter d start end = ¬ IsBetween d.text start end
-IsCause Overlap d start end = IsMet start end d.changes
+IsCause Overlap d start end = HasOverlap start end d.changes
 IsCause Memory d start end = Unit {0}

@@ -14,23 +14,23 @@ abbrev pub first_mark : Mark
 first_mark = record { offset = 0; position = origin }
 
 -- the place after a byte
-abbrev pub mark_behind : ColumnUnit → Mark → ℕ → Mark
-mark_behind unit m b = record { offset = m.offset + 1; position = step unit m.position b }
+abbrev pub mark_after : ColumnUnit → Mark → ℕ → Mark
+mark_after unit m b = record { offset = m.offset + 1; position = step unit m.position b }
 
 -- the marks after a mark, where these bytes follow it
-abbrev pub marks_behind : ColumnUnit → Mark → List ℕ → List Mark
-marks_behind unit m [] = []
-marks_behind unit m (b ∷ bs) =
-    if is_plain unit b then marks_behind unit (mark_behind unit m b) bs
-    else mark_behind unit m b ∷ marks_behind unit (mark_behind unit m b) bs
+abbrev pub marks_after : ColumnUnit → Mark → List ℕ → List Mark
+marks_after unit m [] = []
+marks_after unit m (b ∷ bs) =
+    if is_plain unit b then marks_after unit (mark_after unit m b) bs
+    else mark_after unit m b ∷ marks_after unit (mark_after unit m b) bs
 
 -- the marks of a text
 abbrev pub marks_of : ColumnUnit → List ℕ → List Mark
-marks_of unit text = first_mark ∷ marks_behind unit first_mark text
+marks_of unit text = first_mark ∷ marks_after unit first_mark text
 
 -- the position of an offset after a mark, over bytes that move the column as far
-abbrev pub position_behind : Mark → ℕ → Position
-position_behind m offset = record { line = m.position.line; column = m.position.column + (offset - m.offset) }
+abbrev pub position_after : Mark → ℕ → Position
+position_after m offset = record { line = m.position.line; column = m.position.column + (offset - m.offset) }
 
 -- the mark is at the offset or in front of it
 abbrev pub is_before : ℕ → Mark → Bool

@@ -2,7 +2,7 @@
 
 ghost use Rattle.std.specs.Prelude.{◌≡◌, ◌+◌, ◌-◌, ◌<◌, ◌≤◌, ◌^◌, fold};
 ghost use Rattle.rnix_text.specs.Positions.{weight, step};
-ghost use Rattle.rnix_text.specs.Marks.{is_plain, first_mark, mark_behind, position_behind, is_up_to};
+ghost use Rattle.rnix_text.specs.Marks.{is_plain, first_mark, mark_after, position_after, is_up_to};
 
 /// The unit that columns count.
 #[derive(Clone, Copy, PartialEq, Eq, Hash, Debug)]
@@ -71,11 +71,11 @@ impl Mark {
     }
 
     // Returns the position after a byte.
-    pub(crate) fn behind(self, unit: ColumnUnit, byte: u8) -> Mark
+    pub(crate) fn after(self, unit: ColumnUnit, byte: u8) -> Mark
         requires offset { self.offset + 1 < 2 ^ 64 }
         requires line { self.position.line + 1 < 2 ^ 64 }
         requires column { self.position.column + 2 < 2 ^ 64 }
-        ensures { result ≡ mark_behind unit self byte }
+        ensures { result ≡ mark_after unit self byte }
     {
         let position = if byte == NEWLINE {
             Position {
@@ -98,7 +98,7 @@ impl Mark {
     pub(crate) fn position_of(self, offset: usize) -> Position
         requires order { self.offset ≤ offset }
         requires fits { self.position.column + (offset - self.offset) < 2 ^ 64 }
-        ensures { result ≡ position_behind self offset }
+        ensures { result ≡ position_after self offset }
     {
         Position {
             line: self.position.line,

@@ -38,7 +38,7 @@ fn marks_of(alloc: Global, bytes: &[u8], unit: ColumnUnit) -> Result<Vec<Mark>, 
     let mut marks = Vec::new(alloc);
     marks.push(mark)?;
     for byte in bytes {
-        mark = mark.behind(unit, *byte);
+        mark = mark.after(unit, *byte);
         if !moves_alike(unit, *byte) {
             marks.push(mark)?;
         }
@@ -59,12 +59,12 @@ impl<'t> LineIndex<'t> {
     fn mark_before(&self, offset: usize) -> Mark
         ensures { result ≡ last_mark (is_before offset) self.now }
     {
-        let behind = self.marks.partition_point(
+        let after = self.marks.partition_point(
             |mark: &Mark| -> bool
                 ensures { result ≡ is_before offset mark.now }
             { mark.offset <= offset },
         );
-        self.marks[behind - 1]
+        self.marks[after - 1]
     }
 
     // Returns the last mark at a position or before it.
@@ -72,12 +72,12 @@ impl<'t> LineIndex<'t> {
         ensures mark { result ≡ last_mark (is_up_to position) self.now }
         ensures fits { length self.now.text < 2 ^ 63 }
     {
-        let behind = self.marks.partition_point(
+        let after = self.marks.partition_point(
             |mark: &Mark| -> bool
                 ensures { result ≡ is_up_to position mark.now }
             { mark.is_up_to(position) },
         );
-        self.marks[behind - 1]
+        self.marks[after - 1]
     }
 
     /// Returns the position of a byte offset, or `None` if it is beyond the text or inside a character.

@@ -4,7 +4,7 @@ ghost use Rattle.std.specs.Prelude.{◌≡◌, ◌+◌, ◌≤◌, ◌++◌, tru
 ghost use Rattle.std.specs.Str.{IsCharBoundary};
 ghost use Rattle.std.specs.List.{insert};
 ghost use Rattle.std.specs.List.Sorted.{IsPartitionPoint};
-ghost use Rattle.rnix_text.specs.Changes.{Change, AreAscending, AreInOrder, changed_from, IsMet};
+ghost use Rattle.rnix_text.specs.Changes.{Change, AreAscending, AreInOrder, changed_from, HasOverlap};
 ghost use Rattle.rnix_text.specs.Edit.{change_of};
 ghost use Rattle.rnix_text.specs.Runs.{edits_of, ends_by, end_of, run_ends_by, AreFilled, index_in, IsIn, IsDivided, IsInsertionPoint};
 ghost use Rattle.rnix_text.specs.declared.runs.InsertionPoint.TheVariants as insertion;
@@ -22,7 +22,7 @@ pub(crate) enum InsertionPoint {
 }
 
 // The greatest number of edits in a run.
-const MOST: usize = 256;
+const MAX_EDITS: usize = 256;
 // The number of edits that stay in a run when it is divided.
 const HALF: usize = 128;
 
@@ -72,7 +72,7 @@ pub(crate) fn insertion_point(
     requires order { start ≤ end }
     requires ascending { AreAscending 0 (map change_of (edits_of runs.now)) }
     requires filled { AreFilled runs.now }
-    ensures { MatchOption result (IsMet start end (map change_of (edits_of runs.now))) (IsInsertionPoint start end runs.now) }
+    ensures { MatchOption result (HasOverlap start end (map change_of (edits_of runs.now))) (IsInsertionPoint start end runs.now) }
 {
     let run = runs_by(runs, start);
     if run == runs.len() {
@@ -123,7 +123,7 @@ fn add_last(runs: &mut Vec<Vec<Edit>>, edit: Edit) -> Result<(), AllocError>
         return add_run(runs, edit);
     }
     let len = runs[count - 1].len();
-    if len < MOST {
+    if len < MAX_EDITS {
         add_in(runs, count - 1, len, edit)
     } else {
         add_run(runs, edit)
@@ -152,7 +152,7 @@ fn add_at(runs: &mut Vec<Vec<Edit>>, run: usize, at: usize, edit: Edit) -> Resul
     ensures added { OnOk result (edits_of runs.new.items ≡ insert (edits_of runs.old.items) (index_in runs.old.items (insertion.In run at)) edit) }
     ensures stays { OnErr result (edits_of runs.new.items ≡ edits_of runs.old.items) }
 {
-    if runs[run].len() < MOST {
+    if runs[run].len() < MAX_EDITS {
         return add_in(runs, run, at, edit);
     }
     divide(runs, run)?;

@@ -4,7 +4,7 @@ use Rattle.nix_diagnostics.specs.Known.{Knows}
 use Rattle.nix_diagnostics.specs.Shown.{IsSingle}
 use Rattle.nix_diagnostics.specs.FirstShown.{AreFirst, IsCountFolded, IsCountAdded}
 use Rattle.nix_diagnostics.proofs.ShownLemmas.{count_before, up_to}
-use Rattle.nix_diagnostics.proofs.FirstShownLemmas.{nothing_first, few_counted, some_counted, folded_one, added_first, added_behind, all_first}
+use Rattle.nix_diagnostics.proofs.FirstShownLemmas.{nothing_first, few_counted, some_counted, folded_one, added_first, added_after, all_first}
 use Rattle.nix_diagnostics.proofs.diagnostic.first_diagnostics.Goals.{then-folds+in_ok-fold, else-folds+then-len-most+in_ok-alone+in_ok-add, else-folds+else-len-most+in_ok-add-2}
 use Rattle.nix_diagnostics.proofs.diagnostic.first_diagnostics.Goals as goal
 
@@ -63,7 +63,7 @@ loop-number-preserved c =
             (omega (arith, w.len.ensures, w.if-len-most.true)) (sym judged.0 ∙ w.if-folds.false)
             (subst (λ n. IsSingle root n (fault_of e) w.in_ok-alone.alone) counts w.in_ok-alone.ensures) more
         | else-folds+else-len-most+in_ok-add-2 w ↦
-            added_behind root all before _ most old _ (fault_of e) c.location_of-range.result c.loop-number.invariant.first
+            added_after root all before _ most old _ (fault_of e) c.location_of-range.result c.loop-number.invariant.first
             (subst (λ x. IsCountAdded None old x) (sym w.found-is) w.in_ok-add-2.ensures) c.requires
             (omega (arith, w.len.ensures, w.if-len-most.false)) (sym judged.0 ∙ w.if-folds.false) c.location_of-range.ensures more
       ];

@@ -2,7 +2,7 @@ use Rattle.std.proofs.{Common.{rules, ◌≡◌, ◌∙◌, sym, subst, string_b
 use Rattle.rnix.specs.ParseResult.{root_of}
 use Rattle.rnix_edit.specs.declared.edited.Refusal.TheVariants as refusal
 use Rattle.rnix_edit.specs.{Steps.node_range_of, EditRanges.put_in, Edited.{spliced, IsLastIn, IsTreeInside, IsFilled, IsNotFilled}}
-use Rattle.rnix_edit.specs.Tried.{IsNotParsed, IfRead, IfNotRead, gap_of}
+use Rattle.rnix_edit.specs.ParsedEdit.{IsNotParsed, IfRead, IfNotRead, gap_of}
 use Rattle.rnix_edit.proofs.EditLemmas.{not_made, made_so, otherwise}
 use Rattle.rnix_edit.proofs.insert.insert_inside.Goals as goal
 

@@ -1,6 +1,6 @@
 use Rattle.std.proofs.{Common.{rules, ◌≡◌, ◌∙◌, [], sym, subst, string_bytes}, lemmas.Bool.false≢true}
 use Rattle.rnix.specs.ParseResult.{root_of}
-use Rattle.rnix_edit.specs.{Steps.node_range_of, Edited.{spliced, IsWithout, IsCutOut, IsNotCutOut}, Tried.{IsNotParsed, IfRead, IfNotRead}}
+use Rattle.rnix_edit.specs.{Steps.node_range_of, Edited.{spliced, IsWithout, IsCutOut, IsNotCutOut}, ParsedEdit.{IsNotParsed, IfRead, IfNotRead}}
 use Rattle.rnix_edit.specs.declared.edited.Refusal.TheVariants as refusal
 use Rattle.rnix_edit.proofs.EditLemmas.{not_made, made_so, otherwise}
 use Rattle.rnix_edit.proofs.removing.remove.Goals as goal

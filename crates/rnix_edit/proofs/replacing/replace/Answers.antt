@@ -1,7 +1,7 @@
 use Rattle.std.proofs.{Common.{rules, ◌≡◌, ◌∙◌, sym, subst, string_bytes}, lemmas.Bool.false≢true}
 use Rattle.rnix_green.specs.Tree.{item_of}
 use Rattle.rnix.specs.ParseResult.{root_of}
-use Rattle.rnix_edit.specs.{Edited.{spliced, IsTreeReplaced}, Tried.IfRead}
+use Rattle.rnix_edit.specs.{Edited.{spliced, IsTreeReplaced}, ParsedEdit.IfRead}
 use Rattle.rnix_edit.proofs.EditLemmas.{made_so, otherwise}
 use Rattle.rnix_edit.proofs.replacing.replace.Goals as goal
 

@@ -3,7 +3,7 @@
 ghost use Rattle.std.specs.Prelude.{◌≡◌, false, string_bytes, IfOk, IfSome, IfNone};
 ghost use Rattle.rnix_text.specs.Changes.{IsInside, IsBetween};
 ghost use Rattle.rnix_edit.specs.Edited.{spliced};
-ghost use Rattle.rnix_edit.specs.Tried.{is_memory, IsNotParsed, IfRead, IfNotRead};
+ghost use Rattle.rnix_edit.specs.ParsedEdit.{is_memory, IsNotParsed, IfRead, IfNotRead};
 
 use crate::edited::Refusal;
 use rnix::{Parse, Root};
@@ -12,7 +12,7 @@ use std::alloc::{AllocError, Global};
 
 /// A changed text with its tree, or the reason for refusing the change.
 #[derive(Drop)]
-pub enum Tried {
+pub enum ParsedEdit {
     Read(String, Parse),
     Refused(Refusal),
 }
@@ -55,17 +55,17 @@ pub fn read_spliced(
     start: usize,
     end: usize,
     new: &str,
-) -> Result<Tried, AllocError>
+) -> Result<ParsedEdit, AllocError>
     ensures read { IfOk result (IfRead (spliced text.now start end new.now)) }
     ensures refused { IfOk result (IfNotRead (λ refusal. IsNotParsed refusal text.now start end new.now)) }
 {
     let Some(made) = spliced(alloc, text, start, end, new)? else {
-        return Ok(Tried::Refused(Refusal::NotInText));
+        return Ok(ParsedEdit::Refused(Refusal::NotInText));
     };
     let read = Root::parse(alloc, made.as_str())?;
     if read.errors().is_empty() {
-        Ok(Tried::Read(made, read))
+        Ok(ParsedEdit::Read(made, read))
     } else {
-        Ok(Tried::Refused(Refusal::HasErrors))
+        Ok(ParsedEdit::Refused(Refusal::HasErrors))
     }
 }

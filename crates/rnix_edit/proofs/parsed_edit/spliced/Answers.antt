@@ -1,5 +1,5 @@
 use Rattle.rnix_edit.proofs.{OneChange.only_change, EditLemmas.not_in_text}
-use Rattle.rnix_edit.proofs.tried.spliced.Goals as goal
+use Rattle.rnix_edit.proofs.parsed_edit.spliced.Goals as goal
 
 pub returns-in-Ok-clause-made : goal.returns-in-Ok-clause-made
 returns-in-Ok-clause-made c = only_change _ _ _ _ _ c.new-edits.ensures c.in-Ok.ensures.text c.in-Ok.ensures.added c.in_ok-apply-in-Ok.ensures

@@ -11,8 +11,8 @@ use Rattle.rnix_edit.specs.EditRanges.{Gap}
 use Rattle.rnix_edit.specs.declared.gap.Gap.{Gap as Found}
 use Rattle.rnix_edit.specs.declared.edited.Refusal.{Refusal}
 use Rattle.rnix_edit.specs.declared.edited.Refusal.TheVariants as refusal
-use Rattle.rnix_edit.specs.declared.tried.Tried.{Tried}
-use Rattle.rnix_edit.specs.declared.tried.Tried.TheVariants as tried
+use Rattle.rnix_edit.specs.declared.parsed_edit.ParsedEdit.{ParsedEdit}
+use Rattle.rnix_edit.specs.declared.parsed_edit.ParsedEdit.TheVariants as parsed_edit
 
 -- whether an edit was refused for lack of memory
 abbrev pub is_memory : EditError → Bool
@@ -31,14 +31,14 @@ IsNotParsed refusal.HasErrors text start end new = IsReadWithErrors (spliced tex
 IsNotParsed refusal.ReadOtherwise text start end new = ⊥
 
 -- the new text, if there is one, is this text, with its reading
-abbrev pub IfRead : List ℕ → Tried → Type 0
-IfRead text (tried.Read made read) = (string_bytes made ≡ text) × IsReadAs text read
-IfRead text (tried.Refused refusal) = Unit {0}
+abbrev pub IfRead : List ℕ → ParsedEdit → Type 0
+IfRead text (parsed_edit.Read made read) = (string_bytes made ≡ text) × IsReadAs text read
+IfRead text (parsed_edit.Refused refusal) = Unit {0}
 
 -- P holds of the refusal, if there is one
-abbrev pub IfNotRead : (Refusal → Type 0) → Tried → Type 0
-IfNotRead P (tried.Read made read) = Unit {0}
-IfNotRead P (tried.Refused refusal) = P refusal
+abbrev pub IfNotRead : (Refusal → Type 0) → ParsedEdit → Type 0
+IfNotRead P (parsed_edit.Read made read) = Unit {0}
+IfNotRead P (parsed_edit.Refused refusal) = P refusal
 
 -- a gap that the program found
 abbrev pub gap_of : Found → Gap
