@@ -2,7 +2,7 @@
 use Rattle.std.proofs.Common.{◌≡◌, ◌∙◌, ℕ, ◌+◌, ◌<◌, List, [], ◌∷◌, ◌++◌, length, map, take, get_or, Option, sym, subst, inl, inr}
 use Rattle.std.proofs.KnownBytes.{Appends-nil, Appends-kept, Appends-trans, Keeps-trans}
 use Rattle.std.specs.{Prelude.{string_bytes, String}, Io.KnownBytes.{Appends, Keeps}, declared.alloc.Global.Global}
-use Rattle.nix_cli.{specs.MessageLocations.display_name, proofs.DoneLemmas.names_more}
+use Rattle.nix_cli.{specs.MessageLocations.display_name, proofs.ProcessedLemmas.names_more}
 use Rattle.nix_check.specs.declared.{report.Tally.Tally, style.Style.Style}
 use Rattle.nix_check.specs.{Printed.IsChecked, ErrorReport.{IsTextCounted, IsFileCounted, AreChecked, one_checked}}
 

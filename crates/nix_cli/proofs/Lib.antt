@@ -3,4 +3,4 @@ pub mod PlainRuns
 mod JsonBytes
 mod ExcerptLemmas
 pub mod CountedLocations
-pub mod DoneLemmas
+pub mod ProcessedLemmas

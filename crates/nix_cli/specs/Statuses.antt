@@ -10,7 +10,7 @@ abbrev pub FileEffect : Type 1
 FileEffect = List ℕ → Option (List ℕ) → Option (List ℕ) → ℕ → Type 0
 
 -- this is done with each of some files, one after the other; the status is the highest of theirs and the first one
-pub data AreDone (Does : FileEffect) (first : ℕ) (old : Option (List ℕ)) : List (List ℕ) → Option (List ℕ) → ℕ → Type 0 where
-  none_done : AreDone Does first old [] old first
-  one_done : (files : List (List ℕ)) (mid new : Option (List ℕ)) (status own : ℕ) (file : List ℕ) → AreDone Does first old files mid status →
-      Does file mid new own → AreDone Does first old (files ++ file ∷ []) new (max status own)
+pub data AreProcessed (Effect : FileEffect) (first : ℕ) (old : Option (List ℕ)) : List (List ℕ) → Option (List ℕ) → ℕ → Type 0 where
+  none_processed : AreProcessed Effect first old [] old first
+  one_processed : (files : List (List ℕ)) (mid new : Option (List ℕ)) (status own : ℕ) (file : List ℕ) → AreProcessed Effect first old files mid status →
+      Effect file mid new own → AreProcessed Effect first old (files ++ file ∷ []) new (max status own)

@@ -4,7 +4,7 @@ ghost use Rattle.std.specs.Prelude.{◌≡◌, [], IfOk, OnOk, map, string_bytes
 ghost use Rattle.std.specs.List.{flat_map};
 ghost use Rattle.std.specs.Io.KnownBytes.{Appends, Keeps};
 ghost use Rattle.nix_cli.specs.MessageLocations.{IsIndexed};
-ghost use Rattle.nix_cli.specs.Statuses.{first_status, AreDone};
+ghost use Rattle.nix_cli.specs.Statuses.{first_status, AreProcessed};
 ghost use Rattle.nix_dead.specs.Report.{name_line, name_object, name_output, AreReported, IsReported, IsFileReported};
 
 use crate::PROGRAM;
@@ -162,7 +162,7 @@ pub fn report_files<W: Write>(
     is_json: bool,
     out: &mut W,
 ) -> io::Result<u8>
-    ensures { IfOk result (λ status. AreDone (IsFileReported is_json) (first_status inputs.now.files.failed) (W.contents out.old)
+    ensures { IfOk result (λ status. AreProcessed (IsFileReported is_json) (first_status inputs.now.files.failed) (W.contents out.old)
         (map string_bytes inputs.now.files.names.items) (W.contents out.new) status) }
 {
     let mut status = inputs.files.status();

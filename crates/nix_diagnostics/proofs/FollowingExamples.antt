@@ -67,6 +67,6 @@ entries =
     text (node k.NODE_ATTR_SET (leaf k.TOKEN_L_BRACE (123 ∷ []) (node k.NODE_ATTRPATH_VALUE (wrong k.TOKEN_L_PAREN (leaf k.TOKEN_SEMICOLON (59 ∷ []) empty))
     (far (node k.NODE_ATTRPATH_VALUE (wrong k.TOKEN_COMMA (leaf k.TOKEN_SEMICOLON (59 ∷ []) empty)) (leaf k.TOKEN_R_BRACE (125 ∷ []) empty))))) empty)
 
--- the first entry ends between them: the parser is back on its way
+-- the first entry ends between them: the parser resynchronizes
 back_at_entry : firsts entries (unexpected_at record { start = 1; end = 2 } ∷ unexpected_at record { start = 10; end = 11 } ∷ []) ≡ 0 ∷ 1 ∷ []
 back_at_entry = refl

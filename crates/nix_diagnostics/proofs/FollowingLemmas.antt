@@ -12,7 +12,7 @@ use Rattle.nix_diagnostics.specs.Independence.{is_independent, since, larger, re
 use Rattle.nix_diagnostics.specs.Ends.{is_from, ends_in_string}
 use Rattle.nix_diagnostics.specs.FaultNodes.{error_node, group_of, are_same_range}
 use Rattle.nix_diagnostics.specs.Following.{is_extra, last_from, last_token_error, are_close, is_near, group_if, skips_if, skips, is_lost, has_skipped, is_closing, is_joined, follows}
-use Rattle.nix_diagnostics.specs.Known.{is_close_after, loses_in, is_independent_in, follows_in, Knows, HasReached}
+use Rattle.nix_diagnostics.specs.Known.{is_close_after, loses_in, is_independent_in, follows_in, FitsErrors, HasReached}
 use Rattle.nix_diagnostics.specs.declared.folding.Folding.{Folding}
 use Rattle.nix_diagnostics.proofs.IndependenceLemmas.{since_more, first_le, reach_token_error, reach_other}
 use Rattle.nix_diagnostics.proofs.LostLemmas.{and_true, lost_push, lost_other, skipped_push, skipped_other}
@@ -43,7 +43,7 @@ token_error_not_extra (duplicated_args range name) is = refl
 token_error_not_extra too_deep is = refl
 
 -- the state knows whether an error is independent of the earlier ones
-pub independent_known : (root : Located) (all before : List Fault) (fault : Fault) (f : Folding) (location : TextRange) → Knows root all before f →
+pub independent_known : (root : Located) (all before : List Fault) (fault : Fault) (f : Folding) (location : TextRange) → FitsErrors root all before f →
     bounds_of location ≡ location_of root fault → is_independent_in f location ≡ is_independent root before fault
 independent_known root all before fault f location known at =
     ap (λ l. ends_between f.reach location.start l) known.remaining
@@ -68,7 +68,7 @@ last_known root (Some fault) last is = ap is_some is
 
 -- the state judges an error about an unexpected or a missing token
 pub judged_token_error : (root : Located) (all before : List Fault) (fault : Fault) (f : Folding) (independent : Bool) (group : Option TextRange)
-    (location : TextRange) (b : Bool) → Knows root all before f → bounds_of location ≡ location_of root fault → is_token_error fault ≡ true →
+    (location : TextRange) (b : Bool) → FitsErrors root all before f → bounds_of location ≡ location_of root fault → is_token_error fault ≡ true →
     independent ≡ is_independent root before fault → option_map bounds_of group ≡ group_of root fault →
     b ≡ follows_in root f independent group location → b ≡ follows root all before fault
 judged_token_error root all before fault f independent group location b known at token_error apart_is own result =
@@ -80,13 +80,13 @@ judged_token_error root all before fault f independent group location b known at
     else known.lost k || (are_same_range (own k) (known.group k) || near k))))))
 
 -- an error node skips brackets as the state knows
-pub skips_known : (root : Located) (all before : List Fault) (fault : Fault) (f : Folding) (found : Option Located) (b : Bool) → Knows root all before f →
+pub skips_known : (root : Located) (all before : List Fault) (fault : Fault) (f : Folding) (found : Option Located) (b : Bool) → FitsErrors root all before f →
     found ≡ error_node root fault → b ≡ skips_if (option_map bounds_of f.extra) found → b ≡ skips root fault
 skips_known root all before fault f found b known is result = result ∙ (λ k. skips_if (known.extra k) (is k))
 
 -- the parser has lost its way at an error or before it, as the state knows
 pub lost_known : (root : Located) (all before : List Fault) (fault : Fault) (f : Folding) (independent skipped : Bool) (location : TextRange) (b : Bool) →
-    Knows root all before f → bounds_of location ≡ location_of root fault → is_token_error fault ≡ true → independent ≡ is_independent root before fault →
+    FitsErrors root all before f → bounds_of location ≡ location_of root fault → is_token_error fault ≡ true → independent ≡ is_independent root before fault →
     skipped ≡ skips root fault → b ≡ ((f.is_lost && not independent) || loses_in f fault skipped location) → b ≡ is_lost root all (before ++ fault ∷ [])
 lost_known root all before fault f independent skipped location b known at token_error apart_is own result =
     result
@@ -96,19 +96,19 @@ lost_known root all before fault f independent skipped location b known at token
 
 -- brackets were skipped at an error or before it, as the state knows
 pub unbalanced_known : (root : Located) (all before : List Fault) (fault : Fault) (f : Folding) (skipped : Bool) (b : Bool) →
-    Knows root all before f → is_token_error fault ≡ true → skipped ≡ skips root fault → b ≡ (f.is_unbalanced || skipped) →
+    FitsErrors root all before f → is_token_error fault ≡ true → skipped ≡ skips root fault → b ≡ (f.is_unbalanced || skipped) →
     b ≡ has_skipped root (before ++ fault ∷ [])
 unbalanced_known root all before fault f skipped b known token_error own result =
     result ∙ (λ k. known.unbalanced k || (sym token_error k && own k)) ∙ sym (skipped_push root before fault)
 
 -- what is known after an error about an unexpected or a missing token
-pub knows_token_error : (root : Located) (all before : List Fault) (fault : Fault) (f mid new : Folding) (far : ℕ) → Knows root all before f →
+pub fits_token_error : (root : Located) (all before : List Fault) (fault : Fault) (f mid new : Folding) (far : ℕ) → FitsErrors root all before f →
     is_token_error fault ≡ true → far ≡ (location_of root fault).end → HasReached mid new far → mid.last ≡ Some far → mid.end ≡ f.end → mid.extra ≡ f.extra →
     mid.lost_from ≡ f.lost_from → mid.reach ≡ f.reach → drop mid.passed mid.semicolons.items ≡ drop f.passed f.semicolons.items →
     mid.in_string ≡ f.in_string → mid.ends_closed ≡ f.ends_closed → option_map bounds_of mid.group ≡ group_of root fault →
     mid.is_lost ≡ is_lost root all (before ++ fault ∷ []) → mid.is_unbalanced ≡ has_skipped root (before ++ fault ∷ []) →
-    Knows root all (before ++ fault ∷ []) new
-knows_token_error root all before fault f mid new far known token_error far_is noted at end single from further rest inside closed group lost skip =
+    FitsErrors root all (before ++ fault ∷ []) new
+fits_token_error root all before fault f mid new far known token_error far_is noted at end single from further rest inside closed group lost skip =
     let reached : HasReached mid new (location_of root fault).end = subst (λ n. HasReached mid new n) far_is noted in
     let last : mid.last ≡ Some (location_of root fault).end = at ∙ ap Some far_is in
     let is : last_token_error (before ++ fault ∷ []) ≡ Some fault = token_error_last before fault token_error in
@@ -132,9 +132,9 @@ knows_token_error root all before fault f mid new far known token_error far_is n
     }
 
 -- what is known after another error
-pub knows_other : (root : Located) (all before : List Fault) (fault : Fault) (f : Folding) → Knows root all before f → is_token_error fault ≡ false →
-    Knows root all (before ++ fault ∷ []) f
-knows_other root all before fault f known other =
+pub fits_other : (root : Located) (all before : List Fault) (fault : Fault) (f : Folding) → FitsErrors root all before f → is_token_error fault ≡ false →
+    FitsErrors root all (before ++ fault ∷ []) f
+fits_other root all before fault f known other =
     let is : last_token_error (before ++ fault ∷ []) ≡ last_token_error before = other_last before fault other in
     record {
       last = known.last ∙ ap (option_map (λ x. (location_of root x).end)) (sym is);
@@ -155,7 +155,7 @@ abbrev rest_of : (root : Located) (all before : List Fault) (fault : Fault) → 
 rest_of root all before fault = if is_independent root before fault then is_closing root before fault else is_joined root all before fault
 
 -- the state judges an error about tokens after the expression
-pub judged_extra : (root : Located) (all before : List Fault) (fault : Fault) (f : Folding) (b : Bool) → Knows root all before f →
+pub judged_extra : (root : Located) (all before : List Fault) (fault : Fault) (f : Folding) (b : Bool) → FitsErrors root all before f →
     is_extra fault ≡ true → b ≡ is_some f.last → b ≡ follows root all before fault
 judged_extra root all before fault f b known is counts =
     counts ∙ last_known root (last_token_error before) f.last known.last ∙ sym (and_true (is_some (last_token_error before)))
@@ -169,8 +169,8 @@ both_ways false true = refl
 both_ways false false = refl
 
 -- the state judges a repeated name
-pub judged_name : (root : Located) (all before : List Fault) (fault : Fault) (f : Folding) (b : Bool) → Knows root all before f → is_token_error fault ≡ false →
-    is_extra fault ≡ false → b ≡ (f.in_string && is_some f.last) → b ≡ follows root all before fault
+pub judged_name : (root : Located) (all before : List Fault) (fault : Fault) (f : Folding) (b : Bool) → FitsErrors root all before f →
+    is_token_error fault ≡ false → is_extra fault ≡ false → b ≡ (f.in_string && is_some f.last) → b ≡ follows root all before fault
 judged_name root all before fault f b known other is counts =
     let some = last_known root (last_token_error before) f.last known.last in
     counts

@@ -8,7 +8,7 @@ use Rattle.rnix_green.specs.Tree.{Located}
 use Rattle.rnix_grammar.specs.Fault.{Fault}
 use Rattle.nix_diagnostics.specs.TokenErrors.{is_token_error}
 use Rattle.nix_diagnostics.specs.Independence.{is_independent}
-use Rattle.nix_diagnostics.specs.Following.{loses, loses_at, skips, is_back, none_back, is_lost_in, is_lost, has_skipped}
+use Rattle.nix_diagnostics.specs.Following.{loses, loses_at, skips, resynchronizes, none_resynchronizes, is_lost_in, is_lost, has_skipped}
 
 -- one of two tests, of which the second fails
 pub or_false : (b : Bool) → (b || false) ≡ b
@@ -33,34 +33,35 @@ shared_last true true r true x = refl
 shared_last true true true false x = refl
 shared_last true true false false x = refl
 
--- the parser is back on its way at none of some errors and one more
-none_back_push : (root : Located) (before faults : List Fault) (fault : Fault) →
-    none_back root before (faults ++ fault ∷ []) ≡ (none_back root before faults && not (is_back root (before ++ faults) fault))
-none_back_push root before [] fault =
-    and_true (not (is_back root before fault)) ∙ ap (λ b. not (is_back root b fault)) (sym (append-nil before))
-none_back_push root before (f ∷ faults) fault =
-    ap (λ b. not (is_back root before f) && b) (none_back_push root (before ++ f ∷ []) faults fault)
-    ∙ and_and (not (is_back root before f)) (none_back root (before ++ f ∷ []) faults) (not (is_back root ((before ++ f ∷ []) ++ faults) fault))
-    ∙ ap (λ b. (not (is_back root before f) && none_back root (before ++ f ∷ []) faults) && not (is_back root b fault))
+-- the parser resynchronizes at none of some errors and one more
+none_resynchronizes_push : (root : Located) (before faults : List Fault) (fault : Fault) →
+    none_resynchronizes root before (faults ++ fault ∷ []) ≡ (none_resynchronizes root before faults && not (resynchronizes root (before ++ faults) fault))
+none_resynchronizes_push root before [] fault =
+    and_true (not (resynchronizes root before fault)) ∙ ap (λ b. not (resynchronizes root b fault)) (sym (append-nil before))
+none_resynchronizes_push root before (f ∷ faults) fault =
+    ap (λ b. not (resynchronizes root before f) && b) (none_resynchronizes_push root (before ++ f ∷ []) faults fault)
+    ∙ and_and (not (resynchronizes root before f)) (none_resynchronizes root (before ++ f ∷ []) faults)
+    (not (resynchronizes root ((before ++ f ∷ []) ++ faults) fault))
+    ∙ ap (λ b. (not (resynchronizes root before f) && none_resynchronizes root (before ++ f ∷ []) faults) && not (resynchronizes root b fault))
     (append_assoc before (f ∷ []) faults)
 
 -- the parser loses its way at one of some errors and one more
 lost_in_push : (root : Located) (all before faults : List Fault) (fault : Fault) →
     is_lost_in root all before (faults ++ fault ∷ [])
-    ≡ ((is_lost_in root all before faults && not (is_back root (before ++ faults) fault)) || loses root all fault)
+    ≡ ((is_lost_in root all before faults && not (resynchronizes root (before ++ faults) fault)) || loses root all fault)
 lost_in_push root all before [] fault = or_false (loses root all fault && true) ∙ and_true (loses root all fault)
 lost_in_push root all before (f ∷ faults) fault =
     let more = before ++ f ∷ [] in
-    let still = not (is_back root (more ++ faults) fault) in
-    let back = none_back_push root more faults fault in
+    let still = not (resynchronizes root (more ++ faults) fault) in
+    let back = none_resynchronizes_push root more faults fault in
     let rest = lost_in_push root all more faults fault in
     (λ k. (loses root all f && back k) || rest k)
-    ∙ shared_last (loses root all f) (none_back root more faults) (is_lost_in root all more faults) still (loses root all fault)
-    ∙ ap (λ b. (is_lost_in root all before (f ∷ faults) && not (is_back root b fault)) || loses root all fault) (append_assoc before (f ∷ []) faults)
+    ∙ shared_last (loses root all f) (none_resynchronizes root more faults) (is_lost_in root all more faults) still (loses root all fault)
+    ∙ ap (λ b. (is_lost_in root all before (f ∷ faults) && not (resynchronizes root b fault)) || loses root all fault) (append_assoc before (f ∷ []) faults)
 
 -- the parser has lost its way after one error more
 pub lost_push : (root : Located) (all before : List Fault) (fault : Fault) →
-    is_lost root all (before ++ fault ∷ []) ≡ ((is_lost root all before && not (is_back root before fault)) || loses root all fault)
+    is_lost root all (before ++ fault ∷ []) ≡ ((is_lost root all before && not (resynchronizes root before fault)) || loses root all fault)
 lost_push root all before fault = lost_in_push root all [] before fault
 
 -- after an error that is not about an unexpected or a missing token it has, if it had before

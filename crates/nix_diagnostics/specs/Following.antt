@@ -74,20 +74,20 @@ loses_at root all fault =
 abbrev pub loses : Located → List Fault → Fault → Bool
 loses root all fault = is_token_error fault && loses_at root all fault
 
--- the parser is back on its way at an error: it is a token error, and independent of those before it
-abbrev pub is_back : Located → List Fault → Fault → Bool
-is_back root before fault = is_token_error fault && is_independent root before fault
+-- the parser resynchronizes at an error: it is a token error, and independent of those before it
+abbrev pub resynchronizes : Located → List Fault → Fault → Bool
+resynchronizes root before fault = is_token_error fault && is_independent root before fault
 
--- the parser is not back on its way at any of some errors
-abbrev pub none_back : Located → List Fault → List Fault → Bool
-none_back root before [] = true
-none_back root before (fault ∷ faults) = not (is_back root before fault) && none_back root (before ++ fault ∷ []) faults
+-- the parser resynchronizes at none of some errors
+abbrev pub none_resynchronizes : Located → List Fault → List Fault → Bool
+none_resynchronizes root before [] = true
+none_resynchronizes root before (fault ∷ faults) = not (resynchronizes root before fault) && none_resynchronizes root (before ++ fault ∷ []) faults
 
--- the parser loses its way at one of some errors, and is not back on it at any later one
+-- the parser loses its way at one of some errors, and resynchronizes at no later one
 abbrev pub is_lost_in : Located → List Fault → List Fault → List Fault → Bool
 is_lost_in root all before [] = false
 is_lost_in root all before (fault ∷ faults) =
-    (loses root all fault && none_back root (before ++ fault ∷ []) faults) || is_lost_in root all (before ++ fault ∷ []) faults
+    (loses root all fault && none_resynchronizes root (before ++ fault ∷ []) faults) || is_lost_in root all (before ++ fault ∷ []) faults
 
 -- the parser has lost its way after some errors
 abbrev pub is_lost : Located → List Fault → List Fault → Bool

@@ -48,7 +48,7 @@ follows_in root f independent group location =
     && (f.in_string || (if independent then f.is_unbalanced && (f.ends_closed && nat_le f.end location.end) else is_joined_in root f group location))
 
 -- the state fits the errors so far
-pub record Knows (root : Located) (all before : List Fault) (f : Folding) : Type 0 where
+pub record FitsErrors (root : Located) (all before : List Fault) (f : Folding) : Type 0 where
   pub last : f.last ≡ option_map (λ fault. (location_of root fault).end) (last_token_error before)
   pub end : f.end ≡ end_of_items root
   pub extra : option_map bounds_of f.extra ≡ unmatched root
@@ -81,6 +81,6 @@ pub record HasReached (old new : Folding) (end : ℕ) : Type 0 where
   }
 
 -- the result says whether the error follows from any earlier errors that the old state fits, and the new state fits all of them
-abbrev pub JudgesNext : Located → Fault → Folding → Folding → Bool → Type 0
-JudgesNext root fault old new result =
-    (all before : List Fault) → Knows root all before old → (result ≡ follows root all before fault) × Knows root all (before ++ fault ∷ []) new
+abbrev pub IsNextResult : Located → Fault → Folding → Folding → Bool → Type 0
+IsNextResult root fault old new result =
+    (all before : List Fault) → FitsErrors root all before old → (result ≡ follows root all before fault) × FitsErrors root all (before ++ fault ∷ []) new

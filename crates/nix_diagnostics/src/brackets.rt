@@ -52,7 +52,7 @@ fn bit_of(opener: SyntaxKind) -> u8 {
 struct Brackets {
     // The open openings, innermost last, and the number of openings inside them that are not stored.
     open: Vec<Opening>,
-    deeper: usize,
+    over_limit: usize,
     // The first opening whose closing token is missing: another token closes something around it.
     unclosed: Option<Opening>,
     // The first opening that is closed by the first token of a line that is indented less.
@@ -78,7 +78,7 @@ impl Brackets {
     fn new(alloc: Global) -> Brackets {
         Brackets {
             open: Vec::new(alloc),
-            deeper: 0,
+            over_limit: 0,
             unclosed: None,
             suspect: None,
             long: None,
@@ -100,7 +100,7 @@ impl Brackets {
         self.line = self.line.saturating_add(1);
         self.indent = text.len().saturating_sub(feed).saturating_sub(1);
         self.is_first = true;
-        if let (TOKEN_STRING_CONTENT, 0, Some(string)) = (kind, self.deeper, self.open.last()) {
+        if let (TOKEN_STRING_CONTENT, 0, Some(string)) = (kind, self.over_limit, self.open.last()) {
             if string.range.len() == 1 {
                 let long = Opening {
                     is_long: true,
@@ -114,7 +114,7 @@ impl Brackets {
     // Adds the opening that a token begins.
     fn add_opening(&mut self, kind: SyntaxKind, range: TextRange) -> Result<(), AllocError> {
         if self.open.len() == MAX_OPEN {
-            self.deeper = self.deeper.saturating_add(1);
+            self.over_limit = self.over_limit.saturating_add(1);
             return Ok(());
         }
         let around = self.open.last().map_or(0, |outer| outer.kinds);
@@ -132,8 +132,8 @@ impl Brackets {
 
     // Removes the innermost opening.
     fn forget(&mut self) {
-        if self.deeper > 0 {
-            self.deeper -= 1;
+        if self.over_limit > 0 {
+            self.over_limit -= 1;
         } else {
             let _innermost = self.open.pop();
         }
@@ -173,7 +173,7 @@ impl Brackets {
     // Closes what a token of the kind closes. An opening that is nested too deep to be stored is closed by any closing token.
     fn close_with(&mut self, kind: SyntaxKind) {
         match opener_of(kind) {
-            Some(_) if self.deeper > 0 => self.forget(),
+            Some(_) if self.over_limit > 0 => self.forget(),
             Some(opener) => self.close(opener),
             None => {}
         }

@@ -12,7 +12,7 @@ ghost use Rattle.nix_diagnostics.specs.TokenErrors.{is_token_error};
 ghost use Rattle.nix_diagnostics.specs.Independence.{larger, semicolons_of};
 ghost use Rattle.nix_diagnostics.specs.FaultNodes.{error_node, is_group, range_if_group, group_around, are_same_range};
 ghost use Rattle.nix_diagnostics.specs.Following.{is_extra, skips_if};
-ghost use Rattle.nix_diagnostics.specs.Known.{loses_in, is_independent_in, is_joined_in, follows_in, IsMatching, Knows, HasReached, JudgesNext};
+ghost use Rattle.nix_diagnostics.specs.Known.{loses_in, is_independent_in, is_joined_in, follows_in, IsMatching, FitsErrors, HasReached, IsNextResult};
 
 use crate::brackets::Matching;
 use crate::ends::{ends_closed, ends_in_string, is_from, lost_from};
@@ -151,7 +151,7 @@ impl Folding {
     ) -> Folding
         requires matching { IsMatching root.now matching.now }
         requires semicolons { semicolons.items ≡ semicolons_of root.now }
-        ensures { Knows root.now (map fault_of errors.now) [] result }
+        ensures { FitsErrors root.now (map fault_of errors.now) [] result }
     {
         Folding {
             passed: first_since(semicolons.as_slice(), 0, 0),
@@ -310,7 +310,7 @@ impl Folding {
         requires token_error { is_token_error (fault_of error.now) ≡ true }
         requires location { bounds_of location ≡ location_of root.now (fault_of error.now) }
         requires node { node.now ≡ error_node root.now (fault_of error.now) }
-        ensures { JudgesNext root.now (fault_of error.now) self.old self.new result }
+        ensures { IsNextResult root.now (fault_of error.now) self.old self.new result }
     {
         let group = group_of(node);
         let is_independent = self.is_independent(location);
@@ -337,7 +337,7 @@ impl Folding {
     ) -> bool
         requires location { bounds_of location ≡ location_of root.now (fault_of error.now) }
         requires node { node.now ≡ error_node root.now (fault_of error.now) }
-        ensures { JudgesNext root.now (fault_of error.now) self.old self.new result }
+        ensures { IsNextResult root.now (fault_of error.now) self.old self.new result }
     {
         if is_token_error(error) {
             self.add_token_error(root, error, node, location)

@@ -3,7 +3,7 @@ use Rattle.std.proofs.Common.{◌≡◌, ◌∙◌, ℕ, ◌<◌, ◌+◌, List,
 use Rattle.std.proofs.lemmas.List.{take-append-drop, drop_more}
 use Rattle.nix_diagnostics.specs.declared.{notes.Note.{Note}, replacement.Replacement.{Replacement}}
 use Rattle.nix_fixes.specs.declared.{fix.Fix.{Fix}, tried.Tried.{Tried}}
-use Rattle.nix_fixes.specs.Fixes.{IsProposed, IsUseless, HasNoFix, HaveNoFix, IsOfNote, IsFirstFix}
+use Rattle.nix_fixes.specs.Fixes.{IsProposed, DoesNotHelp, HasNoFix, HaveNoFix, IsOfNote, IsFirstFix}
 
 -- a fix that the replacement of a note proposes is of the note
 pub of_note : {E : Type 0} (text : List ℕ) (note : Note) (r : Replacement) (result : Result (Option Tried) E) → note.replacement ≡ Some r →
@@ -14,10 +14,10 @@ of_note text note r (Err e) is h = tt
 
 -- if the replacement of a note does not help, the note has no fix
 pub none_of_note : {E : Type 0} (text : List ℕ) (errors : ℕ) (note : Note) (r : Replacement) (result : Result (Option Tried) E) →
-    note.replacement ≡ Some r → IfOk result (λ found. IfNone found (IsUseless text errors r)) →
+    note.replacement ≡ Some r → IfOk result (λ found. IfNone found (DoesNotHelp text errors r)) →
     IfOk result (λ found. IfNone found (HasNoFix text errors note))
 none_of_note text errors note r (Ok (Some tried)) is h = tt
-none_of_note text errors note r (Ok None) is h = λ other has. subst (IsUseless text errors) (ap (λ (o : Option Replacement). unwrap_or o r) (sym is ∙ has)) h
+none_of_note text errors note r (Ok None) is h = λ other has. subst (DoesNotHelp text errors) (ap (λ (o : Option Replacement). unwrap_or o r) (sym is ∙ has)) h
 none_of_note text errors note r (Err e) is h = tt
 
 -- the first note that has a fix is found after those that have none

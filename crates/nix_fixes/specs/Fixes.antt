@@ -58,13 +58,13 @@ pub record IsProposed (text : List ℕ) (r : Replacement) (fix : Fix) : Type 0 w
   pub new : string_bytes fix.text ≡ new_text text r
 
 -- a replacement is useless: if it names whole characters, the text with it has no fewer errors than a number
-abbrev pub IsUseless : List ℕ → ℕ → Replacement → Type 0
-IsUseless text errors r =
+abbrev pub DoesNotHelp : List ℕ → ℕ → Replacement → Type 0
+DoesNotHelp text errors r =
     IsOfCharacters text r.kept → IsOfCharacters text r.range → HasNoFewer (spliced text r.range.start r.range.end (new_text text r)) errors
 
 -- no replacement of a note helps
 abbrev pub HasNoFix : List ℕ → ℕ → Note → Type 0
-HasNoFix text errors note = (r : Replacement) → note.replacement ≡ Some r → IsUseless text errors r
+HasNoFix text errors note = (r : Replacement) → note.replacement ≡ Some r → DoesNotHelp text errors r
 
 -- no replacement of some notes helps
 abbrev pub HaveNoFix : List ℕ → ℕ → List Note → Type 0

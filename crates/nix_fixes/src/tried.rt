@@ -1,7 +1,7 @@
 //! Trying replacements.
 
 ghost use Rattle.std.specs.Prelude.{◌≡◌, length, string_bytes, IfOk, IfSome, IfNone};
-ghost use Rattle.nix_fixes.specs.Fixes.{spliced, IsOfCharacters, HasNoFewer, IsProposed, IsUseless, HasNoFix, HaveNoFix, IsOfNote, IsFirstFix};
+ghost use Rattle.nix_fixes.specs.Fixes.{spliced, IsOfCharacters, HasNoFewer, IsProposed, DoesNotHelp, HasNoFix, HaveNoFix, IsOfNote, IsFirstFix};
 ghost use Rattle.nix_fixes.specs.Tries.{IsTried};
 
 use crate::changed_text::{new_text, spliced};
@@ -59,7 +59,7 @@ fn try_replacement(
 ) -> Result<Option<Tried>, AllocError>
     ensures tried { IfOk result (λ found. IfSome found (IsTried text.now errors)) }
     ensures proposed { IfOk result (λ found. IfSome found (λ tried. IsProposed text.now replacement.now tried.fix)) }
-    ensures none { IfOk result (λ found. IfNone found (IsUseless text.now errors replacement.now)) }
+    ensures none { IfOk result (λ found. IfNone found (DoesNotHelp text.now errors replacement.now)) }
 {
     match new_text(alloc, text, replacement)? {
         Some(new) => try_new(alloc, text, errors, replacement.range, new),

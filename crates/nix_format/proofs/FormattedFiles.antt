@@ -1,7 +1,7 @@
 -- One file more is formatted.
 use Rattle.std.proofs.Common.{◌≡◌, ℕ, ◌+◌, ◌<◌, Bool, List, [], ◌∷◌, ◌++◌, length, map, take, get_or, Option, sym, subst}
 use Rattle.std.specs.{Prelude.{string_bytes, String}, Io.KnownBytes.Appends, declared.alloc.Global.Global}
-use Rattle.nix_cli.proofs.DoneLemmas.{names_more}
+use Rattle.nix_cli.proofs.ProcessedLemmas.{names_more}
 use Rattle.nix_format.specs.declared.{file.{Task.Task, Outcome.Outcome}, report.Tally.Tally}
 use Rattle.nix_format.specs.Outcomes.{heading, counted, IsFileFormatted, AreFormatted, one_formatted}
 

@@ -35,19 +35,19 @@ added_more c xs old new same added =
     (IsPermutation-sym _ _ (IsPermutation-middle added.front c added.back))))
 
 -- the changes of a draft are those of these places, at each of which its text contains the old name
-pub record IsDrafted (text : List ℕ) (occurrences : List Extent) (old new : List ℕ) (draft : Draft) : Type 0 where
+pub record IsDraftOf (text : List ℕ) (occurrences : List Extent) (old new : List ℕ) (draft : Draft) : Type 0 where
   pub text_is : draft.text ≡ text
   pub exactly : IsPermutation (map (change_at new) occurrences) draft.changes
   pub ascending : AreAscending 0 draft.changes
   pub each_old : All (ContainsAt text old) occurrences
 
 -- the changes of one place more
-pub drafted_more : (text : List ℕ) (occurrences more : List Extent) (occurrence : Extent) (old new : List ℕ) (before after : Draft) →
-    IsDrafted text occurrences old new before → more ≡ occurrences ++ occurrence ∷ [] → occurrence.start ≤ occurrence.end
+pub draft_more : (text : List ℕ) (occurrences more : List Extent) (occurrence : Extent) (old new : List ℕ) (before after : Draft) →
+    IsDraftOf text occurrences old new before → more ≡ occurrences ++ occurrence ∷ [] → occurrence.start ≤ occurrence.end
     → ContainsAt before.text old occurrence →
-    after.text ≡ before.text → IsAdded (change_at new occurrence) before.changes after.changes → IsDrafted text more old new after
-drafted_more text occurrences more occurrence old new before after is more_is order contains same added =
-    subst (λ ps. IsDrafted text ps old new after) (sym more_is) (record {
+    after.text ≡ before.text → IsAdded (change_at new occurrence) before.changes after.changes → IsDraftOf text more old new after
+draft_more text occurrences more occurrence old new before after is more_is order contains same added =
+    subst (λ ps. IsDraftOf text ps old new after) (sym more_is) (record {
       text_is = subst (λ t. t ≡ text) (sym same) is.text_is;
       exactly = subst (λ cs. IsPermutation cs after.changes) (sym (map-append (change_at new) occurrences (occurrence ∷ [])))
           (added_more (change_at new occurrence) _ _ _ is.exactly added);
@@ -56,17 +56,17 @@ drafted_more text occurrences more occurrence old new before after is more_is or
     })
 
 -- a change is one of those among which it is
-met_contained : (cs front back : List Change) (c : Change) → cs ≡ front ++ c ∷ back → Contains cs c
-met_contained cs front back c is =
+overlap_contained : (cs front back : List Change) (c : Change) → cs ≡ front ++ c ∷ back → Contains cs c
+overlap_contained cs front back c is =
     subst (λ xs. Contains xs c) (sym is) (Contains-append_right front (c ∷ back) c (0, omega arith, refl))
 
 -- a place overlaps one of those before it
-met_before : (occurrences so_far : List Extent) (occurrence : Extent) (new : List ℕ) (i : ℕ) (cs : List Change) → so_far ≡ take i occurrences →
+overlap_before : (occurrences so_far : List Extent) (occurrence : Extent) (new : List ℕ) (i : ℕ) (cs : List Change) → so_far ≡ take i occurrences →
     i < length occurrences → get_or occurrences i occurrence ≡ occurrence → IsPermutation (map (change_at new) so_far) cs
     → HasOverlap occurrence.start occurrence.end cs → DoOverlap occurrences
-met_before occurrences so_far occurrence new i cs so_far_is there occurrence_is same met =
+overlap_before occurrences so_far occurrence new i cs so_far_is there occurrence_is same met =
     let found : Contains (map (change_at new) so_far) met.change =
-    Contains-permutation cs (map (change_at new) so_far) met.change (IsPermutation-sym _ _ same) (met_contained cs met.front met.back met.change met.is) in
+    Contains-permutation cs (map (change_at new) so_far) met.change (IsPermutation-sym _ _ same) (overlap_contained cs met.front met.back met.change met.is) in
     let k = found.0 in
     let count : length so_far ≡ i = ap length so_far_is ∙ length-take-le i occurrences (omega (arith, there)) in
     let before : k < length so_far = omega (arith, found.1, length-map so_far (change_at new)) in
@@ -90,11 +90,11 @@ met_before occurrences so_far occurrence new i cs so_far_is there occurrence_is 
     }
 
 -- a place at which the text does not contain the old name, or which overlaps one of the places before it
-pub unfit_found : (text : List ℕ) (occurrences so_far : List Extent) (occurrence : Extent) (old new : List ℕ) (i : ℕ) (draft : Draft)
+pub unchangeable_found : (text : List ℕ) (occurrences so_far : List Extent) (occurrence : Extent) (old new : List ℕ) (i : ℕ) (draft : Draft)
     → so_far ≡ take i occurrences →
-    i < length occurrences → get_or occurrences i occurrence ≡ occurrence → IsDrafted text so_far old new draft →
+    i < length occurrences → get_or occurrences i occurrence ≡ occurrence → IsDraftOf text so_far old new draft →
     (LacksAt draft.text old occurrence ⊎ HasOverlap occurrence.start occurrence.end draft.changes) → IsUnchangeable text occurrences old
-unfit_found text occurrences so_far occurrence old new i draft so_far_is there occurrence_is is (inl lacking) =
+unchangeable_found text occurrences so_far occurrence old new i draft so_far_is there occurrence_is is (inl lacking) =
     inl (record { occurrence = occurrence; is_one = (i, there, occurrence_is); lacking = subst (λ t. LacksAt t old occurrence) is.text_is lacking })
-unfit_found text occurrences so_far occurrence old new i draft so_far_is there occurrence_is is (inr met) =
-    inr (met_before occurrences so_far occurrence new i draft.changes so_far_is there occurrence_is is.exactly met)
+unchangeable_found text occurrences so_far occurrence old new i draft so_far_is there occurrence_is is (inr met) =
+    inr (overlap_before occurrences so_far occurrence new i draft.changes so_far_is there occurrence_is is.exactly met)

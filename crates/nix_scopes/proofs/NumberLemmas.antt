@@ -17,14 +17,14 @@ or_none None = refl
 or_none (Some n) = refl
 
 -- a name is given a number
-pub given_once : (b : Bool) (number old new : Option ℕ) → new ≡ cond b number old → new ≡ (if b then number else old)
-given_once true number old new is = is
-given_once false number old new is = is
+pub assigned_once : (b : Bool) (number old new : Option ℕ) → new ≡ cond b number old → new ≡ (if b then number else old)
+assigned_once true number old new is = is
+assigned_once false number old new is = is
 
 -- a name that is given a number twice has the second
-pub given_twice : (b : Bool) (first second old new once : Option ℕ) → new ≡ cond b second once → once ≡ cond b first old → new ≡ (if b then second else old)
-given_twice true first second old new once is was = is
-given_twice false first second old new once is was = is ∙ was
+pub assigned_twice : (b : Bool) (first second old new once : Option ℕ) → new ≡ cond b second once → once ≡ cond b first old → new ≡ (if b then second else old)
+assigned_twice true first second old new once is was = is
+assigned_twice false first second old new once is was = is ∙ was
 
 -- a key of a name
 abbrev pub key_with : List ℕ → Key

@@ -153,7 +153,7 @@ fn copied<'t>(text: &CowStr<'t>) -> Result<CowStr<'t>, AllocError>
 }
 
 // Gives a name a number, unless it has one in its scope, whose numbers begin with `first`. Returns its number, and the one that it had before.
-fn give_number<'t>(
+fn assign_number<'t>(
     numbers: &mut BTreeMap<Key<'t>, usize>,
     text: &CowStr<'t>,
     first: usize,
@@ -192,7 +192,7 @@ fn bind<'t>(
         AreFirst bindings.old.items → AreFirst bindings.new.items) }
     ensures longer { OnOk result (IsLonger shadowed.old.items shadowed.new.items) }
 {
-    let (own, old) = give_number(numbers, &name.text, first, bindings.len())?;
+    let (own, old) = assign_number(numbers, &name.text, first, bindings.len())?;
     let outer = outside(old, first, shadowed);
     shadowed.push(outer)?;
     bindings.push(Binding {

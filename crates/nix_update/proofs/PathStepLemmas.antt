@@ -10,14 +10,14 @@ use Rattle.nix_update.specs.declared.steps.PathStep.{PathStep}
 use Rattle.nix_update.specs.PathSteps.{step, step_if, next_steps, IsPathStep, ArePathSteps}
 
 -- these are expressions along the path; the root is one, and those that follow the first ones are among them
-pub record AreWalked (names : List (List ℕ)) (root : Located) (steps : List PathStep) (n : ℕ) : Type 0 where
+pub record AreStepsUpTo (names : List (List ℕ)) (root : Located) (steps : List PathStep) (n : ℕ) : Type 0 where
   pub sound : All (IsPathStep names root) steps
   pub first : Contains steps (step root 0 false)
   pub closed : (k : ℕ) → (w next : PathStep) → k < n → slice_get steps k ≡ Some w → Contains (next_steps names w) next → Contains steps next
 
 -- the root alone
-pub root_walked : (names : List (List ℕ)) (root : Located) (steps : List PathStep) → steps ≡ step root 0 false ∷ [] → AreWalked names root steps 0
-root_walked names root steps is = subst (λ steps. AreWalked names root steps 0) (sym is) record {
+pub root_step : (names : List (List ℕ)) (root : Located) (steps : List PathStep) → steps ≡ step root 0 false ∷ [] → AreStepsUpTo names root steps 0
+root_step names root steps is = subst (λ steps. AreStepsUpTo names root steps 0) (sym is) record {
   sound = λ k d l. first_is k d l;
   first = (0, omega arith, refl);
   closed = λ k w next l at has. absurd (omega (arith, l));
@@ -38,9 +38,9 @@ still_there xs ys k x l at =
     slice_get-get_or xs k x l ∙ ap Some (sym (get_or_append_left xs ys x k l) ∙ get_or_from_slice_get (xs ++ ys) k x x at)
 
 -- what follows one more of them is added
-pub one_walked : (names : List (List ℕ)) (root : Located) (steps more : List PathStep) (n : ℕ) (w : PathStep) → AreWalked names root steps n →
-    slice_get steps n ≡ Some w → more ≡ steps ++ next_steps names w → AreWalked names root more (n + 1)
-one_walked names root steps more n w h at is = subst (λ steps. AreWalked names root steps (n + 1)) (sym is) record {
+pub one_step_more : (names : List (List ℕ)) (root : Located) (steps more : List PathStep) (n : ℕ) (w : PathStep) → AreStepsUpTo names root steps n →
+    slice_get steps n ≡ Some w → more ≡ steps ++ next_steps names w → AreStepsUpTo names root more (n + 1)
+one_step_more names root steps more n w h at is = subst (λ steps. AreStepsUpTo names root steps (n + 1)) (sym is) record {
   sound = All-append (IsPathStep names root) steps (next_steps names w) h.sound (all_follow names root w here);
   first = Contains-append_left steps (next_steps names w) (step root 0 false) h.first;
   closed = kept;
@@ -67,9 +67,9 @@ one_walked names root steps more n w h at is = subst (λ steps. AreWalked names 
     ]
 
 -- where none is left, all are found
-pub all_walked : (names : List (List ℕ)) (root : Located) (steps : List PathStep) (n : ℕ) → AreWalked names root steps n → slice_get steps n ≡ None →
+pub all_steps : (names : List (List ℕ)) (root : Located) (steps : List PathStep) (n : ℕ) → AreStepsUpTo names root steps n → slice_get steps n ≡ None →
     ArePathSteps names root steps
-all_walked names root steps n h none = record { sound = h.sound; complete = complete }
+all_steps names root steps n h none = record { sound = h.sound; complete = complete }
   where
     within : (k : ℕ) → k < length steps → k < n
     within k l = elim (cases_lt k n) [

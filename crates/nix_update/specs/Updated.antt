@@ -195,7 +195,7 @@ IsUndefinedUpdated update names path starts steps text root (outcome.SetInLet ma
 IsUndefinedUpdated update names path starts steps text root (outcome.Refused refused) = Unit {0}
 
 -- a single entry of sets defines the attribute, or a part of it, and it is updated
-pub record IsOneUpdated (update : Update) (names : List (List ℕ)) (steps : List PathStep) (text : List ℕ) (root : Located) (made : List ℕ) : Type 0 where
+pub record IsSingleUpdated (update : Update) (names : List (List ℕ)) (steps : List PathStep) (text : List ℕ) (root : Located) (made : List ℕ) : Type 0 where
   pub definition : Definition
   pub only : definitions_in names false steps ≡ definition ∷ []
   pub is_updated : IsDefinitionUpdated update.action update text root definition made
@@ -208,7 +208,7 @@ IsNoneUpdated update names path starts steps text root made =
 -- what an update makes of a text, given the names of its path and the expressions along it
 abbrev pub IsOutcome : Update → List (List ℕ) → List ℕ → List ℕ → List PathStep → List ℕ → Located → Outcome → Type 0
 IsOutcome update names path starts steps text root (outcome.Updated made) =
-    IsOneUpdated update names steps text root (string_bytes made) ⊎ IsNoneUpdated update names path starts steps text root (outcome.Updated made)
+    IsSingleUpdated update names steps text root (string_bytes made) ⊎ IsNoneUpdated update names path starts steps text root (outcome.Updated made)
 IsOutcome update names path starts steps text root (outcome.SetInLet made offset) =
     IsNoneUpdated update names path starts steps text root (outcome.SetInLet made offset)
 IsOutcome update names path starts steps text root (outcome.Refused refused) = Unit {0}

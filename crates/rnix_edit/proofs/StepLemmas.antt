@@ -58,12 +58,12 @@ pub both_remaining : (x y : Step) (a b all_a all_b : List Step) → all_a ≡ x 
 both_remaining x y a b all_a all_b first second same = cc
 
 -- the steps of one walk continue with those of another just if what was left of both does
-pub record GoesOn (first all first_remaining all_remaining : List Step) : Type 0 where
+pub record RestContinues (first all first_remaining all_remaining : List Step) : Type 0 where
   pub there : (rest : List Step) → all_remaining ≡ first_remaining ++ rest → all ≡ first ++ rest
   pub back : (rest : List Step) → all ≡ first ++ rest → all_remaining ≡ first_remaining ++ rest
 
 -- so many comments come first in all steps just if as many as are left do in those that are left
-pub record CommentsGoOn (count : ℕ) (all : List Step) (remaining : ℕ) (steps : List Step) : Type 0 where
+pub record RestHasComments (count : ℕ) (all : List Step) (remaining : ℕ) (steps : List Step) : Type 0 where
   pub there : AreComments remaining steps → AreComments count all
   pub back : AreComments count all → AreComments remaining steps
   pub rest : drop remaining steps ≡ drop count all

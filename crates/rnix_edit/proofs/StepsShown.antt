@@ -7,7 +7,7 @@ use Rattle.rnix_green.proofs.{StartLemmas.in_text, InsideLemmas.elements_in_all}
 use Rattle.rnix_tree.specs.WalksAlike.{Shown, shown_event, shown_of, EndsBefore, PassesAlike}
 use Rattle.rnix_edit.specs.declared.node_range.NodeRange.{NodeRange}
 use Rattle.rnix_edit.specs.Steps.{Step, node_step, token_steps, step_at, steps_of, enters, events_before, events_inside, ArePassed}
-use Rattle.rnix_edit.proofs.StepLemmas.{GoesOn}
+use Rattle.rnix_edit.proofs.StepLemmas.{RestContinues}
 
 -- the step of an event that shows this
 abbrev steps_shown : Shown → List Step
@@ -56,8 +56,8 @@ pub fewer : (x : Step) (remaining all remaining_after : List Step) → all ≡ x
     → length remaining_after < length all
 fewer x remaining all remaining_after e h = omega (arith, ap length e, h)
 
-pub step_taken : (first all : List Step) (x y : Step) (a b all_a all_b : List Step) → GoesOn first all all_a all_b → all_a ≡ x ∷ a → all_b ≡ y ∷ b → x ≡ y
-    → GoesOn first all a b
+pub step_taken : (first all : List Step) (x y : Step) (a b all_a all_b : List Step) → RestContinues first all all_a all_b → all_a ≡ x ∷ a → all_b ≡ y ∷ b
+    → x ≡ y → RestContinues first all a b
 step_taken first all x y a b all_a all_b so_far one two same = record {
   there = λ rest e.
       so_far.there rest
@@ -68,8 +68,8 @@ step_taken first all x y a b all_a all_b so_far one two same = record {
 }
 
 -- the second one continues with what is left of the first one just if all of it begins with all of that
-pub alike_goes_on : (a b a_remaining b_remaining first all : List Step) → RestDecides a b a_remaining b_remaining → GoesOn first all a b
-    → GoesOn first all a_remaining b_remaining
+pub alike_goes_on : (a b a_remaining b_remaining first all : List Step) → RestDecides a b a_remaining b_remaining → RestContinues first all a b
+    → RestContinues first all a_remaining b_remaining
 alike_goes_on a b a_remaining b_remaining first all h so_far = record {
   there = λ rest e.
       so_far.there rest (h.second ∙ ap (λ steps. h.front ++ steps) e ∙ sym (append_assoc h.front a_remaining rest) ∙ ap (λ steps. steps ++ rest) (sym h.first));

@@ -1,5 +1,5 @@
 use Rattle.std.proofs.Common.{◌≡◌, ◌+◌, ℕ, List, [], map, take, subst, sym, string_bytes, arith}
-use Rattle.nix_cli.{specs.Statuses.{first_status, AreDone, none_done}, proofs.DoneLemmas.done_more}
+use Rattle.nix_cli.{specs.Statuses.{first_status, AreProcessed, none_processed}, proofs.ProcessedLemmas.processed_more}
 use Rattle.nix_dead.specs.Report.{IsFileReported}
 use Rattle.nix_dead.proofs.report.report_files.Goals as goal
 
@@ -7,7 +7,7 @@ pub loop-number-init : goal.loop-number-init
 loop-number-init g c =
     let start = g.W.Write.contents c.args.out.now in
     let first = first_status c.args.inputs.now.files.failed in
-    subst (λ (status : ℕ). AreDone (IsFileReported c.args.is_json) first start [] start status) (sym c.status-status.ensures) none_done
+    subst (λ (status : ℕ). AreProcessed (IsFileReported c.args.is_json) first start [] start status) (sym c.status-status.ensures) none_processed
 
 pub loop-number-preserved : goal.loop-number-preserved
 loop-number-preserved g c =
@@ -17,8 +17,8 @@ loop-number-preserved g c =
     let mid = g.W.Write.contents c.loop-number.out in
     let new = g.W.Write.contents c.report_file.new.out in
     let first = first_status c.args.inputs.now.files.failed in
-    subst (λ (status : ℕ). AreDone (IsFileReported c.args.is_json) first start (map string_bytes (take (i + 1) names)) new status)
+    subst (λ (status : ℕ). AreProcessed (IsFileReported c.args.is_json) first start (map string_bytes (take (i + 1) names)) new status)
     (sym c.max-status.ensures)
-    (done_more (IsFileReported c.args.is_json) first start mid new names i c.index.result.now c.loop-number.status c.in_ok-own.own
+    (processed_more (IsFileReported c.args.is_json) first start mid new names i c.index.result.now c.loop-number.status c.in_ok-own.own
     (omega (arith, c.loop-number-test.true)) c.index.ensures c.loop-number.invariant
     (subst (λ (file : List ℕ). IsFileReported c.args.is_json file mid new c.in_ok-own.own) c.as_str-file.ensures.value c.in_ok-own.ensures))

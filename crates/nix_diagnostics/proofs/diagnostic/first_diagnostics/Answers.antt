@@ -1,6 +1,6 @@
 use Rattle.std.proofs.Common.{IfOk, ◌≡◌, ◌∙◌, ◌+◌, ◌<◌, ◌^◌, rules, arith, sym, subst, map, [], take, Some, None, refl}
 use Rattle.rnix_grammar.specs.Fault.{fault_of}
-use Rattle.nix_diagnostics.specs.Known.{Knows}
+use Rattle.nix_diagnostics.specs.Known.{FitsErrors}
 use Rattle.nix_diagnostics.specs.Shown.{IsSingle}
 use Rattle.nix_diagnostics.specs.FirstShown.{AreFirst, IsCountFolded, IsCountAdded}
 use Rattle.nix_diagnostics.proofs.ShownLemmas.{count_before, up_to}
@@ -67,7 +67,7 @@ loop-number-preserved c =
             (subst (λ x. IsCountAdded None old x) (sym w.found-is) w.in_ok-add-2.ensures) c.requires
             (omega (arith, w.len.ensures, w.if-len-most.false)) (sym judged.0 ∙ w.if-folds.false) c.location_of-range.ensures more
       ];
-      known = subst (λ faults. Knows root all faults c.folds.new.self) (sym more) judged.1;
+      known = subst (λ faults. FitsErrors root all faults c.folds.new.self) (sym more) judged.1;
       earlier = c.error_node-node.ensures.earlier;
     }
 

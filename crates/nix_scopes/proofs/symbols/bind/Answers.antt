@@ -8,7 +8,7 @@ returns-clause-binding c = λ outer h.
     let bound : map bound_of c.push-2.new.self.items ≡ map bound_of c.args.bindings.now.items ++ bound_in c.args.scope.now (named c.args.name.now) ∷ [] =
     search (c.in_ok-push-2.ensures.items, c.in_ok-copied.ensures, c.clone.ensures, c.clone-2.ensures, map_push, rules) in
     let count : c.len.result ≡ length c.args.bindings.now.items = search rules in
-    (names_more outer c.args.bindings.now.items c.push-2.new.self.items c.args.numbers.now c.give_number.new.numbers c.args.shadowed.now.items
+    (names_more outer c.args.bindings.now.items c.push-2.new.self.items c.args.numbers.now c.assign_number.new.numbers c.args.shadowed.now.items
     c.push.new.self.items c.args.first c.len.result c.in_ok-own.own c.in_ok-own.old c.outside-outer.result c.args.scope.now
     (bound_in c.args.scope.now (named c.args.name.now)) refl bound count c.in_ok-own.ensures.old c.in_ok-own.ensures.own (search rules)
     c.in_ok-push.ensures.items c.in_ok-own.ensures.numbers h).0
@@ -21,7 +21,7 @@ returns-clause-firsts c = λ outer h firsts.
     firsts_more c.args.bindings.now.items c.push-2.new.self.items _ c.in_ok-push-2.ensures.items
     (subst (λ text. number_in (map bound_of c.push-2.new.self.items) text c.clone-2.result ≡ Some c.in_ok-own.own) (sym c.in_ok-copied.ensures)
     (subst (λ scope. number_in (map bound_of c.push-2.new.self.items) (cow_str_bytes c.args.name.now.text) scope ≡ Some c.in_ok-own.own) (sym c.clone-2.ensures)
-    (names_more outer c.args.bindings.now.items c.push-2.new.self.items c.args.numbers.now c.give_number.new.numbers c.args.shadowed.now.items
+    (names_more outer c.args.bindings.now.items c.push-2.new.self.items c.args.numbers.now c.assign_number.new.numbers c.args.shadowed.now.items
     c.push.new.self.items c.args.first c.len.result c.in_ok-own.own c.in_ok-own.old c.outside-outer.result c.args.scope.now
     (bound_in c.args.scope.now (named c.args.name.now)) refl bound count c.in_ok-own.ensures.old c.in_ok-own.ensures.own (search rules)
     c.in_ok-push.ensures.items c.in_ok-own.ensures.numbers h).1))

@@ -1,10 +1,10 @@
 use Rattle.rnix_edit.specs.Steps.{steps_of}
-use Rattle.rnix_edit.proofs.StepLemmas.{CommentsGoOn}
+use Rattle.rnix_edit.proofs.StepLemmas.{RestHasComments}
 use Rattle.rnix_edit.proofs.steps.takes_comments.Given as goal
 
 -- what is left begins with as many comments as are left just if all did
 abbrev pub invariant-loop-remaining : goal.invariant-loop-remaining
-invariant-loop-remaining l = CommentsGoOn l.count (steps_of l.fn.events) l.remaining (steps_of l.events)
+invariant-loop-remaining l = RestHasComments l.count (steps_of l.fn.events) l.remaining (steps_of l.events)
 
 -- the comments that are left
 abbrev pub decreases-loop-remaining : goal.decreases-loop-remaining
