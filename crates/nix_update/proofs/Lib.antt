@@ -4,4 +4,5 @@ pub mod PathStepLemmas
 pub mod SameNamesLemmas
 pub mod PathLemmas
 pub mod UndefinedLemmas
+pub mod DefinedLemmas
 pub mod UpdatedLemmas

@@ -119,6 +119,9 @@ impl Reason {
             Reason::Edit(Refusal::ReadOtherwise) => {
                 "with the change, what is around it would be read in another way"
             }
+            Reason::Edit(Refusal::NodeReadOtherwise) => {
+                "with the change, the new text would be read in another way than alone"
+            }
         }
     }
 

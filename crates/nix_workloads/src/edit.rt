@@ -93,6 +93,7 @@ fn add_edited(edited: Edited, digest: &mut Digest) -> Option<String> {
                 rnix_edit::Refusal::NotInText => 1,
                 rnix_edit::Refusal::HasErrors => 2,
                 rnix_edit::Refusal::ReadOtherwise => 3,
+                rnix_edit::Refusal::NodeReadOtherwise => 4,
             });
             None
         }

@@ -1,5 +1,5 @@
 -- What was tested of a text with one change that was read again.
-use Rattle.std.proofs.Common.{◌≡◌, ℕ, false, List, [], ◌∷◌, ◌++◌, length, sym, ap, ◌∙◌, subst, arith}
+use Rattle.std.proofs.Common.{◌≡◌, ℕ, false, List, [], ◌∷◌, ◌++◌, length, sym, ap, ◌∙◌, subst, arith, string_bytes}
 use Rattle.std.proofs.lemmas.{List.length-append, Bool.false≢true}
 use Rattle.rnix_kinds.specs.Lexical.Tokens.{tokens_of}
 use Rattle.rnix_green.specs.Tree.{Located}
@@ -10,15 +10,18 @@ use Rattle.rnix_text.specs.declared.edit_error.EditError.{EditError}
 use Rattle.rnix_text.specs.declared.edit_error.EditError.TheVariants as cause
 use Rattle.rnix_edit.specs.declared.edited.Refusal.{Refusal}
 use Rattle.rnix_edit.specs.declared.edited.Refusal.TheVariants as refusal
-use Rattle.rnix_edit.specs.Edited.{spliced, IsMade, IsNotMade}
+use Rattle.rnix_edit.specs.declared.edited.Edited.{Edited}
+use Rattle.rnix_edit.specs.declared.edited.Edited.TheVariants as outcome
+use Rattle.rnix_edit.specs.Edited.{spliced, IsMade, IsNotMade, Both, IfDone, IfRefused}
 use Rattle.rnix_edit.specs.ParsedEdit.{is_memory, IsReadAs, IsNotParsed}
 
 module _ (text : List ℕ) (start end : ℕ) (new : List ℕ) (so : Located → Type 0) where
   -- a text that is not read without errors is not the one that is wanted
-  pub not_made : (reason : Refusal) → IsNotParsed reason text start end new → IsNotMade reason text start end new so
-  not_made refusal.NotInText unread = unread
-  not_made refusal.HasErrors unread = unread
-  not_made refusal.ReadOtherwise unread = absurd unread
+  pub not_made : (unlike : Located → Type 0) (reason : Refusal) → IsNotParsed reason text start end new → IsNotMade reason text start end new so unlike
+  not_made unlike refusal.NotInText unread = unread
+  not_made unlike refusal.HasErrors unread = unread
+  not_made unlike refusal.ReadOtherwise unread = absurd unread
+  not_made unlike refusal.NodeReadOtherwise unread = absurd unread
 
   -- a text that is read so is the one that is wanted
   pub made_so : (made : List ℕ) (read : Reading) → made ≡ spliced text start end new → IsReadAs (spliced text start end new) read →
@@ -34,13 +37,35 @@ module _ (text : List ℕ) (start end : ℕ) (new : List ℕ) (so : Located → 
   }
 
   -- and if it is not read so, it is not
-  pub otherwise : (read : Reading) → IsReadAs (spliced text start end new) read → ¬ so (root_of read) →
-      IsNotMade refusal.ReadOtherwise text start end new so
-  otherwise read h fails = record {
+  pub otherwise : (unlike : Located → Type 0) (read : Reading) → IsReadAs (spliced text start end new) read → ¬ so (root_of read) →
+      IsNotMade refusal.ReadOtherwise text start end new so unlike
+  otherwise unlike read h fails = record {
     tree = read.tree;
     is_read = subst (λ faults. IsParsed (tokens_of (spliced text start end new)) read.tree faults) h.none h.is_read;
     is_not = fails;
   }
+
+-- a text that is read so, and kept, has the new node
+pub kept_done : (text : List ℕ) (start end : ℕ) (new : List ℕ) (so : Located → Type 0) (edited : Edited) (read : Reading)
+    → IsReadAs (spliced text start end new) read → so (root_of read) → (alike : Located → Type 0) (made : List ℕ) (Tested : Type 0) (P : List ℕ → Type 0)
+    → made ≡ spliced text start end new → (Tested → alike (root_of read)) → ((kept : List ℕ) → IsMade text start end new (Both so alike) kept → P kept)
+    → IfDone (λ kept. (kept ≡ made) × Tested) edited → IfDone P edited
+kept_done text start end new so (outcome.Done kept) read h holds alike made Tested P is tells to done =
+    to (string_bytes kept) (made_so text start end new (Both so alike) (string_bytes kept) read (done.0 ∙ is) h (holds, tells done.1))
+kept_done text start end new so (outcome.Refused reason) read h holds alike made Tested P is tells to done = tt
+
+-- and one that is not kept has another one
+pub kept_refused : (text : List ℕ) (start end : ℕ) (new : List ℕ) (so : Located → Type 0) (edited : Edited) (read : Reading)
+    → IsReadAs (spliced text start end new) read → so (root_of read) → (unlike : Located → Type 0) (Tested : Type 0) (P : Refusal → Type 0)
+    → (Tested → unlike (root_of read)) → ((reason : Refusal) → IsNotMade reason text start end new so unlike → P reason)
+    → IfRefused (λ reason. (reason ≡ refusal.NodeReadOtherwise) × Tested) edited → IfRefused P edited
+kept_refused text start end new so (outcome.Done kept) read h holds unlike Tested P tells to refused = tt
+kept_refused text start end new so (outcome.Refused reason) read h holds unlike Tested P tells to refused =
+    to reason (subst (λ r. IsNotMade r text start end new so unlike) (sym refused.0) record {
+      tree = read.tree;
+      is_read = subst (λ faults. IsParsed (tokens_of (spliced text start end new)) read.tree faults) h.none h.is_read;
+      is_so = (holds, tells refused.1);
+    })
 
 -- a list with an element is not empty
 met_none : {X : Type 0} (front : List X) (x : X) (back : List X) → front ++ x ∷ back ≡ [] → ⊥

@@ -6,4 +6,7 @@ pub mod CheckLemmas
 pub mod EditLemmas
 pub mod OneChange
 mod EditExamples
+mod AloneExamples
 pub mod StepsShown
+pub mod SameTreeLemmas
+pub mod AloneLemmas

@@ -1,13 +1,11 @@
 -- Steps of a walk that are compared.
-use Rattle.std.proofs.Common.{◌≡◌, ℕ, suc, ◌+◌, ◌≤◌, ◌<◌, ◌^◌, List, [], ◌∷◌, ◌++◌, length, drop, Bool, true, false, sym, ap, ◌∙◌, arith, length-append, Option, Some, None, refl, Fits, w64}
-use Rattle.std.proofs.{lemmas.{List.{drop-drop, length-drop}, Bool.false≢true}, Math.Seq.drop-append_seam}
+use Rattle.std.proofs.Common.{◌≡◌, ℕ, List, [], ◌∷◌, ◌++◌, length, drop, Bool, true, false, sym, ap, ◌∙◌, arith, Option, Some, None, refl}
+use Rattle.std.proofs.{lemmas.{Bool.false≢true}}
 use Rattle.std.specs.{Prelude.{◌||◌, not, is_some, MatchOption, if◌then◌else◌}, Bool.Decides}
-use Rattle.rnix_kinds.specs.declared.kinds.SyntaxKind.{SyntaxKind}
-use Rattle.rnix_kinds.specs.declared.kinds.SyntaxKind.TheVariants as k
-use Rattle.rnix_green.specs.{Equality.same_kind, Tree.{item_of, text_at}, Walk.Event}
+use Rattle.rnix_green.specs.{Walk.Event}
 use Rattle.rnix_edit.specs.declared.node_range.NodeRange.{NodeRange}
 use Rattle.rnix_edit.specs.declared.steps.Step.{Step as Made}
-use Rattle.rnix_edit.specs.Steps.{Step, step_of, node_step, token_step, token_steps, step_at, steps_of, enters, leaves, events_before, events_after}
+use Rattle.rnix_edit.specs.Steps.{Step, step_of, leaves, events_after}
 use Rattle.rnix_edit.specs.Steps.{is_exited, AreComments}
 
 -- one more event is passed up to the end of a node

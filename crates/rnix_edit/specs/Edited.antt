@@ -1,4 +1,4 @@
--- The new text of an edit: parsed again, it has the old tree around the edited place.
+-- The new text of an edit: parsed again, it has the old tree around the edited place, and there the new node.
 use Rattle.std.specs.Prelude.{◌≡◌, ◌≢◌, ℕ, ◌+◌, ◌≤◌, true, List, [], ◌++◌, length, take, drop, string_bytes}
 use Rattle.std.specs.List.{list_all}
 use Rattle.rnix_kinds.specs.declared.kinds.SyntaxKind.{SyntaxKind}
@@ -15,6 +15,7 @@ use Rattle.rnix_edit.specs.declared.edited.Refusal.TheVariants as refusal
 use Rattle.rnix_edit.specs.declared.cut.Cut.{Cut}
 use Rattle.rnix_edit.specs.Steps.{node_range_of, has_node, steps_in, steps_before, steps_after, is_comment, enters_first}
 use Rattle.rnix_edit.specs.EditRanges.{Gap, put_in, cut_of, gap_after, gap_inside}
+use Rattle.rnix_edit.specs.Alone.{IsAsAlone, IsUnlikeAlone}
 
 -- the text with new bytes in place of those from start up to end
 abbrev pub spliced : List ℕ → ℕ → ℕ → List ℕ → List ℕ
@@ -83,25 +84,36 @@ pub record IsMade (text : List ℕ) (start end : ℕ) (new : List ℕ) (so : Loc
   pub made_is : made ≡ spliced text start end new
   pub read : IsReadSo made so
 
--- why there is no such text
-abbrev pub IsNotMade : Refusal → List ℕ → ℕ → ℕ → List ℕ → (Located → Type 0) → Type 0
-IsNotMade refusal.NotInText text start end new so = ¬ (IsInside text start end × IsBetween text start end)
-IsNotMade refusal.HasErrors text start end new so = IsReadWithErrors (spliced text start end new)
-IsNotMade refusal.ReadOtherwise text start end new so = IsReadOtherwise (spliced text start end new) so
+-- both hold of a root
+abbrev pub Both : (Located → Type 0) → (Located → Type 0) → Located → Type 0
+Both so also root = so root × also root
+
+-- why there is no such text, or none with the new node: `unlike` says of a root that satisfies `so` that it has another node there
+abbrev pub IsNotMade : Refusal → List ℕ → ℕ → ℕ → List ℕ → (so unlike : Located → Type 0) → Type 0
+IsNotMade refusal.NotInText text start end new so unlike = ¬ (IsInside text start end × IsBetween text start end)
+IsNotMade refusal.HasErrors text start end new so unlike = IsReadWithErrors (spliced text start end new)
+IsNotMade refusal.ReadOtherwise text start end new so unlike = IsReadOtherwise (spliced text start end new) so
+IsNotMade refusal.NodeReadOtherwise text start end new so unlike = IsReadSo (spliced text start end new) (Both so unlike)
+
+-- where no node is new, there is no other one
+abbrev pub NoNode : Located → Type 0
+NoNode root = ⊥
 
 -- the root is that of the tree with a new node of the kind in place of another one
 abbrev pub IsTreeReplaced : Located → Located → SyntaxKind → List ℕ → Located → Type 0
 IsTreeReplaced root node kind new other = IsAround root (node_range_of node) other (node_range_at kind (item_of node).start new)
 
--- the text with a new text in place of a node: the new text is one node of the kind, and the tree around it is as before
+-- the text with a new text in place of that of a node: it is one node of the kind, the one that it is alone, and the tree around it is as before
 abbrev pub IsReplaced : List ℕ → Located → Located → SyntaxKind → List ℕ → List ℕ → Type 0
 IsReplaced text root node kind new made =
-    IsMade text (item_of node).start (item_of node).end new (IsTreeReplaced root node kind new) made
+    IsMade text (item_of node).start (item_of node).end new
+    (Both (IsTreeReplaced root node kind new) (IsAsAlone new (node_range_at kind (item_of node).start new))) made
 
 -- why there is no such text
 abbrev pub IsNotReplaced : Refusal → List ℕ → Located → Located → SyntaxKind → List ℕ → Type 0
 IsNotReplaced refusal text root node kind new =
     IsNotMade refusal text (item_of node).start (item_of node).end new (IsTreeReplaced root node kind new)
+    (IsUnlikeAlone new (node_range_at kind (item_of node).start new))
 
 -- the text without the bytes of a cut: its tree is the old one without the node and the comments in the cut
 abbrev pub IsCutOut : List ℕ → Located → Located → Cut → List ℕ → Type 0
@@ -109,7 +121,7 @@ IsCutOut text root node cut made = IsMade text cut.start cut.end [] (IsWithout r
 
 -- why there is no such text
 abbrev pub IsNotCutOut : Refusal → List ℕ → Located → Located → Cut → Type 0
-IsNotCutOut refusal text root node cut = IsNotMade refusal text cut.start cut.end [] (IsWithout root (node_range_of node) cut.comments)
+IsNotCutOut refusal text root node cut = IsNotMade refusal text cut.start cut.end [] (IsWithout root (node_range_of node) cut.comments) NoNode
 
 -- the text without a node: without the bytes that go with it
 abbrev pub IsRemoved : List ℕ → Located → Located → List ℕ → Type 0
@@ -123,13 +135,15 @@ IsNotRemoved refusal text root node = IsNotCutOut refusal text root node (cut_of
 abbrev pub node_range_in : Gap → SyntaxKind → List ℕ → NodeRange
 node_range_in gap kind new = node_range_at kind (gap.start + length gap.before) new
 
--- the text with a new text in a gap: the root of its tree satisfies `so`
-abbrev pub IsFilled : (Gap → Located → Type 0) → List ℕ → List ℕ → Gap → List ℕ → Type 0
-IsFilled so text new gap made = IsMade text gap.start gap.end (put_in gap new) (so gap) made
+-- the text with a new text in a gap: the root of its tree satisfies `so`, and the new node of the kind is the one that its text is alone
+abbrev pub IsFilled : (Gap → Located → Type 0) → SyntaxKind → List ℕ → List ℕ → Gap → List ℕ → Type 0
+IsFilled so kind text new gap made =
+    IsMade text gap.start gap.end (put_in gap new) (Both (so gap) (IsAsAlone new (node_range_in gap kind new))) made
 
 -- why there is no such text
-abbrev pub IsNotFilled : (Gap → Located → Type 0) → Refusal → List ℕ → List ℕ → Gap → Type 0
-IsNotFilled so refusal text new gap = IsNotMade refusal text gap.start gap.end (put_in gap new) (so gap)
+abbrev pub IsNotFilled : (Gap → Located → Type 0) → SyntaxKind → Refusal → List ℕ → List ℕ → Gap → Type 0
+IsNotFilled so kind refusal text new gap =
+    IsNotMade refusal text gap.start gap.end (put_in gap new) (so gap) (IsUnlikeAlone new (node_range_in gap kind new))
 
 -- the root is that of the tree with what is put into a gap: one node of a kind, right after the other one and the comments up to the gap
 abbrev pub IsTreeAfter : Located → Located → SyntaxKind → List ℕ → Gap → Located → Type 0
@@ -137,11 +151,11 @@ IsTreeAfter root node kind new gap other = IsAfter root (node_range_of node) gap
 
 -- the text with a new text after a node, in the gap there
 abbrev pub IsInsertedAfter : List ℕ → Located → Located → SyntaxKind → List ℕ → List ℕ → Type 0
-IsInsertedAfter text root node kind new made = IsFilled (IsTreeAfter root node kind new) text new (gap_after text node) made
+IsInsertedAfter text root node kind new made = IsFilled (IsTreeAfter root node kind new) kind text new (gap_after text node) made
 
 -- why there is no such text
 abbrev pub IsNotInsertedAfter : Refusal → List ℕ → Located → Located → SyntaxKind → List ℕ → Type 0
-IsNotInsertedAfter refusal text root node kind new = IsNotFilled (IsTreeAfter root node kind new) refusal text new (gap_after text node)
+IsNotInsertedAfter refusal text root node kind new = IsNotFilled (IsTreeAfter root node kind new) kind refusal text new (gap_after text node)
 
 -- the root is that of the tree with what is put into a gap: one node of a kind, right before the last token of the other one
 abbrev pub IsTreeInside : Located → Located → SyntaxKind → List ℕ → Gap → Located → Type 0
@@ -149,11 +163,11 @@ IsTreeInside root node kind new gap other = IsLastIn root (node_range_of node) o
 
 -- the text with a new text before the closing bracket of a node, in the gap there
 abbrev pub IsInsertedInside : List ℕ → Located → Located → SyntaxKind → List ℕ → List ℕ → Type 0
-IsInsertedInside text root node kind new made = IsFilled (IsTreeInside root node kind new) text new (gap_inside text node) made
+IsInsertedInside text root node kind new made = IsFilled (IsTreeInside root node kind new) kind text new (gap_inside text node) made
 
 -- why there is no such text
 abbrev pub IsNotInsertedInside : Refusal → List ℕ → Located → Located → SyntaxKind → List ℕ → Type 0
-IsNotInsertedInside refusal text root node kind new = IsNotFilled (IsTreeInside root node kind new) refusal text new (gap_inside text node)
+IsNotInsertedInside refusal text root node kind new = IsNotFilled (IsTreeInside root node kind new) kind refusal text new (gap_inside text node)
 
 -- P holds of the new text, if there is one
 abbrev pub IfDone : (List ℕ → Type 0) → Edited → Type 0

@@ -3,5 +3,7 @@ pub mod Line
 pub mod EditRanges
 pub mod Steps
 pub mod SameSteps
+pub mod ShownEvents
+pub mod Alone
 pub mod Edited
 pub mod ParsedEdit

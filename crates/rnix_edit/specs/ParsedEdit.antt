@@ -29,6 +29,7 @@ abbrev pub IsNotParsed : Refusal → List ℕ → ℕ → ℕ → List ℕ → T
 IsNotParsed refusal.NotInText text start end new = ¬ (IsInside text start end × IsBetween text start end)
 IsNotParsed refusal.HasErrors text start end new = IsReadWithErrors (spliced text start end new)
 IsNotParsed refusal.ReadOtherwise text start end new = ⊥
+IsNotParsed refusal.NodeReadOtherwise text start end new = ⊥
 
 -- the new text, if there is one, is this text, with its reading
 abbrev pub IfRead : List ℕ → ParsedEdit → Type 0

@@ -9,6 +9,8 @@ pub enum Refusal {
     HasErrors,
     /// The new text parses differently around the edited place.
     ReadOtherwise,
+    /// The new node is read in another way than its text alone.
+    NodeReadOtherwise,
 }
 
 /// The result of an edit: the new text, or the reason why it is refused.

@@ -1,27 +1,19 @@
 //! Inserting nodes.
 
-ghost use Rattle.std.specs.Prelude.{◌≡◌, ◌++◌, string_bytes, IfOk};
+ghost use Rattle.std.specs.Prelude.{◌≡◌, IfOk};
 ghost use Rattle.rnix_edit.specs.EditRanges.{put_in};
 ghost use Rattle.rnix_edit.specs.Edited.{IfDone, IfRefused, spliced, node_range_in, IsInsertedAfter, IsNotInsertedAfter, IsInsertedInside, IsNotInsertedInside};
 ghost use Rattle.rnix_edit.specs.ParsedEdit.{IsNotParsed, IfRead, IfNotRead, gap_of};
 
+use crate::alone::kept_if_alike;
 use crate::check::{is_after, is_inside};
 use crate::edited::{Edited, Refusal};
 use crate::gap::{Gap, gap_after, gap_inside};
+use crate::joining::joined;
 use crate::node_range::{NodeRange, node_range_of};
 use crate::parsed_edit::{ParsedEdit, read_spliced};
 use rnix::{SyntaxKind, SyntaxNode};
 use std::alloc::{AllocError, Global};
-
-// Returns three texts, joined.
-fn joined(alloc: Global, before: &str, new: &str, after: &str) -> Result<String, AllocError>
-    ensures { IfOk result (λ text. string_bytes text ≡ before.now ++ (new.now ++ after.now)) }
-{
-    let mut text = String::from_str(alloc, before)?;
-    text.push_str(new)?;
-    text.push_str(after)?;
-    Ok(text)
-}
 
 // Returns the text with a new text in a gap, which must parse without errors.
 fn read_filled(alloc: Global, text: &str, gap: &Gap, new: &str) -> Result<ParsedEdit, AllocError>
@@ -48,7 +40,7 @@ fn node_range_in(gap: &Gap, kind: SyntaxKind, new: &str) -> Result<NodeRange, Al
 
 /// Returns the text with a new node after another one: an entry of a set or a `let`, or an item of a list. If the other one has a line of
 /// its own, the new one goes on the next line, with the same indentation, after the comments on that line; otherwise it follows after a space.
-/// The new text must parse as one node of this kind. `root` is the root of the tree of `text`.
+/// The new text must parse as one node of this kind, the same as alone. `root` is the root of the tree of `text`.
 pub fn insert_after(
     alloc: Global,
     text: &str,
@@ -67,15 +59,17 @@ pub fn insert_after(
     };
     let target = node_range_in(&gap, kind, new)?;
     let old = node_range_of(node);
-    if is_after(root, old, gap.comments, &read.syntax(), target) {
-        Ok(Edited::Done(made))
+    let other = read.syntax();
+    if is_after(root, old, gap.comments, &other, target) {
+        let kept = kept_if_alike(alloc, made, &other, target, new)?;
+        Ok(kept)
     } else {
         Ok(Edited::Refused(Refusal::ReadOtherwise))
     }
 }
 
 /// Returns the text with a new node before the closing bracket of a set or a list, which may be empty. The new node goes on a line of its own if
-/// the bracket has one. The new text must parse as one node of this kind. `root` is the root of the tree of `text`.
+/// the bracket has one. The new text must parse as one node of this kind, the same as alone. `root` is the root of the tree of `text`.
 pub fn insert_inside(
     alloc: Global,
     text: &str,
@@ -94,8 +88,10 @@ pub fn insert_inside(
     };
     let target = node_range_in(&gap, kind, new)?;
     let old = node_range_of(node);
-    if is_inside(root, old, &read.syntax(), target) {
-        Ok(Edited::Done(made))
+    let other = read.syntax();
+    if is_inside(root, old, &other, target) {
+        let kept = kept_if_alike(alloc, made, &other, target, new)?;
+        Ok(kept)
     } else {
         Ok(Edited::Refused(Refusal::ReadOtherwise))
     }

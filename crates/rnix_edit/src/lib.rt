@@ -1,17 +1,20 @@
-//! Edits of a text by its nodes. An edit is refused unless the new text, parsed again, has the old tree around the edited place.
+//! Edits of a text by its nodes: each is refused unless the new text, parsed again, has the old tree around the edited place, and there the new node.
 #![tactic(auto)]
 
+mod alone;
 mod blanks;
 mod check;
 mod cut;
 mod edited;
 mod gap;
 mod insert;
+mod joining;
 mod line;
 mod node_range;
 mod parsed_edit;
 mod removing;
 mod replacing;
+mod same_tree;
 mod steps;
 
 pub use edited::{Edited, Refusal};

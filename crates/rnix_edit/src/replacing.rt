@@ -6,6 +6,7 @@ ghost use Rattle.rnix_green.specs.Tree.{item_of};
 ghost use Rattle.rnix_edit.specs.Edited.{IfDone, IfRefused, spliced, node_range_at, IsTreeReplaced, IsReplaced, IsNotReplaced};
 ghost use Rattle.rnix_edit.specs.ParsedEdit.{IsNotParsed, IfRead, IfNotRead};
 
+use crate::alone::kept_if_alike;
 use crate::check::is_around;
 use crate::edited::{Edited, Refusal};
 use crate::node_range::{NodeRange, node_range_of};
@@ -52,7 +53,15 @@ fn is_replaced(
     is_around(root, old, other, node_range_at(kind, old.start, new))
 }
 
-/// Returns the text with a new text in place of a node. The new text must parse as one node of this kind.
+// Returns the kind and the range of a new text in place of a node.
+fn replaced_range(node: &SyntaxNode<'_>, kind: SyntaxKind, new: &str) -> NodeRange
+    ensures { result ≡ node_range_at kind (item_of node.now).start new.now }
+{
+    let old = node_range_of(node);
+    node_range_at(kind, old.start, new)
+}
+
+/// Returns the text with a new text in place of a node. The new text must parse as one node of this kind, the same as alone.
 /// `root` is the root of the tree of `text`.
 pub fn replace(
     alloc: Global,
@@ -69,8 +78,11 @@ pub fn replace(
         ParsedEdit::Read(made, read) => (made, read),
         ParsedEdit::Refused(refusal) => return Ok(Edited::Refused(refusal)),
     };
-    if is_replaced(root, node, kind, new, &read.syntax()) {
-        Ok(Edited::Done(made))
+    let other = read.syntax();
+    if is_replaced(root, node, kind, new, &other) {
+        let target = replaced_range(node, kind, new);
+        let kept = kept_if_alike(alloc, made, &other, target, new)?;
+        Ok(kept)
     } else {
         Ok(Edited::Refused(Refusal::ReadOtherwise))
     }

@@ -20,6 +20,7 @@ fn refusal_text(refusal: Refusal) -> &'static str {
         Refusal::NotInText => "not in the text",
         Refusal::HasErrors => "errors",
         Refusal::ReadOtherwise => "read otherwise",
+        Refusal::NodeReadOtherwise => "node read otherwise",
     }
 }
 

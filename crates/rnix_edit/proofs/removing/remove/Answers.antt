@@ -1,6 +1,6 @@
 use Rattle.std.proofs.{Common.{rules, ◌≡◌, ◌∙◌, [], sym, subst, string_bytes}, lemmas.Bool.false≢true}
 use Rattle.rnix.specs.ParseResult.{root_of}
-use Rattle.rnix_edit.specs.{Steps.node_range_of, Edited.{spliced, IsWithout, IsCutOut, IsNotCutOut}, ParsedEdit.{IsNotParsed, IfRead, IfNotRead}}
+use Rattle.rnix_edit.specs.{Steps.node_range_of, Edited.{spliced, IsWithout, IsCutOut, IsNotCutOut, NoNode}, ParsedEdit.{IsNotParsed, IfRead, IfNotRead}}
 use Rattle.rnix_edit.specs.declared.edited.Refusal.TheVariants as refusal
 use Rattle.rnix_edit.proofs.EditLemmas.{not_made, made_so, otherwise}
 use Rattle.rnix_edit.proofs.removing.remove.Goals as goal
@@ -11,7 +11,7 @@ returns-in-Refused-clause-refused c =
     let text = c.args.text.now in
     let so = IsWithout c.args.root.now (node_range_of c.args.node.now) cut.comments in
     subst (IsNotCutOut c.in-Refused.refusal text c.args.root.now c.args.node.now) c.cut_of-cut.ensures
-    (not_made text cut.start cut.end [] so c.in-Refused.refusal
+    (not_made text cut.start cut.end [] so NoNode c.in-Refused.refusal
     (subst (IfNotRead (λ refusal. IsNotParsed refusal text cut.start cut.end [])) c.in-Refused.is c.in_ok-made.ensures.refused))
 
 pub returns-then-is_without-clause-done : goal.returns-then-is_without-clause-done
@@ -38,4 +38,4 @@ returns-else-is_without-clause-refused c =
     subst (λ old. ¬ IsWithout c.args.root.now old cut.comments c.syntax.result) c.node_range_of-old.ensures
     (λ holds. false≢true (sym c.if-is_without.false ∙ c.is_without.ensures.1 holds)) in
     subst (IsNotCutOut refusal.ReadOtherwise text c.args.root.now c.args.node.now) c.cut_of-cut.ensures
-    (otherwise text cut.start cut.end [] so c.in-Read.read read.1 (subst (λ r. ¬ so r) root fails))
+    (otherwise text cut.start cut.end [] so NoNode c.in-Read.read read.1 (subst (λ r. ¬ so r) root fails))

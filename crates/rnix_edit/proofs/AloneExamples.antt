@@ -1,0 +1,52 @@
+-- What new texts are alone, and which nodes are the same, in small texts; by computation.
+use Rattle.std.proofs.Common.{◌≡◌, ℕ, List, [], codes, true, false, refl}
+use Rattle.rnix_kinds.specs.declared.kinds.SyntaxKind.{SyntaxKind}
+use Rattle.rnix_kinds.specs.declared.kinds.SyntaxKind.TheVariants as k
+use Rattle.rnix_green.specs.{Forest.{Forest, empty, leaf, node}, Tree.{Located}}
+use Rattle.rnix.specs.ParseResult.{Reading}
+use Rattle.rnix_edit.specs.{Edited.node_range_at, Alone.{is_readable, alone_text, IsSameNode}}
+
+-- an expression is read as it is, an entry in braces
+expression_alone : alone_text k.NODE_SELECT (codes "a.b") ≡ codes "a.b"
+expression_alone = refl
+
+entry_alone : alone_text k.NODE_INHERIT (codes "inherit a;") ≡ codes "{inherit a;}"
+entry_alone = refl
+
+-- names are expressions, but for two of them
+name_is_readable : is_readable k.NODE_IDENT (codes "a") ≡ true
+name_is_readable = refl
+
+or_is_not : is_readable k.NODE_IDENT (codes "or") ≡ false
+or_is_not = refl
+
+-- a part of a pattern is none
+pattern_entry_is_not : is_readable k.NODE_PAT_ENTRY (codes "a ? b") ≡ false
+pattern_entry_is_not = refl
+
+-- a node over one token
+abbrev over : SyntaxKind → SyntaxKind → List ℕ → Forest → Forest
+over kind token text rest = node kind (leaf token text empty) rest
+
+-- the tree of `[a]`
+abbrev list : Located
+list = record {
+  tree = record {
+    kind = k.NODE_ROOT;
+    children = node k.NODE_LIST (leaf k.TOKEN_L_BRACK (codes "[") (over k.NODE_IDENT k.TOKEN_IDENT (codes "a")
+        (leaf k.TOKEN_R_BRACK (codes "]") empty))) empty;
+  };
+  number = 0;
+}
+
+-- a tree without errors
+abbrev read : Forest → Reading
+read trees = record { tree = record { kind = k.NODE_ROOT; children = trees }; faults = [] }
+
+-- the name in it is the one that its text is alone
+name_in_list : IsSameNode (node_range_at k.NODE_IDENT 1 (codes "a")) list (read (over k.NODE_IDENT k.TOKEN_IDENT (codes "a") empty))
+name_in_list = record { none = refl; same = refl }
+
+-- and not the one of a text that is no name alone
+not_a_name : ¬ IsSameNode (node_range_at k.NODE_IDENT 1 (codes "a")) list (read (over k.NODE_LITERAL k.TOKEN_INTEGER (codes "1") empty))
+not_a_name = λ h. h.same
